@@ -17,20 +17,7 @@ use Rattle.std.proofs.lemmas.Str.Parse.{IsNumeralModel, numerals_by_value, digit
 use Rattle.std.proofs.lemmas.Bool.Decides.{nat_tests}
 use Rattle.replay_script.specs.Word.{words_of, is_name_byte, name_of, number_of}
 use Rattle.replay_script.specs.Command.{CommandData, post_of, turn_of}
-
-found_at : (b : Bool) (n at : ℕ) → cond b (Some n) None ≡ Some at → (b ≡ true) × (n ≡ at)
-found_at true n at h = (refl, cc)
-found_at false n at h = absurd (cc)
-
-tested : (a b : ℕ) → nat_lt a b ≡ true → a < b
-tested a b h = grind (arith, nat_tests)
-
-further : (k a b : ℕ) → k < b → nat_lt a b ≡ false → k < a
-further k a b below h = grind (arith, nat_tests)
-
-missing : (b : Bool) (n : ℕ) → cond b (Some n) None ≡ None → b ≡ false
-missing true n h = absurd (cc)
-missing false n h = refl
+use Rattle.replay_script.proofs.Places.{found_at, missing, tested, further}
 
 cut : (text : List ℕ) (n at : ℕ) → n ≡ at → take n text ∷ words_of (drop (n + 1) text) ≡ take at text ∷ words_of (take (length text - (at + 1)) (drop (at + 1) text))
 cut text n at e = rw (e, take_rest text (at + 1)) refl
