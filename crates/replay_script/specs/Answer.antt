@@ -23,3 +23,7 @@ worked_text name = codes "worked " ++ name ++ codes "\n"
 -- a turn in which no tenant was ready
 abbrev pub idle_text : ℕ → List ℕ
 idle_text shard = codes "idle " ++ decimal shard ++ codes "\n"
+
+-- a step that was refused, by the refusal's number
+abbrev pub refused_text : List ℕ → ℕ → List ℕ
+refused_text name number = codes "refused " ++ name ++ codes " " ++ decimal number ++ codes "\n"

@@ -2,7 +2,7 @@
 
 ghost use Rattle.std.specs.Prelude.{◌≡◌, ◌++◌, IfOk, OnOk, OnErr};
 ghost use Rattle.std.specs.String.{string_bytes};
-ghost use Rattle.replay_script.specs.Answer.{hex_text, reply_text, job_text, worked_text, idle_text};
+ghost use Rattle.replay_script.specs.Answer.{hex_text, reply_text, job_text, worked_text, idle_text, refused_text};
 
 use std::alloc::{AllocError, Global};
 
@@ -53,6 +53,20 @@ pub fn put_idle(alloc: Global, out: &mut Vec<u8>, shard: u64) -> Result<(), Allo
     ensures err { OnErr result (out.new.items ≡ out.old.items) }
 {
     let line = format!(in alloc; "idle {shard}\n")?;
+    out.extend_from_slice(line.as_bytes())
+}
+
+/// Appends the line of a step that was refused, with the refusal's number.
+pub fn put_refused(
+    alloc: Global,
+    out: &mut Vec<u8>,
+    name: &str,
+    number: u8,
+) -> Result<(), AllocError>
+    ensures ok { OnOk result (out.new.items ≡ out.old.items ++ refused_text name.now number) }
+    ensures err { OnErr result (out.new.items ≡ out.old.items) }
+{
+    let line = format!(in alloc; "refused {name} {number}\n")?;
     out.extend_from_slice(line.as_bytes())
 }
 

@@ -10,8 +10,11 @@ mod output;
 mod run;
 mod session;
 
-pub use answer::{put_idle, put_job, put_reply, put_worked};
+pub use answer::{put_idle, put_job, put_refused, put_reply, put_worked};
 pub use command::{Command, parse_line};
 pub use fault::ScriptFault;
 pub use run::run_script;
 pub use session::{AnswerFault, Session};
+
+#[cfg(test)]
+mod tests;
