@@ -4,5 +4,6 @@ mod Order
 mod Seats
 mod OneByOne
 mod Advance
-mod Place
+mod Coming
+mod Entries
 mod Run

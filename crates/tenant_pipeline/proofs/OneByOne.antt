@@ -325,3 +325,13 @@ first_least w d N R by =
     let count : decided_count w d R ≡ length (finished d rows) = decided_is w d N R in
     let at : slice_get rows (decided_count w d R) ≡ slice_get (waiting d rows) 0 = ap (λ n. slice_get rows n) count ∙ (ap (λ xs. slice_get xs (length (finished d rows))) parts ∙ slice_get_rest (finished d rows) (waiting d rows)) in
     ap (option_map due_row) at ∙ (sym (least_of d (waiting d rows) (AllDueFrom-waiting d rows) (Rising-waiting d rows rising)) ∙ sym (next_decision-waiting d rows))
+
+-- timers leave the wait as it is
+one_wait : (s : State) (o : Option RowData) → (decide o s).wait ≡ s.wait
+one_wait s None = refl
+one_wait s (Some row) = refl
+
+pub ran-wait : (n e : ℕ) (s : State) → (ran n e s).wait ≡ s.wait
+ran-wait zero e s = refl
+ran-wait (suc n) e s =
+    elim (is_due (next_timer s) e) as (λ b. (cond b (ran n e (one_run s)) s).wait ≡ s.wait) [ true ↦ ran-wait n e (one_run s) ∙ one_wait s (slice_get s.rows s.decided) | false ↦ refl ]

@@ -11,11 +11,11 @@ use Rattle.tenant_pipeline.specs.Groups.{GroupData, groups}
 use Rattle.tenant_pipeline.specs.State.{State, RowData, decided_count, kept_rows, state_at, state, answer, Answers, tickets, tickets_after, handed}
 use Rattle.tenant_pipeline.specs.Timers.{effective, next_timer, ran}
 use Rattle.tenant_pipeline.specs.Ready.{next_decision, FirstIsLeast}
-use Rattle.tenant_pipeline.specs.Machine.{advanced, placed, all_placed, set_to, left, handed_out, next, told}
+use Rattle.tenant_pipeline.specs.Machine.{rows_with, late_with, rows_with_all, late_with_all, advanced, placed, all_placed, set_to, left, handed_out, next, told}
 use Rattle.tenant_pipeline.proofs.Seats.{Reached, Reached_more, Reached-taken, OpenedBy-opened}
 use Rattle.tenant_pipeline.proofs.OneByOne.{first_least}
 use Rattle.tenant_pipeline.proofs.Advance.{groups_later, state_at_later}
-use Rattle.tenant_pipeline.proofs.Place.{state_at_placed, length_groups_placed}
+use Rattle.tenant_pipeline.proofs.Coming.{state_at_placed, length_groups_placed}
 
 -- no more groups were handed out than there are
 length_groups_later : (w : SectionData) (d e : ℕ) (A : List Taken) → d ≤ e → Reached d A → length (groups w d A) ≤ length (groups w e A)
@@ -83,7 +83,7 @@ state_goes_on w past (Turn now) pos =
 pub answer_goes_on : (w : SectionData) (past : List Own) (step : Own) → 0 < w.decision_wait → answer w past step ≡ told step (state w past)
 unfolding state answer told
 answer_goes_on w past (Post now xs) pos = refl
-answer_goes_on w past (Turn now) pos = ap (λ (s : State). handed (tickets w past) s.queue) (at_step w past (clock (Turn now ∷ past)) pos (omega arith))
+answer_goes_on w past (Turn now) pos = ap (λ (s : State). handed s.tickets s.queue) (at_step w past (clock (Turn now ∷ past)) pos (omega arith))
 
 -- a step of the machine answers as the definitions say
 pub answers_by : (step : Own) (old new : State) (said : Told) → 0 < old.wait → said ≡ told step old → new ≡ next step old → Answers step old said new
@@ -93,10 +93,19 @@ answers_by step old new said pos by_told by_next = λ section past stands.
     let pos' : 0 < section.decision_wait = omega arith in
     (by_told ∙ (ap (told step) stands ∙ sym (answer_goes_on section past step pos')), by_next ∙ (ap (next step) stands ∙ sym (state_goes_on section past step pos')))
 
--- the clock may be set before the spans come or behind
-pub all_placed-set_to : (m e : ℕ) (xs : List Arrival) (s : State) → all_placed m xs (set_to e s) ≡ set_to e (all_placed m xs s)
-all_placed-set_to m e [] s = refl
-all_placed-set_to m e (x ∷ xs) s = all_placed-set_to m e xs (placed m x s)
+-- the spans of a post, by the fields
+all_placed_is : (e : ℕ) (xs : List Arrival) (s : State) →
+    all_placed e xs s ≡ record { wait = s.wait; clock = s.clock; rows = rows_with_all s.wait e xs s.rows; decided = s.decided; queue = s.queue ++ late_with_all s.wait e xs s.rows; tickets = s.tickets }
+all_placed_is e [] s = ap (λ queue. record { wait = s.wait; clock = s.clock; rows = s.rows; decided = s.decided; queue = queue; tickets = s.tickets }) (sym (append-nil s.queue))
+all_placed_is e (x ∷ xs) s =
+    all_placed_is e xs (placed e x s) ∙ ap (λ queue. record { wait = s.wait; clock = s.clock; rows = rows_with_all s.wait e (x ∷ xs) s.rows; decided = s.decided; queue = queue; tickets = s.tickets }) (append_assoc s.queue (late_with e x s.rows) (late_with_all s.wait e xs (rows_with s.wait e x s.rows)))
+
+-- the state after a post, from its parts
+pub post_by : (e : ℕ) (xs : List Arrival) (s now : State) (rows : List RowData) (queue : List GroupData) → s ≡ now → rows ≡ rows_with_all s.wait e xs s.rows → queue ≡ s.queue ++ late_with_all s.wait e xs s.rows →
+    record { wait = s.wait; clock = e; rows = rows; decided = s.decided; queue = queue; tickets = s.tickets } ≡ all_placed e xs (set_to e now)
+post_by e xs s now rows queue same r q =
+    let parts : record { wait = s.wait; clock = e; rows = rows; decided = s.decided; queue = queue; tickets = s.tickets } ≡ record { wait = s.wait; clock = e; rows = rows_with_all s.wait e xs s.rows; decided = s.decided; queue = s.queue ++ late_with_all s.wait e xs s.rows; tickets = s.tickets } = cc (r, q) in
+    parts ∙ (sym (all_placed_is e xs (set_to e s)) ∙ ap (λ t. all_placed e xs (set_to e t)) same)
 
 pub first_is_least : FirstIsLeast
 unfolding state

@@ -7,6 +7,8 @@ pub mod State
 pub mod Timers
 pub mod Ready
 pub mod Machine
+pub mod Additions
 pub mod Law
 pub mod View
+pub mod Prepared
 pub mod Bounds

@@ -11,9 +11,15 @@
 ghost use Rattle.tenant_pipeline.specs.Law.{GoesOn};
 ghost use Rattle.tenant_pipeline.specs.Ready.{FirstIsLeast};
 
+mod export;
+mod pipeline;
+mod place;
+mod prepare;
 mod rows;
 mod told;
 
+pub use pipeline::Pipeline;
+pub use prepare::Prepared;
 pub use told::{Reply, Told};
 
 /// What a tenant is after one more step, and what it is told of it, follows from what it was: a law over the
