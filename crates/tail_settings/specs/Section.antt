@@ -1,5 +1,5 @@
 -- One tenant's settings, and how they are read from its table: keys in this order, the first fault being the answer.
-use Rattle.std.specs.Prelude.{codes, ℕ, true, List, [], map, Result, Ok, Err, if◌then◌else◌}
+use Rattle.std.specs.Prelude.{codes, ℕ, List, [], map, Result, Ok, Err, if◌then◌else◌}
 use Rattle.std.specs.Str.{bytes_eq}
 use Rattle.toml.specs.Data.{Members}
 use Rattle.tail_settings.specs.declared.section.PolicySpec.{PolicySpec}

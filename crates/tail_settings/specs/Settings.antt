@@ -7,7 +7,7 @@ use Rattle.toml.specs.Data.{Members}
 use Rattle.toml.specs.Parse.{parse_document}
 use Rattle.tail_settings.specs.declared.section.Section.{Section}
 use Rattle.tail_settings.specs.declared.settings.Settings.{Settings}
-use Rattle.tail_settings.specs.Fault.{FaultData, not_toml, missing_key, out_of_range, double_tenant, too_many, ◌>>=◌}
+use Rattle.tail_settings.specs.Fault.{FaultData, not_toml, missing_key, double_tenant, too_many, ◌>>=◌}
 use Rattle.tail_settings.specs.Keys.{number_at, text_at, allowed, table_at, tables_at, not_empty, at_most, each}
 use Rattle.tail_settings.specs.Section.{SectionData, section_view, section_of}
 

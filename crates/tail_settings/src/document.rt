@@ -1,10 +1,11 @@
 //! Reading a document, key by key.
 
-ghost use Rattle.std.specs.Prelude.{◌≡◌, ◌+◌, ◌≤◌, ◌<◌, ◌∷◌, ◌++◌, [], IfOk, OnOk, IfErr, IsErrOf, IfSome, None, string_bytes, map, vec_len, Ok, Err};
+ghost use Rattle.std.specs.Prelude.{◌≡◌, ◌+◌, ◌≤◌, ◌<◌, ◌∷◌, ◌++◌, [], IfOk, OnOk, IfErr, IfSome, ◌↔◌, None, string_bytes, map, vec_len, Ok, Err};
+ghost use Rattle.std.specs.List.{list_all};
 ghost use Rattle.indexmap.specs.IndexMap.{index_map_len, get_by_text};
 ghost use Rattle.toml.specs.Parse.{parse_document};
 ghost use Rattle.toml.specs.View.{table_view};
-ghost use Rattle.tail_settings.specs.Fault.{Tells, fault_view};
+ghost use Rattle.tail_settings.specs.Fault.{Tells, fault_view, not_toml};
 ghost use Rattle.tail_settings.specs.Keys.{keys_of};
 ghost use Rattle.tail_settings.specs.Section.{policy_view, policy_of, policies_of, section_view, section_of};
 ghost use Rattle.tail_settings.specs.Settings.{is_name_byte, is_name, name_of, with_tenant, tenants_of, shards_of, tenant_view, settings_view, settings_of};
@@ -21,6 +22,7 @@ use toml::Table;
 const MAX_TENANTS: usize = 1000;
 
 /// A policy's table.
+#[tactic(auto, using(crate::proofs::Told::tells_more), unfolding(crate::specs::Section::policy_of))]
 fn policy(table: Option<&Table>) -> Result<PolicySpec, SettingsFault>
     ensures { Tells policy_view result (policy_of (keys_of table.entry)) }
 {
@@ -31,6 +33,7 @@ fn policy(table: Option<&Table>) -> Result<PolicySpec, SettingsFault>
 }
 
 /// The policies of a table `tail_sampling`.
+#[tactic(auto, using(crate::proofs::Told::tells_more), unfolding(crate::specs::Section::policies_of))]
 fn policies(alloc: Global, sampling: Option<&Table>) -> Result<Vec<PolicySpec>, SettingsFault>
     ensures meaning { Tells (λ v. map policy_view v.items) result (policies_of (keys_of sampling.entry)) }
     ensures some { IfOk result (λ v. 0 < vec_len v) }
@@ -47,6 +50,7 @@ fn policies(alloc: Global, sampling: Option<&Table>) -> Result<Vec<PolicySpec>, 
 }
 
 /// What a tenant's table says beside its name.
+#[tactic(auto, using(crate::proofs::Told::tells_more), unfolding(crate::specs::Section::section_of))]
 fn section(alloc: Global, tenant: Option<&Table>) -> Result<Section, SettingsFault>
     ensures { Tells section_view result (section_of (keys_of tenant.entry)) }
 {
@@ -66,15 +70,22 @@ fn is_name_byte(byte: u8) -> bool
     matches!(byte, b'A'..=b'Z' | b'a'..=b'z' | b'0'..=b'9' | b'_' | b'-' | b'.')
 }
 
+/// Whether a name may hold all these bytes.
+fn are_name_bytes(bytes: &[u8]) -> bool
+    ensures { result ≡ list_all is_name_byte bytes.now }
+{
+    bytes.iter().all(|byte| is_name_byte(*byte))
+}
+
 /// Whether a tenant may have this name.
 fn is_name(name: &str) -> bool
     ensures { result ≡ is_name name.now }
 {
-    let bytes = name.as_bytes();
-    1 <= bytes.len() && bytes.len() <= 64 && bytes.iter().all(|byte| is_name_byte(*byte))
+    1 <= name.len() && name.len() <= 64 && are_name_bytes(name.as_bytes())
 }
 
 /// A tenant's name, which no tenant before it has.
+#[tactic(auto, using(crate::proofs::Told::tells_more), unfolding(crate::specs::Settings::name_of))]
 fn name(
     alloc: Global,
     before: &IndexMap<String, Section>,
@@ -95,6 +106,7 @@ fn name(
 }
 
 /// Reads a tenant's table and puts the tenant behind the others.
+#[tactic(auto, using(crate::proofs::Told::tells_more), unfolding(crate::specs::Settings::tenant_of))]
 fn add_tenant(
     alloc: Global,
     tenants: &mut IndexMap<String, Section>,
@@ -110,6 +122,7 @@ fn add_tenant(
 }
 
 /// The tenants of a document.
+#[tactic(auto, using(crate::proofs::Told::tells_more), unfolding(crate::specs::Settings::tenants_of))]
 fn tenants(alloc: Global, document: &Table) -> Result<IndexMap<String, Section>, SettingsFault>
     ensures meaning { Tells (λ m. map tenant_view m.entries) result (tenants_of (table_view document.now)) }
     ensures some { IfOk result (λ m. 0 < index_map_len m) }
@@ -130,6 +143,7 @@ fn tenants(alloc: Global, document: &Table) -> Result<IndexMap<String, Section>,
 }
 
 /// What a document says of all tenants.
+#[tactic(auto, using(crate::proofs::Told::tells_more), unfolding(crate::specs::Settings::shards_of))]
 fn global(document: &Table) -> Result<GlobalSettings, SettingsFault>
     ensures { Tells (λ g. g.shards) result (shards_of (table_view document.now)) }
 {
@@ -141,13 +155,14 @@ fn global(document: &Table) -> Result<GlobalSettings, SettingsFault>
 }
 
 /// The settings that a TOML document means, or the first fault in the order in which its keys are read.
+#[tactic(auto, using(crate::proofs::Told::tells_more), unfolding(crate::specs::Settings::settings_of, crate::specs::Settings::settings_of_table))]
 pub fn load(alloc: Global, text: &str) -> Result<Settings, SettingsFault>
     // The document's settings exactly, or its first fault exactly; refused memory says nothing of it.
     ensures ok { IfOk result (λ s. settings_of text.now ≡ Ok (settings_view s)) }
     ensures fault { IfErr result (λ e. IfSome (fault_view e) (λ f. settings_of text.now ≡ Err f)) }
 
-    // Only a text that is no TOML document is fault 10.
-    ensures not_toml { IsErrOf result SettingsFault.NotToml → parse_document text.now ≡ None }
+    // Fault 10 is that of the texts that are no TOML document, and of no others.
+    ensures not_toml { (settings_of text.now ≡ Err not_toml) ↔ (parse_document text.now ≡ None) }
 {
     let document = match toml::table_from_str(alloc, text) {
         Ok(document) => document,

@@ -2,12 +2,11 @@
 
 ghost use Rattle.std.specs.Prelude.{◌≡◌, ◌≤◌, option_map, IfOk};
 ghost use Rattle.toml.specs.Data.{get_member};
-ghost use Rattle.toml.specs.View.{view, items_view, array_view};
+ghost use Rattle.toml.specs.View.{view, items_view};
 ghost use Rattle.tail_settings.specs.Fault.{Tells};
 ghost use Rattle.tail_settings.specs.Keys.{keys_of, required, number_at, text_at, table_at, tables_at, are_tables, tables_in};
 
 use crate::fault::SettingsFault;
-use toml::value::Array;
 use toml::{Table, Value};
 
 /// The value at a key. A missing table has none.
@@ -31,6 +30,7 @@ fn value<'a>(table: Option<&'a Table>, key: &'static str) -> Result<&'a Value, S
 }
 
 /// The whole number at a key, from `low` to `high`, or the default.
+#[tactic(auto, unfolding(crate::specs::Keys::number_at))]
 pub fn number(
     table: Option<&Table>,
     key: &'static str,
@@ -57,6 +57,7 @@ pub fn number(
 }
 
 /// The text at a key that has to be there.
+#[tactic(auto, using(crate::proofs::Told::tells_more), unfolding(crate::specs::Keys::text_at))]
 pub fn text<'a>(table: Option<&'a Table>, key: &'static str) -> Result<&'a str, SettingsFault>
     ensures { Tells (λ s. s.now) result (text_at key.now (keys_of table.entry)) }
 {
@@ -67,6 +68,7 @@ pub fn text<'a>(table: Option<&'a Table>, key: &'static str) -> Result<&'a str, 
 }
 
 /// The table at a key.
+#[tactic(auto, unfolding(crate::specs::Keys::table_at))]
 pub fn table<'a>(
     table: Option<&'a Table>,
     key: &'static str,
@@ -95,11 +97,12 @@ fn are_all_tables(values: &[Value]) -> bool
 }
 
 /// The array of tables at a key that has to be there.
-pub fn tables<'a>(table: Option<&'a Table>, key: &'static str) -> Result<&'a Array, SettingsFault>
-    ensures { Tells (λ v. tables_in (array_view v.now)) result (tables_at key.now (keys_of table.entry)) }
+#[tactic(auto, using(crate::proofs::Told::tells_more), unfolding(crate::specs::Keys::tables_at))]
+pub fn tables<'a>(table: Option<&'a Table>, key: &'static str) -> Result<&'a [Value], SettingsFault>
+    ensures { Tells (λ v. tables_in (items_view v.now)) result (tables_at key.now (keys_of table.entry)) }
 {
     match value(table, key)?.as_array() {
-        Some(values) if are_all_tables(values) => Ok(values),
+        Some(values) if are_all_tables(values) => Ok(values.as_slice()),
         _ => Err(SettingsFault::WrongKind(key)),
     }
 }
