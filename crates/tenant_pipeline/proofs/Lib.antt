@@ -7,3 +7,4 @@ mod Advance
 mod Coming
 mod Entries
 mod Run
+mod Bodies

@@ -11,15 +11,15 @@
 ghost use Rattle.tenant_pipeline.specs.Law.{GoesOn};
 ghost use Rattle.tenant_pipeline.specs.Ready.{FirstIsLeast};
 
+mod body;
 mod export;
 mod pipeline;
 mod place;
-mod prepare;
 mod rows;
 mod told;
 
+pub use body::{Prepared, Refusal, prepare};
 pub use pipeline::Pipeline;
-pub use prepare::Prepared;
 pub use told::{Reply, Told};
 
 /// What a tenant is after one more step, and what it is told of it, follows from what it was: a law over the
@@ -32,3 +32,6 @@ pub fn goes_on()
 pub fn first_is_least()
     ensures { FirstIsLeast }
 {}
+
+#[cfg(test)]
+mod tests;

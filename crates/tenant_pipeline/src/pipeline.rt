@@ -12,7 +12,7 @@ ghost use Rattle.tenant_pipeline.specs.declared.told.Told.TheVariants as tell;
 
 use crate::export::export;
 use crate::place::place_all;
-use crate::prepare::Prepared;
+use crate::body::Prepared;
 use crate::rows::{Group, Rows, decide_at};
 use crate::told::{Reply, Told};
 use indexmap::IndexMap;
