@@ -150,7 +150,7 @@ state_at_placed w e n x A pos r within =
     let rows = rows_placed w e x A (latest (trace_of x) (opened A)) refl pos r in
     let count = count_by w e (is_some (latest (trace_of x) (opened A))) (trace_of x) (opened A) pos in
     let queue : drop n (groups w e (record { moment = e; arrival = x } ∷ A)) ≡ drop n (groups w e A) ++ late_with e x (kept_rows w e (seated A) (opened A)) =
-        rw (groups_placed w e x A (latest (trace_of x) (opened A)) refl pos r) (drop-append-le n (groups w e A) _ within) in
+    rw (groups_placed w e x A (latest (trace_of x) (opened A)) refl pos r) (drop-append-le n (groups w e A) _ within) in
     cc (rows, count, queue)
 
 pub length_groups_placed : (w : SectionData) (e : ℕ) (x : Arrival) (A : List Taken) → 0 < w.decision_wait → Reached e A → length (groups w e A) ≤ length (groups w e (record { moment = e; arrival = x } ∷ A))

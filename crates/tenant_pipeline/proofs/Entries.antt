@@ -114,7 +114,7 @@ at_by : (wait moment : ℕ) (x : Arrival) (e : List ℕ × Row) (es : List (List
     (slice_get (row_views es) n ≡ Some r → (rows_with wait moment x (row_views es) ≡ set (row_views es) n (joined moment x r)) × (late_with moment x (row_views es) ≡ late_of moment x r)) →
     slice_get (row_view e ∷ row_views es) (cond (not b) (1 + n) 0) ≡ Some r →
     (cond b (joined moment x (row_view e) ∷ row_views es) (row_view e ∷ rows_with wait moment x (row_views es)) ≡ set (row_view e ∷ row_views es) (cond (not b) (1 + n) 0) (joined moment x r))
-        × (cond b (late_of moment x (row_view e)) (late_with moment x (row_views es)) ≡ late_of moment x r)
+    × (cond b (late_of moment x (row_view e)) (late_with moment x (row_views es)) ≡ late_of moment x r)
 at_by wait moment x e es r n true ih at =
     let same : row_view e ≡ r = ap (λ (o : Option RowData). elim o as (λ _. RowData) [ None ↦ r | Some p ↦ p ]) at in
     (ap (λ (q : RowData). joined moment x q ∷ row_views es) same, ap (late_of moment x) same)
@@ -133,7 +133,7 @@ end_by : (wait moment : ℕ) (x : Arrival) (e : List ℕ × Row) (es : List (Lis
     (length (keys_of es) ≤ n → (rows_with wait moment x (row_views es) ≡ row_views es ++ record { trace = trace_of x; due = moment + wait; spans = x ∷ [] } ∷ []) × (late_with moment x (row_views es) ≡ [])) →
     1 + length (keys_of es) ≤ cond (not b) (1 + n) 0 →
     (cond b (joined moment x (row_view e) ∷ row_views es) (row_view e ∷ rows_with wait moment x (row_views es)) ≡ row_view e ∷ (row_views es ++ record { trace = trace_of x; due = moment + wait; spans = x ∷ [] } ∷ []))
-        × (cond b (late_of moment x (row_view e)) (late_with moment x (row_views es)) ≡ [])
+    × (cond b (late_of moment x (row_view e)) (late_with moment x (row_views es)) ≡ [])
 end_by wait moment x e es n true ih all = absurd (omega arith)
 end_by wait moment x e es n false ih all =
     let rest = ih (omega arith) in
@@ -163,8 +163,8 @@ missing p ks e = missing_by (position_or_len p ks) (length ks) (ltb (position_or
 abbrev pub JoinedAt : ℕ → ℕ → Span → List (List ℕ × Row) → ℕ → Row → Bool → Type 0
 JoinedAt wait moment span es i w b =
     (row_views (set_value_at es i w) ≡ rows_with wait moment (arrival_view span) (row_views es))
-        × (late_with moment (arrival_view span) (row_views es) ≡ cond b [] (record { moment = moment; spans = arrival_view span ∷ [] } ∷ []))
-        × (cond b (shortened i (row_views (set_value_at es i w))) (row_views (set_value_at es i w)) ≡ row_views es)
+    × (late_with moment (arrival_view span) (row_views es) ≡ cond b [] (record { moment = moment; spans = arrival_view span ∷ [] } ∷ []))
+    × (cond b (shortened i (row_views (set_value_at es i w))) (row_views (set_value_at es i w)) ≡ row_views es)
 
 joined_by : (wait moment : ℕ) (span : Span) (es : List (List ℕ × Row)) (i : ℕ) (v w : Row) (b : Bool) (at : RowAt es i v) →
     (rows_with wait moment (arrival_view span) (row_views es) ≡ set (row_views es) i (joined moment (arrival_view span) (row_view (at.trace, v)))) → (late_with moment (arrival_view span) (row_views es) ≡ late_of moment (arrival_view span) (row_view (at.trace, v))) →
@@ -184,7 +184,7 @@ joined_by wait moment span es i v w false at with late test due spans =
     let join : joined moment x (row_view (at.trace, v)) ≡ row_view (at.trace, v) = rw test refl in
     let one : late_of moment x (row_view (at.trace, v)) ≡ record { moment = moment; spans = x ∷ [] } ∷ [] = rw test refl in
     let kept : row_views (set_value_at es i w) ≡ row_views es =
-        set_row es i at.trace v w at.entry ∙ (ap (set (row_views es) i) (cc (due, ap arrival_views spans)) ∙ set_same (row_views es) i (row_view (at.trace, v)) at.view) in
+    set_row es i at.trace v w at.entry ∙ (ap (set (row_views es) i) (cc (due, ap arrival_views spans)) ∙ set_same (row_views es) i (row_view (at.trace, v)) at.view) in
     let same : rows_with wait moment x (row_views es) ≡ row_views es = with ∙ (ap (set (row_views es) i) join ∙ set_same (row_views es) i (row_view (at.trace, v)) at.view) in
     (kept ∙ sym same, late ∙ one, kept)
 
@@ -219,7 +219,7 @@ opened_at wait moment span es new w found is due spans =
     let parts = rows_with-end wait moment x es past in
     let row : row_view (span.trace_id, w) ≡ record { trace = trace_of x; due = moment + wait; spans = x ∷ [] } = cc (due, ap arrival_views spans) in
     let added : row_views new ≡ row_views es ++ record { trace = trace_of x; due = moment + wait; spans = x ∷ [] } ∷ [] =
-        ap row_views (is ∙ insert_entry-end span.trace_id w es past) ∙ (map-append row_view es ((span.trace_id, w) ∷ []) ∙ ap (λ (r : RowData). row_views es ++ r ∷ []) row) in
+    ap row_views (is ∙ insert_entry-end span.trace_id w es past) ∙ (map-append row_view es ((span.trace_id, w) ∷ []) ∙ ap (λ (r : RowData). row_views es ++ r ∷ []) row) in
     (added ∙ sym parts.0, parts.1, ap but_last added ∙ but_last-push (row_views es) _)
 
 -- several additions, and one more

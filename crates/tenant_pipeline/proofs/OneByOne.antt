@@ -71,9 +71,9 @@ ran_enough zero e s few = ran_none 1 e s (past (is_due (next_timer s) e) refl)
     past false is = is
 ran_enough (suc k) e s few = enough_by (is_due (next_timer s) e) k e s refl
     (λ now. let is = one_run_is s e now in
-        let count : (one_run s).decided ≡ s.decided + 1 = is.0 in
-        let same : length (one_run s).rows ≡ length s.rows = is.1 in
-        ran_enough k e (one_run s) (omega arith))
+    let count : (one_run s).decided ≡ s.decided + 1 = is.0 in
+    let same : length (one_run s).rows ≡ length s.rows = is.1 in
+    ran_enough k e (one_run s) (omega arith))
 
 -- where a timer is due, running it first leaves as much to run
 pub ran_next : (e : ℕ) (s : State) → is_due (next_timer s) e ≡ true → ran (length s.rows) e (one_run s) ≡ ran (length s.rows) e s
@@ -280,7 +280,7 @@ ran_all wait tickets clock d e (suc n) done (r ∷ rest) queue from rising fits 
 -- all timers of the rows that are kept at a moment
 pub ran_kept : (w : SectionData) (d e n : ℕ) (N : List Seated) (R : List Opened) (queue : List GroupData) → OpenedBy d R →
     set_to e (ran (length (kept_rows w d N R)) e (record { wait = w.decision_wait; clock = d; rows = kept_rows w d N R; decided = decided_count w d R; queue = queue; tickets = n }))
-        ≡ record { wait = w.decision_wait; clock = e; rows = cleared d e (kept_rows w d N R); decided = decided_count w d R + length (fired d e (kept_rows w d N R)); queue = queue ++ fired d e (kept_rows w d N R); tickets = n }
+    ≡ record { wait = w.decision_wait; clock = e; rows = cleared d e (kept_rows w d N R); decided = decided_count w d R + length (fired d e (kept_rows w d N R)); queue = queue ++ fired d e (kept_rows w d N R); tickets = n }
 ran_kept w d e n N R queue by =
     let rows = kept_rows w d N R in
     let rising = Rising-kept w d d N R by in

@@ -12,3 +12,4 @@ pub mod Law
 pub mod View
 pub mod Prepared
 pub mod Bounds
+pub mod Examples

@@ -10,9 +10,9 @@ ghost use Rattle.tenant_pipeline.specs.Ready.{lesser, next_job, ready};
 ghost use Rattle.tenant_pipeline.specs.View.{group_views};
 ghost use Rattle.tenant_pipeline.specs.declared.told.Told.TheVariants as tell;
 
+use crate::body::Prepared;
 use crate::export::export;
 use crate::place::place_all;
-use crate::body::Prepared;
 use crate::rows::{Group, Rows, decide_at};
 use crate::told::{Reply, Told};
 use indexmap::IndexMap;
@@ -48,12 +48,12 @@ impl Model for Pipeline {
     ghost Value = { State };
 
     ghost view = { λ p. record {
-        wait = p.wait;
-        clock = p.clock;
-        rows = row_views p.rows.entries;
-        decided = p.decided;
-        queue = group_views p.queue.items;
-        tickets = p.tickets;
+      wait = p.wait;
+      clock = p.clock;
+      rows = row_views p.rows.entries;
+      decided = p.decided;
+      queue = group_views p.queue.items;
+      tickets = p.tickets;
     } };
 
     ghost invariant = { λ p. IsBounded p.wait p.clock p.tickets };
@@ -114,10 +114,7 @@ impl Pipeline {
     pub fn ready(&self) -> Option<u64>
         ensures { result ≡ ready self.now }
     {
-        lesser(
-            self.next_timer(),
-            next_job(&self.queue, self.tickets),
-        )
+        lesser(self.next_timer(), next_job(&self.queue, self.tickets))
     }
 
     /// When a step of this moment takes effect.

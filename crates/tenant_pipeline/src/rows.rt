@@ -29,11 +29,7 @@ pub struct Group {
 }
 
 /// Decides a row: its spans become a group.
-fn decide(
-    alloc: Global,
-    row: &mut Row,
-    queue: &mut VecDeque<Group>,
-) -> Result<(), AllocError>
+fn decide(alloc: Global, row: &mut Row, queue: &mut VecDeque<Group>) -> Result<(), AllocError>
     ensures due { row.new.due ≡ row.old.due }
     ensures spans { OnOk result (row.new.spans.items ≡ []) }
     ensures queue { OnOk result (group_views queue.new.items ≡ group_views queue.old.items ++ record { moment = row.old.due; spans = arrival_views row.old.spans.items } ∷ []) }

@@ -25,7 +25,7 @@ loop-scope-preserved c =
     let count : into_iter_len c.next.new.self + 1 ≡ into_iter_len c.loop-scope.scope-iterator = c.in-Some.ensures.steps.1 in
     let before = ap (λ xs. arrival_views c.loop-scope.spans.items ++ flat_map arrivals_of_scope (map scope_spans_view xs)) (sym step) ∙ c.loop-scope.invariant.whole in
     let added : arrival_views c.append.new.self.items ≡ arrival_views c.loop-scope.spans.items ++ arrival_views scope.spans =
-        ap arrival_views (c.in_ok-append.ensures.items ∙ ap (λ xs. c.loop-scope.spans.items ++ xs) c.into_vec.ensures) ∙ map-append arrival_view c.loop-scope.spans.items scope.spans in
+    ap arrival_views (c.in_ok-append.ensures.items ∙ ap (λ xs. c.loop-scope.spans.items ++ xs) c.into_vec.ensures) ∙ map-append arrival_view c.loop-scope.spans.items scope.spans in
     record {
       whole = next_taken arrivals_of_scope (arrival_views c.loop-scope.spans.items) (arrival_views scope.spans) (arrival_views c.append.new.self.items) _ (scope_spans_view scope) (map scope_spans_view rest) added (sym (arrivals_are scope.spans)) before;
       len = omega (arith, ap length step, c.loop-scope.invariant.len);

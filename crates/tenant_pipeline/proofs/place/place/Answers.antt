@@ -17,7 +17,7 @@ returns-then-joined-clause-rows c =
     let es = c.args.rows.now.entries in
     let found : position (is_same c.args.span.trace_id) (keys_of es) ≡ Some c.in-Some.place = ap (λ k. position (is_same k) (keys_of es)) (sym c.trace_key-key.ensures) ∙ sym c.in-Some.ensures.index in
     let three : JoinedAt c.args.wait c.args.moment c.args.span es c.in-Some.place c.join.new.row c.in_ok-joined-in-Some.joined =
-        joined_at c.args.wait c.args.moment c.args.span es c.in-Some.place c.index_mut.result.now c.join.new.row c.in_ok-joined-in-Some.joined found c.index_mut.ensures.value c.in_ok-joined-in-Some.ensures.joined c.join.ensures.due c.in_ok-joined-in-Some.ensures.row in
+    joined_at c.args.wait c.args.moment c.args.span es c.in-Some.place c.index_mut.result.now c.join.new.row c.in_ok-joined-in-Some.joined found c.index_mut.ensures.value c.in_ok-joined-in-Some.ensures.joined c.join.ensures.due c.in_ok-joined-in-Some.ensures.row in
     three.0
 
 pub returns-then-joined-clause-queue : goal.returns-then-joined-clause-queue
@@ -25,7 +25,7 @@ returns-then-joined-clause-queue c =
     let es = c.args.rows.now.entries in
     let found : position (is_same c.args.span.trace_id) (keys_of es) ≡ Some c.in-Some.place = ap (λ k. position (is_same k) (keys_of es)) (sym c.trace_key-key.ensures) ∙ sym c.in-Some.ensures.index in
     let three : JoinedAt c.args.wait c.args.moment c.args.span es c.in-Some.place c.join.new.row c.in_ok-joined-in-Some.joined =
-        joined_at c.args.wait c.args.moment c.args.span es c.in-Some.place c.index_mut.result.now c.join.new.row c.in_ok-joined-in-Some.joined found c.index_mut.ensures.value c.in_ok-joined-in-Some.ensures.joined c.join.ensures.due c.in_ok-joined-in-Some.ensures.row in
+    joined_at c.args.wait c.args.moment c.args.span es c.in-Some.place c.index_mut.result.now c.join.new.row c.in_ok-joined-in-Some.joined found c.index_mut.ensures.value c.in_ok-joined-in-Some.ensures.joined c.join.ensures.due c.in_ok-joined-in-Some.ensures.row in
     c.in_ok-joined-in-Some.ensures.queue ∙ ap (λ gs. group_views c.args.queue.now.items ++ gs) (sym three.1)
 
 pub returns-then-joined-clause-rows_back : goal.returns-then-joined-clause-rows_back
@@ -33,7 +33,7 @@ returns-then-joined-clause-rows_back c =
     let es = c.args.rows.now.entries in
     let found : position (is_same c.args.span.trace_id) (keys_of es) ≡ Some c.in-Some.place = ap (λ k. position (is_same k) (keys_of es)) (sym c.trace_key-key.ensures) ∙ sym c.in-Some.ensures.index in
     let three : JoinedAt c.args.wait c.args.moment c.args.span es c.in-Some.place c.join.new.row c.in_ok-joined-in-Some.joined =
-        joined_at c.args.wait c.args.moment c.args.span es c.in-Some.place c.index_mut.result.now c.join.new.row c.in_ok-joined-in-Some.joined found c.index_mut.ensures.value c.in_ok-joined-in-Some.ensures.joined c.join.ensures.due c.in_ok-joined-in-Some.ensures.row in
+    joined_at c.args.wait c.args.moment c.args.span es c.in-Some.place c.index_mut.result.now c.join.new.row c.in_ok-joined-in-Some.joined found c.index_mut.ensures.value c.in_ok-joined-in-Some.ensures.joined c.join.ensures.due c.in_ok-joined-in-Some.ensures.row in
     rw c.if-joined.true at three.2
 
 pub returns-else-joined-clause-rows : goal.returns-else-joined-clause-rows
@@ -41,7 +41,7 @@ returns-else-joined-clause-rows c =
     let es = c.args.rows.now.entries in
     let found : position (is_same c.args.span.trace_id) (keys_of es) ≡ Some c.in-Some.place = ap (λ k. position (is_same k) (keys_of es)) (sym c.trace_key-key.ensures) ∙ sym c.in-Some.ensures.index in
     let three : JoinedAt c.args.wait c.args.moment c.args.span es c.in-Some.place c.join.new.row c.in_ok-joined-in-Some.joined =
-        joined_at c.args.wait c.args.moment c.args.span es c.in-Some.place c.index_mut.result.now c.join.new.row c.in_ok-joined-in-Some.joined found c.index_mut.ensures.value c.in_ok-joined-in-Some.ensures.joined c.join.ensures.due c.in_ok-joined-in-Some.ensures.row in
+    joined_at c.args.wait c.args.moment c.args.span es c.in-Some.place c.index_mut.result.now c.join.new.row c.in_ok-joined-in-Some.joined found c.index_mut.ensures.value c.in_ok-joined-in-Some.ensures.joined c.join.ensures.due c.in_ok-joined-in-Some.ensures.row in
     three.0
 
 pub returns-else-joined-clause-queue : goal.returns-else-joined-clause-queue
@@ -49,7 +49,7 @@ returns-else-joined-clause-queue c =
     let es = c.args.rows.now.entries in
     let found : position (is_same c.args.span.trace_id) (keys_of es) ≡ Some c.in-Some.place = ap (λ k. position (is_same k) (keys_of es)) (sym c.trace_key-key.ensures) ∙ sym c.in-Some.ensures.index in
     let three : JoinedAt c.args.wait c.args.moment c.args.span es c.in-Some.place c.join.new.row c.in_ok-joined-in-Some.joined =
-        joined_at c.args.wait c.args.moment c.args.span es c.in-Some.place c.index_mut.result.now c.join.new.row c.in_ok-joined-in-Some.joined found c.index_mut.ensures.value c.in_ok-joined-in-Some.ensures.joined c.join.ensures.due c.in_ok-joined-in-Some.ensures.row in
+    joined_at c.args.wait c.args.moment c.args.span es c.in-Some.place c.index_mut.result.now c.join.new.row c.in_ok-joined-in-Some.joined found c.index_mut.ensures.value c.in_ok-joined-in-Some.ensures.joined c.join.ensures.due c.in_ok-joined-in-Some.ensures.row in
     c.in_ok-joined-in-Some.ensures.queue ∙ ap (λ gs. group_views c.args.queue.now.items ++ gs) (sym three.1)
 
 pub returns-else-joined-clause-rows_back : goal.returns-else-joined-clause-rows_back
@@ -57,7 +57,7 @@ returns-else-joined-clause-rows_back c =
     let es = c.args.rows.now.entries in
     let found : position (is_same c.args.span.trace_id) (keys_of es) ≡ Some c.in-Some.place = ap (λ k. position (is_same k) (keys_of es)) (sym c.trace_key-key.ensures) ∙ sym c.in-Some.ensures.index in
     let three : JoinedAt c.args.wait c.args.moment c.args.span es c.in-Some.place c.join.new.row c.in_ok-joined-in-Some.joined =
-        joined_at c.args.wait c.args.moment c.args.span es c.in-Some.place c.index_mut.result.now c.join.new.row c.in_ok-joined-in-Some.joined found c.index_mut.ensures.value c.in_ok-joined-in-Some.ensures.joined c.join.ensures.due c.in_ok-joined-in-Some.ensures.row in
+    joined_at c.args.wait c.args.moment c.args.span es c.in-Some.place c.index_mut.result.now c.join.new.row c.in_ok-joined-in-Some.joined found c.index_mut.ensures.value c.in_ok-joined-in-Some.ensures.joined c.join.ensures.due c.in_ok-joined-in-Some.ensures.row in
     rw c.if-joined.false at three.2
 
 pub returns-in_ok-insert-in-None-clause-rows : goal.returns-in_ok-insert-in-None-clause-rows
@@ -67,7 +67,7 @@ returns-in_ok-insert-in-None-clause-rows c =
     let found : position (is_same c.args.span.trace_id) (keys_of es) ≡ None = ap (λ k. position (is_same k) (keys_of es)) (sym key) ∙ sym c.in-None.ensures.index in
     let w : Row = record { due = c.args.moment + c.args.wait; spans = c.in_ok-spans-in-None.spans } in
     let three : OpenedAt c.args.wait c.args.moment c.args.span es c.insert.new.self.entries =
-        opened_at c.args.wait c.args.moment c.args.span es c.insert.new.self.entries w found (c.in_ok-insert-in-None.ensures.entries ∙ ap (λ k. insert_entry is_same es k w) key) refl c.in_ok-spans-in-None.ensures in
+    opened_at c.args.wait c.args.moment c.args.span es c.insert.new.self.entries w found (c.in_ok-insert-in-None.ensures.entries ∙ ap (λ k. insert_entry is_same es k w) key) refl c.in_ok-spans-in-None.ensures in
     three.0
 
 pub returns-in_ok-insert-in-None-clause-queue : goal.returns-in_ok-insert-in-None-clause-queue
@@ -77,7 +77,7 @@ returns-in_ok-insert-in-None-clause-queue c =
     let found : position (is_same c.args.span.trace_id) (keys_of es) ≡ None = ap (λ k. position (is_same k) (keys_of es)) (sym key) ∙ sym c.in-None.ensures.index in
     let w : Row = record { due = c.args.moment + c.args.wait; spans = c.in_ok-spans-in-None.spans } in
     let three : OpenedAt c.args.wait c.args.moment c.args.span es c.insert.new.self.entries =
-        opened_at c.args.wait c.args.moment c.args.span es c.insert.new.self.entries w found (c.in_ok-insert-in-None.ensures.entries ∙ ap (λ k. insert_entry is_same es k w) key) refl c.in_ok-spans-in-None.ensures in
+    opened_at c.args.wait c.args.moment c.args.span es c.insert.new.self.entries w found (c.in_ok-insert-in-None.ensures.entries ∙ ap (λ k. insert_entry is_same es k w) key) refl c.in_ok-spans-in-None.ensures in
     sym (append-nil (group_views c.args.queue.now.items)) ∙ ap (λ gs. group_views c.args.queue.now.items ++ gs) (sym three.1)
 
 pub returns-in_ok-insert-in-None-clause-rows_back : goal.returns-in_ok-insert-in-None-clause-rows_back
@@ -87,5 +87,5 @@ returns-in_ok-insert-in-None-clause-rows_back c =
     let found : position (is_same c.args.span.trace_id) (keys_of es) ≡ None = ap (λ k. position (is_same k) (keys_of es)) (sym key) ∙ sym c.in-None.ensures.index in
     let w : Row = record { due = c.args.moment + c.args.wait; spans = c.in_ok-spans-in-None.spans } in
     let three : OpenedAt c.args.wait c.args.moment c.args.span es c.insert.new.self.entries =
-        opened_at c.args.wait c.args.moment c.args.span es c.insert.new.self.entries w found (c.in_ok-insert-in-None.ensures.entries ∙ ap (λ k. insert_entry is_same es k w) key) refl c.in_ok-spans-in-None.ensures in
+    opened_at c.args.wait c.args.moment c.args.span es c.insert.new.self.entries w found (c.in_ok-insert-in-None.ensures.entries ∙ ap (λ k. insert_entry is_same es k w) key) refl c.in_ok-spans-in-None.ensures in
     three.2

@@ -24,9 +24,9 @@ returns-clause-ok c =
     let queued = group_views c.self.inside.queue.items in
     let posted = arrival_views c.spans.result.now in
     let rows : row_views c.place_all.new.rows.entries ≡ rows_with_all w e (valid c.args.prepared.now.arrivals) before =
-        c.in_ok-place_all.ensures.rows ∙ (ap (λ m. rows_with_all w m (valid posted) before) at ∙ ap (λ xs. rows_with_all w e (valid xs) before) c.spans.ensures) in
+    c.in_ok-place_all.ensures.rows ∙ (ap (λ m. rows_with_all w m (valid posted) before) at ∙ ap (λ xs. rows_with_all w e (valid xs) before) c.spans.ensures) in
     let queue : group_views c.place_all.new.queue.items ≡ queued ++ late_with_all w e (valid c.args.prepared.now.arrivals) before =
-        c.in_ok-place_all.ensures.queue ∙ (ap (λ m. queued ++ late_with_all w m (valid posted) before) at ∙ ap (λ xs. queued ++ late_with_all w e (valid xs) before) c.spans.ensures) in
+    c.in_ok-place_all.ensures.queue ∙ (ap (λ m. queued ++ late_with_all w m (valid posted) before) at ∙ ap (λ xs. queued ++ late_with_all w e (valid xs) before) c.spans.ensures) in
     let kept : State = record { wait = w; clock = 0; rows = row_views c.place_all.new.rows.entries; decided = c.self.inside.decided; queue = group_views c.place_all.new.queue.items; tickets = c.self.inside.tickets } in
     let new = ap (λ m. set_to m kept) at ∙ post_by e (valid c.args.prepared.now.arrivals) (the_view c.self.inside) _ _ _ now rows queue in
     let said = ap (λ body. tell.Reply (record { status = 200; body = body })) c.new.ensures in
