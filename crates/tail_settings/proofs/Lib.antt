@@ -1,0 +1,4 @@
+pub mod Arrays
+pub mod Rules
+pub mod Tenants
+pub mod Told

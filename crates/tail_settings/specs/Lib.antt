@@ -1,0 +1,4 @@
+pub mod Fault
+pub mod Keys
+pub mod Section
+pub mod Settings
