@@ -12,34 +12,47 @@ use Rattle.tenant_shard.specs.declared.step.Outcome.{Outcome}
 use Rattle.tenant_shard.specs.View.{View}
 use Rattle.tenant_shard.specs.Lists.{Lists, ShardStands}
 use Rattle.tenant_shard.specs.Outcomes.{named, told_whom, is_tenant, is_own, own_step}
-use Rattle.tenant_shard.specs.Run.{IsAnswered, IsTurned, IsOutcome, OthersStay, after, after_all, Run, ShardSteps, ShardRuns}
+use Rattle.tenant_shard.specs.Run.{IsAnswered, IsTurned, IsOutcome, AllKnown, OthersStay, after, after_all, Run, RunFrom, ShardSteps, ShardRuns}
 use Rattle.tenant_shard.specs.Alone.{alone, own_steps, told_to, EachAlone, OwnStepsDecide}
 use Rattle.tenant_shard.specs.Refusal.{ShardRefuses}
 use Rattle.tenant_shard.specs.Stop.{IsStopped}
-use Rattle.tenant_shard.proofs.Runs.{told_whom-named}
+use Rattle.tenant_shard.proofs.Runs.{told_whom-named, IsOutcome-unseen}
 
 -- one step more at the end
-after_all-push : (ss : List Step) (os : List Outcome) (s : Step) (o : Outcome) (lists : Lists) (old new : List View) → Run lists old ss os new → after_all (ss ++ s ∷ []) (os ++ o ∷ []) lists ≡ after s o (after_all ss os lists)
+after_all-push : (ss : List Step) (os : List Outcome) (s : Step) (o : Outcome) (lists : Lists) (old new : List View) → RunFrom lists old ss os new → after_all (ss ++ s ∷ []) (os ++ o ∷ []) lists ≡ after s o (after_all ss os lists)
 after_all-push [] [] s o lists old new run = refl
 after_all-push [] (o' ∷ os) s o lists old new run = absurd run
 after_all-push (s' ∷ ss) [] s o lists old new run = absurd run
 after_all-push (s' ∷ ss) (o' ∷ os) s o lists old new run = after_all-push ss os s o (after s' o' lists) run.1 new run.3
 
-pub Run-push : (ss : List Step) (os : List Outcome) (s : Step) (o : Outcome) (lists : Lists) (old middle new : List View) → Run lists old ss os middle → IsOutcome (after_all ss os lists) middle s o → OthersStay o middle new →
-    Run lists old (ss ++ s ∷ []) (os ++ o ∷ []) new
-Run-push [] [] s o lists old middle new run is others = (rw run at is, new, rw run at others, refl)
-Run-push [] (o' ∷ os) s o lists old middle new run is others = absurd run
-Run-push (s' ∷ ss) [] s o lists old middle new run is others = absurd run
-Run-push (s' ∷ ss) (o' ∷ os) s o lists old middle new run is others = (run.0, run.1, run.2, Run-push ss os s o (after s' o' lists) run.1 middle new run.3 is others)
+pub RunFrom-push : (ss : List Step) (os : List Outcome) (s : Step) (o : Outcome) (lists : Lists) (old middle new : List View) → RunFrom lists old ss os middle → IsOutcome (after_all ss os lists) middle s o → OthersStay o middle new →
+    RunFrom lists old (ss ++ s ∷ []) (os ++ o ∷ []) new
+RunFrom-push [] [] s o lists old middle new run is others = (rw run at is, new, rw run at others, refl)
+RunFrom-push [] (o' ∷ os) s o lists old middle new run is others = absurd run
+RunFrom-push (s' ∷ ss) [] s o lists old middle new run is others = absurd run
+RunFrom-push (s' ∷ ss) (o' ∷ os) s o lists old middle new run is others = (run.0, run.1, run.2, RunFrom-push ss os s o (after s' o' lists) run.1 middle new run.3 is others)
+
+-- where every member's own steps are known, what is kept doesn't count
+known_run : (ss : List Step) (os : List Outcome) (lists : Lists) (old new : List View) → AllKnown lists → RunFrom lists old ss os new → Run lists ss os
+known_run [] [] lists old new all run = tt
+known_run [] (o ∷ os) lists old new all run = absurd run
+known_run (s ∷ ss) [] lists old new all run = absurd run
+known_run (s ∷ ss) (o ∷ os) lists old new all run = (IsOutcome-unseen lists old [] s o all run.0, known_run ss os (after s o lists) run.1 new all run.3)
+
+done : (ss : List Step) (old : List View) (os : List Outcome) (new : List View) → ((lists : Lists) → ShardStands lists old → RunFrom lists old ss os new × ShardStands (after_all ss os lists) new) → ShardRuns ss old os new
+done ss old os new stands = record { stands = stands; by_own_steps = λ lists before all. known_run ss os lists old new all (stands lists before).0 }
 
 pub ShardRuns-none : (views : List View) → ShardRuns [] views [] views
-ShardRuns-none views = λ lists stands. (refl, stands)
+ShardRuns-none views = done [] views [] views (λ lists stands. (refl, stands))
 
 pub ShardRuns-push : (ss : List Step) (os : List Outcome) (s : Step) (o : Outcome) (old middle new : List View) → ShardRuns ss old os middle → ShardSteps s middle o new → ShardRuns (ss ++ s ∷ []) old (os ++ o ∷ []) new
-ShardRuns-push ss os s o old middle new runs steps = λ lists stands.
-    let before = runs lists stands in
-    let next = steps.stands (after_all ss os lists) before.1 in
-    (Run-push ss os s o lists old middle new before.0 next.0 steps.others, let more : ShardStands (after_all (ss ++ s ∷ []) (os ++ o ∷ []) lists) new = rw (after_all-push ss os s o lists old middle before.0) next.1 in more)
+ShardRuns-push ss os s o old middle new runs steps = done (ss ++ s ∷ []) old (os ++ o ∷ []) new all
+  where
+    all : (lists : Lists) → ShardStands lists old → RunFrom lists old (ss ++ s ∷ []) (os ++ o ∷ []) new × ShardStands (after_all (ss ++ s ∷ []) (os ++ o ∷ []) lists) new
+    all lists stands =
+        let before = runs.stands lists stands in
+        let next = steps.stands (after_all ss os lists) before.1 in
+        (RunFrom-push ss os s o lists old middle new before.0 next.0 steps.others, rw (after_all-push ss os s o lists old middle before.0) next.1)
 
 -- an outcome names the tenant whose step it answers
 whom_answered : (t : ℕ) (section : Option SectionData) (past : List Own) (known : Bool) (step : Own) (o : Outcome) → IsAnswered t section past known step o → told_whom o ≡ Some t
@@ -72,7 +85,7 @@ tells_own t section lists views (Post now p) o member sure is holds =
     answered_known t section (lists.sections t) (lists.pasts t) (lists.known t) (own_step (Post now p)) o member sure is'
 tells_own t section lists views (Turn now) o member sure is holds = turn_tells t section lists now is.0 o member sure is.2 holds
 
-pub Run-alone : (ss : List Step) (os : List Outcome) (lists : Lists) (old new : List View) (t : ℕ) (section : SectionData) → Run lists old ss os new → lists.sections t ≡ Some section → lists.known t ≡ true →
+pub Run-alone : (ss : List Step) (os : List Outcome) (lists : Lists) (old new : List View) (t : ℕ) (section : SectionData) → RunFrom lists old ss os new → lists.sections t ≡ Some section → lists.known t ≡ true →
     told_to t os ≡ map (named t) (alone section (lists.pasts t) (own_steps t ss os))
 Run-alone [] [] lists old new t section run member sure = refl
 Run-alone [] (o ∷ os) lists old new t section run member sure = absurd run
@@ -92,7 +105,7 @@ Run-alone (s ∷ ss) (o ∷ os) lists old new t section run member sure = by_own
         rw (names, e) rest'
 
 pub each_alone : (steps : List Step) (old : List View) (outcomes : List Outcome) (new : List View) → ShardRuns steps old outcomes new → EachAlone steps old outcomes
-each_alone steps old outcomes new runs = λ lists stands t section member sure. Run-alone steps outcomes lists old new t section (runs lists stands).0 member sure
+each_alone steps old outcomes new runs = λ lists stands t section member sure. Run-alone steps outcomes lists old new t section (runs.stands lists stands).0 member sure
 
 pub own_steps_decide : OwnStepsDecide
 own_steps_decide = λ section past steps. (
@@ -124,5 +137,5 @@ stopped_at steps old middle new outcomes i step count within is runs refuses =
       each_alone = each_alone (take (length outcomes) steps) old outcomes middle runs';
       whose = Some refuses.0;
       refused = rw (count, slice_get_read steps (length steps) i step refl within is) refuses.1;
-      stands = λ lists stands. refuses.1.stands (after_all (take (length outcomes) steps) outcomes lists) (runs' lists stands).1;
+      stands = λ lists stands. refuses.1.stands (after_all (take (length outcomes) steps) outcomes lists) (runs'.stands lists stands).1;
     }

@@ -9,7 +9,7 @@ use Rattle.tenant_shard.specs.declared.step.Outcome.{Outcome}
 use Rattle.tenant_shard.specs.View.{View}
 use Rattle.tenant_shard.specs.Lists.{Lists, ShardStands}
 use Rattle.tenant_shard.specs.Outcomes.{named, own_step, told_whom, is_tenant, is_own}
-use Rattle.tenant_shard.specs.Run.{Run}
+use Rattle.tenant_shard.specs.Run.{RunFrom}
 
 -- what a pipeline alone answers to these steps, after its past
 abbrev pub alone : SectionData → List Own → List Own → List Told
@@ -39,7 +39,7 @@ pub record IsToldIn (tenant : ℕ) (section : SectionData) (past steps : List Ow
   pub all_steps : List Step
   pub outcomes : List Outcome
   pub new : List View
-  pub runs : Run lists old all_steps outcomes new
+  pub runs : RunFrom lists old all_steps outcomes new
   pub section_is : lists.sections tenant ≡ Some section
   pub is_known : lists.known tenant ≡ true
   pub past_is : lists.pasts tenant ≡ past

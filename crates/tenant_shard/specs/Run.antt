@@ -46,17 +46,32 @@ after step outcome lists = record {
   known = lists.known;
 }
 
+-- every member's own steps are known: none was refused memory
+abbrev pub AllKnown : Lists → Type 0
+AllKnown lists = (tenant : ℕ) → lists.known tenant ≡ true
+
+-- the outcome of a step where every member's own steps are known: what is kept doesn't count
+abbrev pub IsNext : Lists → Step → Outcome → Type 0
+IsNext lists step outcome = IsOutcome lists [] step outcome
+
+-- the outcomes of a list of steps where every member's own steps are known
+abbrev pub Run : Lists → List Step → List Outcome → Type 0
+Run lists [] [] = Unit
+Run lists (step ∷ steps) (outcome ∷ outcomes) = IsNext lists step outcome × Run (after step outcome lists) steps outcomes
+Run lists [] (outcome ∷ outcomes) = ⊥
+Run lists (step ∷ steps) [] = ⊥
+
 -- what is kept of every tenant but the named one stays
 abbrev pub OthersStay : Outcome → List View → List View → Type 0
 OthersStay outcome old new = (other : ℕ) → told_whom outcome ≢ Some other → kept_of other new ≡ kept_of other old
 
--- the outcomes of a list of steps, from what is kept before to what is kept afterwards
-abbrev pub Run : Lists → List View → List Step → List Outcome → List View → Type 0
-Run lists old [] [] new = new ≡ old
-Run lists old (step ∷ steps) (outcome ∷ outcomes) new =
-    IsOutcome lists old step outcome × (middle : List View) × OthersStay outcome old middle × Run (after step outcome lists) middle steps outcomes new
-Run lists old [] (outcome ∷ outcomes) new = ⊥
-Run lists old (step ∷ steps) [] new = ⊥
+-- the outcomes of a list of steps from what is kept before to what is kept afterwards, of whichever members the own steps are known
+abbrev pub RunFrom : Lists → List View → List Step → List Outcome → List View → Type 0
+RunFrom lists old [] [] new = new ≡ old
+RunFrom lists old (step ∷ steps) (outcome ∷ outcomes) new =
+    IsOutcome lists old step outcome × (middle : List View) × OthersStay outcome old middle × RunFrom (after step outcome lists) middle steps outcomes new
+RunFrom lists old [] (outcome ∷ outcomes) new = ⊥
+RunFrom lists old (step ∷ steps) [] new = ⊥
 
 -- the lists after a list of steps
 abbrev pub after_all : List Step → List Outcome → Lists → Lists
@@ -68,7 +83,9 @@ after_all (step ∷ steps) (outcome ∷ outcomes) lists = after_all steps outcom
 pub record ShardSteps (step : Step) (old : List View) (outcome : Outcome) (new : List View) : Type 0 where
   pub stands : (lists : Lists) → ShardStands lists old → IsOutcome lists old step outcome × ShardStands (after step outcome lists) new
   pub others : OthersStay outcome old new
+  pub by_own_steps : (lists : Lists) → ShardStands lists old → AllKnown lists → IsNext lists step outcome
 
 -- whatever own steps the shard stands for, the outcomes are a run from them, and it stands for them with the run's
-abbrev pub ShardRuns : List Step → List View → List Outcome → List View → Type 0
-ShardRuns steps old outcomes new = (lists : Lists) → ShardStands lists old → Run lists old steps outcomes new × ShardStands (after_all steps outcomes lists) new
+pub record ShardRuns (steps : List Step) (old : List View) (outcomes : List Outcome) (new : List View) : Type 0 where
+  pub stands : (lists : Lists) → ShardStands lists old → RunFrom lists old steps outcomes new × ShardStands (after_all steps outcomes lists) new
+  pub by_own_steps : (lists : Lists) → ShardStands lists old → AllKnown lists → Run lists steps outcomes

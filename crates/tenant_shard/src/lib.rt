@@ -19,3 +19,6 @@ pub use step::{Outcome, Step};
 pub fn own_steps_decide()
     ensures { OwnStepsDecide }
 {}
+
+#[cfg(test)]
+mod tests;
