@@ -1,0 +1,169 @@
+-- From what a step does to what is kept to what it is for all own steps that the shard stands for.
+use Rattle.std.proofs.Common.{◌≡◌, ℕ, ◌<◌, List, [], ◌∷◌, refl, sym, ap, ◌∙◌, arith, Bool, true, false, eqb, Option, Some, None, inl, inr}
+use Rattle.std.proofs.lemmas.Bool.Decides.{nat_tests}
+use Rattle.std.specs.Prelude.{option_and_then, if◌then◌else◌, ◌&&◌, is_some}
+use Rattle.tail_settings.specs.Section.{SectionData}
+use Rattle.tenant_pipeline.specs.Prepared.{PreparedData}
+use Rattle.tenant_pipeline.specs.declared.told.Told.{Told}
+use Rattle.tenant_pipeline.specs.declared.told.Told.TheVariants as told
+use Rattle.tenant_pipeline.specs.Own.{Own}
+use Rattle.tenant_pipeline.specs.Own as own
+use Rattle.tenant_pipeline.specs.State.{State, Answers, StandsFor}
+use Rattle.tenant_pipeline.specs.Ready.{ready}
+use Rattle.tenant_shard.specs.declared.step.Step.{Step}
+use Rattle.tenant_shard.specs.declared.step.Step.TheVariants.{Post, Turn}
+use Rattle.tenant_shard.specs.declared.step.Outcome.{Outcome}
+use Rattle.tenant_shard.specs.declared.step.Outcome.TheVariants.{Idle, Refused}
+use Rattle.tenant_shard.specs.View.{View, kept_of}
+use Rattle.tenant_shard.specs.Lists.{Lists, MemberStands, ShardStands}
+use Rattle.tenant_shard.specs.Outcomes.{named, told_whom, is_own, own_step}
+use Rattle.tenant_shard.specs.Pick.{ready_in, ready_after, ready_at, IsPick}
+use Rattle.tenant_shard.specs.Run.{IsAnswered, IsAnswerTo, IsOutcome, AllKnown, IsNext, OthersStay, ShardSteps, after}
+use Rattle.tenant_shard.specs.Refusal.{IsStepFor, ShardRefuses}
+use Rattle.tenant_shard.specs.Steps.{IsStepOf, IsLossOf}
+use Rattle.tenant_shard.proofs.Picks.{same_or_other}
+
+-- a member's own step
+own_answer : (t : ℕ) (section : Option SectionData) (past : List Own) (known : Bool) (kept : Option State) (step : Own) (before after : State) (said : Told) →
+    MemberStands section past known kept → kept ≡ Some before → Answers step before said after →
+    IsAnswered t section past known step (named t said) × MemberStands section (if is_some section && true then step ∷ past else past) known (Some after)
+own_answer t None past known kept step before after said stands is answers = absurd (let stands' : MemberStands None past known (Some before) = rw is at stands in stands')
+own_answer t (Some section) past true kept step before after said stands is answers =
+    let stands' : StandsFor section past before = rw is at stands in
+    let both = answers section past stands' in
+    (ap (named t) both.0, both.1)
+own_answer t (Some section) past false kept step before after said stands is answers = ((said, refl), tt)
+
+-- another's step
+other_stands : (section : Option SectionData) (past : List Own) (known : Bool) (kept : Option State) (step : Own) →
+    MemberStands section past known kept → MemberStands section (if is_some section && false then step ∷ past else past) known kept
+other_stands None past known kept step stands = stands
+other_stands (Some section) past known kept step stands = stands
+
+-- every tenant after a member's own step
+all_stand : (t : ℕ) (s : Step) (old new : List View) (outcome : Outcome) (lists : Lists) → ((u : ℕ) → is_own u s outcome ≡ eqb t u) → IsStepOf t (own_step s) old outcome new → ShardStands lists old →
+    IsAnswerTo t lists (own_step s) outcome × ShardStands (after s outcome lists) new
+all_stand t s old new outcome lists whose is stands =
+    let own = own_answer t (lists.sections t) (lists.pasts t) (lists.known t) (kept_of t old) (own_step s) is.before is.after is.said (stands t) is.change.was is.answers in (
+      rw is.outcome_is own.0,
+      λ u. elim (same_or_other t u) [
+        | inl same ↦ let test : is_own u s outcome ≡ true = whose u ∙ grind (arith, nat_tests) in rw test (rw (← same) (rw is.change.is_now own.1))
+        | inr other ↦
+            let test : is_own u s outcome ≡ false = whose u ∙ grind (arith, nat_tests) in
+            rw test (rw (is.change.others u (λ e. other (sym e))) (other_stands (lists.sections u) (lists.pasts u) (lists.known u) (kept_of u old) (own_step s) (stands u)))
+      ],
+    )
+
+pub told_whom-named : (t : ℕ) (said : Told) → told_whom (named t said) ≡ Some t
+told_whom-named t (told.Reply reply) = refl
+told_whom-named t (told.Job ticket payload) = refl
+told_whom-named t told.Worked = refl
+
+whom_told : (t : ℕ) (step : Own) (old new : List View) (outcome : Outcome) → IsStepOf t step old outcome new → told_whom outcome ≡ Some t
+whom_told t step old new outcome is = ap told_whom is.outcome_is ∙ told_whom-named t is.said
+
+others_stay : (t : ℕ) (step : Own) (old new : List View) (outcome : Outcome) → IsStepOf t step old outcome new → OthersStay outcome old new
+others_stay t step old new outcome is = λ other ne. is.change.others other (λ e. ne (whom_told t step old new outcome is ∙ ap Some (sym e)))
+
+-- the moments at which tenants are ready, by what is kept and by the own steps
+ready_same : (section : Option SectionData) (past : List Own) (known : Bool) (kept : Option State) → MemberStands section past known kept → ready_after section past known (option_and_then ready kept) ≡ option_and_then ready kept
+ready_same None past known None stands = refl
+ready_same None past known (Some kept) stands = absurd stands
+ready_same (Some section) past true None stands = absurd stands
+ready_same (Some section) past true (Some kept) stands = ap ready (sym stands)
+ready_same (Some section) past false None stands = absurd stands
+ready_same (Some section) past false (Some kept) stands = refl
+
+IsPick-same : (f g : ℕ → Option ℕ) (now : ℕ) (picked : Option ℕ) → ((t : ℕ) → g t ≡ f t) → IsPick f now picked → IsPick g now picked
+IsPick-same f g now None same is = λ t m h. is t m (sym (same t) ∙ h)
+IsPick-same f g now (Some t) same is = (is.0, same t ∙ is.1, is.2, λ u m h. is.3 u m (sym (same u) ∙ h))
+
+pick_at : (lists : Lists) (views : List View) (now : ℕ) (picked : Option ℕ) → ShardStands lists views → IsPick (ready_in views) now picked → IsPick (ready_at lists views) now picked
+pick_at lists views now picked stands is = IsPick-same (ready_in views) (ready_at lists views) now picked (λ u. ready_same (lists.sections u) (lists.pasts u) (lists.known u) (kept_of u views) (stands u)) is
+
+-- where every member's own steps are known, what is kept doesn't count
+ready_unseen : (section : Option SectionData) (past : List Own) (known : Bool) (seen seen' : Option ℕ) → known ≡ true → ready_after section past known seen ≡ ready_after section past known seen'
+ready_unseen None past known seen seen' all = refl
+ready_unseen (Some section) past true seen seen' all = refl
+ready_unseen (Some section) past false seen seen' all = absurd (cc)
+
+pub IsOutcome-unseen : (lists : Lists) (views views' : List View) (s : Step) (o : Outcome) → AllKnown lists → IsOutcome lists views s o → IsOutcome lists views' s o
+IsOutcome-unseen lists views views' (Post now prepared) o all is = is
+IsOutcome-unseen lists views views' (Turn now) o all is = (
+  is.0,
+  IsPick-same (ready_at lists views) (ready_at lists views') (own.moment_of (own.Turn now)) is.0 (λ u. ready_unseen (lists.sections u) (lists.pasts u) (lists.known u) (ready_in views' u) (ready_in views u) (all u)) is.1,
+  is.2,
+)
+
+done : (s : Step) (old : List View) (o : Outcome) (new : List View) → ((lists : Lists) → ShardStands lists old → IsOutcome lists old s o × ShardStands (after s o lists) new) → OthersStay o old new → ShardSteps s old o new
+done s old o new stands others = record { stands = stands; others = others; by_own_steps = λ lists before all. IsOutcome-unseen lists old [] s o all (stands lists before).0 }
+
+pub post_steps : (now : ℕ) (prepared : PreparedData) (old new : List View) (outcome : Outcome) → IsStepOf prepared.tenant (own_step (Post now prepared)) old outcome new → ShardSteps (Post now prepared) old outcome new
+post_steps now prepared old new outcome is = done (Post now prepared) old outcome new (λ lists stands. all_stand prepared.tenant (Post now prepared) old new outcome lists (λ u. refl) is stands) (others_stay prepared.tenant (own_step (Post now prepared)) old new outcome is)
+
+-- a tenant that is no member
+no_member : (section : Option SectionData) (past : List Own) (known : Bool) (kept : Option State) → MemberStands section past known kept → kept ≡ None → section ≡ None
+no_member None past known kept stands is = refl
+no_member (Some section) past true kept stands is = absurd (let stands' : MemberStands (Some section) past true None = rw is at stands in stands')
+no_member (Some section) past false kept stands is = absurd (let stands' : MemberStands (Some section) past false None = rw is at stands in stands')
+
+pub refused_steps : (now : ℕ) (prepared : PreparedData) (old : List View) → kept_of prepared.tenant old ≡ None → ShardSteps (Post now prepared) old (Refused prepared.tenant 22) old
+refused_steps now prepared old none = done (Post now prepared) old (Refused prepared.tenant 22) old all (λ other ne. refl)
+  where
+    all : (lists : Lists) → ShardStands lists old → IsOutcome lists old (Post now prepared) (Refused prepared.tenant 22) × ShardStands (after (Post now prepared) (Refused prepared.tenant 22) lists) old
+    all lists stands =
+        let t = prepared.tenant in
+        let section = no_member (lists.sections t) (lists.pasts t) (lists.known t) (kept_of t old) (stands t) none in (
+          rw section refl,
+          λ u. elim (same_or_other t u) [
+            | inl same ↦ rw (← same) (rw (none, section) tt)
+            | inr other ↦ let test : eqb t u ≡ false = grind (arith, nat_tests) in rw test (other_stands (lists.sections u) (lists.pasts u) (lists.known u) (kept_of u old) (own_step (Post now prepared)) (stands u))
+          ],
+        )
+
+pub turn_steps : (now t : ℕ) (old new : List View) (outcome : Outcome) → IsPick (ready_in old) (own.moment_of (own.Turn now)) (Some t) → IsStepOf t (own.Turn now) old outcome new → ShardSteps (Turn now) old outcome new
+turn_steps now t old new outcome pick is = done (Turn now) old outcome new all (others_stay t (own.Turn now) old new outcome is)
+  where
+    all : (lists : Lists) → ShardStands lists old → IsOutcome lists old (Turn now) outcome × ShardStands (after (Turn now) outcome lists) new
+    all lists stands =
+        let whom = whom_told t (own.Turn now) old new outcome is in
+        let both = all_stand t (Turn now) old new outcome lists (λ u. rw whom refl) is stands in
+        ((Some t, pick_at lists old (own.moment_of (own.Turn now)) (Some t) stands pick, both.0), both.1)
+
+pub idle_steps : (now : ℕ) (old : List View) → IsPick (ready_in old) (own.moment_of (own.Turn now)) None → ShardSteps (Turn now) old Idle old
+idle_steps now old pick = done (Turn now) old Idle old all (λ other ne. refl)
+  where
+    all : (lists : Lists) → ShardStands lists old → IsOutcome lists old (Turn now) Idle × ShardStands (after (Turn now) Idle lists) old
+    all lists stands = (
+      (None, pick_at lists old (own.moment_of (own.Turn now)) None stands pick, refl),
+      λ u. other_stands (lists.sections u) (lists.pasts u) (lists.known u) (kept_of u old) (own.Turn now) (stands u),
+    )
+
+-- no member is ready where one is
+pub not_both : (f : ℕ → Option ℕ) (now t : ℕ) → IsPick f now (Some t) → IsPick f now None → ⊥
+not_both f now t some none = let later : now < some.0 = none t some.0 some.1 in omega (arith, later, some.2)
+
+-- after a refusal
+lost_stands : (section : Option SectionData) (past : List Own) (known : Bool) (kept : Option State) (before after : State) → MemberStands section past known kept → kept ≡ Some before → MemberStands section past false (Some after)
+lost_stands None past known kept before after stands is = absurd (let stands' : MemberStands None past known (Some before) = rw is at stands in stands')
+lost_stands (Some section) past known kept before after stands is = tt
+
+pub loss_refuses : (t : ℕ) (step : Step) (old new : List View) → IsStepFor t step old → IsLossOf t (own_step step) old new → ShardRefuses step old new
+loss_refuses t step old new whose is = (
+  t,
+  record {
+    whose = whose;
+    before = is.before;
+    after = is.after;
+    was = is.change.was;
+    is_now = is.change.is_now;
+    front = is.front;
+    others = is.change.others;
+    stands = λ lists stands u. elim (same_or_other u t) [
+      | inl same ↦
+          let test : eqb u t ≡ true = grind (arith, nat_tests) in
+          rw test (rw same (rw is.change.is_now (lost_stands (lists.sections t) (lists.pasts t) (lists.known t) (kept_of t old) is.before is.after (stands t) is.change.was)))
+      | inr other ↦ let test : eqb u t ≡ false = grind (arith, nat_tests) in rw test (rw (is.change.others u other) (stands u))
+    ];
+  },
+)

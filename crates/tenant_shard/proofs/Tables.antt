@@ -1,0 +1,67 @@
+-- One more number in the list of members.
+use Rattle.std.proofs.Common.{◌≡◌, ◌≢◌, ℕ, List, [], ◌∷◌, ◌++◌, refl, sym, ◌∙◌, arith, Bool, true, false, eqb, cond, Option, Some, None, inl, inr, ◌⊎◌}
+use Rattle.std.specs.List.{list_any, insert}
+use Rattle.std.proofs.lemmas.Bool.Decides.{nat_tests}
+use Rattle.tail_settings.specs.Section.{SectionData}
+use Rattle.tail_settings.specs.Settings.{SettingsData}
+use Rattle.tenant_pipeline.specs.State.{State, StandsFor}
+use Rattle.tenant_shard.specs.declared.member.Member.{Member}
+use Rattle.tenant_shard.specs.View.{View, kept_of}
+use Rattle.tenant_shard.specs.Lists.{MemberStands, ShardStands}
+use Rattle.tenant_shard.specs.Members.{views}
+use Rattle.tenant_shard.specs.Places.{IsGapFor}
+use Rattle.tenant_shard.specs.Table.{section_at, section_of, opened}
+use Rattle.tenant_shard.proofs.Places.{kept_of-insert, kept_of-insert_other}
+use Rattle.tenant_shard.proofs.Picks.{same_or_other}
+
+any-push_other : (E : List ℕ) (t u : ℕ) → t ≢ u → list_any (λ m. eqb m u) (E ++ t ∷ []) ≡ list_any (λ m. eqb m u) E
+any-push_other [] t u other = grind (arith, nat_tests)
+any-push_other (x ∷ E) t u other = grind (arith, nat_tests, any-push_other E t u other)
+
+any-push_same : (E : List ℕ) (t : ℕ) → list_any (λ m. eqb m t) (E ++ t ∷ []) ≡ true
+any-push_same [] t = grind (arith, nat_tests)
+any-push_same (x ∷ E) t = grind (arith, nat_tests, any-push_same E t)
+
+section_of-push_other : (s : SettingsData) (E : List ℕ) (t u : ℕ) → t ≢ u → section_of s (E ++ t ∷ []) u ≡ section_of s E u
+section_of-push_other s E t u other = rw (any-push_other E t u other) refl
+
+section_of-push_same : (s : SettingsData) (E : List ℕ) (t : ℕ) → section_of s (E ++ t ∷ []) t ≡ section_at s t
+section_of-push_same s E t = rw (any-push_same E t) refl
+
+section_of-is : (s : SettingsData) (E : List ℕ) (u : ℕ) → (section_of s E u ≡ None) ⊎ (section_of s E u ≡ section_at s u)
+section_of-is s E u = by_test (list_any (λ m. eqb m u) E)
+  where
+    by_test : (b : Bool) → (cond b (section_at s u) None ≡ None) ⊎ (cond b (section_at s u) None ≡ section_at s u)
+    by_test true = inr refl
+    by_test false = inl refl
+
+pub opened_more : (s : SettingsData) (E : List ℕ) (ms : List Member) (i : ℕ) (m : Member) (section : SectionData) → section_at s m.tenant ≡ Some section → StandsFor section [] m.pipeline → IsGapFor m.tenant ms i →
+    ShardStands (opened s E) (views ms) → ShardStands (opened s (E ++ m.tenant ∷ [])) (views (insert ms i m))
+opened_more s E ms i m section found new gap stands = λ u. elim (same_or_other m.tenant u) [
+  | inl same ↦
+      let at : section_of s (E ++ m.tenant ∷ []) m.tenant ≡ Some section = section_of-push_same s E m.tenant ∙ found in
+      rw (← same) (rw (at, kept_of-insert ms i m gap) new)
+  | inr other ↦ rw (section_of-push_other s E m.tenant u other, kept_of-insert_other u ms i m gap other) (stands u)
+]
+
+pub opened_none : (s : SettingsData) (E : List ℕ) (t : ℕ) (vs : List View) → section_at s t ≡ None → kept_of t vs ≡ None → ShardStands (opened s E) vs → ShardStands (opened s (E ++ t ∷ [])) vs
+opened_none s E t vs missing none stands = λ u. elim (same_or_other t u) [
+  | inl same ↦
+      let at : section_of s (E ++ t ∷ []) t ≡ None = section_of-push_same s E t ∙ missing in
+      rw (← same) (rw (at, none) tt)
+  | inr other ↦ rw (section_of-push_other s E t u other) (stands u)
+]
+
+must_be : (section other : Option SectionData) (kept : Option State) → ¬ (kept ≡ None) → MemberStands section [] true kept → (section ≡ None) ⊎ (section ≡ other) → section ≡ other
+must_be None other None there stands (inl e) = absurd (there refl)
+must_be None other (Some kept) there stands (inl e) = absurd stands
+must_be (Some w) other kept there stands (inl e) = absurd (cc)
+must_be section other kept there stands (inr e) = e
+
+pub opened_again : (s : SettingsData) (E : List ℕ) (t : ℕ) (vs : List View) → ¬ (kept_of t vs ≡ None) → ShardStands (opened s E) vs → ShardStands (opened s (E ++ t ∷ [])) vs
+opened_again s E t vs there stands = λ u. elim (same_or_other t u) [
+  | inl same ↦
+      let is = must_be (section_of s E t) (section_at s t) (kept_of t vs) there (stands t) (section_of-is s E t) in
+      rw (← same) (rw (section_of-push_same s E t ∙ sym is) (stands t))
+  | inr other ↦ rw (section_of-push_other s E t u other) (stands u)
+]

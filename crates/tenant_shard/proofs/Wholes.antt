@@ -1,0 +1,141 @@
+-- Whole runs.
+use Rattle.std.proofs.Common.{◌≡◌, ℕ, ◌<◌, List, [], ◌∷◌, ◌++◌, length, take, get_or, refl, sym, ap, ◌∙◌, arith, Bool, true, false, eqb, Option, Some, None, map}
+use Rattle.std.proofs.lemmas.Bool.Decides.{nat_tests}
+use Rattle.std.proofs.lemmas.Option.{slice_get_read}
+use Rattle.tail_settings.specs.Section.{SectionData}
+use Rattle.tenant_pipeline.specs.Own.{Own}
+use Rattle.tenant_pipeline.specs.Own as own
+use Rattle.tenant_pipeline.specs.State.{answer}
+use Rattle.tenant_shard.specs.declared.step.Step.{Step}
+use Rattle.tenant_shard.specs.declared.step.Step.TheVariants.{Post, Turn}
+use Rattle.tenant_shard.specs.declared.step.Outcome.{Outcome}
+use Rattle.tenant_shard.specs.View.{View}
+use Rattle.tenant_shard.specs.Lists.{Lists, ShardStands}
+use Rattle.tenant_shard.specs.Outcomes.{named, told_whom, is_tenant, is_own, own_step}
+use Rattle.tenant_shard.specs.Run.{IsAnswered, IsTurned, IsOutcome, AllKnown, OthersStay, after, after_all, Run, RunFrom, ShardSteps, ShardRuns}
+use Rattle.tenant_shard.specs.Alone.{alone, own_steps, told_to, EachAlone, OwnStepsDecide}
+use Rattle.tenant_shard.specs.Refusal.{ShardRefuses}
+use Rattle.tenant_shard.specs.Stop.{IsStopped}
+use Rattle.tenant_shard.proofs.Runs.{told_whom-named, IsOutcome-unseen}
+
+-- one step more at the end
+after_all-push : (ss : List Step) (os : List Outcome) (s : Step) (o : Outcome) (lists : Lists) (old new : List View) → RunFrom lists old ss os new → after_all (ss ++ s ∷ []) (os ++ o ∷ []) lists ≡ after s o (after_all ss os lists)
+after_all-push [] [] s o lists old new run = refl
+after_all-push [] (o' ∷ os) s o lists old new run = absurd run
+after_all-push (s' ∷ ss) [] s o lists old new run = absurd run
+after_all-push (s' ∷ ss) (o' ∷ os) s o lists old new run = after_all-push ss os s o (after s' o' lists) run.1 new run.3
+
+pub RunFrom-push : (ss : List Step) (os : List Outcome) (s : Step) (o : Outcome) (lists : Lists) (old middle new : List View) → RunFrom lists old ss os middle → IsOutcome (after_all ss os lists) middle s o → OthersStay o middle new →
+    RunFrom lists old (ss ++ s ∷ []) (os ++ o ∷ []) new
+RunFrom-push [] [] s o lists old middle new run is others = (rw run at is, new, rw run at others, refl)
+RunFrom-push [] (o' ∷ os) s o lists old middle new run is others = absurd run
+RunFrom-push (s' ∷ ss) [] s o lists old middle new run is others = absurd run
+RunFrom-push (s' ∷ ss) (o' ∷ os) s o lists old middle new run is others = (run.0, run.1, run.2, RunFrom-push ss os s o (after s' o' lists) run.1 middle new run.3 is others)
+
+-- where every member's own steps are known, what is kept doesn't count
+known_run : (ss : List Step) (os : List Outcome) (lists : Lists) (old new : List View) → AllKnown lists → RunFrom lists old ss os new → Run lists ss os
+known_run [] [] lists old new all run = tt
+known_run [] (o ∷ os) lists old new all run = absurd run
+known_run (s ∷ ss) [] lists old new all run = absurd run
+known_run (s ∷ ss) (o ∷ os) lists old new all run = (IsOutcome-unseen lists old [] s o all run.0, known_run ss os (after s o lists) run.1 new all run.3)
+
+done : (ss : List Step) (old : List View) (os : List Outcome) (new : List View) → ((lists : Lists) → ShardStands lists old → RunFrom lists old ss os new × ShardStands (after_all ss os lists) new) → ShardRuns ss old os new
+done ss old os new stands = record { stands = stands; by_own_steps = λ lists before all. known_run ss os lists old new all (stands lists before).0 }
+
+pub ShardRuns-none : (views : List View) → ShardRuns [] views [] views
+ShardRuns-none views = done [] views [] views (λ lists stands. (refl, stands))
+
+pub ShardRuns-push : (ss : List Step) (os : List Outcome) (s : Step) (o : Outcome) (old middle new : List View) → ShardRuns ss old os middle → ShardSteps s middle o new → ShardRuns (ss ++ s ∷ []) old (os ++ o ∷ []) new
+ShardRuns-push ss os s o old middle new runs steps = done (ss ++ s ∷ []) old (os ++ o ∷ []) new all
+  where
+    all : (lists : Lists) → ShardStands lists old → RunFrom lists old (ss ++ s ∷ []) (os ++ o ∷ []) new × ShardStands (after_all (ss ++ s ∷ []) (os ++ o ∷ []) lists) new
+    all lists stands =
+        let before = runs.stands lists stands in
+        let next = steps.stands (after_all ss os lists) before.1 in
+        (RunFrom-push ss os s o lists old middle new before.0 next.0 steps.others, rw (after_all-push ss os s o lists old middle before.0) next.1)
+
+-- an outcome names the tenant whose step it answers
+whom_answered : (t : ℕ) (section : Option SectionData) (past : List Own) (known : Bool) (step : Own) (o : Outcome) → IsAnswered t section past known step o → told_whom o ≡ Some t
+whom_answered t None past known step o is = ap told_whom is
+whom_answered t (Some section) past true step o is = ap told_whom is ∙ told_whom-named t (answer section past step)
+whom_answered t (Some section) past false step o is = ap told_whom is.1 ∙ told_whom-named t is.0
+
+names_own : (t : ℕ) (lists : Lists) (views : List View) (s : Step) (o : Outcome) → IsOutcome lists views s o → is_tenant t (told_whom o) ≡ is_own t s o
+names_own t lists views (Post now p) o is = rw (whom_answered p.tenant (lists.sections p.tenant) (lists.pasts p.tenant) (lists.known p.tenant) (own_step (Post now p)) o is) refl
+names_own t lists views (Turn now) o is = refl
+
+-- and is what the tenant is told alone
+answered_known : (t : ℕ) (section : SectionData) (found : Option SectionData) (past : List Own) (known : Bool) (step : Own) (o : Outcome) → found ≡ Some section → known ≡ true → IsAnswered t found past known step o → o ≡ named t (answer section past step)
+answered_known t section found past known step o member sure is = let is' : IsAnswered t (Some section) past true step o = rw (member, sure) at is in is'
+
+turn_tells : (t : ℕ) (section : SectionData) (lists : Lists) (now : ℕ) (picked : Option ℕ) (o : Outcome) → lists.sections t ≡ Some section → lists.known t ≡ true → IsTurned lists now picked o → is_tenant t (told_whom o) ≡ true →
+    o ≡ named t (answer section (lists.pasts t) (own.Turn now))
+turn_tells t section lists now None o member sure is holds = let never : is_tenant t (told_whom o) ≡ false = rw is refl in absurd (cc)
+turn_tells t section lists now (Some u) o member sure is holds =
+    let whom = whom_answered u (lists.sections u) (lists.pasts u) (lists.known u) (own.Turn now) o is in
+    let test : eqb u t ≡ true = rw whom at holds in
+    let same : u ≡ t = grind (arith, nat_tests) in
+    answered_known t section (lists.sections t) (lists.pasts t) (lists.known t) (own.Turn now) o member sure (rw same at is)
+
+tells_own : (t : ℕ) (section : SectionData) (lists : Lists) (views : List View) (s : Step) (o : Outcome) → lists.sections t ≡ Some section → lists.known t ≡ true → IsOutcome lists views s o → is_own t s o ≡ true →
+    o ≡ named t (answer section (lists.pasts t) (own_step s))
+tells_own t section lists views (Post now p) o member sure is holds =
+    let same : p.tenant ≡ t = grind (arith, nat_tests) in
+    let is' : IsAnswered t (lists.sections t) (lists.pasts t) (lists.known t) (own_step (Post now p)) o = rw same at is in
+    answered_known t section (lists.sections t) (lists.pasts t) (lists.known t) (own_step (Post now p)) o member sure is'
+tells_own t section lists views (Turn now) o member sure is holds = turn_tells t section lists now is.0 o member sure is.2 holds
+
+pub Run-alone : (ss : List Step) (os : List Outcome) (lists : Lists) (old new : List View) (t : ℕ) (section : SectionData) → RunFrom lists old ss os new → lists.sections t ≡ Some section → lists.known t ≡ true →
+    told_to t os ≡ map (named t) (alone section (lists.pasts t) (own_steps t ss os))
+Run-alone [] [] lists old new t section run member sure = refl
+Run-alone [] (o ∷ os) lists old new t section run member sure = absurd run
+Run-alone (s ∷ ss) [] lists old new t section run member sure = absurd run
+Run-alone (s ∷ ss) (o ∷ os) lists old new t section run member sure = by_own (is_own t s o) refl (Run-alone ss os (after s o lists) run.1 new t section run.3 member sure)
+  where
+    by_own : (b : Bool) → is_own t s o ≡ b → told_to t os ≡ map (named t) (alone section ((after s o lists).pasts t) (own_steps t ss os)) →
+        told_to t (o ∷ os) ≡ map (named t) (alone section (lists.pasts t) (own_steps t (s ∷ ss) (o ∷ os)))
+    by_own true e rest =
+        let names : is_tenant t (told_whom o) ≡ true = names_own t lists old s o run.0 ∙ e in
+        let first = tells_own t section lists old s o member sure run.0 e in
+        let rest' : told_to t os ≡ map (named t) (alone section (own_step s ∷ lists.pasts t) (own_steps t ss os)) = rw (e, member) at rest in
+        rw (names, e) (ap (λ x. x ∷ told_to t os) first ∙ ap (λ xs. named t (answer section (lists.pasts t) (own_step s)) ∷ xs) rest')
+    by_own false e rest =
+        let names : is_tenant t (told_whom o) ≡ false = names_own t lists old s o run.0 ∙ e in
+        let rest' : told_to t os ≡ map (named t) (alone section (lists.pasts t) (own_steps t ss os)) = rw (e, member) at rest in
+        rw (names, e) rest'
+
+pub each_alone : (steps : List Step) (old : List View) (outcomes : List Outcome) (new : List View) → ShardRuns steps old outcomes new → EachAlone steps old outcomes
+each_alone steps old outcomes new runs = λ lists stands t section member sure. Run-alone steps outcomes lists old new t section (runs.stands lists stands).0 member sure
+
+pub own_steps_decide : OwnStepsDecide
+own_steps_decide = λ section past steps. (
+  alone section past steps,
+  λ t told is.
+      let told_is : told_to t is.outcomes ≡ map (named t) (alone section (is.lists.pasts t) (own_steps t is.all_steps is.outcomes)) = Run-alone is.all_steps is.outcomes is.lists is.old is.new t section is.runs is.section_is is.is_known in
+      sym is.told_is ∙ rw (is.past_is, is.steps_are) at told_is,
+)
+
+-- memory was refused before the first step
+pub stopped_at_start : (steps : List Step) (views : List View) → IsStopped steps views [] views
+stopped_at_start steps views = record {
+  middle = views;
+  runs = ShardRuns-none views;
+  each_alone = each_alone [] views [] views (ShardRuns-none views);
+  whose = None;
+  refused = (refl, refl);
+  stands = λ lists stands. stands;
+}
+
+-- memory was refused at a step
+pub stopped_at : (steps : List Step) (old middle new : List View) (outcomes : List Outcome) (i : ℕ) (step : Step) → length outcomes ≡ i → i < length steps → step ≡ get_or steps i step →
+    ShardRuns (take i steps) old outcomes middle → ShardRefuses step middle new → IsStopped steps old outcomes new
+stopped_at steps old middle new outcomes i step count within is runs refuses =
+    let runs' : ShardRuns (take (length outcomes) steps) old outcomes middle = rw count runs in
+    record {
+      middle = middle;
+      runs = runs';
+      each_alone = each_alone (take (length outcomes) steps) old outcomes middle runs';
+      whose = Some refuses.0;
+      refused = rw (count, slice_get_read steps (length steps) i step refl within is) refuses.1;
+      stands = λ lists stands. refuses.1.stands (after_all (take (length outcomes) steps) outcomes lists) (runs'.stands lists stands).1;
+    }

@@ -1,0 +1,34 @@
+use Rattle.std.proofs.Common.{◌≡◌, ◌≤◌, length, take, arith}
+use Rattle.std.proofs.lemmas.List.{take_more, take_all}
+use Rattle.tenant_shard.specs.Run.{ShardRuns}
+use Rattle.tenant_shard.proofs.Wholes.{ShardRuns-push, each_alone, stopped_at_start, stopped_at}
+use Rattle.tenant_shard.proofs.shard.Shard.run.Goals as goal
+
+pub returns-in_default-clause-stopped : goal.returns-in_default-clause-stopped
+returns-in_default-clause-stopped c = rw c.new.ensures.items (stopped_at_start c.args.steps.now c.args.self.now)
+
+pub returns-in_default-step-clause-stopped : goal.returns-in_default-step-clause-stopped
+returns-in_default-step-clause-stopped c =
+    let count : length c.loop-step.outcomes.items ≡ c.loop-step.step-index = omega (arith, c.loop-step.outcomes.ok.0, c.loop-step.invariant.count) in
+    stopped_at c.args.steps.now c.args.self.now c.loop-step.self c.step.new.self c.loop-step.outcomes.items c.loop-step.step-index c.step-item.result count c.loop-step-test.true c.step-item.is c.loop-step.invariant.runs c.in_default-step.ensures.refused
+
+pub loop-step-preserved : goal.loop-step-preserved
+loop-step-preserved c =
+    let i = c.loop-step.step-index in
+    let runs = ShardRuns-push (take i c.args.steps.now) c.loop-step.outcomes.items c.step-item.result c.in-Ok-step.outcome c.args.self.now c.loop-step.self c.step.new.self c.loop-step.invariant.runs c.in-Ok-step.ensures.ok in
+    record {
+      runs = rw (take_more c.args.steps.now i c.step-item.result c.loop-step-test.true, ← c.step-item.is, c.in-Ok-push.ensures.items) runs;
+      count = omega (arith, c.in-Ok-push.ensures.len, c.loop-step.invariant.count);
+      room = omega (arith, c.in-Ok-push.ensures.capacity, c.loop-step.invariant.room);
+    }
+
+pub returns-clause-ok : goal.returns-clause-ok
+returns-clause-ok c =
+    let all : length c.args.steps.now ≤ c.loop-step.step-index = c.loop-step-test.false in
+    rw take_all at c.loop-step.invariant.runs
+
+pub returns-clause-each_alone : goal.returns-clause-each_alone
+returns-clause-each_alone c =
+    let all : length c.args.steps.now ≤ c.loop-step.step-index = c.loop-step-test.false in
+    let runs : ShardRuns c.args.steps.now c.args.self.now c.loop-step.outcomes.items c.loop-step.self = rw take_all at c.loop-step.invariant.runs in
+    each_alone c.args.steps.now c.args.self.now c.loop-step.outcomes.items c.loop-step.self runs

@@ -1,0 +1,13 @@
+pub mod View
+pub mod Lists
+pub mod Outcomes
+pub mod Pick
+pub mod Run
+pub mod Refusal
+pub mod Alone
+pub mod Stop
+pub mod Table
+pub mod Members
+pub mod Places
+pub mod Steps
+pub mod Least

@@ -1,0 +1,31 @@
+-- Whom a turn goes to.
+use Rattle.std.specs.Prelude.{◌≡◌, ℕ, ◌<◌, ◌≤◌, ◌⊎◌, Bool, true, false, List, Option, Some, None, option_and_then}
+use Rattle.tail_settings.specs.Section.{SectionData}
+use Rattle.tenant_pipeline.specs.Own.{Own}
+use Rattle.tenant_pipeline.specs.State.{state}
+use Rattle.tenant_pipeline.specs.Ready.{ready}
+use Rattle.tenant_shard.specs.View.{View, kept_of}
+use Rattle.tenant_shard.specs.Lists.{Lists}
+
+-- when a tenant is next ready, by what is kept of it; never where it is no member
+abbrev pub ready_in : List View → ℕ → Option ℕ
+ready_in views tenant = option_and_then ready (kept_of tenant views)
+
+-- the same by its own steps, or by what is kept of it where these are not known
+abbrev pub ready_after : Option SectionData → List Own → Bool → Option ℕ → Option ℕ
+ready_after None past known seen = None
+ready_after (Some section) past true seen = ready (state section past)
+ready_after (Some section) past false seen = seen
+
+abbrev pub ready_at : Lists → List View → ℕ → Option ℕ
+ready_at lists views tenant = ready_after (lists.sections tenant) (lists.pasts tenant) (lists.known tenant) (ready_in views tenant)
+
+-- a pair of a moment and a number is not after another
+abbrev pub NotAfter : ℕ → ℕ → ℕ → ℕ → Type 0
+NotAfter moment number moment' number' = (moment < moment') ⊎ ((moment ≡ moment') × (number ≤ number'))
+
+-- by the moments at which tenants are ready, a turn goes to the one with the least (moment, number), among those ready by now
+abbrev pub IsPick : (ℕ → Option ℕ) → ℕ → Option ℕ → Type 0
+IsPick ready_when now None = (tenant moment : ℕ) → ready_when tenant ≡ Some moment → now < moment
+IsPick ready_when now (Some picked) = (least : ℕ) × (ready_when picked ≡ Some least) × (least ≤ now)
+    × ((tenant moment : ℕ) → ready_when tenant ≡ Some moment → NotAfter least picked moment tenant)

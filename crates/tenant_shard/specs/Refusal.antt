@@ -1,0 +1,39 @@
+-- What a shard is after a step was refused memory, and which steps take none.
+use Rattle.std.specs.Prelude.{◌≡◌, ◌≢◌, ℕ, false, List, Some, None, if◌then◌else◌, ◌==◌}
+use Rattle.tenant_pipeline.specs.Own as own
+use Rattle.tenant_pipeline.specs.State.{State}
+use Rattle.tenant_pipeline.specs.Timers.{IsFront, effective}
+use Rattle.tenant_shard.specs.declared.step.Step.{Step}
+use Rattle.tenant_shard.specs.declared.step.Step.TheVariants.{Post, Turn}
+use Rattle.tenant_shard.specs.View.{View, kept_of}
+use Rattle.tenant_shard.specs.Lists.{Lists, ShardStands}
+use Rattle.tenant_shard.specs.Outcomes.{own_step}
+use Rattle.tenant_shard.specs.Pick.{ready_in, IsPick}
+
+-- whose step it is: the tenant's that it names, for a turn the one's whom it goes to
+abbrev pub IsStepFor : ℕ → Step → List View → Type 0
+IsStepFor tenant (Post now prepared) views = prepared.tenant ≡ tenant
+IsStepFor tenant (Turn now) views = IsPick (ready_in views) (own.moment_of (own.Turn now)) (Some tenant)
+
+-- no member's step: a post of a tenant that is none, or a turn where no member is ready
+abbrev pub IsNobodys : Step → List View → Type 0
+IsNobodys (Post now prepared) views = kept_of prepared.tenant views ≡ None
+IsNobodys (Turn now) views = IsPick (ready_in views) (own.moment_of (own.Turn now)) None
+
+-- the lists without what is known of a tenant
+abbrev pub without : ℕ → Lists → Lists
+without tenant lists = record { sections = lists.sections; pasts = lists.pasts; known = λ other. if other == tenant then false else lists.known other }
+
+-- a member's step was refused memory: of the member some first due timers have run, each at its own moment, and nothing else has changed
+pub record IsRefused (tenant : ℕ) (step : Step) (old new : List View) : Type 0 where
+  pub whose : IsStepFor tenant step old
+  pub before : State
+  pub after : State
+  pub was : kept_of tenant old ≡ Some before
+  pub is_now : kept_of tenant new ≡ Some after
+  pub front : IsFront (effective (own_step step) before) before after
+  pub others : (other : ℕ) → other ≢ tenant → kept_of other new ≡ kept_of other old
+  pub stands : (lists : Lists) → ShardStands lists old → ShardStands (without tenant lists) new
+
+abbrev pub ShardRefuses : Step → List View → List View → Type 0
+ShardRefuses step old new = (tenant : ℕ) × IsRefused tenant step old new

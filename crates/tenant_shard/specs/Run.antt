@@ -1,0 +1,91 @@
+-- What a shard answers to its steps.
+use Rattle.std.specs.Prelude.{◌≡◌, ◌≢◌, ℕ, Bool, true, false, List, [], ◌∷◌, Option, Some, None, is_some, if◌then◌else◌, ◌&&◌}
+use Rattle.tail_settings.specs.Section.{SectionData}
+use Rattle.tenant_pipeline.specs.declared.told.Told.{Told}
+use Rattle.tenant_pipeline.specs.Own.{Own}
+use Rattle.tenant_pipeline.specs.Own as own
+use Rattle.tenant_pipeline.specs.State.{answer}
+use Rattle.tenant_shard.specs.declared.step.Step.{Step}
+use Rattle.tenant_shard.specs.declared.step.Step.TheVariants.{Post, Turn}
+use Rattle.tenant_shard.specs.declared.step.Outcome.{Outcome}
+use Rattle.tenant_shard.specs.declared.step.Outcome.TheVariants.{Idle, Refused}
+use Rattle.tenant_shard.specs.View.{View, kept_of}
+use Rattle.tenant_shard.specs.Lists.{Lists, ShardStands}
+use Rattle.tenant_shard.specs.Outcomes.{named, own_step, told_whom, is_own}
+use Rattle.tenant_shard.specs.Pick.{ready_at, IsPick}
+
+-- the number of the refusal of a tenant that is no member
+abbrev pub not_member : ℕ
+not_member = 22
+
+-- the outcome of a tenant's own step: the answer of its pipeline alone to its own steps. Where these are not known, some answer
+abbrev pub IsAnswered : ℕ → Option SectionData → List Own → Bool → Own → Outcome → Type 0
+IsAnswered tenant None past known step outcome = outcome ≡ Refused tenant not_member
+IsAnswered tenant (Some section) past true step outcome = outcome ≡ named tenant (answer section past step)
+IsAnswered tenant (Some section) past false step outcome = (said : Told) × (outcome ≡ named tenant said)
+
+abbrev pub IsAnswerTo : ℕ → Lists → Own → Outcome → Type 0
+IsAnswerTo tenant lists step outcome = IsAnswered tenant (lists.sections tenant) (lists.pasts tenant) (lists.known tenant) step outcome
+
+-- the outcome of a turn, by whom it goes to
+abbrev pub IsTurned : Lists → ℕ → Option ℕ → Outcome → Type 0
+IsTurned lists now None outcome = outcome ≡ Idle
+IsTurned lists now (Some tenant) outcome = IsAnswerTo tenant lists (own.Turn now) outcome
+
+-- the outcome of a step, by the own steps before it; what is kept tells when the members are ready whose own steps are not known
+abbrev pub IsOutcome : Lists → List View → Step → Outcome → Type 0
+IsOutcome lists views (Post now prepared) outcome = IsAnswerTo prepared.tenant lists (own_step (Post now prepared)) outcome
+IsOutcome lists views (Turn now) outcome =
+    (picked : Option ℕ) × IsPick (ready_at lists views) (own.moment_of (own.Turn now)) picked × IsTurned lists now picked outcome
+
+-- the lists after one step more: it is recorded for the member whose own it is
+abbrev pub after : Step → Outcome → Lists → Lists
+after step outcome lists = record {
+  sections = lists.sections;
+  pasts = λ tenant. if is_some (lists.sections tenant) && is_own tenant step outcome then own_step step ∷ lists.pasts tenant else lists.pasts tenant;
+  known = lists.known;
+}
+
+-- every member's own steps are known: none was refused memory
+abbrev pub AllKnown : Lists → Type 0
+AllKnown lists = (tenant : ℕ) → lists.known tenant ≡ true
+
+-- the outcome of a step where every member's own steps are known: what is kept doesn't count
+abbrev pub IsNext : Lists → Step → Outcome → Type 0
+IsNext lists step outcome = IsOutcome lists [] step outcome
+
+-- the outcomes of a list of steps where every member's own steps are known
+abbrev pub Run : Lists → List Step → List Outcome → Type 0
+Run lists [] [] = Unit
+Run lists (step ∷ steps) (outcome ∷ outcomes) = IsNext lists step outcome × Run (after step outcome lists) steps outcomes
+Run lists [] (outcome ∷ outcomes) = ⊥
+Run lists (step ∷ steps) [] = ⊥
+
+-- what is kept of every tenant but the named one stays
+abbrev pub OthersStay : Outcome → List View → List View → Type 0
+OthersStay outcome old new = (other : ℕ) → told_whom outcome ≢ Some other → kept_of other new ≡ kept_of other old
+
+-- the outcomes of a list of steps from what is kept before to what is kept afterwards, of whichever members the own steps are known
+abbrev pub RunFrom : Lists → List View → List Step → List Outcome → List View → Type 0
+RunFrom lists old [] [] new = new ≡ old
+RunFrom lists old (step ∷ steps) (outcome ∷ outcomes) new =
+    IsOutcome lists old step outcome × (middle : List View) × OthersStay outcome old middle × RunFrom (after step outcome lists) middle steps outcomes new
+RunFrom lists old [] (outcome ∷ outcomes) new = ⊥
+RunFrom lists old (step ∷ steps) [] new = ⊥
+
+-- the lists after a list of steps
+abbrev pub after_all : List Step → List Outcome → Lists → Lists
+after_all [] outcomes lists = lists
+after_all (step ∷ steps) [] lists = lists
+after_all (step ∷ steps) (outcome ∷ outcomes) lists = after_all steps outcomes (after step outcome lists)
+
+-- a step was done: whatever own steps the shard stands for, the outcome is the step's, and the shard stands for them with it
+pub record ShardSteps (step : Step) (old : List View) (outcome : Outcome) (new : List View) : Type 0 where
+  pub stands : (lists : Lists) → ShardStands lists old → IsOutcome lists old step outcome × ShardStands (after step outcome lists) new
+  pub others : OthersStay outcome old new
+  pub by_own_steps : (lists : Lists) → ShardStands lists old → AllKnown lists → IsNext lists step outcome
+
+-- whatever own steps the shard stands for, the outcomes are a run from them, and it stands for them with the run's
+pub record ShardRuns (steps : List Step) (old : List View) (outcomes : List Outcome) (new : List View) : Type 0 where
+  pub stands : (lists : Lists) → ShardStands lists old → RunFrom lists old steps outcomes new × ShardStands (after_all steps outcomes lists) new
+  pub by_own_steps : (lists : Lists) → ShardStands lists old → AllKnown lists → Run lists steps outcomes

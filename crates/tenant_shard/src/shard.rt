@@ -1,0 +1,164 @@
+ghost use Rattle.std.specs.Prelude.{◌≡◌, ◌≢◌, ℕ, List, [], ◌∷◌, ◌++◌, ◌<◌, IfOk, OnOk, OnErr, IsOk, IfErr, Option, Some, None, min, length, take};
+ghost use Rattle.tail_settings.specs.Settings.{settings_view};
+ghost use Rattle.tenant_shard.specs.View.{View, AreInOrder};
+ghost use Rattle.tenant_shard.specs.Lists.{ShardStands};
+ghost use Rattle.tenant_shard.specs.Members.{views};
+ghost use Rattle.tenant_shard.specs.Run.{ShardSteps, ShardRuns};
+ghost use Rattle.tenant_shard.specs.Refusal.{ShardRefuses, IsNobodys};
+ghost use Rattle.tenant_shard.specs.Table.{opened};
+ghost use Rattle.tenant_shard.specs.declared.step.Step.TheVariants.{Post, Turn};
+
+use crate::member::{Member, place_of, post_at, turn_at};
+use crate::pick::least;
+use crate::step::{Outcome, Step};
+use std::alloc::{AllocError, Global};
+use std::marker::Model;
+use tail_settings::Settings;
+use tenant_pipeline::{Pipeline, Prepared};
+use thiserror::Error;
+
+/// A later moment is taken as this one.
+const LATEST_MOMENT: u64 = 1 << 62;
+
+/// The number of the refusal of a tenant that is no member.
+const NOT_MEMBER: u8 = 22;
+
+/// The pipelines of several tenants, each once, by number.
+#[derive(Drop)]
+pub struct Shard {
+    alloc: Global,
+    members: Vec<Member>,
+}
+
+/// Memory was refused, after these outcomes.
+#[derive(Debug, Drop, Error)]
+#[error("out of memory")]
+pub struct Stopped {
+    pub outcomes: Vec<Outcome>,
+}
+
+impl Model for Shard {
+    ghost use Rattle.std.specs.Prelude.{List};
+    ghost use Rattle.tenant_shard.specs.View.{View, AreInOrder};
+    ghost use Rattle.tenant_shard.specs.Members.{views};
+
+    ghost Value = { List View };
+
+    ghost view = { λ s. views s.members.items };
+
+    ghost invariant = { λ s. AreInOrder (views s.members.items) };
+}
+
+impl Shard {
+    ghost use Rattle.tenant_shard.specs.Alone.{EachAlone};
+    ghost use Rattle.tenant_shard.specs.Stop.{IsStopped};
+
+    /// Opens a shard of the tenant numbers of the settings that stand in `members`; it stands for no steps of theirs.
+    /// Other numbers count for nothing, and one that stands there twice counts once.
+    pub fn open(alloc: Global, settings: &Settings, members: &[u32]) -> Result<Self, AllocError>
+        ensures { IfOk result (λ shard. ShardStands (opened (settings_view settings.now) members.now) shard) }
+    {
+        let mut opened = Vec::new(alloc);
+        for tenant in members {
+            open_member(alloc, settings, &mut opened, *tenant)?;
+        }
+        Ok(Shard {
+            alloc,
+            members: opened,
+        })
+    }
+
+    /// One step. Where memory is refused, of the step's own tenant some first due timers may have run, and all else
+    /// is as before. A step that is no member's takes no memory and changes nothing.
+    pub fn step(&mut self, step: &Step) -> Result<Outcome, AllocError>
+        ensures ok { IfOk result (λ outcome. ShardSteps step.now self.old outcome self.new) }
+        ensures refused { OnErr result (ShardRefuses step.now self.old self.new) }
+        ensures nobodys { IsNobodys step.now self.old → (IsOk result) × (self.new ≡ self.old) }
+    {
+        match step {
+            Step::Post { now, prepared } => post_to(&mut self.members, *now, prepared),
+            Step::Turn { now } => turn(&mut self.members, *now),
+        }
+    }
+
+    /// The steps one after the other. Each member is told what its pipeline alone would answer.
+    pub fn run(&mut self, steps: &[Step]) -> Result<Vec<Outcome>, Stopped>
+        ensures ok { IfOk result (λ outcomes. ShardRuns steps.now self.old outcomes.items self.new) }
+        ensures each_alone { IfOk result (λ outcomes. EachAlone steps.now self.old outcomes.items) }
+        ensures stopped { IfErr result (λ stopped. IsStopped steps.now self.old stopped.outcomes.items self.new) }
+    {
+        let alloc = self.alloc;
+        let Ok(mut outcomes) = Vec::with_capacity(alloc, steps.len()) else {
+            return Err(Stopped {
+                outcomes: Vec::new(alloc),
+            });
+        };
+        for step in steps {
+            let Ok(outcome) = self.step(step) else {
+                return Err(Stopped { outcomes });
+            };
+            let Ok(()) = outcomes.push(outcome) else {
+                unreachable!()
+            };
+        }
+        Ok(outcomes)
+    }
+}
+
+/// The body goes to its tenant, where that is a member.
+fn post_to(members: &mut Vec<Member>, now: u64, prepared: &Prepared) -> Result<Outcome, AllocError>
+    requires { AreInOrder (views members.old.items) }
+    ensures ok { IfOk result (λ outcome. ShardSteps (Post now prepared.now) (views members.old.items) outcome (views members.new.items)) }
+    ensures refused { OnErr result (ShardRefuses (Post now prepared.now) (views members.old.items) (views members.new.items)) }
+    ensures nobodys { IsNobodys (Post now prepared.now) (views members.old.items) → (IsOk result) × (views members.new.items ≡ views members.old.items) }
+    ensures order { AreInOrder (views members.new.items) }
+{
+    let tenant = prepared.tenant();
+    match place_of(members, tenant) {
+        Ok(i) => {
+            let outcome = post_at(members, i, now, prepared)?;
+            Ok(outcome)
+        }
+        Err(_) => Ok(Outcome::Refused(tenant, NOT_MEMBER)),
+    }
+}
+
+/// The turn goes to the member that is ready first.
+fn turn(members: &mut Vec<Member>, now: u64) -> Result<Outcome, AllocError>
+    requires { AreInOrder (views members.old.items) }
+    ensures ok { IfOk result (λ outcome. ShardSteps (Turn now) (views members.old.items) outcome (views members.new.items)) }
+    ensures refused { OnErr result (ShardRefuses (Turn now) (views members.old.items) (views members.new.items)) }
+    ensures nobodys { IsNobodys (Turn now) (views members.old.items) → (IsOk result) × (views members.new.items ≡ views members.old.items) }
+    ensures order { AreInOrder (views members.new.items) }
+{
+    let Some((_, tenant)) = least(members, now.min(LATEST_MOMENT)) else {
+        return Ok(Outcome::Idle);
+    };
+    let Ok(i) = place_of(members, tenant) else {
+        unreachable!()
+    };
+    let outcome = turn_at(members, i, now, tenant)?;
+    Ok(outcome)
+}
+
+/// One more member, unless it is there or is no number of the table.
+fn open_member(
+    alloc: Global,
+    settings: &Settings,
+    members: &mut Vec<Member>,
+    tenant: u32,
+) -> Result<(), AllocError>
+    requires { AreInOrder (views members.old.items) }
+    ensures order { OnOk result (AreInOrder (views members.new.items)) }
+    ensures stands { OnOk result ((earlier : List ℕ) → ShardStands (opened (settings_view settings.now) earlier) (views members.old.items) → ShardStands (opened (settings_view settings.now) (earlier ++ tenant ∷ [])) (views members.new.items)) }
+{
+    let Err(at) = place_of(members, tenant) else {
+        return Ok(());
+    };
+    let Some(section) = settings.section(tenant) else {
+        return Ok(());
+    };
+    let pipeline = Pipeline::new(alloc, section);
+    members.insert(at, Member { tenant, pipeline })?;
+    Ok(())
+}
