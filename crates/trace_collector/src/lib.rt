@@ -1,0 +1,8 @@
+//! The replay of a script by shards of tenants: settings and a script come in as text, and what each step is answered goes
+//! out as text. [`replay`] promises, for every settings text and every script, what is written.
+#![tactic(auto)]
+
+mod engine;
+mod shards;
+
+pub use engine::{ReplayFault, replay};
