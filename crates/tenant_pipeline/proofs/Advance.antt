@@ -8,7 +8,7 @@ use Rattle.tenant_pipeline.specs.Rows.{Taken, Opened, Seated, opened, seated}
 use Rattle.tenant_pipeline.specs.Groups.{GroupData, on_time, decided, late, by_moment, groups}
 use Rattle.tenant_pipeline.specs.State.{RowData, kept_rows, decided_count, state_at}
 use Rattle.tenant_pipeline.specs.Machine.{advanced}
-use Rattle.tenant_pipeline.proofs.Fires.{cleared, cleared_row, fired, cleared-append, fired-append}
+use Rattle.tenant_pipeline.proofs.Fires.{cleared, fired, cleared-append, fired-append}
 use Rattle.tenant_pipeline.proofs.Order.{AllUpTo, AllFrom, Ascending, AllUpTo-append, AllUpTo_more, Ascending-push, by_moment-middle}
 use Rattle.tenant_pipeline.proofs.OneByOne.{ran_kept, decided_later_count}
 use Rattle.tenant_pipeline.proofs.Seats.{Reached, OpenedBy, OpenedBy-opened}

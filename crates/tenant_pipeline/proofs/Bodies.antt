@@ -1,8 +1,7 @@
 -- The spans of a body, and its refusal.
-use Rattle.std.proofs.Common.{◌≡◌, ℕ, List, [], ◌∷◌, ◌++◌, map, refl, sym, ap, ◌∙◌, Ok, Err, append_assoc, append-nil, length, arith}
+use Rattle.std.proofs.Common.{◌≡◌, List, [], ◌∷◌, ◌++◌, map, refl, sym, ap, ◌∙◌, Ok, append_assoc, append-nil, length, arith}
 use Rattle.std.specs.List.{flat_map}
-use Rattle.std.proofs.lemmas.List.{map-append}
-use Rattle.otlp_trace.specs.Data.{RequestData, SpanData}
+use Rattle.otlp_trace.specs.Data.{RequestData}
 use Rattle.otlp_trace.specs.View.{span_view}
 use Rattle.otlp_trace.specs.declared.message.Span.{Span}
 use Rattle.otlp_read.specs.Fault.{Fails}

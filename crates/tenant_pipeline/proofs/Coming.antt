@@ -1,14 +1,14 @@
 -- What changes as a span comes at the moment reached.
-use Rattle.std.proofs.Common.{◌≡◌, ℕ, ◌+◌, ◌<◌, ◌≤◌, List, [], ◌∷◌, ◌++◌, length, refl, sym, ap, ◌∙◌, arith, append_assoc, append-nil, length-append, Bool, true, false, leb, ltb, eqb, cond, drop, take, set, get_or, zero, suc, ◌≢◌, Some, None, Option}
+use Rattle.std.proofs.Common.{◌≡◌, ℕ, ◌+◌, ◌<◌, ◌≤◌, List, [], ◌∷◌, ◌++◌, length, refl, sym, ap, ◌∙◌, arith, append_assoc, append-nil, length-append, Bool, true, false, leb, ltb, cond, drop, Some, None, Option}
 use Rattle.std.specs.Prelude.{if◌then◌else◌, is_some}
 use Rattle.std.proofs.lemmas.Bool.Decides.{nat_tests}
-use Rattle.std.proofs.lemmas.List.{drop-append-le, take_more}
+use Rattle.std.proofs.lemmas.List.{drop-append-le}
 use Rattle.tenant_pipeline.specs.Arrivals.{Arrival}
 use Rattle.tail_settings.specs.Section.{SectionData}
 use Rattle.tenant_pipeline.specs.Rows.{Taken, Opened, Seat, Seated, opened, seated, latest, trace_of, is_same}
 use Rattle.tenant_pipeline.specs.Groups.{GroupData, on_time, decided, late, by_moment, groups}
 use Rattle.tenant_pipeline.specs.State.{RowData, kept_rows, decided_count, state_at}
-use Rattle.tenant_pipeline.specs.Machine.{rows_with, late_with, placed, joined, late_of}
+use Rattle.tenant_pipeline.specs.Machine.{rows_with, late_with, placed}
 use Rattle.tenant_pipeline.proofs.Traces.{same_is}
 use Rattle.tenant_pipeline.proofs.Order.{AllUpTo, AllUpTo-append, by_moment-push}
 use Rattle.tenant_pipeline.proofs.Seats.{Reached, SeatedUpTo, SeatedUpTo-seated, Apart, Apart-opened, latest_row}

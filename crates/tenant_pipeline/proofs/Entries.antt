@@ -1,12 +1,12 @@
 -- The rows as a map's entries.
-use Rattle.std.proofs.Common.{◌≡◌, ℕ, zero, suc, ◌+◌, ◌-◌, ◌<◌, ◌≤◌, Bool, true, false, cond, not, List, [], ◌∷◌, ◌++◌, map, length, take, set, slice_get, position, Option, Some, None, refl, sym, ap, ◌∙◌, subst, arith, ltb, append-nil, length-append, append_assoc}
-use Rattle.std.specs.Prelude.{option_map, option_to_list, is_some}
+use Rattle.std.proofs.Common.{◌≡◌, ℕ, zero, suc, ◌+◌, ◌-◌, ◌≤◌, Bool, true, false, cond, not, List, [], ◌∷◌, ◌++◌, map, length, take, set, slice_get, position, Option, Some, None, refl, sym, ap, ◌∙◌, arith, ltb, length-append, append_assoc}
+use Rattle.std.specs.Prelude.{option_map}
 use Rattle.std.specs.List.{position_or_len}
 use Rattle.std.specs.Map.{keys_of, values_of}
 use Rattle.std.proofs.lemmas.Bool.Decides.{nat_tests}
 use Rattle.std.proofs.lemmas.List.{take-map, length-map, map-append}
 use Rattle.std.proofs.Math.Seq.{take-append_seam}
-use Rattle.std.proofs.lemmas.Option.{slice_get-map, slice_get_within}
+use Rattle.std.proofs.lemmas.Option.{slice_get-map}
 use Rattle.indexmap.specs.Layout.{set_value_at}
 use Rattle.indexmap.specs.IndexMap.{insert_entry}
 use Rattle.std.proofs.lemmas.List.Elements.{filter-append}

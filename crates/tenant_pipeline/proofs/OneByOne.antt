@@ -1,5 +1,5 @@
 -- Timers that run one at a time do what the timers between two moments do to all rows at once.
-use Rattle.std.proofs.Common.{◌≡◌, ℕ, zero, suc, ◌+◌, ◌-◌, ◌<◌, ◌≤◌, List, [], ◌∷◌, ◌++◌, length, refl, sym, ap, ◌∙◌, arith, append_assoc, append-nil, length-append, Bool, true, false, leb, ltb, cond, drop, set, slice_get, Some, None, Option}
+use Rattle.std.proofs.Common.{◌≡◌, ℕ, zero, suc, ◌+◌, ◌<◌, ◌≤◌, List, [], ◌∷◌, ◌++◌, length, refl, sym, ap, ◌∙◌, arith, append_assoc, append-nil, length-append, Bool, true, false, leb, ltb, cond, set, slice_get, Some, None, Option}
 use Rattle.std.specs.Prelude.{option_map, filter, nat_le, nat_lt, min}
 use Rattle.std.proofs.lemmas.Bool.{false≢true}
 use Rattle.std.proofs.lemmas.Bool.Decides.{nat_tests}

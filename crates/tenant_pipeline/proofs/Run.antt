@@ -9,8 +9,7 @@ use Rattle.tenant_pipeline.specs.Own.{Own, Post, Turn, clock}
 use Rattle.tenant_pipeline.specs.Rows.{Taken, opened, seated, taken, taken_after}
 use Rattle.tenant_pipeline.specs.Groups.{GroupData, groups}
 use Rattle.tenant_pipeline.specs.State.{State, RowData, decided_count, kept_rows, state_at, state, answer, Answers, tickets, tickets_after, handed}
-use Rattle.tenant_pipeline.specs.Timers.{effective, next_timer, ran}
-use Rattle.tenant_pipeline.specs.Ready.{next_decision, FirstIsLeast}
+use Rattle.tenant_pipeline.specs.Ready.{FirstIsLeast}
 use Rattle.tenant_pipeline.specs.Machine.{rows_with, late_with, rows_with_all, late_with_all, advanced, placed, all_placed, set_to, left, handed_out, next, told}
 use Rattle.tenant_pipeline.proofs.Seats.{Reached, Reached_more, Reached-taken, OpenedBy-opened}
 use Rattle.tenant_pipeline.proofs.OneByOne.{first_least}

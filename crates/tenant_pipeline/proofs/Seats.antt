@@ -4,7 +4,7 @@ use Rattle.std.specs.Prelude.{is_some}
 use Rattle.std.proofs.lemmas.Bool.Decides.{nat_tests}
 use Rattle.tenant_pipeline.specs.Arrivals.{Arrival, valid}
 use Rattle.tenant_pipeline.specs.Own.{Own, Post, Turn, clock}
-use Rattle.tenant_pipeline.specs.Rows.{Taken, Opened, Seat, Seated, taken_after, taken, latest, opened, seat, seated, trace_of, is_same}
+use Rattle.tenant_pipeline.specs.Rows.{Taken, Opened, Seat, Seated, taken_after, taken, latest, opened, seat, seated, trace_of}
 
 -- the moments of what was taken never fall, and none is above e
 abbrev pub Reached : ℕ → List Taken → Type 0

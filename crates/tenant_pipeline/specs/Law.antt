@@ -1,5 +1,5 @@
 -- The state goes on by the machine's steps.
-use Rattle.std.specs.Prelude.{◌≡◌, ℕ, ◌<◌, List, ◌∷◌}
+use Rattle.std.specs.Prelude.{◌≡◌, ◌<◌, List, ◌∷◌}
 use Rattle.tail_settings.specs.Section.{SectionData}
 use Rattle.tenant_pipeline.specs.Own.{Own}
 use Rattle.tenant_pipeline.specs.State.{state, answer}

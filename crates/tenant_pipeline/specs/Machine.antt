@@ -1,5 +1,5 @@
 -- How the state goes on: what the steps of the code do to its fields.
-use Rattle.std.specs.Prelude.{ℕ, ◌+◌, Bool, List, [], ◌∷◌, ◌++◌, ◌≡◌, Some, length, set, slice_get, if◌then◌else◌, nat_lt}
+use Rattle.std.specs.Prelude.{ℕ, ◌+◌, List, [], ◌∷◌, ◌++◌, ◌≡◌, Some, length, set, slice_get, if◌then◌else◌, nat_lt}
 use Rattle.tenant_pipeline.specs.declared.told.Told.{Told}
 use Rattle.tenant_pipeline.specs.Arrivals.{Arrival, valid}
 use Rattle.tenant_pipeline.specs.Own.{Own, Post, Turn}

@@ -1,5 +1,5 @@
 -- A tenant's due timers, which run one at a time. A timer is the decision of a row at its due moment, by row number.
-use Rattle.std.specs.Prelude.{◌≡◌, ℕ, zero, suc, ◌+◌, Bool, false, max, List, [], ◌∷◌, ◌++◌, Option, Some, None, option_map, slice_get, set, if◌then◌else◌, nat_le}
+use Rattle.std.specs.Prelude.{◌≡◌, ℕ, zero, suc, ◌+◌, Bool, false, max, [], ◌∷◌, ◌++◌, Option, Some, None, option_map, slice_get, set, if◌then◌else◌, nat_le}
 use Rattle.tenant_pipeline.specs.Own.{Own, moment_of}
 use Rattle.tenant_pipeline.specs.Groups.{GroupData}
 use Rattle.tenant_pipeline.specs.State.{State, RowData}

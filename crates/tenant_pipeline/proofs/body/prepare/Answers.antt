@@ -1,4 +1,4 @@
-use Rattle.std.proofs.Common.{rules, ◌≡◌, Ok, List, Result, sym, ap, ◌∙◌}
+use Rattle.std.proofs.Common.{rules, ◌≡◌, Ok, List, Result, ap, ◌∙◌}
 use Rattle.otlp_trace.specs.Data.{RequestData}
 use Rattle.otlp_trace.specs.View.{request_view}
 use Rattle.tenant_pipeline.specs.Arrivals.{Arrival, arrivals_of}

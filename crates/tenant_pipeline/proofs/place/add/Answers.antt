@@ -1,4 +1,4 @@
-use Rattle.std.proofs.Common.{◌≡◌, ◌++◌, [], ◌∷◌, sym, ap, ◌∙◌}
+use Rattle.std.proofs.Common.{◌≡◌, ◌++◌, [], ◌∷◌, ap, ◌∙◌}
 use Rattle.tenant_pipeline.specs.Additions.{rows_without, queue_without}
 use Rattle.tenant_pipeline.specs.View.{row_views, group_views}
 use Rattle.tenant_pipeline.proofs.Entries.{rows_without-push, queue_without-push}

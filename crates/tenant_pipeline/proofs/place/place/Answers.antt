@@ -1,9 +1,9 @@
-use Rattle.std.proofs.Common.{rules, ◌≡◌, ◌++◌, [], ◌∷◌, sym, ap, ◌∙◌, Some, None, position, append-nil, ◌+◌, refl}
+use Rattle.std.proofs.Common.{rules, ◌≡◌, ◌++◌, sym, ap, ◌∙◌, Some, None, position, append-nil, ◌+◌, refl}
 use Rattle.std.specs.Map.{keys_of}
 use Rattle.indexmap.specs.IndexMap.{insert_entry}
 use Rattle.tenant_pipeline.specs.declared.rows.Row.{Row}
 use Rattle.tenant_pipeline.specs.Rows.{is_same}
-use Rattle.tenant_pipeline.specs.View.{row_views, group_views}
+use Rattle.tenant_pipeline.specs.View.{group_views}
 use Rattle.tenant_pipeline.proofs.Entries.{kept_at, JoinedAt, joined_at, OpenedAt, opened_at}
 use Rattle.tenant_pipeline.proofs.place.place.Goals as goal
 

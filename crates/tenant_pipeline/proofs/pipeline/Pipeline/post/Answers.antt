@@ -1,8 +1,8 @@
-use Rattle.std.proofs.Common.{◌≡◌, ◌<◌, max, min, length, arith, ap, ◌∙◌, sym, ◌++◌}
+use Rattle.std.proofs.Common.{◌≡◌, ◌<◌, max, min, length, arith, ap, ◌∙◌, ◌++◌}
 use Rattle.tenant_pipeline.specs.declared.told.Told.TheVariants as tell
 use Rattle.tenant_pipeline.specs.Own.{Post, latest_moment}
 use Rattle.tenant_pipeline.specs.Arrivals.{valid}
-use Rattle.tenant_pipeline.specs.State.{State, accepted}
+use Rattle.tenant_pipeline.specs.State.{State}
 use Rattle.tenant_pipeline.specs.Timers.{ran}
 use Rattle.tenant_pipeline.specs.Machine.{rows_with_all, late_with_all, set_to, next, told}
 use Rattle.tenant_pipeline.specs.contracts.pipeline.Pipeline.{the_view}

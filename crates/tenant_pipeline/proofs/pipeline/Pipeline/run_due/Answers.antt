@@ -1,7 +1,7 @@
-use Rattle.std.proofs.Common.{◌≡◌, ◌+◌, ◌<◌, length, refl, sym, ap, ◌∙◌, arith, true}
+use Rattle.std.proofs.Common.{◌≡◌, length, sym, ap, ◌∙◌, true}
 use Rattle.tenant_pipeline.specs.Timers.{is_due, next_timer, one_run, ran}
 use Rattle.tenant_pipeline.specs.State.{State}
-use Rattle.tenant_pipeline.proofs.OneByOne.{IsFront-push, one_run_is, due_within, ran_next, ran_none}
+use Rattle.tenant_pipeline.proofs.OneByOne.{IsFront-push, one_run_is, ran_next}
 use Rattle.tenant_pipeline.proofs.pipeline.Pipeline.run_due.Goals as goal
 
 pub loop-self-preserved : goal.loop-self-preserved

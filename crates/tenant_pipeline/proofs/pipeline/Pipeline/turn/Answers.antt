@@ -1,4 +1,4 @@
-use Rattle.std.proofs.Common.{◌≡◌, ◌<◌, max, min, length, arith, ap, ◌∙◌, sym}
+use Rattle.std.proofs.Common.{◌≡◌, ◌<◌, max, min, length, arith, ap, ◌∙◌}
 use Rattle.tenant_pipeline.specs.Own.{Turn, latest_moment}
 use Rattle.tenant_pipeline.specs.State.{State, handed}
 use Rattle.tenant_pipeline.specs.Timers.{ran}
