@@ -1,6 +1,5 @@
 -- The own steps that a session's shards stand for.
-use Rattle.std.specs.Prelude.{◌≡◌, ℕ, List, ◌++◌, Option, Some, length, slice_get}
-use Rattle.std.specs.List.{set}
+use Rattle.std.specs.Prelude.{◌≡◌, ℕ, List, ◌++◌, Option, Some, length, slice_get, slice_set}
 use Rattle.tail_settings.specs.Settings.{SettingsData, settings_view}
 use Rattle.tenant_pipeline.specs.Own.{Own}
 use Rattle.tenant_shard.specs.View.{View}
@@ -31,5 +30,5 @@ pub record IsDone (settings : SettingsData) (shard : ℕ) (step : Step) (old new
   pub left : List View
   pub was : slice_get old shard ≡ Some kept
   pub steps : ShardSteps step kept outcome left
-  pub is_now : new ≡ set old shard left
+  pub is_now : new ≡ slice_set old shard left
   pub text : behind ≡ before ++ outcome_text settings shard outcome

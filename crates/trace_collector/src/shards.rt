@@ -1,16 +1,11 @@
 //! The shards of all tenants, as a script's commands are done by them.
 
-ghost use Rattle.std.specs.Prelude.{◌≡◌, ℕ, ◌%◌, ◌<◌, List, [], Option, Some, None, length, slice_get, ◌++◌, IfOk, OnOk, OnErr};
-ghost use Rattle.std.specs.List.{set};
+ghost use Rattle.std.specs.Prelude.{◌≡◌, ℕ, ◌%◌, ◌<◌, List, [], Option, Some, None, length, slice_get, slice_set, ◌++◌, IfOk, OnOk, OnErr};
 ghost use Rattle.tail_settings.specs.Settings.{settings_view};
 ghost use Rattle.tenant_shard.specs.View.{View};
 ghost use Rattle.tenant_shard.specs.Run.{ShardSteps};
-ghost use Rattle.replay_script.specs.Command.{CommandData};
-ghost use Rattle.replay_script.specs.Command as data_of;
 ghost use Rattle.trace_collector.specs.Members.{AreMembers};
 ghost use Rattle.trace_collector.specs.Outcomes.{outcome_text, name_at};
-ghost use Rattle.trace_collector.specs.Script.{no_steps};
-ghost use Rattle.trace_collector.specs.Standing.{AllStand, Answers, IsDone};
 
 use replay_script::{
     AnswerFault, Command, Session, put_idle, put_job, put_refused, put_reply, put_worked,
@@ -31,9 +26,14 @@ const BAD_PROTOBUF: &[u8; 14] = b"\x12\x0cbad protobuf";
 pub struct Shards {
     settings: Settings,
     shards: Vec<Shard>,
+    ghost all_shards: { length shards.items ≡ settings.global.shards },
 }
 
 impl Shards {
+    ghost use Rattle.replay_script.specs.Command as data_of;
+    ghost use Rattle.trace_collector.specs.Script.{no_steps};
+    ghost use Rattle.trace_collector.specs.Standing.{AllStand, Answers, IsDone};
+
     /// With no steps so far.
     pub fn open(alloc: Global, settings: Settings) -> Result<Shards, AllocError>
         ensures settings { IfOk result (λ s. s.settings ≡ settings) }
@@ -123,6 +123,8 @@ impl Shards {
 }
 
 impl Session for Shards {
+    ghost use Rattle.trace_collector.specs.Standing.{Answers};
+
     ghost answers = { Answers };
 
     fn answer(
@@ -143,8 +145,9 @@ impl Session for Shards {
 /// One step of the shard at a place.
 fn step_at(shards: &mut Vec<Shard>, place: usize, step: &Step) -> Result<Outcome, AllocError>
     requires { place < length shards.old.items }
-    ensures { IfOk result (λ outcome. (old : List View) × (new : List View) × (slice_get shards.old.items place ≡ Some old)
-        × ShardSteps step.now old outcome new × (shards.new.items ≡ set shards.old.items place new)) }
+    ensures ok { IfOk result (λ outcome. (old : List View) × (new : List View) × (slice_get shards.old.items place ≡ Some old)
+        × ShardSteps step.now old outcome new × (shards.new.items ≡ slice_set shards.old.items place new)) }
+    ensures len { length shards.new.items ≡ length shards.old.items }
 {
     let shard = &mut shards[place];
     let outcome = shard.step(step)?;
