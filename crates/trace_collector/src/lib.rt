@@ -6,3 +6,6 @@ mod engine;
 mod shards;
 
 pub use engine::{ReplayFault, replay};
+
+#[cfg(test)]
+mod tests;
