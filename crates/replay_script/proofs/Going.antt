@@ -1,5 +1,5 @@
 -- A script that is being run: what was read, done, told and written.
-use Rattle.std.proofs.Common.{◌≡◌, ◌+◌, ◌<◌, ◌≤◌, ℕ, Bool, true, false, List, [], ◌∷◌, ◌++◌, length, take, Option, Some, None, Result, Ok, Err, IfSome, IfErr, refl, ap, sym, subst, ◌∙◌, arith}
+use Rattle.std.proofs.Common.{◌≡◌, ◌+◌, ℕ, Bool, true, false, List, [], ◌∷◌, ◌++◌, take, Option, Some, None, Result, Ok, Err, IfSome, refl, ap, sym, subst, ◌∙◌}
 use Rattle.std.proofs.lemmas.List.{append-nil, append_assoc}
 use Rattle.std.specs.Io.KnownBytes.{Appends, Keeps}
 use Rattle.std.proofs.KnownBytes.{Appends-nil, Appends-trans, Appends-kept}
@@ -8,7 +8,7 @@ use Rattle.replay_script.specs.declared.fault.ScriptFault.TheVariants.{Script, L
 use Rattle.replay_script.specs.Command.{CommandData}
 use Rattle.replay_script.specs.Line.{kind_of, lines_of}
 use Rattle.replay_script.specs.Told.{Told, BeginsTold, Ends}
-use Rattle.replay_script.specs.Step.{Adds, IsFaulty, Refuses}
+use Rattle.replay_script.specs.Step.{Adds, Refuses}
 use Rattle.replay_script.specs.Input.{TakesLine, line_room, IsOutside}
 use Rattle.replay_script.specs.Output.{Sends}
 use Rattle.replay_script.proofs.Long.{kind_cut}

@@ -1,5 +1,5 @@
 -- What is kept of a line.
-use Rattle.std.proofs.Common.{◌≡◌, ◌+◌, ◌-◌, ◌<◌, ◌≤◌, ℕ, Bool, true, false, cond, List, [], ◌∷◌, ◌++◌, length, take, min, Result, Ok, Err, OnOk, refl, ap, sym, ◌∙◌, arith, is_ok, inl, inr}
+use Rattle.std.proofs.Common.{◌≡◌, ◌+◌, ◌-◌, ◌<◌, ◌≤◌, ℕ, cond, List, [], ◌∷◌, ◌++◌, length, take, min, Result, Ok, Err, OnOk, ap, sym, ◌∙◌, arith, is_ok, inl, inr}
 use Rattle.std.proofs.lemmas.List.{take_min, take_all, take-append-le, length-take, append-nil}
 use Rattle.std.proofs.lemmas.Bool.{cases_lt}
 use Rattle.std.proofs.Math.Seq.{take-append-add}

@@ -1,5 +1,5 @@
 -- The lines of a text, read in parts.
-use Rattle.std.proofs.Common.{◌≡◌, ◌≢◌, ◌+◌, ◌<◌, ◌≤◌, ◌==◌, ℕ, Bool, true, false, cond, not, List, [], ◌∷◌, ◌++◌, length, take, Option, Some, None, Result, Ok, IfSome, IfOk, OnSome, All, refl, ap, sym, subst, ◌∙◌, arith, lit<}
+use Rattle.std.proofs.Common.{◌≡◌, ◌≢◌, ◌<◌, ◌≤◌, ◌==◌, ℕ, Bool, true, cond, not, List, [], ◌∷◌, ◌++◌, length, take, Option, Some, None, Result, Ok, IfSome, IfOk, OnSome, All, refl, ap, sym, subst, ◌∙◌, arith, lit<}
 use Rattle.std.specs.List.{onto_first}
 use Rattle.std.specs.Io.KnownBytes.{Consumes, IsAtEnd}
 use Rattle.std.proofs.lemmas.List.{append-nil, append_assoc}
@@ -9,7 +9,7 @@ use Rattle.std.proofs.lemmas.Bool.Decides.{nat_tests}
 use Rattle.replay_script.specs.declared.input.Part.{Part}
 use Rattle.replay_script.specs.declared.input.Part.TheVariants.{More, LineEnd, InputEnd}
 use Rattle.replay_script.specs.Line.{lines_of}
-use Rattle.replay_script.specs.Input.{TakesPart, TakesLine, line_room, with_end}
+use Rattle.replay_script.specs.Input.{TakesPart, TakesLine, line_room}
 use Rattle.replay_script.proofs.Kept.{kept_parts, kept_some, take_none, kept_fits}
 
 pub line_ended : (bytes rest : List ℕ) → All (λ byte. byte ≢ 10) bytes → lines_of (bytes ++ 10 ∷ rest) ≡ bytes ∷ lines_of rest

@@ -1,5 +1,5 @@
 -- A line longer than any command is faulty or skipped, and so is its beginning.
-use Rattle.std.proofs.Common.{◌≡◌, ◌+◌, ◌*◌, ◌<◌, ◌≤◌, ◌==◌, ◌&&◌, ℕ, zero, suc, Bool, true, false, cond, nat_lt, nat_le, List, [], ◌∷◌, length, take, codes, Option, Some, None, refl, ap, sym, ◌∙◌, arith, inl, inr, add-one}
+use Rattle.std.proofs.Common.{◌≡◌, ◌+◌, ◌*◌, ◌<◌, ◌==◌, ◌&&◌, ℕ, zero, suc, Bool, true, false, cond, nat_lt, nat_le, List, [], ◌∷◌, length, take, codes, Option, Some, None, refl, ap, sym, ◌∙◌, arith, inl, inr}
 use Rattle.std.specs.List.{onto_first, list_all}
 use Rattle.std.specs.Str.{bytes_eq}
 use Rattle.std.specs.Char.{is_ascii_digit}
@@ -9,7 +9,7 @@ use Rattle.std.proofs.lemmas.List.{take_all, length-take}
 use Rattle.std.proofs.lemmas.Slice.Eq.{bytes_eq-Decides}
 use Rattle.replay_script.specs.Word.{words_of, is_name_byte, name_of, number_of, body_of, most_body_bytes}
 use Rattle.replay_script.specs.Command.{CommandData, command_of, command_from, post_of, post_from, turn_of, turn_from}
-use Rattle.replay_script.specs.Line.{Kind, Skipped, said, kind_of}
+use Rattle.replay_script.specs.Line.{Skipped, said, kind_of}
 
 -- the bytes of words and of a space behind each
 spread : List (List ℕ) → ℕ

@@ -1,6 +1,6 @@
 -- The place of the first byte of a kind.
-use Rattle.std.proofs.Common.{◌≡◌, ◌≢◌, ◌+◌, ◌<◌, ◌≤◌, ◌==◌, ℕ, Bool, true, false, cond, List, [], ◌∷◌, ◌++◌, length, take, get_or, Option, Some, None, All, refl, ap, sym, ◌∙◌, arith, nat_lt, le_refl}
-use Rattle.std.specs.List.{position, position_or_len}
+use Rattle.std.proofs.Common.{◌≡◌, ◌≢◌, ◌+◌, ◌<◌, ◌==◌, ℕ, Bool, true, false, cond, List, [], ◌∷◌, ◌++◌, length, take, Some, None, All, refl, ap, sym, ◌∙◌, arith, nat_lt, le_refl}
+use Rattle.std.specs.List.{position}
 use Rattle.std.proofs.lemmas.List.{take_more, take_all, length-take-le, get_or-take}
 use Rattle.std.proofs.lemmas.List.Quantifiers.{position-Some}
 use Rattle.std.proofs.lemmas.List.Sums.{fails_before_first}

@@ -1,15 +1,12 @@
 -- A script that was run so far, and what the next line adds.
-use Rattle.std.proofs.Common.{◌≡◌, ◌+◌, ◌<◌, ◌≤◌, ℕ, List, [], ◌∷◌, ◌++◌, length, take, Option, Some, None, Result, Ok, Err, IfSome, refl, ap, sym, subst, ◌∙◌, arith}
+use Rattle.std.proofs.Common.{◌≡◌, ◌+◌, ℕ, List, [], ◌∷◌, ◌++◌, Option, Some, None, Result, Ok, Err, refl, ap, sym, subst, ◌∙◌}
 use Rattle.std.proofs.lemmas.List.{append-nil, append_assoc}
-use Rattle.std.specs.Io.KnownBytes.{Appends}
-use Rattle.std.proofs.KnownBytes.{Appends-nil, Appends-trans}
 use Rattle.replay_script.specs.declared.fault.ScriptFault.{ScriptFault}
 use Rattle.replay_script.specs.declared.fault.ScriptFault.TheVariants.{Script, Line, OutOfMemory}
 use Rattle.replay_script.specs.Command.{CommandData}
-use Rattle.replay_script.specs.Line.{Kind, Skipped, Says, Faulty, kind_of, lines_of}
-use Rattle.replay_script.specs.Told.{Answered, Goes, Told, BeginsTold, Ends}
-use Rattle.replay_script.specs.Step.{Adds, IsFaulty, Refuses}
-use Rattle.replay_script.specs.Output.{Sends}
+use Rattle.replay_script.specs.Line.{Kind, Skipped, Says, Faulty, kind_of}
+use Rattle.replay_script.specs.Told.{Goes, Told, BeginsTold, Ends}
+use Rattle.replay_script.specs.Step.{Adds, IsFaulty}
 
 module _ {S : Type 0} (answers : S → CommandData → Option (List ℕ) → S → Type 0) where
   -- so many lines were run, and this is told for them

@@ -1,8 +1,8 @@
 -- The first word of a text, and words that are text.
-use Rattle.std.proofs.Common.{◌≡◌, ◌+◌, ◌-◌, ◌<◌, ◌^◌, ◌≤◌, ◌&&◌, ◌||◌, ◌⊎◌, ℕ, Bool, true, false, cond, List, [], ◌∷◌, length, take, drop, Option, Some, None, Result, Ok, Err, MatchResult, All, refl, sym, ap, ◌∙◌, arith, rules, nat_lt, nat_le, ◌==◌, IsSome, lit<}
+use Rattle.std.proofs.Common.{◌≡◌, ◌+◌, ◌-◌, ◌<◌, ◌^◌, ◌≤◌, ◌&&◌, ℕ, Bool, true, false, cond, List, [], ◌∷◌, length, take, drop, Option, Some, None, Result, Ok, Err, MatchResult, refl, sym, ap, ◌∙◌, arith, rules, nat_lt, nat_le, ◌==◌}
 use Rattle.std.specs.Option.{option_map}
 use Rattle.std.specs.Result.{result_ok}
-use Rattle.std.specs.List.{position, position_or_len, slice_split, onto_first, list_all}
+use Rattle.std.specs.List.{position, onto_first, list_all}
 use Rattle.std.specs.Str.{IsUtf8, IsAscii}
 use Rattle.std.specs.Char.{is_ascii_digit}
 use Rattle.std.specs.Borrow.{Bor}
@@ -11,12 +11,11 @@ use Rattle.std.proofs.lemmas.List.{take_rest}
 use Rattle.std.proofs.lemmas.List.Sums.{AllPass-from_list_all, fails_before_first}
 use Rattle.std.proofs.lemmas.Str.Ascii.{IsAscii-from_all}
 use Rattle.std.proofs.lemmas.Str.{IsUtf8-from_ascii}
-use Rattle.std.proofs.lemmas.Grind.{common_steps}
 use Rattle.std.specs.Str.Parse.{ParsesUnsigned, digits_value}
 use Rattle.std.proofs.lemmas.Str.Parse.{IsNumeralModel, numerals_by_value, digits_value_short, parse_gives}
 use Rattle.std.proofs.lemmas.Bool.Decides.{nat_tests}
 use Rattle.replay_script.specs.Word.{words_of, is_name_byte, name_of, number_of}
-use Rattle.replay_script.specs.Command.{CommandData, post_of, turn_of}
+use Rattle.replay_script.specs.Command.{post_of, turn_of}
 use Rattle.replay_script.proofs.Places.{found_at, missing, tested, further}
 
 cut : (text : List ℕ) (n at : ℕ) → n ≡ at → take n text ∷ words_of (drop (n + 1) text) ≡ take at text ∷ words_of (take (length text - (at + 1)) (drop (at + 1) text))

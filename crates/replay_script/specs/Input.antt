@@ -1,5 +1,5 @@
 -- Reading a script's lines from a reader.
-use Rattle.std.specs.Prelude.{◌≡◌, ◌≢◌, ℕ, ◌<◌, ◌≤◌, Bool, true, false, List, [], ◌∷◌, ◌++◌, length, take, Option, Some, All, MatchBool, OnSome}
+use Rattle.std.specs.Prelude.{◌≡◌, ◌≢◌, ℕ, Bool, true, false, List, [], ◌∷◌, ◌++◌, take, Option, Some, All, OnSome}
 use Rattle.std.specs.Io.KnownBytes.{Consumes, IsAtEnd}
 use Rattle.replay_script.specs.declared.input.Part.{Part}
 use Rattle.replay_script.specs.declared.input.Part.TheVariants.{More, LineEnd, InputEnd}

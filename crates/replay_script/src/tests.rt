@@ -65,7 +65,9 @@ impl Write for TakesFew {
         if self.taken.len() >= self.most {
             return Err(io::ErrorKind::Other.into());
         }
-        self.taken.push(buf[0]).map_err(|_| io::Error::from(io::ErrorKind::Other))?;
+        self.taken
+            .push(buf[0])
+            .map_err(|_| io::Error::from(io::ErrorKind::Other))?;
         Ok(1)
     }
 
@@ -94,7 +96,10 @@ fn commands_are_read(rt: HostRuntime) -> Result<(), Fail> {
         shard: 0,
         moment: 9_999_999_999_999_999_999,
     };
-    assert_eq!(rt; parse_line(alloc, b"turn 00 9999999999999999999")?, Some(turn));
+    assert_eq!(rt;
+        parse_line(alloc, b"turn 00 9999999999999999999")?,
+        Some(turn)
+    );
     Ok(())
 }
 
@@ -149,11 +154,18 @@ fn answers_are_spelled(rt: HostRuntime) -> Result<(), Fail> {
     let mut out = Vec::new(alloc);
     put_reply(alloc, &mut out, "a", 200, b"")?;
     put_reply(alloc, &mut out, "a", 400, b"\x12\x0cbad protobuf")?;
-    put_job(alloc, &mut out, "b", 18_446_744_073_709_551_615, b"\x0a\xff")?;
+    put_job(
+        alloc,
+        &mut out,
+        "b",
+        18_446_744_073_709_551_615,
+        b"\x0a\xff",
+    )?;
     put_worked(alloc, &mut out, "c.d")?;
     put_idle(alloc, &mut out, 63)?;
     put_refused(alloc, &mut out, "e", 22)?;
-    let text = "reply a 200 -\nreply a 400 120c6261642070726f746f627566\njob b 18446744073709551615 0aff\n\
+    let text =
+        "reply a 200 -\nreply a 400 120c6261642070726f746f627566\njob b 18446744073709551615 0aff\n\
         worked c.d\nidle 63\nrefused e 22\n";
     assert_eq!(rt; out.as_slice(), text.as_bytes());
     Ok(())
@@ -214,7 +226,10 @@ fn a_writer_that_fails_ends_the_run(rt: HostRuntime) -> Result<(), Fail> {
             taken: Vec::new(alloc),
             most,
         };
-        assert_eq!(rt; run_script(alloc, &mut Clock, &mut reader, &mut writer), told);
+        assert_eq!(rt;
+            run_script(alloc, &mut Clock, &mut reader, &mut writer),
+            told
+        );
         let text: &[u8] = b"idle 1\nidle 2\n";
         assert_eq!(rt; writer.taken.as_slice(), &text[..most]);
     }

@@ -1,6 +1,5 @@
-use Rattle.std.proofs.Common.{◌≡◌, Ok, ap, ◌∙◌, arith, sym, not}
+use Rattle.std.proofs.Common.{Ok, ap, ◌∙◌, arith, not}
 use Rattle.std.proofs.lemmas.Grind.{common_steps}
-use Rattle.replay_script.specs.Input.{TakesPart}
 use Rattle.replay_script.proofs.Lines.{reading_more, reading_ended, reading_over, taken, part_fits}
 use Rattle.replay_script.proofs.input.next_line.Goals as goal
 

@@ -1,6 +1,6 @@
-use Rattle.std.proofs.Common.{◌≡◌, ◌≢◌, [], All, length, take, refl, sym, ap, subst, ◌∙◌, arith, rules}
+use Rattle.std.proofs.Common.{[], take, subst, rules}
 use Rattle.std.specs.Io.KnownBytes.{Consumes}
-use Rattle.std.specs.Io.BufRead.{FillKeeps, DropsConsumable}
+use Rattle.std.specs.Io.BufRead.{FillKeeps}
 use Rattle.std.proofs.KnownBytes.{Consumes-nil, Consumes-kept}
 use Rattle.std.proofs.BufReadLemmas.{Consumes_shown}
 use Rattle.std.proofs.lemmas.List.Elements.{All-nil}

@@ -1,7 +1,7 @@
-use Rattle.std.proofs.Common.{◌≡◌, None, [], Ok, ap, ◌∙◌, arith, sym, subst}
+use Rattle.std.proofs.Common.{None, [], arith}
 use Rattle.std.proofs.lemmas.Grind.{common_steps}
 use Rattle.std.proofs.lemmas.Result.{err_from_is_err_and}
-use Rattle.replay_script.proofs.Going.{going_none, going_line, going_over, going_stops, going_refused, outside_line, when_found, line_found, sends_added}
+use Rattle.replay_script.proofs.Going.{going_line, going_over, going_stops, going_refused, outside_line, when_found, line_found, sends_added}
 use Rattle.replay_script.proofs.run.answer_lines.Goals as goal
 
 pub returns-in_err-next_line : goal.returns-in_err-next_line

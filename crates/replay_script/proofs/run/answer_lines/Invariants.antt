@@ -1,4 +1,4 @@
-use Rattle.std.proofs.Common.{◌+◌, ◌≤◌, ◌^◌}
+use Rattle.std.proofs.Common.{◌+◌, ◌≤◌}
 use Rattle.replay_script.proofs.Going.{Going}
 use Rattle.replay_script.proofs.run.answer_lines.Given as goal
 
