@@ -1,6 +1,6 @@
 //! Text on its way to a writer.
 
-ghost use Rattle.std.specs.Prelude.{◌≡◌, ◌≤◌, [], length, take, drop, OnOk, IfErr};
+ghost use Rattle.std.specs.Prelude.{◌≡◌, ◌<◌, ◌≤◌, [], length, take, drop, OnOk, IfErr};
 ghost use Rattle.std.specs.Io.KnownBytes.{Appends};
 ghost use Rattle.replay_script.specs.Output.{Sends};
 
@@ -21,7 +21,8 @@ pub struct Output {
 impl Output {
     /// With no text yet.
     pub fn new(alloc: Global, writes: u64) -> Output
-        ensures { result.text.items ≡ [] }
+        ensures text { result.text.items ≡ [] }
+        ensures writes { result.writes ≡ writes }
     {
         Output {
             text: Vec::new(alloc),
@@ -32,6 +33,7 @@ impl Output {
     /// Writes the text if there is much of it.
     pub fn send_much<W: Write>(&mut self, writer: &mut W) -> Result<(), ScriptFault>
         ensures sends { Sends (W.contents writer.old) (W.contents writer.new) self.old.text.items [] self.new.text.items }
+        ensures little { OnOk result (length self.new.text.items < ENOUGH) }
         ensures err { IfErr result (λ fault. fault ≡ ScriptFault.Line) }
     {
         if self.text.len() < ENOUGH {

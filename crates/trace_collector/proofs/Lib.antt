@@ -4,3 +4,4 @@ pub mod Stands
 pub mod Through
 pub mod Done
 pub mod Replayed
+pub mod One

@@ -5,3 +5,4 @@ pub mod Script
 pub mod Standing
 pub mod Replay
 pub mod Members
+pub mod Law

@@ -3,9 +3,11 @@
 #![tactic(auto)]
 
 mod engine;
+mod law;
 mod shards;
 
 pub use engine::{ReplayFault, replay};
+pub use law::text_is_one;
 
 #[cfg(test)]
 mod tests;
