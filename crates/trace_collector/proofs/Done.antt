@@ -1,5 +1,5 @@
 -- What a command that was done is answered.
-use Rattle.std.proofs.Common.{◌≡◌, ℕ, ◌%◌, Bool, true, false, List, ◌++◌, Option, Some, None, MatchResult, refl, ap, sym, subst, ◌∙◌, inl, inr, nat_lt}
+use Rattle.std.proofs.Common.{◌≡◌, ℕ, ◌%◌, true, List, ◌++◌, Option, Some, None, refl, sym, subst, inl, inr, nat_lt}
 use Rattle.std.specs.Bool.{MatchBool}
 use Rattle.std.specs.List.{position}
 use Rattle.std.specs.Str.{bytes_eq}
@@ -8,18 +8,16 @@ use Rattle.otlp_read.specs.Value.{IsValue}
 use Rattle.otlp_read.specs.declared.fault.ReadFault.{ReadFault}
 use Rattle.tail_settings.specs.Settings.{SettingsData, settings_view}
 use Rattle.tenant_pipeline.specs.Own.{Own}
-use Rattle.tenant_pipeline.specs.Prepared.{PreparedData, IsPrepared, prepared_of}
+use Rattle.tenant_pipeline.specs.Prepared.{PreparedData, IsPrepared}
 use Rattle.tenant_pipeline.specs.declared.body.Refusal.{Refusal}
 use Rattle.tenant_pipeline.specs.declared.body.Refusal.TheVariants as refusal
-use Rattle.tenant_shard.specs.declared.step.Step.{Step}
 use Rattle.tenant_shard.specs.declared.step.Step.TheVariants as steps
-use Rattle.tenant_shard.specs.View.{View}
-use Rattle.replay_script.specs.Command.{CommandData, Post, Turn}
+use Rattle.replay_script.specs.Command.{Post, Turn}
 use Rattle.replay_script.specs.Answer.{reply_text}
 use Rattle.trace_collector.specs.declared.shards.Shards.{Shards}
 use Rattle.trace_collector.specs.Outcomes.{outcome_text, bad_protobuf}
-use Rattle.trace_collector.specs.Answered.{IsStepped, HasNoValue, IsPosted, IsPostedTo, IsAnswered}
-use Rattle.trace_collector.specs.Standing.{AllStand, Answers, IsDone}
+use Rattle.trace_collector.specs.Answered.{IsStepped, HasNoValue, IsPosted, IsPostedTo}
+use Rattle.trace_collector.specs.Standing.{Answers, IsDone}
 use Rattle.trace_collector.proofs.Stands.{stands_after}
 
 posted_to : (settings : SettingsData) (pasts later : ℕ → List Own) (tenant : ℕ) (found : Option ℕ) (name : List ℕ) (moment : ℕ) (body : List ℕ) (line : Option (List ℕ))

@@ -1,5 +1,5 @@
 -- A script is told one text.
-use Rattle.std.proofs.Common.{◌≡◌, ◌≢◌, ◌+◌, ◌%◌, ◌<◌, ◌≤◌, ◌==◌, ◌⊎◌, ℕ, Bool, true, false, nat_lt, List, [], ◌∷◌, ◌++◌, Option, Some, None, Result, Ok, refl, ap, sym, subst, ◌∙◌, arith, inl, inr}
+use Rattle.std.proofs.Common.{◌≡◌, ◌+◌, ◌%◌, ℕ, Bool, true, false, nat_lt, List, [], ◌∷◌, ◌++◌, Option, Some, None, Result, Ok, refl, ap, sym, subst, ◌∙◌, arith, inl, inr}
 use Rattle.std.proofs.lemmas.List.{append_assoc}
 use Rattle.std.specs.Prelude.{◌↔◌}
 use Rattle.std.specs.Bool.{MatchBool}
@@ -16,8 +16,7 @@ use Rattle.tenant_pipeline.specs.Prepared.{prepared_of}
 use Rattle.tenant_shard.specs.declared.step.Step.{Step}
 use Rattle.tenant_shard.specs.declared.step.Step.TheVariants as steps
 use Rattle.tenant_shard.specs.declared.step.Outcome.{Outcome}
-use Rattle.tenant_shard.specs.Lists.{Lists}
-use Rattle.tenant_shard.specs.Pick.{IsPick, NotAfter, ready_at}
+use Rattle.tenant_shard.specs.Pick.{IsPick, NotAfter}
 use Rattle.tenant_shard.specs.Run.{IsAnswered, IsTurned, IsNext, after}
 use Rattle.replay_script.specs.Command.{CommandData, Post, Turn}
 use Rattle.replay_script.specs.Line.{Kind, Skipped, Says, Faulty, kind_of}
@@ -40,7 +39,7 @@ module _ {H : Type 0} (answers : H → CommandData → Option (List ℕ) → H �
   goes_one (Says command) number h rest text text' fault fault' on told told' =
       let same = one h told.1 told'.1 command told.0 told'.0 told.2 told'.2 in
       line_one told'.0 number (rest told'.1) text text' fault fault' (on told'.1)
-        (subst (λ l. Answered number l (rest told'.1) text fault) same.0 (subst (λ k. Answered number told.0 (rest k) text fault) same.1 told.3)) told'.3
+      (subst (λ l. Answered number l (rest told'.1) text fault) same.0 (subst (λ k. Answered number told.0 (rest k) text fault) same.1 told.3)) told'.3
     where
       line_one : (line : Option (List ℕ)) (number : ℕ) (rest : List ℕ → Option ℕ → Type 0) (text text' : List ℕ) (fault fault' : Option ℕ)
           → ((t t' : List ℕ) (f f' : Option ℕ) → rest t f → rest t' f' → (t ≡ t') × (f ≡ f'))
@@ -64,7 +63,7 @@ module _ {H : Type 0} (answers : H → CommandData → Option (List ℕ) → H �
   goes_begins (Says command) number h rest rest' text text' fault fault' on told told' =
       let same = one h told.1 told'.1 command told.0 told'.0 told.2 told'.2 in
       line_begins told'.0 number (rest told'.1) (rest' told'.1) text text' fault fault' (on told'.1)
-        (subst (λ l. Answered number l (rest told'.1) text fault) same.0 (subst (λ k. Answered number told.0 (rest k) text fault) same.1 told.3)) told'.3
+      (subst (λ l. Answered number l (rest told'.1) text fault) same.0 (subst (λ k. Answered number told.0 (rest k) text fault) same.1 told.3)) told'.3
     where
       line_begins : (line : Option (List ℕ)) (number : ℕ) (rest rest' : List ℕ → Option ℕ → Type 0) (text text' : List ℕ) (fault fault' : Option ℕ)
           → ((t t' : List ℕ) (f f' : Option ℕ) → rest t f → rest' t' f' → (more : List ℕ) × (t' ≡ t ++ more))
@@ -79,7 +78,7 @@ module _ {H : Type 0} (answers : H → CommandData → Option (List ℕ) → H �
   told_begins [] left number h text text' fault fault' told told' = (text', ap (λ t. t ++ text') (sym told.0))
   told_begins (line ∷ done) left number h text text' fault fault' told told' =
       goes_begins (kind_of line) number h (Told answers done (number + 1)) (Told answers (done ++ left) (number + 1)) text text' fault fault'
-        (told_begins done left (number + 1)) told told'
+      (told_begins done left (number + 1)) told told'
 
   pub begun_begins : (lines : List (List ℕ)) (h : H) (begun text : List ℕ) (fault : Option ℕ)
       → BeginsTold answers lines h begun → Told answers lines 1 h text fault → (rest : List ℕ) × (text ≡ begun ++ rest)
@@ -120,9 +119,10 @@ next_one settings pasts shard (steps.Turn now) o o' h k =
 stepped_one : (settings : SettingsData) (pasts later later' : ℕ → List Own) (shard : ℕ) (step : Step) (line line' : Option (List ℕ))
     → IsStepped settings pasts shard step line later → IsStepped settings pasts shard step line' later' → (line ≡ line') × (later ≡ later')
 stepped_one settings pasts later later' shard step line line' h k =
-    let same = next_one settings pasts shard step h.0 k.0 h.1 k.1 in
-    (h.2 ∙ ap (λ o. Some (outcome_text settings shard o)) same ∙ sym k.2,
-      h.3 ∙ ap (λ o. (after step o (lists_of settings pasts shard)).pasts) same ∙ sym k.3)
+    let same = next_one settings pasts shard step h.0 k.0 h.1 k.1 in (
+      h.2 ∙ ap (λ o. Some (outcome_text settings shard o)) same ∙ sym k.2,
+      h.3 ∙ ap (λ o. (after step o (lists_of settings pasts shard)).pasts) same ∙ sym k.3,
+    )
 
 module _ (one_value : (body : List ℕ) (v v' : RequestData) → IsValue body v → IsValue body v' → v ≡ v') where
   posted_one : (settings : SettingsData) (pasts later later' : ℕ → List Own) (tenant : ℕ) (name : List ℕ) (moment : ℕ) (body : List ℕ) (line line' : Option (List ℕ))
@@ -130,7 +130,7 @@ module _ (one_value : (body : List ℕ) (v v' : RequestData) → IsValue body v 
   posted_one settings pasts later later' tenant name moment body line line' (inl h) (inl k) =
       let same = one_value body h.0 k.0 h.1 k.1 in
       stepped_one settings pasts later later' (tenant % settings.shards) (steps.Post moment (prepared_of tenant k.0)) line line'
-        (subst (λ v. IsStepped settings pasts (tenant % settings.shards) (steps.Post moment (prepared_of tenant v)) line later) same h.2) k.2
+      (subst (λ v. IsStepped settings pasts (tenant % settings.shards) (steps.Post moment (prepared_of tenant v)) line later) same h.2) k.2
   posted_one settings pasts later later' tenant name moment body line line' (inl h) (inr k) = absurd (k.0 h.0 h.1)
   posted_one settings pasts later later' tenant name moment body line line' (inr h) (inl k) = absurd (h.0 k.0 k.1)
   posted_one settings pasts later later' tenant name moment body line line' (inr h) (inr k) = (h.1 ∙ sym k.1, h.2 ∙ sym k.2)

@@ -1,5 +1,5 @@
 -- A replay, from the run of its script.
-use Rattle.std.proofs.Common.{◌≡◌, ℕ, List, [], ◌++◌, Option, Some, None, Result, Ok, Err, IfSome, refl, ap, sym, subst, ◌∙◌}
+use Rattle.std.proofs.Common.{◌≡◌, ℕ, List, Option, Some, None, Result, Ok, Err, IfSome, sym, subst, ◌∙◌}
 use Rattle.std.specs.Io.KnownBytes.{Appends}
 use Rattle.tail_settings.specs.Settings.{SettingsData, settings_view, settings_of}
 use Rattle.tenant_pipeline.specs.Own.{Own}
@@ -9,7 +9,6 @@ use Rattle.replay_script.specs.Command.{CommandData}
 use Rattle.replay_script.specs.Line.{lines_of}
 use Rattle.replay_script.specs.Told.{Ends}
 use Rattle.trace_collector.specs.declared.shards.Shards.{Shards}
-use Rattle.trace_collector.specs.declared.engine.ReplayFault.{ReplayFault}
 use Rattle.trace_collector.specs.Fault.{script_fault}
 use Rattle.trace_collector.specs.Answered.{IsAnswered}
 use Rattle.trace_collector.specs.Script.{no_steps, BeginsScriptText}

@@ -1,5 +1,5 @@
 -- What one state tells is what another tells that goes along with it.
-use Rattle.std.proofs.Common.{◌≡◌, ℕ, ◌+◌, List, [], ◌∷◌, ◌++◌, Option, Some, None, refl}
+use Rattle.std.proofs.Common.{ℕ, ◌+◌, List, [], ◌∷◌, ◌++◌, Option, Some, None}
 use Rattle.replay_script.specs.Command.{CommandData}
 use Rattle.replay_script.specs.Line.{Kind, Skipped, Says, Faulty, kind_of}
 use Rattle.replay_script.specs.Told.{Answered, Goes, Told, BeginsTold}

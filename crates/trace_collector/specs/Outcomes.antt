@@ -1,5 +1,5 @@
 -- The lines that tell a script the outcomes of its steps.
-use Rattle.std.specs.Prelude.{ℕ, List, [], ◌∷◌, ◌++◌, codes, option_map, slice_get}
+use Rattle.std.specs.Prelude.{ℕ, List, [], ◌∷◌, codes, option_map, slice_get}
 use Rattle.std.specs.Option.{unwrap_or}
 use Rattle.tail_settings.specs.Settings.{SettingsData}
 use Rattle.tenant_shard.specs.declared.step.Outcome.{Outcome}

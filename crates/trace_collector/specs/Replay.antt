@@ -1,5 +1,5 @@
 -- What a replay writes.
-use Rattle.std.specs.Prelude.{◌≡◌, ℕ, List, [], Option, Some, None, Result, Ok, Err}
+use Rattle.std.specs.Prelude.{◌≡◌, ℕ, List, [], Some, None, Result, Ok, Err}
 use Rattle.tail_settings.specs.Fault.{FaultData, fault_view}
 use Rattle.tail_settings.specs.Settings.{SettingsData, settings_of}
 use Rattle.trace_collector.specs.declared.engine.ReplayFault.{ReplayFault}

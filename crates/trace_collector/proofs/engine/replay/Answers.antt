@@ -1,4 +1,4 @@
-use Rattle.std.proofs.Common.{◌≡◌, ℕ, List, Ok, Err, ap, sym, subst, ◌∙◌}
+use Rattle.std.proofs.Common.{ℕ, List, Ok, Err, ap}
 use Rattle.std.proofs.lemmas.Result.{err_from_is_err_and}
 use Rattle.tail_settings.specs.Settings.{settings_view}
 use Rattle.replay_script.specs.Line.{lines_of}

@@ -1,7 +1,3 @@
-use Rattle.std.proofs.Common.{◌≡◌, ℕ, List, Ok, sym, ◌∙◌}
-use Rattle.otlp_trace.specs.Data.{RequestData}
-use Rattle.otlp_read.specs.Value.{IsValue, value_of}
-use Rattle.otlp_read.specs.declared.fault.ReadFault.{ReadFault}
 use Rattle.replay_script.specs.Line.{lines_of}
 use Rattle.trace_collector.specs.Answered.{IsAnswered}
 use Rattle.trace_collector.specs.Script.{no_steps}
@@ -11,9 +7,9 @@ use Rattle.trace_collector.proofs.law.text_is_one.Goals as goal
 pub returns-clause-one : goal.returns-clause-one
 returns-clause-one c settings script text text' fault fault' told told' =
     told_one (IsAnswered settings) (λ h k k' command line line'. script_answered_one (same_value c.values_or_faults.ensures.exact) settings h k k' command line line')
-      (lines_of script) 1 no_steps text text' fault fault' told told'
+    (lines_of script) 1 no_steps text text' fault fault' told told'
 
 pub returns-clause-begins : goal.returns-clause-begins
 returns-clause-begins c settings script begun text fault begins told =
     begun_begins (IsAnswered settings) (λ h k k' command line line'. script_answered_one (same_value c.values_or_faults.ensures.exact) settings h k k' command line line')
-      (lines_of script) no_steps begun text fault begins told
+    (lines_of script) no_steps begun text fault begins told

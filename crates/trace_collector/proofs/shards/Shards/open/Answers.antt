@@ -1,4 +1,4 @@
-use Rattle.std.proofs.Common.{◌≡◌, arith, sym, subst}
+use Rattle.std.proofs.Common.{arith, subst}
 use Rattle.std.proofs.lemmas.Grind.{common_steps}
 use Rattle.tail_settings.specs.Settings.{settings_view}
 use Rattle.tenant_shard.specs.Lists.{ShardStands}

@@ -1,5 +1,4 @@
-use Rattle.std.proofs.Common.{◌≡◌, ap, sym, ◌∙◌, arith}
-use Rattle.std.proofs.lemmas.Grind.{common_steps}
+use Rattle.std.proofs.Common.{ap, sym, ◌∙◌}
 use Rattle.tail_settings.specs.Settings.{settings_view}
 use Rattle.trace_collector.proofs.Done.{done_posts, bad_posts, bad_none}
 use Rattle.trace_collector.proofs.shards.Shards.post.Goals as goal

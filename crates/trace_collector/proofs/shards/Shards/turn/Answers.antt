@@ -1,4 +1,4 @@
-use Rattle.std.proofs.Common.{◌≡◌, ap, sym, ◌∙◌, arith, nat_lt, true}
+use Rattle.std.proofs.Common.{◌≡◌, ap, arith, nat_lt, true}
 use Rattle.std.proofs.lemmas.Bool.Decides.{nat_tests}
 use Rattle.tail_settings.specs.Settings.{settings_view}
 use Rattle.trace_collector.proofs.Done.{done_turns}
