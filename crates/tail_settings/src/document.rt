@@ -162,6 +162,7 @@ pub fn load(alloc: Global, text: &str) -> Result<Settings, SettingsFault>
     ensures ok { IfOk result (λ s. settings_of text.now ≡ Ok (settings_view s)) }
     ensures fault { IfErr result (λ e. IfSome (fault_view e) (λ f. settings_of text.now ≡ Err f)) }
 
+    // The ranges and counts of the document's keys, and names that differ.
     ensures sound { IfOk result (λ s. IsSound (settings_view s)) }
 
     // Fault 10 is that of the texts that are no TOML document, and of no others.
