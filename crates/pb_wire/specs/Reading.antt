@@ -32,8 +32,8 @@ number_in zero bytes = Err VarintTooLong
 number_in (suc n) [] = Err Truncated
 number_in (suc n) (b ∷ bytes) =
     if nat_lt b 128
-        then Ok (b, bytes)
-        else (number_in n bytes >>= λ high. Ok (b % 128 + 128 * high.0, high.1))
+    then Ok (b, bytes)
+    else (number_in n bytes >>= λ high. Ok (b % 128 + 128 * high.0, high.1))
 
 -- the varint at the front, of at most ten bytes and without its bits past 64, and the rest
 unfoldable pub varint_at : List ℕ → Result (ℕ × List ℕ) WireFault
@@ -98,8 +98,8 @@ value_with ends depth number types.Bytes bytes =
 value_with ends depth number types.Four bytes = split_at 4 bytes >>= λ s. Ok (Four s.0, s.1)
 value_with ends depth number types.GroupStart bytes =
     if nat_lt depth 100
-        then (with_content bytes (ends (depth + 1) number bytes) >>= λ g. Ok (Group g.0, g.1))
-        else Err TooDeep
+    then (with_content bytes (ends (depth + 1) number bytes) >>= λ g. Ok (Group g.0, g.1))
+    else Err TooDeep
 value_with ends depth number types.GroupEnd bytes = Err GroupMismatch
 
 -- the end of a group of this number, in bytes at this depth, behind at most so many fields
