@@ -1,6 +1,6 @@
 -- The grammar of wire text, as relations on whole texts: what the Protocol Buffers encoding guide
--- (https://protobuf.dev/programming-guides/encoding/) says of the bytes of a message. Where the guide
--- leaves something open, the comment names it as this project's choice.
+-- (https://protobuf.dev/programming-guides/encoding/) says of the bytes of a message. Where the
+-- guide leaves something open, the comment names it as this project's choice.
 use Rattle.std.specs.Prelude.{◌≡◌, ◌≢◌, ℕ, ◌+◌, ◌*◌, ◌%◌, ◌^◌, ◌<◌, ◌≤◌, List, [], ◌∷◌, ◌++◌, length, Option, Some, None}
 use Rattle.pb_wire.specs.declared.field.WireFault.{WireFault}
 use Rattle.pb_wire.specs.declared.field.WireFault.TheVariants as faults
@@ -68,8 +68,8 @@ code types.GroupStart = 3
 code types.GroupEnd = 4
 code types.Four = 5
 
--- A tag is the varint (field_number << 3) | wire_type, of 32 bits. This project's choice: what is 2^32
--- or more is no tag, rather than cut to 32 bits. No field has number 0.
+-- A tag is the varint (field_number << 3) | wire_type, of 32 bits. This project's choice: what is
+-- 2^32 or more is no tag, rather than cut to 32 bits. No field has number 0.
 pub record IsTag (text : List ℕ) (number : ℕ) (kind : WireType) : Type 0 where
   pub spelled : IsVarint text (8 * number + code kind)
   pub numbered : 0 < number
@@ -110,7 +110,8 @@ pub record Begins (depth : ℕ) (text : List ℕ) (field : Entry) (rest : List �
   pub parts : text ≡ front ++ rest
   pub first : IsField depth front field
 
--- The faults are this project's own: the guide doesn't say how a text that is no message is refused.
+-- The faults are this project's own: the guide doesn't say how a text that is no message is
+-- refused.
 
 -- each byte says that another follows
 pub data GoesOn : List ℕ → Type 0 where
@@ -123,7 +124,7 @@ pub data NoNumber : List ℕ → WireFault → Type 0 where
   long : {text : List ℕ} (rest : List ℕ) → GoesOn text → length text ≡ 10
       → NoNumber (text ++ rest) faults.VarintTooLong
 
--- no value of this wire type stands at the front, because the text ends or a varint goes on too long
+-- no value of this wire type stands at the front: the text ends, or a varint goes on too long
 pub data NoValue : WireType → List ℕ → WireFault → Type 0 where
   no_varint : {text : List ℕ} {fault : WireFault} → NoNumber text fault
       → NoValue types.Varint text fault
@@ -134,8 +135,8 @@ pub data NoValue : WireType → List ℕ → WireFault → Type 0 where
       → NoValue types.Bytes (size ++ text) faults.Truncated
   no_four : {text : List ℕ} → length text < 4 → NoValue types.Four text faults.Truncated
 
--- No field stands at the front, and this fault says why. The option is the number of the group whose
--- content this is, where it is one: its end is no fault, and a text that ends before it is.
+-- No field stands at the front, and this fault says why. The option is the number of the group
+-- whose content this is, where it is one: its end is no fault, and a text that ends before it is.
 pub data Cause : ℕ → Option ℕ → List ℕ → WireFault → Type 0 where
   no_tag : {depth b : ℕ} {group : Option ℕ} {text : List ℕ} {fault : WireFault}
       → NoNumber (b ∷ text) fault → Cause depth group (b ∷ text) fault
@@ -160,7 +161,8 @@ pub data FaultIn : ℕ → Option ℕ → List ℕ → WireFault → Type 0 wher
       → IsField depth front field → FaultIn depth group rest fault
       → FaultIn depth group (front ++ rest) fault
   inside : {depth number : ℕ} {group : Option ℕ} {tag rest : List ℕ} {fault : WireFault}
-      → depth < 100 → IsTag tag number types.GroupStart → FaultIn (depth + 1) (Some number) rest fault
+      → depth < 100 → IsTag tag number types.GroupStart
+      → FaultIn (depth + 1) (Some number) rest fault
       → FaultIn depth group (tag ++ rest) fault
 
 -- a fault stands in a text that is no group's content

@@ -1,6 +1,7 @@
 -- Wire text read from left to right, with the first fault that is met: the grammar as functions on
--- lists. `whole_text` and `next_field` prove that these functions and the relations of Grammar agree,
--- so nothing here has to be believed. What the code answers is what these functions give.
+-- lists. `whole_text` and `next_field` prove that these functions and the relations of Grammar
+-- agree, so a reader need believe the grammar alone. What these functions add is which fault is met
+-- first.
 use Rattle.std.specs.Prelude.{option_map, ℕ, zero, suc, ◌+◌, ◌-◌, ◌*◌, ◌/◌, ◌%◌, ◌^◌, Bool, true, false, List, [], ◌∷◌, length, take, drop, Option, Some, None, Result, Ok, Err, nat_lt, ◌==◌, if◌then◌else◌}
 use Rattle.std.specs.Borrow.{Bor}
 use Rattle.pb_wire.specs.declared.field.WireFault.{WireFault}
@@ -12,7 +13,8 @@ use Rattle.pb_wire.specs.Grammar.{Datum, Varint, Eight, Bytes, Four, Group, Entr
 
 -- the next step after one that succeeded: Rust's `?`
 infixl 10 ◌>>=◌
-abbrev pub ◌>>=◌ : {A B : Type 0} → Result A WireFault → (A → Result B WireFault) → Result B WireFault
+abbrev pub ◌>>=◌ : {A B : Type 0} → Result A WireFault → (A → Result B WireFault)
+    → Result B WireFault
 (Ok x) >>= f = f x
 (Err fault) >>= f = Err fault
 
@@ -72,15 +74,16 @@ tag_at bytes = do
 
 -- so many bytes, and the rest
 unfoldable pub split_at : ℕ → List ℕ → Result (List ℕ × List ℕ) WireFault
-split_at n bytes = if nat_lt (length bytes) n then Err Truncated else Ok (take n bytes, drop n bytes)
+split_at n bytes =
+    if nat_lt (length bytes) n then Err Truncated else Ok (take n bytes, drop n bytes)
 
 -- a group ends here
 abbrev pub is_end : WireType → Bool
 is_end types.GroupEnd = true
 is_end _ = false
 
--- What finds a group's end: from the depth of its content, its number and the bytes behind its start,
--- the bytes from its end on, and those behind its end.
+-- What finds a group's end: from the depth of its content, its number and the bytes behind its
+-- start, the bytes from its end on, and those behind its end.
 abbrev pub Ends : Type 0
 Ends = ℕ → ℕ → List ℕ → Result (List ℕ × List ℕ) WireFault
 
@@ -110,7 +113,8 @@ end_in (suc n) depth number (b ∷ bytes) = do
   tag ← tag_at (b ∷ bytes)
   if is_end tag.kind
       then (if tag.number == number then Ok (b ∷ bytes, tag.rest) else Err GroupMismatch)
-      else (value_with (end_in n) depth tag.number tag.kind tag.rest >>= λ v. end_in n depth number v.1)
+      else (value_with (end_in n) depth tag.number tag.kind tag.rest
+          >>= λ v. end_in n depth number v.1)
 
 -- the end of a group, behind any number of fields: each takes at least a byte
 abbrev pub end_at : Ends

@@ -8,7 +8,8 @@ use thiserror::Error;
 /// What a field holds, borrowed from the text that it was read from.
 #[derive(Clone, Copy, Debug, PartialEq, Eq)]
 pub enum Value<'a> {
-    /// A number of 64 bits. What it means (two's complement, zigzag, a bool) is the message's matter.
+    /// A number of 64 bits. What it means (two's complement, zigzag, a bool) is the message's
+    /// matter.
     Varint(u64),
     /// Eight bytes, least significant first: `fixed64`, `sfixed64`, `double`.
     Eight([u8; 8]),
