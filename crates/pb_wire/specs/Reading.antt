@@ -114,7 +114,7 @@ end_in (suc n) depth number (b ∷ bytes) = do
   if is_end tag.kind
       then (if tag.number == number then Ok (b ∷ bytes, tag.rest) else Err GroupMismatch)
       else (value_with (end_in n) depth tag.number tag.kind tag.rest
-          >>= λ v. end_in n depth number v.1)
+      >>= λ v. end_in n depth number v.1)
 
 -- the end of a group, behind any number of fields: each takes at least a byte
 abbrev pub end_at : Ends
