@@ -90,18 +90,24 @@ Ends = ℕ → ℕ → List ℕ → Result (List ℕ × List ℕ) WireFault
 -- the bytes before a group's end, and those behind it
 abbrev pub with_content : List ℕ → Result (List ℕ × List ℕ) WireFault
     → Result (List ℕ × List ℕ) WireFault
-with_content bytes end = end >>= λ g. Ok (take (length bytes - length g.0) bytes, g.1)
+with_content bytes end =
+    end >>= λ found. Ok (take (length bytes - length found.0) bytes, found.1)
 
 -- the value of this wire type at the front, behind its tag, and the rest
 unfoldable pub value_with : Ends → ℕ → ℕ → WireType → List ℕ → Result (Datum × List ℕ) WireFault
-value_with ends depth number types.Varint bytes = varint_at bytes >>= λ v. Ok (Varint v.0, v.1)
-value_with ends depth number types.Eight bytes = split_at 8 bytes >>= λ s. Ok (Eight s.0, s.1)
+value_with ends depth number types.Varint bytes =
+    varint_at bytes >>= λ value. Ok (Varint value.0, value.1)
+value_with ends depth number types.Eight bytes =
+    split_at 8 bytes >>= λ value. Ok (Eight value.0, value.1)
 value_with ends depth number types.Bytes bytes =
-    varint_at bytes >>= λ n. split_at n.0 n.1 >>= λ s. Ok (Bytes s.0, s.1)
-value_with ends depth number types.Four bytes = split_at 4 bytes >>= λ s. Ok (Four s.0, s.1)
+    varint_at bytes
+    >>= λ size. split_at size.0 size.1
+    >>= λ value. Ok (Bytes value.0, value.1)
+value_with ends depth number types.Four bytes =
+    split_at 4 bytes >>= λ value. Ok (Four value.0, value.1)
 value_with ends depth number types.GroupStart bytes =
     if nat_lt depth 100
-    then (with_content bytes (ends (depth + 1) number bytes) >>= λ g. Ok (Group g.0, g.1))
+    then (with_content bytes (ends (depth + 1) number bytes) >>= λ body. Ok (Group body.0, body.1))
     else Err TooDeep
 value_with ends depth number types.GroupEnd bytes = Err GroupMismatch
 
@@ -114,7 +120,7 @@ end_in (suc n) depth number (b ∷ bytes) = do
   if is_end tag.kind
       then (if tag.number == number then Ok (b ∷ bytes, tag.rest) else Err GroupMismatch)
       else (value_with (end_in n) depth tag.number tag.kind tag.rest
-      >>= λ v. end_in n depth number v.1)
+      >>= λ value. end_in n depth number value.1)
 
 -- the end of a group, behind any number of fields: each takes at least a byte
 abbrev pub end_at : Ends
@@ -124,8 +130,8 @@ end_at depth number bytes = end_in (length bytes) depth number bytes
 abbrev pub field_with : Ends → ℕ → List ℕ → Result (Entry × List ℕ) WireFault
 field_with ends depth bytes = do
   tag ← tag_at bytes
-  v ← value_with ends depth tag.number tag.kind tag.rest
-  Ok (record { number = tag.number; value = v.0 }, v.1)
+  value ← value_with ends depth tag.number tag.kind tag.rest
+  Ok (record { number = tag.number; value = value.0 }, value.1)
 
 -- the first field and the rest, or nothing where there are no bytes
 abbrev pub next_at : ℕ → List ℕ → Result (Option (Entry × List ℕ)) WireFault
