@@ -1,0 +1,12 @@
+-- A step that fails decides what stands behind it.
+use Rattle.std.proofs.Common.{◌≡◌, Option, Some, None, Result, Err}
+use Rattle.std.specs.Prelude.{IfSome}
+use Rattle.tail_settings.specs.declared.fault.SettingsFault.{SettingsFault}
+use Rattle.tail_settings.specs.Fault.{FaultData, fault_view, TellsFault, ◌>>=◌}
+
+told_by : {A B : Type 0} (o : Option FaultData) (m : Result A FaultData) (k : A → Result B FaultData) → IfSome o (λ f. m ≡ Err f) → IfSome o (λ f. (m >>= k) ≡ Err f)
+told_by None m k h = tt
+told_by (Some f) m k h = rw h
+
+pub tells_more : {A B : Type 0} (e : SettingsFault) (m : Result A FaultData) (k : A → Result B FaultData) → TellsFault e m → TellsFault e (m >>= k)
+tells_more e m k h = told_by (fault_view e) m k h

@@ -1,0 +1,7 @@
+use Rattle.std.proofs.Common.{◌≡◌, drop}
+use Rattle.toml.specs.View.{items_view}
+use Rattle.tail_settings.specs.Keys.{are_tables}
+use Rattle.tail_settings.proofs.keys.are_all_tables.Given as goal
+
+abbrev pub invariant-loop-value : goal.invariant-loop-value
+invariant-loop-value l = are_tables (items_view (drop l.value-index l.values)) ≡ are_tables (items_view l.values)

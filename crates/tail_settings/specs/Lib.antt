@@ -1,0 +1,5 @@
+pub mod Fault
+pub mod Keys
+pub mod Section
+pub mod Settings
+pub mod Sound
