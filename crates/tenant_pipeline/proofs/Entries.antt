@@ -1,0 +1,260 @@
+-- The rows as a map's entries.
+use Rattle.std.proofs.Common.{◌≡◌, ℕ, zero, suc, ◌+◌, ◌-◌, ◌≤◌, Bool, true, false, cond, not, List, [], ◌∷◌, ◌++◌, map, length, take, set, slice_get, position, Option, Some, None, refl, sym, ap, ◌∙◌, arith, ltb, length-append, append_assoc}
+use Rattle.std.specs.Prelude.{option_map}
+use Rattle.std.specs.List.{position_or_len}
+use Rattle.std.specs.Map.{keys_of, values_of}
+use Rattle.std.proofs.lemmas.Bool.Decides.{nat_tests}
+use Rattle.std.proofs.lemmas.List.{take-map, length-map, map-append}
+use Rattle.std.proofs.Math.Seq.{take-append_seam}
+use Rattle.std.proofs.lemmas.Option.{slice_get-map}
+use Rattle.indexmap.specs.Layout.{set_value_at}
+use Rattle.indexmap.specs.IndexMap.{insert_entry}
+use Rattle.std.proofs.lemmas.List.Elements.{filter-append}
+use Rattle.tenant_pipeline.specs.declared.place.Addition.{Addition}
+use Rattle.otlp_trace.specs.declared.message.Span.{Span}
+use Rattle.tenant_pipeline.specs.declared.rows.Row.{Row}
+use Rattle.tenant_pipeline.specs.Arrivals.{Arrival, valid, is_valid}
+use Rattle.tenant_pipeline.specs.Groups.{GroupData}
+use Rattle.tenant_pipeline.specs.State.{RowData}
+use Rattle.tenant_pipeline.specs.Rows.{trace_of, is_same}
+use Rattle.otlp_trace.specs.View.{span_view}
+use Rattle.tenant_pipeline.specs.ExportText.{span_of}
+use Rattle.tenant_pipeline.specs.Timers.{without_spans}
+use Rattle.tenant_pipeline.specs.Machine.{rows_with, late_with, rows_with_all, late_with_all, joined, late_of, IsDecided}
+use Rattle.tenant_pipeline.specs.Additions.{but_last, shortened, without_last, rows_before, queue_before, rows_without, queue_without}
+use Rattle.tenant_pipeline.specs.View.{row_view, row_views, arrival_view, arrival_views}
+
+-- the row at a place
+pub record RowAt (es : List (List ℕ × Row)) (i : ℕ) (v : Row) : Type 0 where
+  pub trace : List ℕ
+  pub entry : slice_get es i ≡ Some (trace, v)
+  pub view : slice_get (row_views es) i ≡ Some (row_view (trace, v))
+
+row_at_by : (es : List (List ℕ × Row)) (i : ℕ) (v : Row) (o : Option (List ℕ × Row)) → slice_get es i ≡ o → option_map (λ (e : List ℕ × Row). e.1) o ≡ Some v → RowAt es i v
+row_at_by es i v None at is = absurd (cc)
+row_at_by es i v (Some e) at is =
+    let same : e.1 ≡ v = cc in
+    let whole : slice_get es i ≡ Some (e.0, v) = at ∙ ap (λ w. Some (e.0, w)) same in
+    record { trace = e.0; entry = whole; view = slice_get-map row_view es i ∙ ap (option_map row_view) whole }
+
+pub row_at : (es : List (List ℕ × Row)) (i : ℕ) (v : Row) → slice_get (values_of es) i ≡ Some v → RowAt es i v
+row_at es i v is = row_at_by es i v (slice_get es i) refl (sym (slice_get-map (λ (e : List ℕ × Row). e.1) es i) ∙ is)
+
+-- a value that is written is the row's
+pub set_row : (es : List (List ℕ × Row)) (i : ℕ) (k : List ℕ) (v w : Row) → slice_get es i ≡ Some (k, v) → row_views (set_value_at es i w) ≡ set (row_views es) i (row_view (k, w))
+set_row [] i k v w at = refl
+set_row (e ∷ es) zero k v w at =
+    let same : e.0 ≡ k = ap (λ (o : Option (List ℕ × Row)). elim o as (λ _. List ℕ) [ None ↦ k | Some p ↦ p.0 ]) at in
+    ap (λ (t : List ℕ). row_view (t, w) ∷ row_views es) same
+set_row (e ∷ es) (suc i) k v w at = ap (λ rows. row_view e ∷ rows) (set_row es i k v w at)
+
+-- the same row again changes nothing
+pub set_same : (rows : List RowData) (i : ℕ) (r : RowData) → slice_get rows i ≡ Some r → set rows i r ≡ rows
+set_same [] i r at = refl
+set_same (q ∷ rows) zero r at =
+    let same : q ≡ r = ap (λ (o : Option RowData). elim o as (λ _. RowData) [ None ↦ r | Some p ↦ p ]) at in
+    ap (λ (p : RowData). p ∷ rows) (sym same)
+set_same (q ∷ rows) (suc i) r at = ap (λ ys. q ∷ ys) (set_same rows i r at)
+
+-- a row that loses its last span
+pub shortened_at : (rows : List RowData) (i : ℕ) (r : RowData) → slice_get rows i ≡ Some r → shortened i rows ≡ set rows i (without_last r)
+shortened_at [] i r at = refl
+shortened_at (q ∷ rows) zero r at =
+    let same : q ≡ r = ap (λ (o : Option RowData). elim o as (λ _. RowData) [ None ↦ r | Some p ↦ p ]) at in
+    ap (λ (p : RowData). without_last p ∷ rows) same
+shortened_at (q ∷ rows) (suc i) r at = ap (λ ys. q ∷ ys) (shortened_at rows i r at)
+
+pub shortened_past : (rows : List RowData) (i : ℕ) → slice_get rows i ≡ None → shortened i rows ≡ rows
+shortened_past [] i at = refl
+shortened_past (q ∷ rows) zero at = absurd (cc)
+shortened_past (q ∷ rows) (suc i) at = ap (λ ys. q ∷ ys) (shortened_past rows i at)
+
+-- a row that was set and then loses its last span
+pub shortened-set : (rows : List RowData) (i : ℕ) (r q : RowData) → slice_get rows i ≡ Some r → without_last q ≡ r → shortened i (set rows i q) ≡ rows
+shortened-set [] i r q at is = refl
+shortened-set (p ∷ rows) zero r q at is =
+    let same : p ≡ r = ap (λ (o : Option RowData). elim o as (λ _. RowData) [ None ↦ r | Some p ↦ p ]) at in
+    ap (λ (z : RowData). z ∷ rows) (is ∙ sym same)
+shortened-set (p ∷ rows) (suc i) r q at is = ap (λ ys. p ∷ ys) (shortened-set rows i r q at is)
+
+-- a list that lost its last
+pub but_last-push : {A : Type 0} → (xs : List A) (x : A) → but_last (xs ++ x ∷ []) ≡ xs
+but_last-push xs x =
+    let short : length (xs ++ x ∷ []) - 1 ≡ length xs = rw length-append (omega arith) in
+    rw short (take-append_seam xs (x ∷ []))
+
+pub map-but_last : {A B : Type 0} → (f : A → B) (xs : List A) → map f (but_last xs) ≡ but_last (map f xs)
+map-but_last f xs = sym (take-map f (length xs - 1) xs) ∙ ap (λ n. take (n - 1) (map f xs)) (sym (length-map xs f))
+
+-- a row that was decided
+pub decided_at : (es : List (List ℕ × Row)) (i : ℕ) (v w : Row) (queue new_queue : List GroupData) → slice_get (values_of es) i ≡ Some v → w.due ≡ v.due → w.spans.items ≡ [] →
+    new_queue ≡ queue ++ record { moment = v.due; spans = arrival_views v.spans.items } ∷ [] → IsDecided i w.due (row_views es) queue (row_views (set_value_at es i w)) new_queue
+decided_at es i v w queue new_queue is due spans queued =
+    let at = row_at es i v is in
+    let row : row_view (at.trace, w) ≡ without_spans (row_view (at.trace, v)) = cc (due, ap arrival_views spans) in
+    record { row = row_view (at.trace, v); is_there = at.view; is_due = sym due; rows_are = set_row es i at.trace v w at.entry ∙ ap (set (row_views es) i) row; queue_is = queued }
+
+-- a row that stayed as it was
+pub kept_at : (es : List (List ℕ × Row)) (i : ℕ) (v w : Row) → slice_get (values_of es) i ≡ Some v → w.due ≡ v.due → w.spans.items ≡ v.spans.items → row_views (set_value_at es i w) ≡ row_views es
+kept_at es i v w is due spans =
+    let at = row_at es i v is in
+    let row : row_view (at.trace, w) ≡ row_view (at.trace, v) = cc (due, ap arrival_views spans) in
+    set_row es i at.trace v w at.entry ∙ (ap (set (row_views es) i) row ∙ set_same (row_views es) i (row_view (at.trace, v)) at.view)
+
+-- a row that lost its last span
+pub popped_at : (es : List (List ℕ × Row)) (i : ℕ) (v w : Row) → slice_get (values_of es) i ≡ Some v → w.due ≡ v.due → w.spans.items ≡ but_last v.spans.items → row_views (set_value_at es i w) ≡ shortened i (row_views es)
+popped_at es i v w is due spans =
+    let at = row_at es i v is in
+    let fewer : arrival_views w.spans.items ≡ but_last (arrival_views v.spans.items) = ap arrival_views spans ∙ map-but_last arrival_view v.spans.items in
+    let row : row_view (at.trace, w) ≡ without_last (row_view (at.trace, v)) = cc (due, fewer) in
+    set_row es i at.trace v w at.entry ∙ (ap (set (row_views es) i) row ∙ sym (shortened_at (row_views es) i (row_view (at.trace, v)) at.view))
+
+-- what the map knows of a trace's place
+at_by : (wait moment : ℕ) (x : Arrival) (e : List ℕ × Row) (es : List (List ℕ × Row)) (r : RowData) (n : ℕ) (b : Bool) →
+    (slice_get (row_views es) n ≡ Some r → (rows_with wait moment x (row_views es) ≡ set (row_views es) n (joined moment x r)) × (late_with moment x (row_views es) ≡ late_of moment x r)) →
+    slice_get (row_view e ∷ row_views es) (cond (not b) (1 + n) 0) ≡ Some r →
+    (cond b (joined moment x (row_view e) ∷ row_views es) (row_view e ∷ rows_with wait moment x (row_views es)) ≡ set (row_view e ∷ row_views es) (cond (not b) (1 + n) 0) (joined moment x r))
+    × (cond b (late_of moment x (row_view e)) (late_with moment x (row_views es)) ≡ late_of moment x r)
+at_by wait moment x e es r n true ih at =
+    let same : row_view e ≡ r = ap (λ (o : Option RowData). elim o as (λ _. RowData) [ None ↦ r | Some p ↦ p ]) at in
+    (ap (λ (q : RowData). joined moment x q ∷ row_views es) same, ap (late_of moment x) same)
+at_by wait moment x e es r n false ih at =
+    let one : 1 + n ≡ suc n = omega arith in
+    let rest = ih (rw one at at) in
+    (rw one (ap (λ ys. row_view e ∷ ys) rest.0), rest.1)
+
+pub rows_with-at : (wait moment : ℕ) (x : Arrival) (es : List (List ℕ × Row)) (r : RowData) →
+    slice_get (row_views es) (position_or_len (is_same (trace_of x)) (keys_of es)) ≡ Some r →
+    (rows_with wait moment x (row_views es) ≡ set (row_views es) (position_or_len (is_same (trace_of x)) (keys_of es)) (joined moment x r)) × (late_with moment x (row_views es) ≡ late_of moment x r)
+rows_with-at wait moment x [] r at = absurd (cc)
+rows_with-at wait moment x (e ∷ es) r at = at_by wait moment x e es r (position_or_len (is_same (trace_of x)) (keys_of es)) (is_same (trace_of x) e.0) (rows_with-at wait moment x es r) at
+
+end_by : (wait moment : ℕ) (x : Arrival) (e : List ℕ × Row) (es : List (List ℕ × Row)) (n : ℕ) (b : Bool) →
+    (length (keys_of es) ≤ n → (rows_with wait moment x (row_views es) ≡ row_views es ++ record { trace = trace_of x; due = moment + wait; spans = x ∷ [] } ∷ []) × (late_with moment x (row_views es) ≡ [])) →
+    1 + length (keys_of es) ≤ cond (not b) (1 + n) 0 →
+    (cond b (joined moment x (row_view e) ∷ row_views es) (row_view e ∷ rows_with wait moment x (row_views es)) ≡ row_view e ∷ (row_views es ++ record { trace = trace_of x; due = moment + wait; spans = x ∷ [] } ∷ []))
+    × (cond b (late_of moment x (row_view e)) (late_with moment x (row_views es)) ≡ [])
+end_by wait moment x e es n true ih all = absurd (omega arith)
+end_by wait moment x e es n false ih all =
+    let rest = ih (omega arith) in
+    (ap (λ ys. row_view e ∷ ys) rest.0, rest.1)
+
+pub rows_with-end : (wait moment : ℕ) (x : Arrival) (es : List (List ℕ × Row)) → length (keys_of es) ≤ position_or_len (is_same (trace_of x)) (keys_of es) →
+    (rows_with wait moment x (row_views es) ≡ row_views es ++ record { trace = trace_of x; due = moment + wait; spans = x ∷ [] } ∷ []) × (late_with moment x (row_views es) ≡ [])
+rows_with-end wait moment x [] all = (refl, refl)
+rows_with-end wait moment x (e ∷ es) all = end_by wait moment x e es (position_or_len (is_same (trace_of x)) (keys_of es)) (is_same (trace_of x) e.0) (rows_with-end wait moment x es) (omega arith)
+
+-- where the map finds the trace, and where not
+found_by : (n len i : ℕ) (b : Bool) → ltb n len ≡ b → cond b (Some n) None ≡ Some i → n ≡ i
+found_by n len i true t e = cc
+found_by n len i false t e = absurd (cc)
+
+pub found_at : (p : List ℕ → Bool) (ks : List (List ℕ)) (i : ℕ) → position p ks ≡ Some i → position_or_len p ks ≡ i
+found_at p ks i e = found_by (position_or_len p ks) (length ks) i (ltb (position_or_len p ks) (length ks)) refl e
+
+missing_by : (n len : ℕ) (b : Bool) → ltb n len ≡ b → cond b (Some n) None ≡ None → len ≤ n
+missing_by n len true t e = absurd (cc)
+missing_by n len false t e = grind (arith, nat_tests)
+
+pub missing : (p : List ℕ → Bool) (ks : List (List ℕ)) → position p ks ≡ None → length ks ≤ position_or_len p ks
+missing p ks e = missing_by (position_or_len p ks) (length ks) (ltb (position_or_len p ks) (length ks)) refl e
+
+-- a span that joins the row at a place, or is late
+abbrev pub JoinedAt : ℕ → ℕ → Span → List (List ℕ × Row) → ℕ → Row → Bool → Type 0
+JoinedAt wait moment span es i w b =
+    (row_views (set_value_at es i w) ≡ rows_with wait moment (arrival_view span) (row_views es))
+    × (late_with moment (arrival_view span) (row_views es) ≡ cond b [] (record { moment = moment; spans = arrival_view span ∷ [] } ∷ []))
+    × (cond b (shortened i (row_views (set_value_at es i w))) (row_views (set_value_at es i w)) ≡ row_views es)
+
+joined_by : (wait moment : ℕ) (span : Span) (es : List (List ℕ × Row)) (i : ℕ) (v w : Row) (b : Bool) (at : RowAt es i v) →
+    (rows_with wait moment (arrival_view span) (row_views es) ≡ set (row_views es) i (joined moment (arrival_view span) (row_view (at.trace, v)))) → (late_with moment (arrival_view span) (row_views es) ≡ late_of moment (arrival_view span) (row_view (at.trace, v))) →
+    ltb moment v.due ≡ b → w.due ≡ v.due → w.spans.items ≡ cond b (v.spans.items ++ span ∷ []) v.spans.items → JoinedAt wait moment span es i w b
+joined_by wait moment span es i v w true at with late test due spans =
+    let x = arrival_view span in
+    let more : arrival_views w.spans.items ≡ arrival_views v.spans.items ++ x ∷ [] = ap arrival_views spans ∙ map-append arrival_view v.spans.items (span ∷ []) in
+    let grown : row_view (at.trace, w) ≡ record { trace = at.trace; due = v.due; spans = arrival_views v.spans.items ++ x ∷ [] } = cc (due, more) in
+    let join : joined moment x (row_view (at.trace, v)) ≡ record { trace = at.trace; due = v.due; spans = arrival_views v.spans.items ++ x ∷ [] } = rw test refl in
+    let written : row_views (set_value_at es i w) ≡ set (row_views es) i (record { trace = at.trace; due = v.due; spans = arrival_views v.spans.items ++ x ∷ [] }) = set_row es i at.trace v w at.entry ∙ ap (set (row_views es) i) grown in
+    let rows : row_views (set_value_at es i w) ≡ rows_with wait moment x (row_views es) = written ∙ (sym (ap (set (row_views es) i) join) ∙ sym with) in
+    let none : late_of moment x (row_view (at.trace, v)) ≡ [] = rw test refl in
+    let short : without_last (record { trace = at.trace; due = v.due; spans = arrival_views v.spans.items ++ x ∷ [] }) ≡ row_view (at.trace, v) = ap (λ (spans : List Arrival). record { trace = at.trace; due = v.due; spans = spans }) (but_last-push (arrival_views v.spans.items) x) in
+    (rows, late ∙ none, ap (shortened i) written ∙ shortened-set (row_views es) i (row_view (at.trace, v)) _ at.view short)
+joined_by wait moment span es i v w false at with late test due spans =
+    let x = arrival_view span in
+    let join : joined moment x (row_view (at.trace, v)) ≡ row_view (at.trace, v) = rw test refl in
+    let one : late_of moment x (row_view (at.trace, v)) ≡ record { moment = moment; spans = x ∷ [] } ∷ [] = rw test refl in
+    let kept : row_views (set_value_at es i w) ≡ row_views es =
+    set_row es i at.trace v w at.entry ∙ (ap (set (row_views es) i) (cc (due, ap arrival_views spans)) ∙ set_same (row_views es) i (row_view (at.trace, v)) at.view) in
+    let same : rows_with wait moment x (row_views es) ≡ row_views es = with ∙ (ap (set (row_views es) i) join ∙ set_same (row_views es) i (row_view (at.trace, v)) at.view) in
+    (kept ∙ sym same, late ∙ one, kept)
+
+pub joined_at : (wait moment : ℕ) (span : Span) (es : List (List ℕ × Row)) (i : ℕ) (v w : Row) (b : Bool) → position (is_same span.trace_id) (keys_of es) ≡ Some i → slice_get (values_of es) i ≡ Some v →
+    b ≡ ltb moment v.due → w.due ≡ v.due → w.spans.items ≡ cond b (v.spans.items ++ span ∷ []) v.spans.items → JoinedAt wait moment span es i w b
+joined_at wait moment span es i v w b found is test due spans =
+    let at = row_at es i v is in
+    let n = found_at (is_same span.trace_id) (keys_of es) i found in
+    let there : slice_get (row_views es) (position_or_len (is_same span.trace_id) (keys_of es)) ≡ Some (row_view (at.trace, v)) = ap (slice_get (row_views es)) n ∙ at.view in
+    let parts = rows_with-at wait moment (arrival_view span) es (row_view (at.trace, v)) there in
+    joined_by wait moment span es i v w b at (parts.0 ∙ ap (λ k. set (row_views es) k (joined moment (arrival_view span) (row_view (at.trace, v)))) n) parts.1 (sym test) due spans
+
+-- a span that opens a row
+insert_by : (k : List ℕ) (w : Row) (e : List ℕ × Row) (es : List (List ℕ × Row)) (n : ℕ) (b : Bool) → (length (keys_of es) ≤ n → insert_entry is_same es k w ≡ es ++ (k, w) ∷ []) → 1 + length (keys_of es) ≤ cond (not b) (1 + n) 0 →
+    cond b ((e.0, w) ∷ es) (e ∷ insert_entry is_same es k w) ≡ e ∷ (es ++ (k, w) ∷ [])
+insert_by k w e es n true ih all = absurd (omega arith)
+insert_by k w e es n false ih all = ap (λ ys. e ∷ ys) (ih (omega arith))
+
+insert_entry-end : (k : List ℕ) (w : Row) (es : List (List ℕ × Row)) → length (keys_of es) ≤ position_or_len (is_same k) (keys_of es) → insert_entry is_same es k w ≡ es ++ (k, w) ∷ []
+insert_entry-end k w [] all = refl
+insert_entry-end k w (e ∷ es) all = insert_by k w e es (position_or_len (is_same k) (keys_of es)) (is_same k e.0) (insert_entry-end k w es) (omega arith)
+
+abbrev pub OpenedAt : ℕ → ℕ → Span → List (List ℕ × Row) → List (List ℕ × Row) → Type 0
+OpenedAt wait moment span es new =
+    (row_views new ≡ rows_with wait moment (arrival_view span) (row_views es)) × (late_with moment (arrival_view span) (row_views es) ≡ []) × (but_last (row_views new) ≡ row_views es)
+
+pub opened_at : (wait moment : ℕ) (span : Span) (es new : List (List ℕ × Row)) (w : Row) → position (is_same span.trace_id) (keys_of es) ≡ None → new ≡ insert_entry is_same es span.trace_id w →
+    w.due ≡ moment + wait → w.spans.items ≡ span ∷ [] → OpenedAt wait moment span es new
+opened_at wait moment span es new w found is due spans =
+    let x = arrival_view span in
+    let past = missing (is_same span.trace_id) (keys_of es) found in
+    let parts = rows_with-end wait moment x es past in
+    let row : row_view (span.trace_id, w) ≡ record { trace = trace_of x; due = moment + wait; spans = x ∷ [] } = cc (due, ap arrival_views spans) in
+    let added : row_views new ≡ row_views es ++ record { trace = trace_of x; due = moment + wait; spans = x ∷ [] } ∷ [] =
+    ap row_views (is ∙ insert_entry-end span.trace_id w es past) ∙ (map-append row_view es ((span.trace_id, w) ∷ []) ∙ ap (λ (r : RowData). row_views es ++ r ∷ []) row) in
+    (added ∙ sym parts.0, parts.1, ap but_last added ∙ but_last-push (row_views es) _)
+
+-- several additions, and one more
+pub rows_without-push : (done : List Addition) (a : Addition) (rows : List RowData) → rows_without (done ++ a ∷ []) rows ≡ rows_without done (rows_before a rows)
+rows_without-push [] a rows = refl
+rows_without-push (b ∷ done) a rows = ap (rows_before b) (rows_without-push done a rows)
+
+pub queue_without-push : (done : List Addition) (a : Addition) (queue : List GroupData) → queue_without (done ++ a ∷ []) queue ≡ queue_without done (queue_before a queue)
+queue_without-push [] a queue = refl
+queue_without-push (b ∷ done) a queue = ap (queue_before b) (queue_without-push done a queue)
+
+-- several spans, and more
+pub rows_with_all-append : (wait moment : ℕ) (xs ys : List Arrival) (rows : List RowData) → rows_with_all wait moment (xs ++ ys) rows ≡ rows_with_all wait moment ys (rows_with_all wait moment xs rows)
+rows_with_all-append wait moment [] ys rows = refl
+rows_with_all-append wait moment (x ∷ xs) ys rows = rows_with_all-append wait moment xs ys (rows_with wait moment x rows)
+
+pub late_with_all-append : (wait moment : ℕ) (xs ys : List Arrival) (rows : List RowData) → late_with_all wait moment (xs ++ ys) rows ≡ late_with_all wait moment xs rows ++ late_with_all wait moment ys (rows_with_all wait moment xs rows)
+late_with_all-append wait moment [] ys rows = refl
+late_with_all-append wait moment (x ∷ xs) ys rows =
+    ap (λ zs. late_with moment x rows ++ zs) (late_with_all-append wait moment xs ys (rows_with wait moment x rows)) ∙ sym (append_assoc (late_with moment x rows) (late_with_all wait moment xs (rows_with wait moment x rows)) _)
+
+pub valid-cons : (x : Arrival) (xs : List Arrival) → valid (x ∷ xs) ≡ valid (x ∷ []) ++ valid xs
+valid-cons x xs = filter-append is_valid (x ∷ []) xs
+
+-- where there is no row, none loses a span
+none_by : (es : List (List ℕ × Row)) (i : ℕ) (o : Option (List ℕ × Row)) → slice_get es i ≡ o → option_map (λ (e : List ℕ × Row). e.1) o ≡ None → slice_get es i ≡ None
+none_by es i None at is = at
+none_by es i (Some e) at is = absurd (cc)
+
+pub none_at : (es : List (List ℕ × Row)) (i : ℕ) → slice_get (values_of es) i ≡ None → shortened i (row_views es) ≡ row_views es
+none_at es i is =
+    let none = none_by es i (slice_get es i) refl (sym (slice_get-map (λ (e : List ℕ × Row). e.1) es i) ∙ is) in
+    shortened_past (row_views es) i (slice_get-map row_view es i ∙ ap (option_map row_view) none)
+
+-- the spans of what is kept of them
+pub span_of_views : (spans : List Span) → map span_of (arrival_views spans) ≡ map span_view spans
+span_of_views [] = refl
+span_of_views (x ∷ xs) = ap (λ ys. span_view x ∷ ys) (span_of_views xs)

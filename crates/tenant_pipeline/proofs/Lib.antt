@@ -1,0 +1,10 @@
+mod Traces
+mod Fires
+mod Order
+mod Seats
+mod OneByOne
+mod Advance
+mod Coming
+mod Entries
+mod Run
+mod Bodies

@@ -1,0 +1,337 @@
+-- Timers that run one at a time do what the timers between two moments do to all rows at once.
+use Rattle.std.proofs.Common.{◌≡◌, ℕ, zero, suc, ◌+◌, ◌<◌, ◌≤◌, List, [], ◌∷◌, ◌++◌, length, refl, sym, ap, ◌∙◌, arith, append_assoc, append-nil, length-append, Bool, true, false, leb, ltb, cond, set, slice_get, Some, None, Option}
+use Rattle.std.specs.Prelude.{option_map, filter, nat_le, nat_lt, min}
+use Rattle.std.proofs.lemmas.Bool.{false≢true}
+use Rattle.std.proofs.lemmas.Bool.Decides.{nat_tests}
+use Rattle.std.proofs.lemmas.Option.{slice_get_past, slice_get_within}
+use Rattle.std.proofs.lemmas.List.{length-set}
+use Rattle.std.proofs.Math.Seq.{set-append_seam}
+use Rattle.tail_settings.specs.Section.{SectionData}
+use Rattle.tenant_pipeline.specs.Groups.{GroupData}
+use Rattle.tenant_pipeline.specs.Rows.{Seated, Opened}
+use Rattle.tenant_pipeline.specs.State.{State, RowData, kept_rows, decided_count}
+use Rattle.tenant_pipeline.specs.Timers.{next_timer, one_run, decide, is_due, ran, IsFront, without_spans, group_of, due_row}
+use Rattle.tenant_pipeline.specs.Ready.{lesser, next_decision}
+use Rattle.tenant_pipeline.specs.Machine.{set_to}
+use Rattle.tenant_pipeline.proofs.Fires.{cleared, fired, cleared-append, fired-append}
+use Rattle.tenant_pipeline.proofs.Seats.{OpenedBy}
+
+-- when none is due, no more run
+pub ran_none : (n e : ℕ) (s : State) → is_due (next_timer s) e ≡ false → ran n e s ≡ s
+ran_none zero e s early = refl
+ran_none (suc n) e s early = rw early refl
+
+ran_by : (b : Bool) (n k e : ℕ) (s : State) → is_due (next_timer s) e ≡ b → ran (n + k) e (one_run s) ≡ ran k e (ran n e (one_run s)) → cond b (ran (n + k) e (one_run s)) s ≡ ran k e (cond b (ran n e (one_run s)) s)
+ran_by true n k e s is ih = ih
+ran_by false n k e s is ih = sym (ran_none k e s is)
+
+-- first some, then some more
+pub ran-more : (n k e : ℕ) (s : State) → ran (n + k) e s ≡ ran k e (ran n e s)
+ran-more zero k e s = let z : 0 + k ≡ k = omega arith in rw z refl
+ran-more (suc n) k e s =
+    let z : suc n + k ≡ suc (n + k) = omega arith in
+    rw z (ran_by (is_due (next_timer s) e) n k e s refl (ran-more n k e (one_run s)))
+
+pub IsFront_refl : (e : ℕ) (s : State) → IsFront e s s
+IsFront_refl e s = (0, refl)
+
+-- one more timer that is due
+pub IsFront-push : (e : ℕ) (old s new : State) → IsFront e old s → is_due (next_timer s) e ≡ true → new ≡ one_run s → IsFront e old new
+IsFront-push e old s new front now is =
+    let one : ran 1 e s ≡ one_run s = rw now refl in
+    (front.0 + 1, is ∙ (sym one ∙ (ap (ran 1 e) front.1 ∙ sym (ran-more front.0 1 e old))))
+
+-- a timer that is due has a row
+due_by : (s : State) (e : ℕ) (o : Option RowData) → slice_get s.rows s.decided ≡ o → is_due (option_map due_row o) e ≡ true → s.decided < length s.rows
+due_by s e None at now = absurd (false≢true now)
+due_by s e (Some row) at now = slice_get_within s.rows s.decided row at
+
+pub due_within : (s : State) (e : ℕ) → is_due (next_timer s) e ≡ true → s.decided < length s.rows
+due_within s e now = due_by s e (slice_get s.rows s.decided) refl now
+
+-- what a timer that is due leaves
+one_by : (s : State) (e : ℕ) (o : Option RowData) → is_due (option_map due_row o) e ≡ true → ((decide o s).decided ≡ s.decided + 1) × (length (decide o s).rows ≡ length s.rows)
+one_by s e None now = absurd (false≢true now)
+one_by s e (Some row) now = (refl, length-set s.rows s.decided (without_spans row))
+
+pub one_run_is : (s : State) (e : ℕ) → is_due (next_timer s) e ≡ true → ((one_run s).decided ≡ s.decided + 1) × (length (one_run s).rows ≡ length s.rows)
+one_run_is s e now = one_by s e (slice_get s.rows s.decided) now
+
+-- no more timers run than there are undecided rows
+enough_by : (b : Bool) (k e : ℕ) (s : State) → is_due (next_timer s) e ≡ b → (is_due (next_timer s) e ≡ true → ran (suc k) e (one_run s) ≡ ran k e (one_run s)) →
+    cond b (ran (suc k) e (one_run s)) s ≡ cond b (ran k e (one_run s)) s
+enough_by true k e s is ih = ih is
+enough_by false k e s is ih = refl
+
+pub ran_enough : (k e : ℕ) (s : State) → length s.rows ≤ k + s.decided → ran (suc k) e s ≡ ran k e s
+ran_enough zero e s few = ran_none 1 e s (past (is_due (next_timer s) e) refl)
+  where
+    past : (b : Bool) → is_due (next_timer s) e ≡ b → is_due (next_timer s) e ≡ false
+    past true is = let within = due_within s e is in absurd (omega arith)
+    past false is = is
+ran_enough (suc k) e s few = enough_by (is_due (next_timer s) e) k e s refl
+    (λ now. let is = one_run_is s e now in
+    let count : (one_run s).decided ≡ s.decided + 1 = is.0 in
+    let same : length (one_run s).rows ≡ length s.rows = is.1 in
+    ran_enough k e (one_run s) (omega arith))
+
+-- where a timer is due, running it first leaves as much to run
+pub ran_next : (e : ℕ) (s : State) → is_due (next_timer s) e ≡ true → ran (length s.rows) e (one_run s) ≡ ran (length s.rows) e s
+ran_next e s now =
+    let first : ran (suc (length s.rows)) e s ≡ ran (length s.rows) e (one_run s) = rw now refl in
+    sym first ∙ ran_enough (length s.rows) e s (omega arith)
+
+-- every row is due from the moment on
+abbrev pub AllDueFrom : ℕ → List RowData → Type 0
+AllDueFrom m [] = Unit
+AllDueFrom m (r ∷ rows) = (m ≤ r.due) × AllDueFrom m rows
+
+-- every row is due by the moment
+abbrev pub AllDueBy : ℕ → List RowData → Type 0
+AllDueBy m [] = Unit
+AllDueBy m (r ∷ rows) = (r.due ≤ m) × AllDueBy m rows
+
+-- the due moments never fall
+abbrev pub Rising : List RowData → Type 0
+Rising [] = Unit
+Rising (r ∷ rows) = AllDueFrom r.due rows × Rising rows
+
+AllDueFrom_less : (m n : ℕ) (rows : List RowData) → m ≤ n → AllDueFrom n rows → AllDueFrom m rows
+AllDueFrom_less m n [] le all = tt
+AllDueFrom_less m n (r ∷ rows) le all = (omega (arith, all.0), AllDueFrom_less m n rows le all.1)
+
+AllDueBy_more : (m n : ℕ) (rows : List RowData) → m ≤ n → AllDueBy m rows → AllDueBy n rows
+AllDueBy_more m n [] le all = tt
+AllDueBy_more m n (r ∷ rows) le all = (omega (arith, all.0), AllDueBy_more m n rows le all.1)
+
+AllDueFrom-push : (m : ℕ) (rows : List RowData) (r : RowData) → AllDueFrom m rows → m ≤ r.due → AllDueFrom m (rows ++ r ∷ [])
+AllDueFrom-push m [] r all le = (le, tt)
+AllDueFrom-push m (x ∷ rows) r all le = (all.0, AllDueFrom-push m rows r all.1 le)
+
+AllDueBy-push : (m : ℕ) (rows : List RowData) (r : RowData) → AllDueBy m rows → r.due ≤ m → AllDueBy m (rows ++ r ∷ [])
+AllDueBy-push m [] r all le = (le, tt)
+AllDueBy-push m (x ∷ rows) r all le = (all.0, AllDueBy-push m rows r all.1 le)
+
+Rising-push : (rows : List RowData) (r : RowData) → Rising rows → AllDueBy r.due rows → Rising (rows ++ r ∷ [])
+Rising-push [] r rising by = (tt, tt)
+Rising-push (x ∷ rows) r rising by = (AllDueFrom-push x.due rows r rising.0 by.0, Rising-push rows r rising.1 by.1)
+
+AllDueBy-kept : (w : SectionData) (d m : ℕ) (N : List Seated) (R : List Opened) → OpenedBy m R → AllDueBy (m + w.decision_wait) (kept_rows w d N R)
+AllDueBy-kept w d m N [] by = tt
+AllDueBy-kept w d m N (r ∷ R) by =
+    let le : r.moment ≤ m = by.0 in
+    AllDueBy-push (m + w.decision_wait) (kept_rows w d N R) _ (AllDueBy_more (r.moment + w.decision_wait) (m + w.decision_wait) (kept_rows w d N R) (omega arith) (AllDueBy-kept w d r.moment N R by.1)) (omega arith)
+
+pub Rising-kept : (w : SectionData) (d m : ℕ) (N : List Seated) (R : List Opened) → OpenedBy m R → Rising (kept_rows w d N R)
+Rising-kept w d m N [] by = tt
+Rising-kept w d m N (r ∷ R) by = Rising-push (kept_rows w d N R) _ (Rising-kept w d r.moment N R by.1) (AllDueBy-kept w d r.moment N R by.1)
+
+-- the rows that were decided by a moment, and the others
+abbrev pub finished : ℕ → List RowData → List RowData
+finished d rows = filter (λ row. nat_le row.due d) rows
+
+abbrev pub waiting : ℕ → List RowData → List RowData
+waiting d rows = filter (λ row. nat_lt d row.due) rows
+
+all_later : (d : ℕ) (rows : List RowData) → AllDueFrom (d + 1) rows → (finished d rows ≡ []) × (waiting d rows ≡ rows)
+all_later d [] all = (refl, refl)
+all_later d (r ∷ rows) all =
+    let rest = all_later d rows all.1 in
+    let le : d + 1 ≤ r.due = all.0 in
+    let none : finished d rows ≡ [] = rest.0 in
+    let same : waiting d rows ≡ rows = rest.1 in
+    (grind (arith, nat_tests), grind (arith, nat_tests))
+
+-- rows by due moment are first the decided ones
+split_by : (d : ℕ) (r : RowData) (rows : List RowData) (b : Bool) → leb r.due d ≡ b → AllDueFrom r.due rows → rows ≡ finished d rows ++ waiting d rows → r ∷ rows ≡ finished d (r ∷ rows) ++ waiting d (r ∷ rows)
+split_by d r rows true is from ih = let late' : ltb d r.due ≡ false = grind (arith, nat_tests) in rw is (rw late' (ap (λ ys. r ∷ ys) ih))
+split_by d r rows false is from ih =
+    let later : d + 1 ≤ r.due = grind (arith, nat_tests) in
+    let all : AllDueFrom (d + 1) (r ∷ rows) = (later, AllDueFrom_less (d + 1) r.due rows later from) in
+    let parts = all_later d (r ∷ rows) all in
+    sym (ap (λ xs. xs ++ waiting d (r ∷ rows)) parts.0 ∙ parts.1)
+
+pub split : (d : ℕ) (rows : List RowData) → Rising rows → rows ≡ finished d rows ++ waiting d rows
+split d [] rising = refl
+split d (r ∷ rows) rising = split_by d r rows (leb r.due d) refl rising.0 (split d rows rising.1)
+
+finished-append : (d : ℕ) (xs ys : List RowData) → finished d (xs ++ ys) ≡ finished d xs ++ finished d ys
+finished-append d [] ys = refl
+finished-append d (x ∷ xs) ys = grind (arith, nat_tests, finished-append d xs ys)
+
+-- as many rows are decided
+pub decided_is : (w : SectionData) (d : ℕ) (N : List Seated) (R : List Opened) → decided_count w d R ≡ length (finished d (kept_rows w d N R))
+decided_is w d N [] = refl
+decided_is w d N (r ∷ R) = grind (arith, nat_tests, decided_is w d N R, finished-append, length-append)
+
+pub decided_later_count : (w : SectionData) (d e : ℕ) (N : List Seated) (R : List Opened) → d ≤ e → decided_count w e R ≡ decided_count w d R + length (fired d e (kept_rows w d N R))
+decided_later_count w d e N [] le = refl
+decided_later_count w d e N (r ∷ R) le = grind (arith, nat_tests, decided_later_count w d e N R le, fired-append, length-append)
+
+-- the rows that stay due after the moment
+AllDueFrom-waiting : (d : ℕ) (rows : List RowData) → AllDueFrom (d + 1) (waiting d rows)
+AllDueFrom-waiting d [] = tt
+AllDueFrom-waiting d (r ∷ rows) = by_test (ltb d r.due) refl (AllDueFrom-waiting d rows)
+  where
+    by_test : (b : Bool) → ltb d r.due ≡ b → AllDueFrom (d + 1) (waiting d rows) → AllDueFrom (d + 1) (cond b (r ∷ waiting d rows) (waiting d rows))
+    by_test true is rest = (grind (arith, nat_tests), rest)
+    by_test false is rest = rest
+
+AllDueFrom-waiting_from : (m d : ℕ) (rows : List RowData) → AllDueFrom m rows → AllDueFrom m (waiting d rows)
+AllDueFrom-waiting_from m d [] all = tt
+AllDueFrom-waiting_from m d (r ∷ rows) all = elim (ltb d r.due) as (λ b. AllDueFrom m (cond b (r ∷ waiting d rows) (waiting d rows))) [ true ↦ (all.0, AllDueFrom-waiting_from m d rows all.1) | false ↦ AllDueFrom-waiting_from m d rows all.1 ]
+
+Rising-waiting : (d : ℕ) (rows : List RowData) → Rising rows → Rising (waiting d rows)
+Rising-waiting d [] rising = tt
+Rising-waiting d (r ∷ rows) rising = elim (ltb d r.due) as (λ b. Rising (cond b (r ∷ waiting d rows) (waiting d rows))) [ true ↦ (AllDueFrom-waiting_from r.due d rows rising.0, Rising-waiting d rows rising.1) | false ↦ Rising-waiting d rows rising.1 ]
+
+-- what is decided already stays
+cleared-finished : (d e : ℕ) (rows : List RowData) → cleared d e (finished d rows) ≡ finished d rows
+cleared-finished d e [] = refl
+cleared-finished d e (r ∷ rows) = grind (arith, nat_tests, cleared-finished d e rows)
+
+fired-finished : (d e : ℕ) (rows : List RowData) → fired d e (finished d rows) ≡ []
+fired-finished d e [] = refl
+fired-finished d e (r ∷ rows) = grind (arith, nat_tests, fired-finished d e rows)
+
+-- rows that are due later stay
+later_stay : (d e : ℕ) (rows : List RowData) → AllDueFrom (e + 1) rows → (cleared d e rows ≡ rows) × (fired d e rows ≡ [])
+later_stay d e [] all = (refl, refl)
+later_stay d e (r ∷ rows) all =
+    let rest = later_stay d e rows all.1 in
+    let le : e + 1 ≤ r.due = all.0 in
+    let same : cleared d e rows ≡ rows = rest.0 in
+    let none : fired d e rows ≡ [] = rest.1 in
+    (grind (arith, nat_tests), grind (arith, nat_tests))
+
+-- a state whose first rows are decided
+abbrev pub with_rows : ℕ → ℕ → ℕ → List RowData → List RowData → List GroupData → State
+with_rows wait tickets clock done rest queue = record { wait = wait; clock = clock; rows = done ++ rest; decided = length done; queue = queue; tickets = tickets }
+
+slice_get_seam : (xs : List RowData) (r : RowData) (ys : List RowData) → slice_get (xs ++ r ∷ ys) (length xs) ≡ Some r
+slice_get_seam [] r ys = refl
+slice_get_seam (x ∷ xs) r ys = slice_get_seam xs r ys
+
+slice_get_end : (xs : List RowData) → slice_get (xs ++ []) (length xs) ≡ None
+slice_get_end xs = slice_get_past (xs ++ []) (length xs) (rw append-nil (omega arith))
+
+one_run_at : (wait tickets clock : ℕ) (done : List RowData) (r : RowData) (rest : List RowData) (queue : List GroupData) →
+    one_run (with_rows wait tickets clock done (r ∷ rest) queue) ≡ with_rows wait tickets r.due (done ++ without_spans r ∷ []) rest (queue ++ group_of r ∷ [])
+one_run_at wait tickets clock done r rest queue =
+    let rows : set (done ++ r ∷ rest) (length done) (without_spans r) ≡ (done ++ without_spans r ∷ []) ++ rest = set-append_seam done r rest (without_spans r) ∙ sym (append_assoc done (without_spans r ∷ []) rest) in
+    let count : length done + 1 ≡ length (done ++ without_spans r ∷ []) = sym (length-append done (without_spans r ∷ [])) in
+    let run : decide (Some r) (with_rows wait tickets clock done (r ∷ rest) queue) ≡ with_rows wait tickets r.due (done ++ without_spans r ∷ []) rest (queue ++ group_of r ∷ []) = cc (rows, count) in
+    ap (λ o. decide o (with_rows wait tickets clock done (r ∷ rest) queue)) (slice_get_seam done r rest) ∙ run
+
+-- all timers of the rows that are left
+abbrev after_all : ℕ → ℕ → ℕ → ℕ → List RowData → List RowData → List GroupData → State
+after_all wait tickets d e done rest queue = record { wait = wait; clock = e; rows = done ++ cleared d e rest; decided = length done + length (fired d e rest); queue = queue ++ fired d e rest; tickets = tickets }
+
+after_one : (wait tickets d e : ℕ) (done : List RowData) (r : RowData) (rest : List RowData) (queue : List GroupData) → d < r.due → r.due ≤ e →
+    after_all wait tickets d e (done ++ without_spans r ∷ []) rest (queue ++ group_of r ∷ []) ≡ after_all wait tickets d e done (r ∷ rest) queue
+after_one wait tickets d e done r rest queue above by =
+    let first : ltb d r.due ≡ true = grind (arith, nat_tests) in
+    let second : leb r.due e ≡ true = grind (arith, nat_tests) in
+    let row : cleared d e (r ∷ rest) ≡ without_spans r ∷ cleared d e rest = rw first (rw second refl) in
+    let group : fired d e (r ∷ rest) ≡ group_of r ∷ fired d e rest = rw first (rw second refl) in
+    let rows : (done ++ without_spans r ∷ []) ++ cleared d e rest ≡ done ++ cleared d e (r ∷ rest) = rw row (append_assoc done (without_spans r ∷ []) (cleared d e rest)) in
+    let queued : (queue ++ group_of r ∷ []) ++ fired d e rest ≡ queue ++ fired d e (r ∷ rest) = rw group (append_assoc queue (group_of r ∷ []) (fired d e rest)) in
+    let count : length (done ++ without_spans r ∷ []) + length (fired d e rest) ≡ length done + length (fired d e (r ∷ rest)) = rw group (rw length-append (omega arith)) in
+    cc (rows, queued, count)
+
+not_due : (wait tickets clock d e n : ℕ) (done rest : List RowData) (queue : List GroupData) → AllDueFrom (e + 1) rest → is_due (next_timer (with_rows wait tickets clock done rest queue)) e ≡ false →
+    set_to e (ran n e (with_rows wait tickets clock done rest queue)) ≡ after_all wait tickets d e done rest queue
+not_due wait tickets clock d e n done rest queue all early =
+    let stay = later_stay d e rest all in
+    let same : cleared d e rest ≡ rest = stay.0 in
+    let none : fired d e rest ≡ [] = stay.1 in
+    let rows : done ++ rest ≡ done ++ cleared d e rest = ap (λ ys. done ++ ys) (sym same) in
+    let queued : queue ≡ queue ++ fired d e rest = sym (ap (λ ys. queue ++ ys) none ∙ append-nil queue) in
+    let count : length done ≡ length done + length (fired d e rest) = rw none (omega arith) in
+    ap (set_to e) (ran_none n e (with_rows wait tickets clock done rest queue) early) ∙ cc (rows, queued, count)
+
+ran_first : (wait tickets clock e n : ℕ) (done : List RowData) (r : RowData) (rest : List RowData) (queue : List GroupData) → r.due ≤ e →
+    ran (suc n) e (with_rows wait tickets clock done (r ∷ rest) queue) ≡ ran n e (with_rows wait tickets r.due (done ++ without_spans r ∷ []) rest (queue ++ group_of r ∷ []))
+ran_first wait tickets clock e n done r rest queue by =
+    let s = with_rows wait tickets clock done (r ∷ rest) queue in
+    let due : is_due (next_timer s) e ≡ true = ap (λ o. is_due (option_map due_row o) e) (slice_get_seam done r rest) ∙ grind (arith, nat_tests) in
+    let run : ran (suc n) e s ≡ ran n e (one_run s) = rw due refl in
+    run ∙ ap (ran n e) (one_run_at wait tickets clock done r rest queue)
+
+pub ran_all : (wait tickets clock d e n : ℕ) (done rest : List RowData) (queue : List GroupData) → AllDueFrom (d + 1) rest → Rising rest → length rest ≤ n →
+    set_to e (ran n e (with_rows wait tickets clock done rest queue)) ≡ after_all wait tickets d e done rest queue
+ran_all wait tickets clock d e n done [] queue from rising fits =
+    not_due wait tickets clock d e n done [] queue tt (ap (λ o. is_due (option_map due_row o) e) (slice_get_end done))
+ran_all wait tickets clock d e zero done (r ∷ rest) queue from rising fits = absurd (omega arith)
+ran_all wait tickets clock d e (suc n) done (r ∷ rest) queue from rising fits =
+    by_test (leb r.due e) refl (ran_all wait tickets r.due d e n (done ++ without_spans r ∷ []) rest (queue ++ group_of r ∷ []) from.1 rising.1 (omega (arith, fits)))
+  where
+    by_test : (b : Bool) → leb r.due e ≡ b → set_to e (ran n e (with_rows wait tickets r.due (done ++ without_spans r ∷ []) rest (queue ++ group_of r ∷ []))) ≡ after_all wait tickets d e (done ++ without_spans r ∷ []) rest (queue ++ group_of r ∷ []) →
+        set_to e (ran (suc n) e (with_rows wait tickets clock done (r ∷ rest) queue)) ≡ after_all wait tickets d e done (r ∷ rest) queue
+    by_test true is ih =
+        let above : d < r.due = omega (arith, from.0) in
+        let by : r.due ≤ e = grind (arith, nat_tests) in
+        ap (set_to e) (ran_first wait tickets clock e n done r rest queue by) ∙ (ih ∙ after_one wait tickets d e done r rest queue above by)
+    by_test false is ih =
+        let above : e + 1 ≤ r.due = grind (arith, nat_tests) in
+        let all : AllDueFrom (e + 1) (r ∷ rest) = (above, AllDueFrom_less (e + 1) r.due rest above rising.0) in
+        not_due wait tickets clock d e (suc n) done (r ∷ rest) queue all (ap (λ o. is_due (option_map due_row o) e) (slice_get_seam done r rest) ∙ is)
+
+-- all timers of the rows that are kept at a moment
+pub ran_kept : (w : SectionData) (d e n : ℕ) (N : List Seated) (R : List Opened) (queue : List GroupData) → OpenedBy d R →
+    set_to e (ran (length (kept_rows w d N R)) e (record { wait = w.decision_wait; clock = d; rows = kept_rows w d N R; decided = decided_count w d R; queue = queue; tickets = n }))
+    ≡ record { wait = w.decision_wait; clock = e; rows = cleared d e (kept_rows w d N R); decided = decided_count w d R + length (fired d e (kept_rows w d N R)); queue = queue ++ fired d e (kept_rows w d N R); tickets = n }
+ran_kept w d e n N R queue by =
+    let rows = kept_rows w d N R in
+    let rising = Rising-kept w d d N R by in
+    let done = finished d rows in
+    let rest = waiting d rows in
+    let parts : rows ≡ done ++ rest = split d rows rising in
+    let count : decided_count w d R ≡ length done = decided_is w d N R in
+    let start : record { wait = w.decision_wait; clock = d; rows = kept_rows w d N R; decided = decided_count w d R; queue = queue; tickets = n } ≡ with_rows w.decision_wait n d done rest queue = cc (parts, count) in
+    let fits : length rest ≤ length rows = omega (arith, ap length parts, length-append done rest) in
+    let run = ran_all w.decision_wait n d d e (length rows) done rest queue (AllDueFrom-waiting d rows) (Rising-waiting d rows rising) fits in
+    let same : done ++ cleared d e rest ≡ cleared d e rows = sym (ap (cleared d e) parts ∙ (cleared-append d e done rest ∙ ap (λ xs. xs ++ cleared d e rest) (cleared-finished d e rows))) in
+    let fires : fired d e rest ≡ fired d e rows = sym (ap (fired d e) parts ∙ (fired-append d e done rest ∙ ap (λ xs. xs ++ fired d e rest) (fired-finished d e rows))) in
+    let finish : after_all w.decision_wait n d e done rest queue ≡ record { wait = w.decision_wait; clock = e; rows = cleared d e (kept_rows w d N R); decided = decided_count w d R + length (fired d e (kept_rows w d N R)); queue = queue ++ fired d e (kept_rows w d N R); tickets = n } = cc (same, fires, count) in
+    ap (λ s. set_to e (ran (length rows) e s)) start ∙ (run ∙ finish)
+
+-- of rows by due moment the first undecided one is the least
+least_of : (d : ℕ) (rest : List RowData) → AllDueFrom (d + 1) rest → Rising rest → next_decision d rest ≡ option_map due_row (slice_get rest 0)
+least_of d [] from rising = refl
+least_of d (r ∷ []) from rising = let above : d + 1 ≤ r.due = from.0 in grind (arith, nat_tests)
+least_of d (r ∷ q ∷ rest) from rising =
+    let above : d + 1 ≤ r.due = from.0 in
+    let le : r.due ≤ q.due = rising.0.0 in
+    let ih : next_decision d (q ∷ rest) ≡ Some q.due = least_of d (q ∷ rest) from.1 rising.1 in
+    let test : ltb d r.due ≡ true = grind (arith, nat_tests) in
+    let m : min r.due q.due ≡ r.due = omega arith in
+    rw test (ap (lesser (Some r.due)) ih ∙ ap (λ (k : ℕ). Some k) m)
+
+next_decision-waiting : (d : ℕ) (rows : List RowData) → next_decision d rows ≡ next_decision d (waiting d rows)
+next_decision-waiting d [] = refl
+next_decision-waiting d (r ∷ rows) = grind (arith, nat_tests, next_decision-waiting d rows)
+
+slice_get_rest : (xs ys : List RowData) → slice_get (xs ++ ys) (length xs) ≡ slice_get ys 0
+slice_get_rest [] ys = refl
+slice_get_rest (x ∷ xs) ys = slice_get_rest xs ys
+
+pub first_least : (w : SectionData) (d : ℕ) (N : List Seated) (R : List Opened) → OpenedBy d R →
+    option_map due_row (slice_get (kept_rows w d N R) (decided_count w d R)) ≡ next_decision d (kept_rows w d N R)
+first_least w d N R by =
+    let rows = kept_rows w d N R in
+    let rising = Rising-kept w d d N R by in
+    let parts : rows ≡ finished d rows ++ waiting d rows = split d rows rising in
+    let count : decided_count w d R ≡ length (finished d rows) = decided_is w d N R in
+    let at : slice_get rows (decided_count w d R) ≡ slice_get (waiting d rows) 0 = ap (λ n. slice_get rows n) count ∙ (ap (λ xs. slice_get xs (length (finished d rows))) parts ∙ slice_get_rest (finished d rows) (waiting d rows)) in
+    ap (option_map due_row) at ∙ (sym (least_of d (waiting d rows) (AllDueFrom-waiting d rows) (Rising-waiting d rows rising)) ∙ sym (next_decision-waiting d rows))
+
+-- timers leave the wait as it is
+one_wait : (s : State) (o : Option RowData) → (decide o s).wait ≡ s.wait
+one_wait s None = refl
+one_wait s (Some row) = refl
+
+pub ran-wait : (n e : ℕ) (s : State) → (ran n e s).wait ≡ s.wait
+ran-wait zero e s = refl
+ran-wait (suc n) e s =
+    elim (is_due (next_timer s) e) as (λ b. (cond b (ran n e (one_run s)) s).wait ≡ s.wait) [ true ↦ ran-wait n e (one_run s) ∙ one_wait s (slice_get s.rows s.decided) | false ↦ refl ]

@@ -1,0 +1,18 @@
+use Rattle.std.proofs.Common.{rules, ◌≡◌, Ok, List, Result, ap, ◌∙◌}
+use Rattle.otlp_trace.specs.Data.{RequestData}
+use Rattle.otlp_trace.specs.View.{request_view}
+use Rattle.tenant_pipeline.specs.Arrivals.{Arrival, arrivals_of}
+use Rattle.otlp_read.specs.declared.fault.ReadFault.{ReadFault}
+use Rattle.tenant_pipeline.proofs.Bodies.{only_memory}
+use Rattle.tenant_pipeline.proofs.body.prepare.Goals as goal
+
+pub returns-in_err-request-clause-only : goal.returns-in_err-request-clause-only
+returns-in_err-request-clause-only c = λ v is.
+    let memory = only_memory c.in_err-request.field-0.0 v (c.in_err-request.ensures.only v is) in
+    search (rules, memory)
+
+pub returns-clause-only : goal.returns-clause-only
+returns-clause-only c = λ v is.
+    let only : Path (Result RequestData ReadFault) (Ok v) (Ok (request_view c.in_ok-request.request)) = c.in_ok-request.ensures.only v is in
+    let same : request_view c.in_ok-request.request ≡ v = cc in
+    ap (λ (arrivals : List Arrival). record { tenant = c.args.tenant; arrivals = arrivals }) (c.in_ok-spans.ensures ∙ ap arrivals_of same)

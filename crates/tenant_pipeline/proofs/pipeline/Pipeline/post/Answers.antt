@@ -1,0 +1,35 @@
+use Rattle.std.proofs.Common.{◌≡◌, ◌<◌, max, min, length, arith, ap, ◌∙◌, ◌++◌}
+use Rattle.tenant_pipeline.specs.declared.told.Told.TheVariants as tell
+use Rattle.tenant_pipeline.specs.Own.{Post, latest_moment}
+use Rattle.tenant_pipeline.specs.Arrivals.{valid}
+use Rattle.tenant_pipeline.specs.State.{State}
+use Rattle.tenant_pipeline.specs.Timers.{ran}
+use Rattle.tenant_pipeline.specs.Machine.{rows_with_all, late_with_all, set_to, next, told}
+use Rattle.tenant_pipeline.specs.contracts.pipeline.Pipeline.{the_view}
+use Rattle.tenant_pipeline.specs.View.{arrival_views, row_views, group_views}
+use Rattle.tenant_pipeline.proofs.OneByOne.{ran-wait}
+use Rattle.tenant_pipeline.proofs.Run.{answers_by, post_by}
+use Rattle.tenant_pipeline.proofs.pipeline.Pipeline.post.Goals as goal
+
+pub returns-clause-ok : goal.returns-clause-ok
+unfolding next told
+returns-clause-ok c =
+    let old = c.args.self.now in
+    let e = max old.clock (min c.args.now latest_moment) in
+    let at : c.effective-moment.result ≡ e = c.effective-moment.ensures.at in
+    let run : c.run_due.new.self ≡ ran (length old.rows) e old = c.in_ok-run_due.ensures.ok ∙ ap (λ m. ran (length old.rows) m old) at in
+    let now = c.self.view_is ∙ run in
+    let w = c.self.inside.wait in
+    let before = row_views c.self.inside.rows.entries in
+    let queued = group_views c.self.inside.queue.items in
+    let posted = arrival_views c.spans.result.now in
+    let rows : row_views c.place_all.new.rows.entries ≡ rows_with_all w e (valid c.args.prepared.now.arrivals) before =
+    c.in_ok-place_all.ensures.rows ∙ (ap (λ m. rows_with_all w m (valid posted) before) at ∙ ap (λ xs. rows_with_all w e (valid xs) before) c.spans.ensures) in
+    let queue : group_views c.place_all.new.queue.items ≡ queued ++ late_with_all w e (valid c.args.prepared.now.arrivals) before =
+    c.in_ok-place_all.ensures.queue ∙ (ap (λ m. queued ++ late_with_all w m (valid posted) before) at ∙ ap (λ xs. queued ++ late_with_all w e (valid xs) before) c.spans.ensures) in
+    let kept : State = record { wait = w; clock = 0; rows = row_views c.place_all.new.rows.entries; decided = c.self.inside.decided; queue = group_views c.place_all.new.queue.items; tickets = c.self.inside.tickets } in
+    let new = ap (λ m. set_to m kept) at ∙ post_by e (valid c.args.prepared.now.arrivals) (the_view c.self.inside) _ _ _ now rows queue in
+    let said = ap (λ body. tell.Reply (record { status = 200; body = body })) c.new.ensures in
+    let wait : w ≡ old.wait = ap (λ (s : State). s.wait) now ∙ ran-wait (length old.rows) e old in
+    let some : 0 < old.wait = omega (arith, c.self.invariant.some_wait) in
+    answers_by (Post c.args.now c.args.prepared.now.arrivals) old _ _ some said new

@@ -1,0 +1,15 @@
+pub mod Arrivals
+pub mod Own
+pub mod Rows
+pub mod Groups
+pub mod ExportText
+pub mod State
+pub mod Timers
+pub mod Ready
+pub mod Machine
+pub mod Additions
+pub mod Law
+pub mod View
+pub mod Prepared
+pub mod Bounds
+pub mod Examples

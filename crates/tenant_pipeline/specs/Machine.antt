@@ -1,0 +1,85 @@
+-- How the state goes on: what the steps of the code do to its fields.
+use Rattle.std.specs.Prelude.{ℕ, ◌+◌, List, [], ◌∷◌, ◌++◌, ◌≡◌, Some, length, set, slice_get, if◌then◌else◌, nat_lt}
+use Rattle.tenant_pipeline.specs.declared.told.Told.{Told}
+use Rattle.tenant_pipeline.specs.Arrivals.{Arrival, valid}
+use Rattle.tenant_pipeline.specs.Own.{Own, Post, Turn}
+use Rattle.tenant_pipeline.specs.Rows.{trace_of, is_same}
+use Rattle.tenant_pipeline.specs.Groups.{GroupData}
+use Rattle.tenant_pipeline.specs.State.{State, RowData, handed, tickets_after, last_ticket, accepted}
+use Rattle.tenant_pipeline.specs.Timers.{ran, effective, without_spans, group_of}
+
+-- a span joins its trace's row where that is undecided
+abbrev pub joined : ℕ → Arrival → RowData → RowData
+joined moment x row = if nat_lt moment row.due then record { trace = row.trace; due = row.due; spans = row.spans ++ x ∷ [] } else row
+
+-- and makes a group where it is late
+abbrev pub late_of : ℕ → Arrival → RowData → List GroupData
+late_of moment x row = if nat_lt moment row.due then [] else record { moment = moment; spans = x ∷ [] } ∷ []
+
+-- the rows after a span came: it goes to its trace's row, or opens one
+abbrev pub rows_with : ℕ → ℕ → Arrival → List RowData → List RowData
+rows_with wait moment x [] = record { trace = trace_of x; due = moment + wait; spans = x ∷ [] } ∷ []
+rows_with wait moment x (row ∷ rows) = if is_same (trace_of x) row.trace then joined moment x row ∷ rows else row ∷ rows_with wait moment x rows
+
+-- the group that a span makes
+abbrev pub late_with : ℕ → Arrival → List RowData → List GroupData
+late_with moment x [] = []
+late_with moment x (row ∷ rows) = if is_same (trace_of x) row.trace then late_of moment x row else late_with moment x rows
+
+-- a span comes at a moment
+abbrev pub placed : ℕ → Arrival → State → State
+placed moment x s = record {
+  wait = s.wait;
+  clock = s.clock;
+  rows = rows_with s.wait moment x s.rows;
+  decided = s.decided;
+  queue = s.queue ++ late_with moment x s.rows;
+  tickets = s.tickets;
+}
+
+abbrev pub all_placed : ℕ → List Arrival → State → State
+all_placed moment [] s = s
+all_placed moment (x ∷ xs) s = all_placed moment xs (placed moment x s)
+
+-- the row at a place is decided
+pub record IsDecided (place due : ℕ) (rows : List RowData) (queue : List GroupData) (new_rows : List RowData) (new_queue : List GroupData) : Type 0 where
+  pub row : RowData
+  pub is_there : slice_get rows place ≡ Some row
+  pub is_due : row.due ≡ due
+  pub rows_are : new_rows ≡ set rows place (without_spans row)
+  pub queue_is : new_queue ≡ queue ++ group_of row ∷ []
+
+-- the clock stands at the moment
+abbrev pub set_to : ℕ → State → State
+set_to moment s = record { wait = s.wait; clock = moment; rows = s.rows; decided = s.decided; queue = s.queue; tickets = s.tickets }
+
+-- time goes on to a moment: all timers that are due by then run
+abbrev pub advanced : ℕ → State → State
+advanced moment s = set_to moment (ran (length s.rows) moment s)
+
+-- the groups left after a turn
+abbrev pub left : ℕ → List GroupData → List GroupData
+left tickets [] = []
+left tickets (group ∷ rest) = if nat_lt tickets last_ticket then rest else group ∷ rest
+
+abbrev pub handed_out : State → State
+handed_out s = record { wait = s.wait; clock = s.clock; rows = s.rows; decided = s.decided; queue = left s.tickets s.queue; tickets = tickets_after s.tickets s.queue }
+
+-- the state after a step
+unfoldable pub next : Own → State → State
+next (Post now arrivals) s = all_placed (effective (Post now arrivals) s) (valid arrivals) (advanced (effective (Post now arrivals) s) s)
+next (Turn now) s = handed_out (advanced (effective (Turn now) s) s)
+
+-- what is told of a step
+unfoldable pub told : Own → State → Told
+told (Post now arrivals) s = accepted
+told (Turn now) s = handed (advanced (effective (Turn now) s) s).tickets (advanced (effective (Turn now) s) s).queue
+
+-- the rows and the new groups after several spans
+abbrev pub rows_with_all : ℕ → ℕ → List Arrival → List RowData → List RowData
+rows_with_all wait moment [] rows = rows
+rows_with_all wait moment (x ∷ xs) rows = rows_with_all wait moment xs (rows_with wait moment x rows)
+
+abbrev pub late_with_all : ℕ → ℕ → List Arrival → List RowData → List GroupData
+late_with_all wait moment [] rows = []
+late_with_all wait moment (x ∷ xs) rows = late_with moment x rows ++ late_with_all wait moment xs (rows_with wait moment x rows)

@@ -1,0 +1,51 @@
+-- A tenant's due timers, which run one at a time. A timer is the decision of a row at its due moment, by row number.
+use Rattle.std.specs.Prelude.{◌≡◌, ℕ, zero, suc, ◌+◌, Bool, false, max, [], ◌∷◌, ◌++◌, Option, Some, None, option_map, slice_get, set, if◌then◌else◌, nat_le}
+use Rattle.tenant_pipeline.specs.Own.{Own, moment_of}
+use Rattle.tenant_pipeline.specs.Groups.{GroupData}
+use Rattle.tenant_pipeline.specs.State.{State, RowData}
+
+abbrev pub due_row : RowData → ℕ
+due_row row = row.due
+
+-- when the first undecided row is due
+abbrev pub next_timer : State → Option ℕ
+next_timer s = option_map due_row (slice_get s.rows s.decided)
+
+abbrev pub without_spans : RowData → RowData
+without_spans row = record { trace = row.trace; due = row.due; spans = [] }
+
+abbrev pub group_of : RowData → GroupData
+group_of row = record { moment = row.due; spans = row.spans }
+
+-- this row is decided at its due moment, and its spans become a group
+abbrev pub decide : Option RowData → State → State
+decide None s = s
+decide (Some row) s = record {
+  wait = s.wait;
+  clock = row.due;
+  rows = set s.rows s.decided (without_spans row);
+  decided = s.decided + 1;
+  queue = s.queue ++ group_of row ∷ [];
+  tickets = s.tickets;
+}
+
+-- the first timer runs
+abbrev pub one_run : State → State
+one_run s = decide (slice_get s.rows s.decided) s
+
+abbrev pub is_due : Option ℕ → ℕ → Bool
+is_due None moment = false
+is_due (Some due) moment = nat_le due moment
+
+-- the state after so many timers that are due by the moment have run
+abbrev pub ran : ℕ → ℕ → State → State
+ran zero moment s = s
+ran (suc n) moment s = if is_due (next_timer s) moment then ran n moment (one_run s) else s
+
+-- some first timers that are due by the moment have run, and nothing else has changed
+abbrev pub IsFront : ℕ → State → State → Type 0
+IsFront moment old new = (n : ℕ) × (new ≡ ran n moment old)
+
+-- the moment at which a step takes effect
+abbrev pub effective : Own → State → ℕ
+effective step s = max s.clock (moment_of step)

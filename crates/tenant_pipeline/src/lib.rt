@@ -1,0 +1,37 @@
+//! One tenant's pipeline.
+//!
+//! The spans of a body wait in their trace's row. A row is decided when the tenant's wait is over: its spans then form
+//! a group, in order of arrival. A span that comes after its row's decision forms a group alone. Each group is one
+//! batch, and a worker's turn hands out the oldest batch, with the tenant's next ticket and its text in OTLP.
+//!
+//! What a tenant is told depends on its settings and its own steps alone: `specs/State` says what it is after any list
+//! of own steps, and what it is told of the next one. `Pipeline` answers so.
+#![tactic(auto)]
+
+ghost use Rattle.tenant_pipeline.specs.Law.{GoesOn};
+ghost use Rattle.tenant_pipeline.specs.Ready.{FirstIsLeast};
+
+mod body;
+mod export;
+mod pipeline;
+mod place;
+mod rows;
+mod told;
+
+pub use body::{Prepared, Refusal, prepare};
+pub use pipeline::Pipeline;
+pub use told::{Reply, Told};
+
+/// What a tenant is after one more step, and what it is told of it, follows from what it was: a law over the
+/// definitions.
+pub fn goes_on()
+    ensures { GoesOn }
+{}
+
+/// The row that is decided first is the first undecided one: a law over the definitions.
+pub fn first_is_least()
+    ensures { FirstIsLeast }
+{}
+
+#[cfg(test)]
+mod tests;

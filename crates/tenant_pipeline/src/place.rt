@@ -1,0 +1,215 @@
+//! Spans go to their rows, all of a post or none.
+
+ghost use Rattle.std.specs.Prelude.{◌≡◌, ◌+◌, ◌^◌, ◌<◌, ◌≤◌, ◌++◌, ◌==◌, [], ◌∷◌, nat_lt, if◌then◌else◌, length, map, IfOk, OnOk, OnErr, IsTrue};
+ghost use Rattle.std.specs.List.{list_all};
+ghost use Rattle.indexmap.specs.IndexMap.{index_map_len};
+ghost use Rattle.tenant_pipeline.specs.Arrivals.{is_id, is_valid, valid};
+ghost use Rattle.tenant_pipeline.specs.View.{arrival_view, arrival_views, row_views, group_views};
+ghost use Rattle.tenant_pipeline.specs.Machine.{rows_with, late_with, rows_with_all, late_with_all};
+ghost use Rattle.tenant_pipeline.specs.Additions.{rows_before, queue_before, rows_without, queue_without};
+
+use crate::rows::{Group, Row, Rows};
+use otlp_trace::Span;
+use std::alloc::{AllocError, Global};
+use std::collections::VecDeque;
+
+/// What a span's coming added.
+#[derive(Clone, Copy)]
+pub enum Addition {
+    /// A row with this span, behind the others.
+    Opened,
+    /// The span, behind the others of the row at this place.
+    Joined(usize),
+    /// A group with this span alone, behind the others.
+    Late,
+}
+
+/// Whether all bytes are zero.
+fn is_zero(bytes: &[u8]) -> bool
+    ensures { result ≡ list_all (λ byte. byte == 0) bytes.now }
+{
+    for byte in bytes {
+        if *byte != 0 {
+            return false;
+        }
+    }
+    true
+}
+
+/// Whether the bytes are an id of this size.
+fn is_id(bytes: &[u8], size: usize) -> bool
+    ensures { result ≡ is_id size bytes.now }
+{
+    bytes.len() == size && !is_zero(bytes)
+}
+
+/// Whether trace and span id are as they have to be.
+fn is_valid(span: &Span) -> bool
+    ensures { result ≡ is_valid (arrival_view span.now) }
+{
+    is_id(span.trace_id.as_slice(), 16) && is_id(span.span_id.as_slice(), 8)
+}
+
+/// A row's name.
+fn trace_key(span: &Span) -> [u8; 16]
+    requires { length span.now.trace_id ≡ 16 }
+    ensures { result ≡ span.now.trace_id }
+{
+    let mut key = [0; 16];
+    key.copy_from_slice(span.trace_id.as_slice());
+    key
+}
+
+/// A list of one span.
+fn one(alloc: Global, span: Span) -> Result<Vec<Span>, AllocError>
+    ensures { IfOk result (λ spans. spans.items ≡ span ∷ []) }
+{
+    let mut spans = Vec::new(alloc);
+    spans.push(span)?;
+    Ok(spans)
+}
+
+/// The span joins the row at this place, or is late and leaves alone.
+fn join(
+    alloc: Global,
+    row: &mut Row,
+    queue: &mut VecDeque<Group>,
+    moment: u64,
+    span: Span,
+) -> Result<bool, AllocError>
+    ensures due { row.new.due ≡ row.old.due }
+    ensures joined { IfOk result (λ joined. joined ≡ nat_lt moment row.old.due) }
+    ensures row { IfOk result (λ joined. row.new.spans.items ≡ (if joined then row.old.spans.items ++ span ∷ [] else row.old.spans.items)) }
+    ensures queue { IfOk result (λ joined. group_views queue.new.items ≡ group_views queue.old.items ++ (if joined then [] else record { moment = moment; spans = arrival_view span ∷ [] } ∷ [])) }
+    ensures refused_row { OnErr result (row.new.spans.items ≡ row.old.spans.items) }
+    ensures refused_queue { OnErr result (queue.new.items ≡ queue.old.items) }
+{
+    if moment < row.due {
+        row.spans.push(span)?;
+        return Ok(true);
+    }
+    let spans = one(alloc, span)?;
+    queue.push_back(Group { moment, spans })?;
+    Ok(false)
+}
+
+/// The span goes to its trace's row, or opens one. Where memory is refused, nothing changes.
+fn place(
+    alloc: Global,
+    rows: &mut Rows,
+    queue: &mut VecDeque<Group>,
+    wait: u64,
+    moment: u64,
+    span: Span,
+) -> Result<Addition, AllocError>
+    requires wait { wait ≤ 2 ^ 32 }
+    requires moment { moment ≤ 2 ^ 62 }
+    requires id { length span.trace_id ≡ 16 }
+    ensures rows { OnOk result (row_views rows.new.entries ≡ rows_with wait moment (arrival_view span) (row_views rows.old.entries)) }
+    ensures queue { OnOk result (group_views queue.new.items ≡ group_views queue.old.items ++ late_with moment (arrival_view span) (row_views rows.old.entries)) }
+    ensures rows_back { IfOk result (λ addition. rows_before addition (row_views rows.new.entries) ≡ row_views rows.old.entries) }
+    ensures queue_back { IfOk result (λ addition. queue_before addition (group_views queue.new.items) ≡ group_views queue.old.items) }
+    ensures refused_rows { OnErr result (row_views rows.new.entries ≡ row_views rows.old.entries) }
+    ensures refused_queue { OnErr result (queue.new.items ≡ queue.old.items) }
+{
+    let key = trace_key(&span);
+    match rows.get_index_of(&key) {
+        Some(place) => {
+            let joined = join(alloc, &mut rows[place], queue, moment, span)?;
+            Ok(if joined {
+                Addition::Joined(place)
+            } else {
+                Addition::Late
+            })
+        }
+        None => {
+            let spans = one(alloc, span)?;
+            let due = moment + wait;
+            rows.insert(key, Row { due, spans })?;
+            Ok(Addition::Opened)
+        }
+    }
+}
+
+/// The span goes to its trace's row where it is valid. What it added is noted.
+fn add(
+    alloc: Global,
+    rows: &mut Rows,
+    queue: &mut VecDeque<Group>,
+    wait: u64,
+    moment: u64,
+    span: &Span,
+    additions: &mut Vec<Addition>,
+) -> Result<(), AllocError>
+    requires wait { wait ≤ 2 ^ 32 }
+    requires moment { moment ≤ 2 ^ 62 }
+    ensures rows { OnOk result (row_views rows.new.entries ≡ rows_with_all wait moment (valid (arrival_view span.now ∷ [])) (row_views rows.old.entries)) }
+    ensures queue { OnOk result (group_views queue.new.items ≡ group_views queue.old.items ++ late_with_all wait moment (valid (arrival_view span.now ∷ [])) (row_views rows.old.entries)) }
+    ensures rows_back { rows_without additions.new.items (row_views rows.new.entries) ≡ rows_without additions.old.items (row_views rows.old.entries) }
+    ensures queue_back { queue_without additions.new.items (group_views queue.new.items) ≡ queue_without additions.old.items (group_views queue.old.items) }
+{
+    if !is_valid(span) {
+        return Ok(());
+    }
+    additions.reserve(1)?;
+    let span = span.clone()?;
+    let addition = place(alloc, rows, queue, wait, moment, span)?;
+    additions.push_reserved(addition);
+    Ok(())
+}
+
+/// Takes an addition back. It is the last one.
+fn take_back(rows: &mut Rows, queue: &mut VecDeque<Group>, addition: Addition)
+    ensures rows { row_views rows.new.entries ≡ rows_before addition (row_views rows.old.entries) }
+    ensures queue { group_views queue.new.items ≡ queue_before addition (group_views queue.old.items) }
+{
+    match addition {
+        Addition::Opened => {
+            rows.pop();
+        }
+        Addition::Joined(place) => {
+            if let Some(row) = rows.get_index_mut(place) {
+                row.spans.pop();
+            }
+        }
+        Addition::Late => {
+            queue.pop_back();
+        }
+    }
+}
+
+/// Takes all additions back, the last one first.
+fn take_all_back(rows: &mut Rows, queue: &mut VecDeque<Group>, additions: &mut Vec<Addition>)
+    ensures rows { row_views rows.new.entries ≡ rows_without additions.old.items (row_views rows.old.entries) }
+    ensures queue { group_views queue.new.items ≡ queue_without additions.old.items (group_views queue.old.items) }
+{
+    while let Some(addition) = additions.pop() {
+        take_back(rows, queue, addition);
+    }
+}
+
+/// The valid ones of these spans come one after the other, all of them or none.
+pub fn place_all(
+    alloc: Global,
+    rows: &mut Rows,
+    queue: &mut VecDeque<Group>,
+    wait: u64,
+    moment: u64,
+    spans: &[Span],
+) -> Result<(), AllocError>
+    requires wait { wait ≤ 2 ^ 32 }
+    requires moment { moment ≤ 2 ^ 62 }
+    ensures rows { OnOk result (row_views rows.new.entries ≡ rows_with_all wait moment (valid (arrival_views spans.now)) (row_views rows.old.entries)) }
+    ensures queue { OnOk result (group_views queue.new.items ≡ group_views queue.old.items ++ late_with_all wait moment (valid (arrival_views spans.now)) (row_views rows.old.entries)) }
+    ensures refused_rows { OnErr result (row_views rows.new.entries ≡ row_views rows.old.entries) }
+    ensures refused_queue { OnErr result (group_views queue.new.items ≡ group_views queue.old.items) }
+{
+    let mut additions = Vec::new(alloc);
+    for span in spans {
+        if let Err(error) = add(alloc, rows, queue, wait, moment, span, &mut additions) {
+            take_all_back(rows, queue, &mut additions);
+            return Err(error);
+        }
+    }
+    Ok(())
+}

@@ -1,0 +1,22 @@
+//! What a tenant is told.
+
+use bytes::Bytes;
+use otlp_trace::Octets;
+
+/// The answer to a post, as HTTP has it.
+#[derive(Debug, PartialEq, Drop)]
+pub struct Reply {
+    pub status: u16,
+    pub body: Octets,
+}
+
+/// What a tenant is told of one of its own steps.
+#[derive(Debug, PartialEq, Drop)]
+pub enum Told {
+    /// Of a post.
+    Reply(Reply),
+    /// Of a turn: a batch to be sent. Tickets are counted from 1.
+    Job { ticket: u64, payload: Bytes },
+    /// Of a turn: there was something to do, but no batch to be sent.
+    Worked,
+}
