@@ -8,3 +8,4 @@ mod Coming
 mod Entries
 mod Run
 mod Bodies
+mod Equals

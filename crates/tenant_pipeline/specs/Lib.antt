@@ -13,3 +13,4 @@ pub mod View
 pub mod Prepared
 pub mod Bounds
 pub mod Examples
+pub mod Equal

@@ -18,7 +18,7 @@ use tail_settings::Section;
 use thiserror::Error;
 
 /// A body's spans, ready to be posted to a tenant.
-#[derive(Drop)]
+#[derive(Debug, Drop)]
 pub struct Prepared {
     tenant: u32,
     spans: Vec<Span>,
@@ -31,6 +31,18 @@ impl Model for Prepared {
     ghost Value = { PreparedData };
 
     ghost view = { λ p. record { tenant = p.tenant; arrivals = arrival_views p.spans.items } };
+}
+
+impl PartialEq for Prepared {
+    ghost use Rattle.tenant_pipeline.specs.Equal.{prepared_eq, prepared_laws};
+
+    ghost eq = { prepared_eq };
+
+    ghost laws = { prepared_laws };
+
+    fn eq(&self, other: &Self) -> bool {
+        self.spans == other.spans && self.tenant == other.tenant
+    }
 }
 
 /// Why a body isn't posted.
