@@ -90,7 +90,8 @@ impl Prepared {
     }
 }
 
-/// Reads a body for the tenant with this number and section.
+/// Reads a body, a request in protobuf, for the tenant with this number and section. No setting
+/// bears on a body yet.
 pub fn prepare(
     alloc: Global,
     tenant: u32,
