@@ -37,7 +37,7 @@ fn span(alloc: Global, trace_id: &[u8], span_id: &[u8]) -> Result<Span, Fail> {
     Ok(Span { trace_id, span_id })
 }
 
-/// What both tell of a step.
+/// The definitions tell the same of this step, which is past from then on.
 fn tell(rt: &impl Abort, tenant: &mut Tenant, step: OwnStep, told: &Told) -> Result<(), Fail> {
     let wanted = answer(tenant.alloc, &tenant.section, tenant.past.as_slice(), &step)?;
     assert_eq!(rt; told, &wanted);
@@ -61,7 +61,7 @@ fn post(
     tell(rt, tenant, OwnStep { at, spans }, &told)
 }
 
-/// A body with one span, of these bytes, is posted.
+/// A body with one span, whose ids are these bytes again and again, is posted.
 fn post_one(
     rt: &impl Abort,
     tenant: &mut Tenant,
