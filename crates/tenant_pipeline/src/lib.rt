@@ -38,4 +38,8 @@ pub fn first_is_least()
 {}
 
 #[cfg(test)]
+mod reference;
+#[cfg(test)]
+mod reference_tests;
+#[cfg(test)]
 mod tests;
