@@ -1,0 +1,150 @@
+-- A script that is being run: what was read, done, told and written.
+use Rattle.std.proofs.Common.{◌≡◌, ◌+◌, ℕ, Bool, true, false, List, [], ◌∷◌, ◌++◌, take, Option, Some, None, Result, Ok, Err, IfSome, refl, ap, sym, subst, ◌∙◌}
+use Rattle.std.proofs.lemmas.List.{append-nil, append_assoc}
+use Rattle.std.specs.Io.KnownBytes.{Appends, Keeps}
+use Rattle.std.proofs.KnownBytes.{Appends-nil, Appends-trans, Appends-kept}
+use Rattle.replay_script.specs.declared.fault.ScriptFault.{ScriptFault}
+use Rattle.replay_script.specs.declared.fault.ScriptFault.TheVariants.{Script, Line, OutOfMemory}
+use Rattle.replay_script.specs.Command.{CommandData}
+use Rattle.replay_script.specs.Line.{kind_of, lines_of}
+use Rattle.replay_script.specs.Told.{Told, BeginsTold, Ends}
+use Rattle.replay_script.specs.Step.{Adds, Refuses}
+use Rattle.replay_script.specs.Input.{TakesLine, line_room, IsOutside}
+use Rattle.replay_script.specs.Output.{Sends}
+use Rattle.replay_script.proofs.Long.{kind_cut}
+use Rattle.replay_script.proofs.Ran.{RanTo, ran_none, ran_more, ran_over, ran_faulty, ran_begins, begins}
+
+sends_none : (c : Option (List ℕ)) (held : List ℕ) → Sends c c held [] held
+sends_none c held = ([], Appends-nil c, append-nil held)
+
+-- text was sent and then more came, of which some was sent
+sends_more : (a b c : Option (List ℕ)) (held text mid added left : List ℕ) → Sends a b held text mid → Sends b c (mid ++ added) [] left → Sends a c held (text ++ added) left
+sends_more a b c held text mid added left first second = (
+  first.0 ++ second.0,
+  Appends-trans a b c first.0 second.0 first.1 second.1,
+  sym (append_assoc held text added) ∙ ap (λ l. l ++ added) first.2 ∙ append_assoc first.0 mid added
+      ∙ ap (λ l. first.0 ++ l) (sym (append-nil (mid ++ added)) ∙ second.2) ∙ sym (append_assoc first.0 second.0 left),
+)
+
+pub outside_line : (fault : ScriptFault) → fault ≡ Line → IsOutside fault
+outside_line fault is = subst IsOutside (sym is) tt
+
+pub when_found : (r1 r2 : Option (List ℕ)) (f g : Bool) (kept : List ℕ) → f ≡ g → IfSome r1 (λ rest. TakesLine rest r2 f kept) → IfSome r1 (λ rest. TakesLine rest r2 g kept)
+when_found r1 r2 f g kept is = subst (λ b. IfSome r1 (λ rest. TakesLine rest r2 b kept)) is
+
+pub line_found : (r1 r2 : Option (List ℕ)) (f : Bool) (kept line : List ℕ) → f ≡ true → line ≡ kept → IfSome r1 (λ rest. TakesLine rest r2 f kept) → IfSome r1 (λ rest. TakesLine rest r2 true line)
+line_found r1 r2 f kept line is same takes =
+    subst (λ l. IfSome r1 (λ rest. TakesLine rest r2 true l)) (sym same) (when_found r1 r2 f true kept is takes)
+
+pub sends_added : (w1 w2 : Option (List ℕ)) (new old added left : List ℕ) → new ≡ old ++ added → Sends w1 w2 new [] left → Sends w1 w2 (old ++ added) [] left
+sends_added w1 w2 new old added left is = subst (λ h. Sends w1 w2 h [] left) is
+
+module _ {S : Type 0} (answers : S → CommandData → Option (List ℕ) → S → Type 0) where
+  pub record Going (reader_then reader writer_then writer : Option (List ℕ)) (held_then held : List ℕ) (start state : S) (number : ℕ) : Type 0 where
+    pub so_far : IfSome reader_then (λ script. (rest : List ℕ) × (text : List ℕ) × (reader ≡ Some rest)
+        × Sends writer_then writer held_then text held × RanTo answers (lines_of script) start (lines_of rest) number state text)
+
+  -- how a script's run ended, some of its text being held
+  Ended : Option (List ℕ) → Option (List ℕ) → Option (List ℕ) → List ℕ → List ℕ → S → Result Unit ScriptFault → Type 0
+  Ended reader writer_then writer held_then held start r =
+      IfSome reader (λ script. (text : List ℕ) × Sends writer_then writer held_then text held × Ends answers (lines_of script) start text r)
+
+  pub going_none : (r w : Option (List ℕ)) (held : List ℕ) (state : S) → Going r r w w held held state state 0
+  going_none None w held state = record { so_far = tt }
+  going_none (Some script) w held state = record { so_far = (script, [], refl, sends_none w held, ran_none answers (lines_of script) state) }
+
+  at_line : (all : List (List ℕ)) (start : S) (lines : List (List ℕ)) (line : List ℕ) (left : List (List ℕ)) (number : ℕ) (state : S) (text : List ℕ)
+      → lines ≡ line ∷ left → RanTo answers all start lines number state text → RanTo answers all start (line ∷ left) number state text
+  at_line all start lines line left number state text is ran = subst (λ l. RanTo answers all start l number state text) is ran
+
+  kept_kind : (kept line : List ℕ) → kept ≡ take line_room line → kind_of kept ≡ kind_of line
+  kept_kind kept line is = ap kind_of is ∙ kind_cut line_room line refl
+
+  found : (r : Option (List ℕ)) (rest : List ℕ) (P : List ℕ → Type 0) → IfSome r P → r ≡ Some rest → P rest
+  found r rest P h e = subst (λ o. IfSome o P) e h
+
+  pub going_line : (r0 r1 r2 w0 w1 w2 : Option (List ℕ)) (h0 h1 h2 kept added : List ℕ) (s0 s1 s2 : S) (n : ℕ) → Going r0 r1 w0 w1 h0 h1 s0 s1 n
+      → IfSome r1 (λ rest. TakesLine rest r2 true kept) → Adds answers s1 (kind_of kept) added s2 → Sends w1 w2 (h1 ++ added) [] h2
+      → Going r0 r2 w0 w2 h0 h2 s0 s2 (n + 1)
+  going_line None r1 r2 w0 w1 w2 h0 h1 h2 kept added s0 s1 s2 n going takes adds sends = record { so_far = tt }
+  going_line (Some script) r1 r2 w0 w1 w2 h0 h1 h2 kept added s0 s1 s2 n going takes adds sends =
+      let so_far = going.so_far in
+      let line = found r1 so_far.0 (λ rest. TakesLine rest r2 true kept) takes so_far.2 in
+      let at = at_line _ _ _ line.0 (lines_of line.1) n s1 so_far.1 line.3 so_far.4 in
+      record {
+        so_far = (
+          line.1,
+          so_far.1 ++ added,
+          line.2,
+          sends_more w0 w1 w2 h0 so_far.1 h1 added h2 so_far.3 sends,
+          ran_more answers _ _ line.0 (lines_of line.1) n s1 s2 so_far.1 added at (subst (λ k. Adds answers s1 k added s2) (kept_kind kept line.0 line.4) adds),
+        );
+      }
+
+  pub going_over : (r0 r1 r2 w0 w1 : Option (List ℕ)) (h0 h1 kept : List ℕ) (s0 s1 : S) (n : ℕ) (done : Unit) → Going r0 r1 w0 w1 h0 h1 s0 s1 n
+      → IfSome r1 (λ rest. TakesLine rest r2 false kept)
+      → IfSome r0 (λ script. (text : List ℕ) × Sends w0 w1 h0 text h1 × Ends answers (lines_of script) s0 text (Ok done))
+  going_over None r1 r2 w0 w1 h0 h1 kept s0 s1 n done going takes = tt
+  going_over (Some script) r1 r2 w0 w1 h0 h1 kept s0 s1 n done going takes =
+      let so_far = going.so_far in
+      let none = found r1 so_far.0 (λ rest. TakesLine rest r2 false kept) takes so_far.2 in
+      (so_far.1, so_far.3, ran_over answers _ _ n s1 so_far.1 (subst (λ l. RanTo answers (lines_of script) s0 l n s1 so_far.1) none so_far.4))
+
+  outside : (lines : List (List ℕ)) (start : S) (text : List ℕ) (fault : ScriptFault) → IsOutside fault → BeginsTold answers lines start text → Ends answers lines start text (Err fault)
+  outside lines start text (Script line) is h = absurd is
+  outside lines start text Line is h = h
+  outside lines start text OutOfMemory is h = h
+
+  pub going_stops : (r0 r1 w0 w1 : Option (List ℕ)) (h0 h1 : List ℕ) (s0 s1 : S) (n : ℕ) (fault : ScriptFault) → Going r0 r1 w0 w1 h0 h1 s0 s1 n → IsOutside fault
+      → IfSome r0 (λ script. (text : List ℕ) × Sends w0 w1 h0 text h1 × Ends answers (lines_of script) s0 text (Err fault))
+  going_stops None r1 w0 w1 h0 h1 s0 s1 n fault going is = tt
+  going_stops (Some script) r1 w0 w1 h0 h1 s0 s1 n fault going is =
+      let so_far = going.so_far in
+      (so_far.1, so_far.3, outside _ _ _ fault is (ran_begins answers _ _ _ n s1 so_far.1 so_far.4))
+
+  refused : (all : List (List ℕ)) (start : S) (line : List ℕ) (left : List (List ℕ)) (number : ℕ) (state : S) (text : List ℕ) (fault : ScriptFault)
+      → RanTo answers all start (line ∷ left) number state text → Refuses answers state (kind_of line) (number + 1) fault → Ends answers all start text (Err fault)
+  refused all start line left number state text (Script n) ran refuses =
+      subst (λ k. Told answers all 1 start text (Some k)) (sym refuses.0) (ran_faulty answers all start line left number state text ran refuses.1)
+  refused all start line left number state text Line ran refuses = absurd refuses
+  refused all start line left number state text OutOfMemory ran refuses = ran_begins answers all start (line ∷ left) number state text ran
+
+  pub going_refused : (r0 r1 r2 w0 w1 : Option (List ℕ)) (h0 h1 h2 kept : List ℕ) (s0 s1 : S) (n : ℕ) (fault : ScriptFault) → Going r0 r1 w0 w1 h0 h1 s0 s1 n
+      → IfSome r1 (λ rest. TakesLine rest r2 true kept) → Refuses answers s1 (kind_of kept) (n + 1) fault → h2 ≡ h1
+      → IfSome r0 (λ script. (text : List ℕ) × Sends w0 w1 h0 text h2 × Ends answers (lines_of script) s0 text (Err fault))
+  going_refused None r1 r2 w0 w1 h0 h1 h2 kept s0 s1 n fault going takes refuses same = tt
+  going_refused (Some script) r1 r2 w0 w1 h0 h1 h2 kept s0 s1 n fault going takes refuses same =
+      let so_far = going.so_far in
+      let line = found r1 so_far.0 (λ rest. TakesLine rest r2 true kept) takes so_far.2 in
+      let at = at_line _ _ _ line.0 (lines_of line.1) n s1 so_far.1 line.3 so_far.4 in (
+        so_far.1,
+        subst (λ h. Sends w0 w1 h0 so_far.1 h) (sym same) so_far.3,
+        refused _ _ line.0 (lines_of line.1) n s1 so_far.1 fault at
+            (subst (λ k. Refuses answers s1 k (n + 1) fault) (kept_kind kept line.0 line.4) refuses),
+      )
+
+  pub from_nothing : (r0 w0 w1 : Option (List ℕ)) (h0 h1 : List ℕ) (s0 : S) (r : Result Unit ScriptFault) → h0 ≡ []
+      → IfSome r0 (λ script. (text : List ℕ) × Sends w0 w1 h0 text h1 × Ends answers (lines_of script) s0 text r)
+      → IfSome r0 (λ script. (text : List ℕ) × Sends w0 w1 [] text h1 × Ends answers (lines_of script) s0 text r)
+  from_nothing r0 w0 w1 h0 h1 s0 r none = subst (λ h. IfSome r0 (λ script. (text : List ℕ) × Sends w0 w1 h text h1 × Ends answers (lines_of script) s0 text r)) none
+
+  -- the held text was sent too, as far as that went
+  pub sent_all : (r0 w0 w1 w2 w3 : Option (List ℕ)) (h1 h2 : List ℕ) (s0 : S) (r : Result Unit ScriptFault)
+      → IfSome r0 (λ script. (text : List ℕ) × Sends w0 w1 [] text h1 × Ends answers (lines_of script) s0 text r)
+      → Sends w1 w2 h1 [] h2 → h2 ≡ [] → Keeps w2 w3
+      → IfSome r0 (λ script. (written : List ℕ) × Appends w0 w3 written × Ends answers (lines_of script) s0 written r)
+  sent_all None w0 w1 w2 w3 h1 h2 s0 r told sends all keeps = tt
+  sent_all (Some script) w0 w1 w2 w3 h1 h2 s0 r told sends all keeps =
+      let both = sends_more w0 w1 w2 [] told.0 h1 [] h2 told.1 (subst (λ l. Sends w1 w2 l [] h2) (sym (append-nil h1)) sends) in
+      let is : told.0 ≡ both.0 = sym (append-nil told.0) ∙ both.2 ∙ ap (λ l. both.0 ++ l) all ∙ append-nil both.0 in
+      (both.0, Appends-kept w0 w2 w3 both.0 both.1 keeps, subst (λ t. Ends answers (lines_of script) s0 t r) is told.2)
+
+  pub sent_part : (r0 w0 w1 w2 w3 : Option (List ℕ)) (h1 h2 : List ℕ) (s0 : S) (r : Result Unit ScriptFault)
+      → IfSome r0 (λ script. (text : List ℕ) × Sends w0 w1 [] text h1 × Ends answers (lines_of script) s0 text r)
+      → Sends w1 w2 h1 [] h2 → Keeps w2 w3
+      → IfSome r0 (λ script. (written : List ℕ) × Appends w0 w3 written × BeginsTold answers (lines_of script) s0 written)
+  sent_part None w0 w1 w2 w3 h1 h2 s0 r told sends keeps = tt
+  sent_part (Some script) w0 w1 w2 w3 h1 h2 s0 r told sends keeps =
+      let both = sends_more w0 w1 w2 [] told.0 h1 [] h2 told.1 (subst (λ l. Sends w1 w2 l [] h2) (sym (append-nil h1)) sends) in
+      let is : told.0 ≡ both.0 ++ h2 = sym (append-nil told.0) ∙ both.2 in
+      (both.0, Appends-kept w0 w2 w3 both.0 both.1 keeps, begins answers (lines_of script) s0 both.0 h2 r (subst (λ t. Ends answers (lines_of script) s0 t r) is told.2))

@@ -1,0 +1,7 @@
+pub mod Words
+pub mod Places
+pub mod Kept
+pub mod Lines
+pub mod Long
+pub mod Ran
+pub mod Going

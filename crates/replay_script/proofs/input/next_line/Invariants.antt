@@ -1,0 +1,14 @@
+use Rattle.std.proofs.Common.{◌≤◌, length}
+use Rattle.replay_script.specs.Input.{line_room}
+use Rattle.replay_script.proofs.Lines.{Reading}
+use Rattle.replay_script.proofs.input.next_line.Given as goal
+
+abbrev pub invariant-parts : goal.invariant-parts
+invariant-parts g l = record {
+  reading : Reading (g.R.Read.remaining l.fn.reader) (g.R.Read.remaining l.reader) l.line.items;
+  fits : length l.line.items ≤ line_room;
+  fewer : l.reads ≤ l.fn.reads;
+}
+
+abbrev pub decreases-parts : goal.decreases-parts
+decreases-parts g l = l.reads

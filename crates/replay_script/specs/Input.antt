@@ -1,0 +1,38 @@
+-- Reading a script's lines from a reader.
+use Rattle.std.specs.Prelude.{◌≡◌, ◌≢◌, ℕ, Bool, true, false, List, [], ◌∷◌, ◌++◌, take, Option, Some, All, OnSome}
+use Rattle.std.specs.Io.KnownBytes.{Consumes, IsAtEnd}
+use Rattle.replay_script.specs.declared.input.Part.{Part}
+use Rattle.replay_script.specs.declared.input.Part.TheVariants.{More, LineEnd, InputEnd}
+use Rattle.replay_script.specs.declared.fault.ScriptFault.{ScriptFault}
+use Rattle.replay_script.specs.declared.fault.ScriptFault.TheVariants.{Script, Line, OutOfMemory}
+use Rattle.replay_script.specs.Line.{lines_of}
+
+-- no command is longer than the words `post NAME MOMENT HEX` of a name of 64 bytes, a number of 19 digits and a body of 20,971,520 bytes
+abbrev pub most_line_bytes : ℕ
+most_line_bytes = 41943130
+
+-- so much of a line is kept
+abbrev pub line_room : ℕ
+line_room = 41943131
+
+-- bytes with no line end, and what stands behind them
+abbrev pub with_end : Part → List ℕ → List ℕ
+with_end LineEnd bytes = bytes ++ 10 ∷ []
+with_end More bytes = bytes
+with_end InputEnd bytes = bytes
+
+-- a part of a line was taken from a reader, and joined to what was kept of that line
+abbrev pub TakesPart : Option (List ℕ) → Option (List ℕ) → List ℕ → List ℕ → Part → Type 0
+TakesPart before after old new part = (bytes : List ℕ) × All (λ byte. byte ≢ 10) bytes × (new ≡ take line_room (old ++ bytes))
+    × Consumes before after (with_end part bytes) × (part ≡ InputEnd → (bytes ≡ []) × OnSome before (IsAtEnd after))
+
+-- of the text the next line was taken, of which so much was kept, or there was none
+abbrev pub TakesLine : List ℕ → Option (List ℕ) → Bool → List ℕ → Type 0
+TakesLine text after true kept = (line : List ℕ) × (rest : List ℕ) × (after ≡ Some rest) × (lines_of text ≡ line ∷ lines_of rest) × (kept ≡ take line_room line)
+TakesLine text after false kept = lines_of text ≡ []
+
+-- a fault of the reader, the writer or the memory, and none of the script
+abbrev pub IsOutside : ScriptFault → Type 0
+IsOutside (Script line) = ⊥
+IsOutside Line = Unit {0}
+IsOutside OutOfMemory = Unit {0}

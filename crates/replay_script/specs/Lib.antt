@@ -1,0 +1,9 @@
+pub mod Word
+pub mod Command
+pub mod Named
+pub mod Line
+pub mod Answer
+pub mod Told
+pub mod Input
+pub mod Output
+pub mod Step

@@ -1,0 +1,9 @@
+-- The command that a value of the code stands for.
+use Rattle.replay_script.specs.declared.command.Command.{Command}
+use Rattle.replay_script.specs.declared.command.Command.TheVariants as variants
+use Rattle.replay_script.specs.Command.{CommandData}
+use Rattle.replay_script.specs.Command as data_of
+
+abbrev pub command_view : Command → CommandData
+command_view (variants.Post name moment body) = data_of.Post name.now moment body.items
+command_view (variants.Turn shard moment) = data_of.Turn shard moment

@@ -1,0 +1,80 @@
+//! The lines that answer commands.
+
+ghost use Rattle.std.specs.Prelude.{◌≡◌, ◌++◌, IfOk, OnOk, OnErr};
+ghost use Rattle.std.specs.String.{string_bytes};
+ghost use Rattle.replay_script.specs.Answer.{hex_text, reply_text, job_text, worked_text, idle_text, refused_text};
+
+use std::alloc::{AllocError, Global};
+
+/// Appends the line of a reply to a post.
+pub fn put_reply(
+    alloc: Global,
+    out: &mut Vec<u8>,
+    name: &str,
+    status: u16,
+    body: &[u8],
+) -> Result<(), AllocError>
+    ensures ok { OnOk result (out.new.items ≡ out.old.items ++ reply_text name.now status body.now) }
+    ensures err { OnErr result (out.new.items ≡ out.old.items) }
+{
+    let body = hex(alloc, body)?;
+    let line = format!(in alloc; "reply {name} {status} {body}\n")?;
+    out.extend_from_slice(line.as_bytes())
+}
+
+/// Appends the line of a turn that handed out a job.
+pub fn put_job(
+    alloc: Global,
+    out: &mut Vec<u8>,
+    name: &str,
+    ticket: u64,
+    payload: &[u8],
+) -> Result<(), AllocError>
+    ensures ok { OnOk result (out.new.items ≡ out.old.items ++ job_text name.now ticket payload.now) }
+    ensures err { OnErr result (out.new.items ≡ out.old.items) }
+{
+    let payload = hex(alloc, payload)?;
+    let line = format!(in alloc; "job {name} {ticket} {payload}\n")?;
+    out.extend_from_slice(line.as_bytes())
+}
+
+/// Appends the line of a tenant's turn that had no job.
+pub fn put_worked(alloc: Global, out: &mut Vec<u8>, name: &str) -> Result<(), AllocError>
+    ensures ok { OnOk result (out.new.items ≡ out.old.items ++ worked_text name.now) }
+    ensures err { OnErr result (out.new.items ≡ out.old.items) }
+{
+    let line = format!(in alloc; "worked {name}\n")?;
+    out.extend_from_slice(line.as_bytes())
+}
+
+/// Appends the line of a turn in which no tenant of the shard was ready.
+pub fn put_idle(alloc: Global, out: &mut Vec<u8>, shard: u64) -> Result<(), AllocError>
+    ensures ok { OnOk result (out.new.items ≡ out.old.items ++ idle_text shard) }
+    ensures err { OnErr result (out.new.items ≡ out.old.items) }
+{
+    let line = format!(in alloc; "idle {shard}\n")?;
+    out.extend_from_slice(line.as_bytes())
+}
+
+/// Appends the line of a step that was refused, with the refusal's number.
+pub fn put_refused(
+    alloc: Global,
+    out: &mut Vec<u8>,
+    name: &str,
+    number: u8,
+) -> Result<(), AllocError>
+    ensures ok { OnOk result (out.new.items ≡ out.old.items ++ refused_text name.now number) }
+    ensures err { OnErr result (out.new.items ≡ out.old.items) }
+{
+    let line = format!(in alloc; "refused {name} {number}\n")?;
+    out.extend_from_slice(line.as_bytes())
+}
+
+fn hex(alloc: Global, bytes: &[u8]) -> Result<String, AllocError>
+    ensures { IfOk result (λ text. string_bytes text ≡ hex_text bytes.now) }
+{
+    if bytes.is_empty() {
+        return String::from_str(alloc, "-");
+    }
+    hex::encode(alloc, bytes)
+}

@@ -1,0 +1,89 @@
+//! Running a script: one line after another is read, done and answered.
+
+ghost use Rattle.std.specs.Prelude.{◌≡◌, ℕ, List, ◌++◌, IfSome, IfErr, OnOk, OnErr};
+ghost use Rattle.std.specs.Io.KnownBytes.{Appends};
+ghost use Rattle.replay_script.specs.Line.{kind_of, lines_of};
+ghost use Rattle.replay_script.specs.Told.{Ends};
+ghost use Rattle.replay_script.specs.Step.{Adds, Refuses};
+ghost use Rattle.replay_script.specs.Output.{Sends};
+
+use crate::command::parse_line;
+use crate::fault::ScriptFault;
+use crate::input::next_line;
+use crate::output::Output;
+use crate::session::{AnswerFault, Session};
+use std::alloc::Global;
+use std::io::{BufRead, Write};
+
+/// A replay ends after so many calls of its reader or its writer.
+const MAX_CALLS: u64 = 1 << 62;
+
+/// Runs the script that the reader gives, and writes the answers.
+pub fn run_script<S: Session, R: BufRead, W: Write>(
+    alloc: Global,
+    session: &mut S,
+    reader: &mut R,
+    writer: &mut W,
+) -> Result<(), ScriptFault>
+    ensures told { IfSome (R.remaining reader.old) (λ script. (written : List ℕ)
+        × Appends (W.contents writer.old) (W.contents writer.new) written
+        × Ends S.answers (lines_of script) session.old written result) }
+{
+    let mut output = Output::new(alloc, MAX_CALLS);
+    let told = answer_lines(alloc, session, reader, writer, &mut output);
+    output.send(writer)?;
+    if writer.flush().is_err() {
+        return Err(ScriptFault::Line);
+    }
+    told
+}
+
+/// Does the lines that the reader gives. Some of the answers may be left in the output.
+fn answer_lines<S: Session, R: BufRead, W: Write>(
+    alloc: Global,
+    session: &mut S,
+    reader: &mut R,
+    writer: &mut W,
+    output: &mut Output,
+) -> Result<(), ScriptFault>
+    ensures told { IfSome (R.remaining reader.old) (λ script. (text : List ℕ)
+        × Sends (W.contents writer.old) (W.contents writer.new) output.old.text.items text output.new.text.items
+        × Ends S.answers (lines_of script) session.old text result) }
+{
+    let mut line = Vec::new(alloc);
+    let mut reads = MAX_CALLS;
+    let mut number = 0u64;
+    'lines: while next_line(reader, &mut reads, &mut line)? {
+        number += 1;
+        answer_line(alloc, session, line.as_slice(), number, &mut output.text)?;
+        output.send_much(writer)?;
+    }
+    Ok(())
+}
+
+/// Does the line of this number, unless it is to be skipped.
+#[tactic(auto, unfolding(crate::specs::Line::kind_of))]
+fn answer_line<S: Session>(
+    alloc: Global,
+    session: &mut S,
+    line: &[u8],
+    number: u64,
+    out: &mut Vec<u8>,
+) -> Result<(), ScriptFault>
+    ensures ok { OnOk result ((text : List ℕ) × (out.new.items ≡ out.old.items ++ text)
+        × Adds S.answers session.old (kind_of line.now) text session.new) }
+    ensures fault { IfErr result (Refuses S.answers session.old (kind_of line.now) number) }
+    ensures err { OnErr result (out.new.items ≡ out.old.items) }
+{
+    if line.is_empty() || line[0] == b'#' {
+        return Ok(());
+    }
+    let Some(command) = parse_line(alloc, line)? else {
+        return Err(ScriptFault::Script { line: number });
+    };
+    match session.answer(alloc, &command, out) {
+        Ok(()) => Ok(()),
+        Err(AnswerFault::Unknown) => Err(ScriptFault::Script { line: number }),
+        Err(AnswerFault::OutOfMemory) => Err(ScriptFault::OutOfMemory),
+    }
+}

@@ -1,0 +1,56 @@
+-- A replay, from the run of its script.
+use Rattle.std.proofs.Common.{◌≡◌, ℕ, List, Option, Some, None, Result, Ok, Err, IfSome, sym, subst, ◌∙◌}
+use Rattle.std.specs.Io.KnownBytes.{Appends}
+use Rattle.tail_settings.specs.Settings.{SettingsData, settings_view, settings_of}
+use Rattle.tenant_pipeline.specs.Own.{Own}
+use Rattle.replay_script.specs.declared.fault.ScriptFault.{ScriptFault}
+use Rattle.replay_script.specs.declared.fault.ScriptFault.TheVariants.{Script, Line, OutOfMemory}
+use Rattle.replay_script.specs.Command.{CommandData}
+use Rattle.replay_script.specs.Line.{lines_of}
+use Rattle.replay_script.specs.Told.{Ends}
+use Rattle.trace_collector.specs.declared.shards.Shards.{Shards}
+use Rattle.trace_collector.specs.Fault.{script_fault}
+use Rattle.trace_collector.specs.Answered.{IsAnswered}
+use Rattle.trace_collector.specs.Script.{no_steps, BeginsScriptText}
+use Rattle.trace_collector.specs.Standing.{AllStand, Answers}
+use Rattle.trace_collector.specs.Replay.{IsReplay}
+use Rattle.trace_collector.proofs.Through.{told_through, begins_through}
+
+pub record Along (settings : SettingsData) (shards : Shards) (pasts : ℕ → List Own) : Type 0 where
+  pub same : settings_view shards.settings ≡ settings
+  pub stand : AllStand settings shards.shards.items pasts
+
+goes_along : (settings : SettingsData) (old new : Shards) (pasts : ℕ → List Own) (command : CommandData) (line : Option (List ℕ)) → Along settings old pasts → Answers old command line new
+    → (later : ℕ → List Own) × IsAnswered settings pasts command line later × Along settings new later
+goes_along settings old new pasts command line along answers =
+    let next = answers.answers pasts (subst (λ s. AllStand s old.shards.items pasts) (sym along.same) along.stand) in (
+      next.0,
+      subst (λ s. IsAnswered s pasts command line next.0) along.same next.1,
+      record { same = answers.same ∙ along.same; stand = subst (λ s. AllStand s new.shards.items next.0) along.same next.2 },
+    )
+
+ok_same : {E : Type 0} (r : Result SettingsData E) (a b : SettingsData) → r ≡ Ok a → r ≡ Ok b → a ≡ b
+ok_same {E} r a b e f = let same : ◌≡◌ {A = Result SettingsData E} (Ok a) (Ok b) = sym e ∙ f in cc
+
+pub ran_replays : (text script written : List ℕ) (shards : Shards) (settings : SettingsData) (done : Unit) → settings_of text ≡ Ok settings → Along settings shards no_steps
+    → Ends Answers (lines_of script) shards written (Ok done) → IsReplay text script written (Ok done)
+ran_replays text script written shards settings done is along ends =
+    (settings, is, told_through Answers (IsAnswered settings) (Along settings) (goes_along settings) (lines_of script) 1 shards no_steps written None along ends)
+
+pub fault_replays : (text script written : List ℕ) (shards : Shards) (settings : SettingsData) (fault : ScriptFault) → settings_of text ≡ Ok settings → Along settings shards no_steps
+    → Ends Answers (lines_of script) shards written (Err fault) → IsReplay text script written (Err (script_fault fault))
+fault_replays text script written shards settings (Script line) is along ends =
+    (settings, is, told_through Answers (IsAnswered settings) (Along settings) (goes_along settings) (lines_of script) 1 shards no_steps written (Some line) along ends)
+fault_replays text script written shards settings Line is along ends =
+    (settings, is, begins_through Answers (IsAnswered settings) (Along settings) (goes_along settings) (lines_of script) shards no_steps written along ends)
+fault_replays text script written shards settings OutOfMemory is along ends =
+    λ s means.
+    let same : ◌≡◌ {A = SettingsData} settings s = ok_same _ settings s is means in
+    subst (λ t. BeginsScriptText t script written) same
+    (begins_through Answers (IsAnswered settings) (Along settings) (goes_along settings) (lines_of script) shards no_steps written along ends)
+
+pub some_told : (old : Option (List ℕ)) (P Q : List ℕ → List ℕ → Type 0) (w w' : Option (List ℕ)) → ((script written : List ℕ) → P script written → Q script written)
+    → IfSome old (λ script. (written : List ℕ) × Appends w w' written × P script written)
+    → IfSome old (λ script. (written : List ℕ) × Appends w w' written × Q script written)
+some_told None P Q w w' on told = tt
+some_told (Some script) P Q w w' on told = (told.0, told.1, on script told.0 told.2)

@@ -1,0 +1,37 @@
+use Rattle.std.proofs.Common.{ℕ, List, Ok, Err, ap}
+use Rattle.std.proofs.lemmas.Result.{err_from_is_err_and}
+use Rattle.tail_settings.specs.Settings.{settings_view}
+use Rattle.replay_script.specs.Line.{lines_of}
+use Rattle.replay_script.specs.Told.{Ends}
+use Rattle.trace_collector.specs.Fault.{script_fault}
+use Rattle.trace_collector.specs.Script.{no_steps}
+use Rattle.trace_collector.specs.Standing.{Answers}
+use Rattle.trace_collector.specs.Replay.{IsReplay}
+use Rattle.trace_collector.proofs.Replayed.{Along, ran_replays, fault_replays, some_told}
+use Rattle.trace_collector.proofs.engine.replay.Goals as goal
+
+pub returns-in_err-run_script : goal.returns-in_err-run_script
+returns-in_err-run_script g c =
+    let p = err_from_is_err_and c.from_residual-in_err-run_script.result c.from_residual-in_err-run_script.ensures.1 in
+    let text = c.args.settings.now in
+    let shards = c.in_ok-shards.shards in
+    let fault = c.in_err-run_script.field-0.0 in
+    let along : Along (settings_view c.in_ok-settings.settings) c.in_ok-shards.shards no_steps =
+    record { same = ap settings_view c.in_ok-shards.ensures.settings; stand = c.in_ok-shards.ensures.stand } in
+    rw (p.1, p.2) (some_told _
+    (λ (script written : List ℕ). Ends Answers (lines_of script) shards written (Err fault))
+    (λ (script written : List ℕ). IsReplay text script written (Err (script_fault fault))) _ _
+    (λ script written ends. fault_replays text script written shards (settings_view c.in_ok-settings.settings) fault c.in_ok-settings.ensures.ok along ends)
+    c.in_err-run_script.ensures.told)
+
+pub returns : goal.returns
+returns g c =
+    let text = c.args.settings.now in
+    let shards = c.in_ok-shards.shards in
+    let along : Along (settings_view c.in_ok-settings.settings) c.in_ok-shards.shards no_steps =
+    record { same = ap settings_view c.in_ok-shards.ensures.settings; stand = c.in_ok-shards.ensures.stand } in
+    some_told _
+    (λ (script written : List ℕ). Ends Answers (lines_of script) shards written (Ok tt))
+    (λ (script written : List ℕ). IsReplay text script written (Ok tt)) _ _
+    (λ script written ends. ran_replays text script written shards (settings_view c.in_ok-settings.settings) tt c.in_ok-settings.ensures.ok along ends)
+    c.in_ok-run_script.ensures.told

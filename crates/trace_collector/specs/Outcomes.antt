@@ -1,0 +1,23 @@
+-- The lines that tell a script the outcomes of its steps.
+use Rattle.std.specs.Prelude.{ℕ, List, [], ◌∷◌, codes, option_map, slice_get}
+use Rattle.std.specs.Option.{unwrap_or}
+use Rattle.tail_settings.specs.Settings.{SettingsData}
+use Rattle.tenant_shard.specs.declared.step.Outcome.{Outcome}
+use Rattle.tenant_shard.specs.declared.step.Outcome.TheVariants.{Reply, Job, Worked, Idle, Refused}
+use Rattle.replay_script.specs.Answer.{reply_text, job_text, worked_text, idle_text, refused_text}
+
+-- the name of a tenant number
+abbrev pub name_at : SettingsData → ℕ → List ℕ
+name_at settings tenant = unwrap_or (option_map (λ t. t.name) (slice_get settings.tenants tenant)) []
+
+-- the line of an outcome of this shard
+abbrev pub outcome_text : SettingsData → ℕ → Outcome → List ℕ
+outcome_text settings shard (Reply tenant reply) = reply_text (name_at settings tenant) reply.status reply.body
+outcome_text settings shard (Job tenant ticket payload) = job_text (name_at settings tenant) ticket payload
+outcome_text settings shard (Worked tenant) = worked_text (name_at settings tenant)
+outcome_text settings shard Idle = idle_text shard
+outcome_text settings shard (Refused tenant number) = refused_text (name_at settings tenant) number
+
+-- a Status with this message, as protobuf has it
+abbrev pub bad_protobuf : List ℕ
+bad_protobuf = 18 ∷ 12 ∷ codes "bad protobuf"

@@ -1,0 +1,19 @@
+-- The text that a script is told.
+use Rattle.std.specs.Prelude.{ℕ, List, [], Option}
+use Rattle.tail_settings.specs.Settings.{SettingsData}
+use Rattle.tenant_pipeline.specs.Own.{Own}
+use Rattle.replay_script.specs.Line.{lines_of}
+use Rattle.replay_script.specs.Told.{Told, BeginsTold}
+use Rattle.trace_collector.specs.Answered.{IsAnswered}
+
+-- before the first step
+abbrev pub no_steps : ℕ → List Own
+no_steps tenant = []
+
+-- the text of the answers, up to the first faulty line, whose number is the fault
+abbrev pub ScriptText : SettingsData → List ℕ → List ℕ → Option ℕ → Type 0
+ScriptText settings script text fault = Told (IsAnswered settings) (lines_of script) 1 no_steps text fault
+
+-- a beginning of it
+abbrev pub BeginsScriptText : SettingsData → List ℕ → List ℕ → Type 0
+BeginsScriptText settings script text = BeginsTold (IsAnswered settings) (lines_of script) no_steps text

@@ -1,0 +1,79 @@
+//! Settings and a script, replayed.
+
+ghost use Rattle.std.specs.Prelude.{◌≡◌, ℕ, List, IfSome};
+ghost use Rattle.std.specs.Io.KnownBytes.{Appends};
+ghost use Rattle.trace_collector.specs.Fault.{settings_fault, script_fault};
+ghost use Rattle.trace_collector.specs.Replay.{IsReplay};
+ghost use Rattle.trace_collector.specs.declared.engine.ReplayFault.TheVariants as faults;
+
+use crate::shards::Shards;
+use replay_script::{ScriptFault, run_script};
+use std::alloc::{AllocError, Global};
+use std::io::{BufRead, Write};
+use tail_settings::{SettingsFault, load};
+use thiserror::Error;
+
+/// Why a replay ended early. What its steps were answered until then was written, as far as that went.
+#[derive(Debug, Drop, Error)]
+pub enum ReplayFault {
+    /// The settings' text means no settings.
+    #[error("{0}")]
+    Settings(SettingsFault),
+    /// That line says no command, or one for a tenant or a shard that there isn't. Lines count from
+    /// 1, those that are skipped among them.
+    #[error("script fault at line {line}")]
+    Script { line: u64 },
+    /// The reader or the writer failed, or was called 2^62 times.
+    #[error("input or output fault")]
+    Line,
+    /// There was no memory.
+    #[error("out of memory")]
+    OutOfMemory,
+}
+
+/// Does the commands of a script, one after another, under these settings, and writes what they are answered.
+pub fn replay<R: BufRead, W: Write>(
+    alloc: Global,
+    settings: &str,
+    reader: &mut R,
+    writer: &mut W,
+) -> Result<(), ReplayFault>
+    ensures { IfSome (R.remaining reader.old) (λ script. (written : List ℕ)
+        × Appends (W.contents writer.old) (W.contents writer.new) written × IsReplay settings.now script written result) }
+{
+    let settings = load(alloc, settings)?;
+    let mut shards = Shards::open(alloc, settings)?;
+    run_script(alloc, &mut shards, reader, writer)?;
+    Ok(())
+}
+
+impl From<SettingsFault> for ReplayFault {
+    ghost from_gives = { λ fault given. given ≡ settings_fault fault };
+
+    fn from(fault: SettingsFault) -> ReplayFault {
+        match fault {
+            SettingsFault::OutOfMemory => ReplayFault::OutOfMemory,
+            _ => ReplayFault::Settings(fault),
+        }
+    }
+}
+
+impl From<ScriptFault> for ReplayFault {
+    ghost from_gives = { λ fault given. given ≡ script_fault fault };
+
+    fn from(fault: ScriptFault) -> ReplayFault {
+        match fault {
+            ScriptFault::Script { line } => ReplayFault::Script { line },
+            ScriptFault::Line => ReplayFault::Line,
+            ScriptFault::OutOfMemory => ReplayFault::OutOfMemory,
+        }
+    }
+}
+
+impl From<AllocError> for ReplayFault {
+    ghost from_gives = { λ _ given. given ≡ faults.OutOfMemory };
+
+    fn from(_error: AllocError) -> ReplayFault {
+        ReplayFault::OutOfMemory
+    }
+}
