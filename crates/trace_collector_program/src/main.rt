@@ -3,6 +3,9 @@
 //! output; 2 wrong usage; 3 no memory. A fault is told in one line on standard error.
 #![tactic(auto)]
 
+ghost use Rattle.std.specs.Prelude.{◌≡◌};
+ghost use Rattle.trace_collector_program.specs.Status.{status_of};
+
 use std::io::{BufReader, ErrorKind};
 use std::process::ExitCode;
 use std::rt::{Env, Files};
@@ -25,7 +28,9 @@ enum ProgramFault {
 
 impl ProgramFault {
     /// The status with which the program ends.
-    fn status(&self) -> u8 {
+    fn status(&self) -> u8
+        ensures { result ≡ status_of self.now }
+    {
         match self {
             ProgramFault::Usage => 2,
             ProgramFault::Replay(ReplayFault::OutOfMemory) => 3,

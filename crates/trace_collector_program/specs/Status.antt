@@ -1,0 +1,13 @@
+-- The statuses with which the program ends early.
+use Rattle.std.specs.Prelude.{ℕ}
+use Rattle.trace_collector.specs.declared.engine.ReplayFault.TheVariants as replay
+use Rattle.trace_collector_program.specs.declared.ProgramFault.{ProgramFault}
+use Rattle.trace_collector_program.specs.declared.ProgramFault.TheVariants.{Usage, Replay}
+
+-- 2 for wrong usage, 3 for want of memory, 1 for any other fault
+abbrev pub status_of : ProgramFault → ℕ
+status_of Usage = 2
+status_of (Replay replay.OutOfMemory) = 3
+status_of (Replay (replay.Settings fault)) = 1
+status_of (Replay (replay.Script line)) = 1
+status_of (Replay replay.Line) = 1
