@@ -1,13 +1,13 @@
 //! Reading requests.
 
-ghost use Rattle.std.specs.Prelude.{◌≡◌, ◌≢◌, ◌^◌, ◌<◌, ◌↔◌, ◌++◌, ℕ, List, length, Ok, Err, IfOk, IfErr};
+ghost use Rattle.std.specs.Prelude.{◌≡◌, ◌≢◌, ◌^◌, ◌<◌, ◌↔◌, ◌++◌, ℕ, suc, List, length, Ok, Err, IfOk, IfErr};
 ghost use Rattle.otlp_trace.specs.Data.{SpanData, ScopeSpansData, ResourceSpansData, RequestData};
-ghost use Rattle.otlp_trace.specs.Text.{request_text};
+ghost use Rattle.otlp_trace.specs.Text.{span_text, request_text};
 ghost use Rattle.otlp_trace.specs.View.{span_view, scope_spans_view, resource_spans_view, request_view};
 ghost use Rattle.otlp_read.specs.declared.fault.ReadFault.{ReadFault};
 ghost use Rattle.otlp_read.specs.Fault.{Gives};
-ghost use Rattle.otlp_read.specs.Walk.{Piece, fold_fields, with_more};
-ghost use Rattle.otlp_read.specs.Sound.{SoundRequest};
+ghost use Rattle.otlp_read.specs.Walk.{Piece, fold_fields, with_more, read_with};
+ghost use Rattle.otlp_read.specs.Sound.{SoundSpan, SoundRequest};
 ghost use Rattle.otlp_read.specs.Value.{no_span, no_scope_spans, no_resource_spans, no_request, span_step, scope_spans_step, resource_spans_step, request_step, value_of, IsValue, IsFault};
 
 use crate::fault::ReadFault;
@@ -202,9 +202,10 @@ pub fn values_or_faults()
     ensures merge { (v : RequestData) (xs ys : List Piece) → fold_fields (request_step 100) v (xs ++ ys) ≡ with_more (request_step 100) (fold_fields (request_step 100) v xs) ys }
 {}
 
-/// The canonical text of a request reads back to the request. It carries each request whose text is shorter than 2^64
-/// bytes, as any text in memory is.
+/// The canonical text of a request reads back to the request, and that of a span to the span. It carries each request
+/// whose text is shorter than 2^64 bytes, as any text in memory is.
 pub fn written_reads_back()
     ensures request { (v : RequestData) → SoundRequest v → IsValue (request_text v) v }
+    ensures span { (v : SpanData) (room : ℕ) → SoundSpan v → read_with span_step (suc room) no_span (span_text v) ≡ Ok v }
     ensures carried { (v : RequestData) → length (request_text v) < 2 ^ 64 → SoundRequest v }
 {}

@@ -13,7 +13,7 @@ mod octets;
 mod repeated;
 mod write;
 
-pub use message::{ExportTraceServiceRequest, ResourceSpans, ScopeSpans, Span};
+pub use message::{ExportTraceServiceRequest, ResourceSpans, ScopeSpans, Span, equal_messages};
 pub use octets::Octets;
 pub use repeated::Repeated;
 pub use write::{write_request, write_span};

@@ -1,5 +1,7 @@
 //! The messages.
 
+ghost use Rattle.std.specs.Prelude.{◌≡◌, ◌↔◌, true};
+
 use crate::octets::Octets;
 use crate::repeated::Repeated;
 
@@ -29,3 +31,11 @@ pub struct ResourceSpans {
 pub struct ExportTraceServiceRequest {
     pub resource_spans: Repeated<ResourceSpans>,
 }
+
+/// Two messages are equal where their fields are, wherever they lie in memory.
+pub fn equal_messages()
+    ensures span { (a b : Span) → (⟦<Span as PartialEq>⟧.eq a b ≡ true) ↔ (a ≡ b) }
+    ensures scope_spans { (a b : ScopeSpans) → (⟦<ScopeSpans as PartialEq>⟧.eq a b ≡ true) ↔ (a ≡ b) }
+    ensures resource_spans { (a b : ResourceSpans) → (⟦<ResourceSpans as PartialEq>⟧.eq a b ≡ true) ↔ (a ≡ b) }
+    ensures request { (a b : ExportTraceServiceRequest) → (⟦<ExportTraceServiceRequest as PartialEq>⟧.eq a b ≡ true) ↔ (a ≡ b) }
+{}

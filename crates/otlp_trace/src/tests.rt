@@ -60,8 +60,9 @@ fn nothing_in_it(rt: HostRuntime) -> Result<(), Fail> {
 }
 
 #[test]
-fn equal_messages(rt: HostRuntime) -> Result<(), Fail> {
+fn equality(rt: HostRuntime) -> Result<(), Fail> {
     let alloc = rt.alloc();
+    equal_messages();
     let one = span(alloc, b"ab", b"c")?;
     let copy = one.clone()?;
     assert!(rt; one == copy);

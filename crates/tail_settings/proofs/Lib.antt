@@ -1,4 +1,5 @@
 pub mod Arrays
 pub mod Rules
+pub mod Sound
 pub mod Tenants
 pub mod Told

@@ -2,3 +2,4 @@ pub mod Fault
 pub mod Keys
 pub mod Section
 pub mod Settings
+pub mod Sound

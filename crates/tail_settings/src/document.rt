@@ -9,6 +9,7 @@ ghost use Rattle.tail_settings.specs.Fault.{Tells, fault_view, not_toml};
 ghost use Rattle.tail_settings.specs.Keys.{keys_of};
 ghost use Rattle.tail_settings.specs.Section.{policy_view, policy_of, policies_of, section_view, section_of};
 ghost use Rattle.tail_settings.specs.Settings.{is_name_byte, is_name, name_of, with_tenant, tenants_of, shards_of, tenant_view, settings_view, settings_of};
+ghost use Rattle.tail_settings.specs.Sound.{IsSound};
 
 use crate::fault::SettingsFault;
 use crate::keys;
@@ -160,6 +161,9 @@ pub fn load(alloc: Global, text: &str) -> Result<Settings, SettingsFault>
     // The document's settings exactly, or its first fault exactly; refused memory says nothing of it.
     ensures ok { IfOk result (λ s. settings_of text.now ≡ Ok (settings_view s)) }
     ensures fault { IfErr result (λ e. IfSome (fault_view e) (λ f. settings_of text.now ≡ Err f)) }
+
+    // The ranges and counts of the document's keys, and names that differ.
+    ensures sound { IfOk result (λ s. IsSound (settings_view s)) }
 
     // Fault 10 is that of the texts that are no TOML document, and of no others.
     ensures not_toml { (settings_of text.now ≡ Err not_toml) ↔ (parse_document text.now ≡ None) }

@@ -1,5 +1,5 @@
 -- When bodies that were read are equal.
-use Rattle.std.specs.Prelude.{Bool, nat_eq, List}
+use Rattle.std.specs.Prelude.{Bool, nat_eq}
 use Rattle.std.specs.Cmp.{IsPartialEquivalence, partial_equiv_from_equiv, on_per, and_per, nat_eq_equiv}
 use Rattle.std.specs.Cmp.Lexicographic.{pointwise, nat_list_eq_equiv, lists_per}
 use Rattle.std.specs.Ordering.{on, eq_of_both}

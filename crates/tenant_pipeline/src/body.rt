@@ -41,7 +41,7 @@ impl PartialEq for Prepared {
     ghost laws = { prepared_laws };
 
     fn eq(&self, other: &Self) -> bool {
-        self.tenant == other.tenant && self.spans == other.spans
+        self.spans == other.spans && self.tenant == other.tenant
     }
 }
 
@@ -90,7 +90,8 @@ impl Prepared {
     }
 }
 
-/// Reads a body for the tenant with this number and section.
+/// Reads a body, a request in protobuf, for the tenant with this number and section. No setting
+/// bears on a body yet.
 pub fn prepare(
     alloc: Global,
     tenant: u32,

@@ -5,7 +5,11 @@
 //! batch, and a worker's turn hands out the oldest batch, with the tenant's next ticket and its text in OTLP.
 //!
 //! What a tenant is told depends on its settings and its own steps alone: `specs/State` says what it is after any list
-//! of own steps, and what it is told of the next one. `Pipeline` answers so.
+//! of own steps, and what it is told of the next one. `Pipeline` answers so. A step takes effect at the greatest moment
+//! so far, after the decisions that are due by then, each at its own moment (`specs/Timers`).
+//!
+//! Where memory is refused, some of those decisions may have been made, the clock then stands at the last one's moment,
+//! and nothing else has changed.
 #![tactic(auto)]
 
 ghost use Rattle.tenant_pipeline.specs.Law.{GoesOn};
@@ -33,5 +37,9 @@ pub fn first_is_least()
     ensures { FirstIsLeast }
 {}
 
+#[cfg(test)]
+mod reference;
+#[cfg(test)]
+mod reference_tests;
 #[cfg(test)]
 mod tests;

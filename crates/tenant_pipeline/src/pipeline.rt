@@ -28,7 +28,7 @@ const LATEST_MOMENT: u64 = 1 << 62;
 /// No more tickets than these are handed out.
 const LAST_TICKET: u64 = 1 << 62;
 
-/// What is kept of one tenant.
+/// What is kept of one tenant: the rows that its traces opened, the batches that wait, its clock and its tickets.
 #[derive(Drop)]
 pub struct Pipeline {
     alloc: Global,
@@ -75,7 +75,8 @@ impl Pipeline {
         }
     }
 
-    /// A body's spans come, at a moment in milliseconds.
+    /// A body's spans come, at a moment in milliseconds. Where memory is refused, decisions that were due may have been
+    /// made, and no span has come.
     pub fn post(&mut self, now: u64, prepared: &Prepared) -> Result<Reply, AllocError>
         ensures ok { IfOk result (λ reply. Answers (Post now prepared.now.arrivals) self.old (tell.Reply reply) self.new) }
         ensures refused { OnErr result (IsFront (effective (Post now prepared.now.arrivals) self.old) self.old self.new) }
@@ -97,7 +98,8 @@ impl Pipeline {
         })
     }
 
-    /// A worker asks for a job, at a moment in milliseconds.
+    /// A worker asks for a job, at a moment in milliseconds. Where memory is refused, decisions that were due may have
+    /// been made, and no ticket is used up.
     pub fn turn(&mut self, now: u64) -> Result<Told, AllocError>
         ensures ok { IfOk result (λ told. Answers (Turn now) self.old told self.new) }
         ensures refused { OnErr result (IsFront (effective (Turn now) self.old) self.old self.new) }
@@ -109,7 +111,8 @@ impl Pipeline {
         Ok(told)
     }
 
-    /// When there is next something to do, in milliseconds.
+    /// When there is next something to do, in milliseconds: the moment of the next decision, or that at which the oldest
+    /// batch formed.
     #[tactic(auto, unfolding(crate::specs::Ready::ready))]
     pub fn ready(&self) -> Option<u64>
         ensures { result ≡ ready self.now }

@@ -18,7 +18,7 @@ use Rattle.tenant_shard.specs.View.{View, kept_of}
 use Rattle.tenant_shard.specs.Lists.{Lists, MemberStands, ShardStands}
 use Rattle.tenant_shard.specs.Outcomes.{named, told_whom, is_own, own_step}
 use Rattle.tenant_shard.specs.Pick.{ready_in, ready_after, ready_at, IsPick}
-use Rattle.tenant_shard.specs.Run.{IsAnswered, IsAnswerTo, IsOutcome, AllKnown, IsNext, OthersStay, ShardSteps, after}
+use Rattle.tenant_shard.specs.Run.{IsAnswered, IsAnswerTo, IsOutcome, AllKnown, OthersStay, ShardSteps, after}
 use Rattle.tenant_shard.specs.Refusal.{IsStepFor, ShardRefuses}
 use Rattle.tenant_shard.specs.Steps.{IsStepOf, IsLossOf}
 use Rattle.tenant_shard.proofs.Picks.{same_or_other}

@@ -20,7 +20,9 @@ alone section past (step ∷ steps) = answer section past step ∷ alone section
 abbrev pub own_steps : ℕ → List Step → List Outcome → List Own
 own_steps tenant [] outcomes = []
 own_steps tenant (step ∷ steps) [] = []
-own_steps tenant (step ∷ steps) (outcome ∷ outcomes) = if is_own tenant step outcome then own_step step ∷ own_steps tenant steps outcomes else own_steps tenant steps outcomes
+own_steps tenant (step ∷ steps) (outcome ∷ outcomes) =
+    if is_own tenant step outcome then own_step step ∷ own_steps tenant steps outcomes
+    else own_steps tenant steps outcomes
 
 -- the outcomes that name the tenant
 abbrev pub told_to : ℕ → List Outcome → List Outcome

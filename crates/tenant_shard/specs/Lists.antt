@@ -9,7 +9,7 @@ use Rattle.tenant_shard.specs.View.{View, kept_of}
 pub record Lists : Type 0 where
   pub sections : ℕ → Option SectionData  -- the section of each member; no other tenant has one
   pub pasts : ℕ → List Own  -- each member's own steps so far, the newest first
-  pub known : ℕ → Bool  -- false where a step of the member's own was refused memory: its own steps don't tell what is kept of it
+  pub known : ℕ → Bool  -- whether they tell what is kept of it: not where one of them was refused memory
 
 -- what is kept of a member is what its own steps leave, where they are known; of others nothing is kept
 abbrev pub MemberStands : Option SectionData → List Own → Bool → Option State → Type 0
@@ -21,4 +21,5 @@ MemberStands (Some section) past false (Some kept) = Unit
 
 -- the shard stands for these own steps of each member
 abbrev pub ShardStands : Lists → List View → Type 0
-ShardStands lists views = (tenant : ℕ) → MemberStands (lists.sections tenant) (lists.pasts tenant) (lists.known tenant) (kept_of tenant views)
+ShardStands lists views = (tenant : ℕ) →
+    MemberStands (lists.sections tenant) (lists.pasts tenant) (lists.known tenant) (kept_of tenant views)

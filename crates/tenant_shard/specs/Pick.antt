@@ -18,13 +18,14 @@ ready_after (Some section) past true seen = ready (state section past)
 ready_after (Some section) past false seen = seen
 
 abbrev pub ready_at : Lists → List View → ℕ → Option ℕ
-ready_at lists views tenant = ready_after (lists.sections tenant) (lists.pasts tenant) (lists.known tenant) (ready_in views tenant)
+ready_at lists views tenant =
+    ready_after (lists.sections tenant) (lists.pasts tenant) (lists.known tenant) (ready_in views tenant)
 
 -- a pair of a moment and a number is not after another
 abbrev pub NotAfter : ℕ → ℕ → ℕ → ℕ → Type 0
 NotAfter moment number moment' number' = (moment < moment') ⊎ ((moment ≡ moment') × (number ≤ number'))
 
--- by the moments at which tenants are ready, a turn goes to the one with the least (moment, number), among those ready by now
+-- a turn goes to the tenant that is ready by now with the least (moment, number), or to none where none is ready by now
 abbrev pub IsPick : (ℕ → Option ℕ) → ℕ → Option ℕ → Type 0
 IsPick ready_when now None = (tenant moment : ℕ) → ready_when tenant ≡ Some moment → now < moment
 IsPick ready_when now (Some picked) = (least : ℕ) × (ready_when picked ≡ Some least) × (least ≤ now)

@@ -22,9 +22,14 @@ IsNobodys (Turn now) views = IsPick (ready_in views) (own.moment_of (own.Turn no
 
 -- the lists without what is known of a tenant
 abbrev pub without : ℕ → Lists → Lists
-without tenant lists = record { sections = lists.sections; pasts = lists.pasts; known = λ other. if other == tenant then false else lists.known other }
+without tenant lists = record {
+  sections = lists.sections;
+  pasts = lists.pasts;
+  known = λ other. if other == tenant then false else lists.known other;
+}
 
--- a member's step was refused memory: of the member some first due timers have run, each at its own moment, and nothing else has changed
+-- a member's step was refused memory: some first timers of the member that were due have run, each at its own moment,
+-- and nothing else has changed
 pub record IsRefused (tenant : ℕ) (step : Step) (old new : List View) : Type 0 where
   pub whose : IsStepFor tenant step old
   pub before : State

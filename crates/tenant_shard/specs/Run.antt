@@ -18,33 +18,40 @@ use Rattle.tenant_shard.specs.Pick.{ready_at, IsPick}
 abbrev pub not_member : ℕ
 not_member = 22
 
--- the outcome of a tenant's own step: the answer of its pipeline alone to its own steps. Where these are not known, some answer
+-- the outcome of a tenant's own step is the next answer of its pipeline alone, or, where its own steps are not known,
+-- some answer
 abbrev pub IsAnswered : ℕ → Option SectionData → List Own → Bool → Own → Outcome → Type 0
 IsAnswered tenant None past known step outcome = outcome ≡ Refused tenant not_member
 IsAnswered tenant (Some section) past true step outcome = outcome ≡ named tenant (answer section past step)
 IsAnswered tenant (Some section) past false step outcome = (said : Told) × (outcome ≡ named tenant said)
 
 abbrev pub IsAnswerTo : ℕ → Lists → Own → Outcome → Type 0
-IsAnswerTo tenant lists step outcome = IsAnswered tenant (lists.sections tenant) (lists.pasts tenant) (lists.known tenant) step outcome
+IsAnswerTo tenant lists step outcome =
+    IsAnswered tenant (lists.sections tenant) (lists.pasts tenant) (lists.known tenant) step outcome
 
 -- the outcome of a turn, by whom it goes to
 abbrev pub IsTurned : Lists → ℕ → Option ℕ → Outcome → Type 0
 IsTurned lists now None outcome = outcome ≡ Idle
 IsTurned lists now (Some tenant) outcome = IsAnswerTo tenant lists (own.Turn now) outcome
 
--- the outcome of a step, by the own steps before it; what is kept tells when the members are ready whose own steps are not known
+-- the outcome of a step, by the own steps before it. Of members whose own steps are not known, what is kept tells when
+-- they are ready
 abbrev pub IsOutcome : Lists → List View → Step → Outcome → Type 0
-IsOutcome lists views (Post now prepared) outcome = IsAnswerTo prepared.tenant lists (own_step (Post now prepared)) outcome
+IsOutcome lists views (Post now prepared) outcome =
+    IsAnswerTo prepared.tenant lists (own_step (Post now prepared)) outcome
 IsOutcome lists views (Turn now) outcome =
-    (picked : Option ℕ) × IsPick (ready_at lists views) (own.moment_of (own.Turn now)) picked × IsTurned lists now picked outcome
+    (picked : Option ℕ) × IsPick (ready_at lists views) (own.moment_of (own.Turn now)) picked
+    × IsTurned lists now picked outcome
 
--- the lists after one step more: it is recorded for the member whose own it is
+-- a step is recorded for the member whose own it is, and for nobody where it is no member's
+abbrev pub past_after : Step → Outcome → Lists → ℕ → List Own
+past_after step outcome lists tenant =
+    if is_some (lists.sections tenant) && is_own tenant step outcome then own_step step ∷ lists.pasts tenant
+    else lists.pasts tenant
+
+-- the lists after one step more
 abbrev pub after : Step → Outcome → Lists → Lists
-after step outcome lists = record {
-  sections = lists.sections;
-  pasts = λ tenant. if is_some (lists.sections tenant) && is_own tenant step outcome then own_step step ∷ lists.pasts tenant else lists.pasts tenant;
-  known = lists.known;
-}
+after step outcome lists = record { sections = lists.sections; pasts = past_after step outcome lists; known = lists.known }
 
 -- every member's own steps are known: none was refused memory
 abbrev pub AllKnown : Lists → Type 0
@@ -57,7 +64,8 @@ IsNext lists step outcome = IsOutcome lists [] step outcome
 -- the outcomes of a list of steps where every member's own steps are known
 abbrev pub Run : Lists → List Step → List Outcome → Type 0
 Run lists [] [] = Unit
-Run lists (step ∷ steps) (outcome ∷ outcomes) = IsNext lists step outcome × Run (after step outcome lists) steps outcomes
+Run lists (step ∷ steps) (outcome ∷ outcomes) =
+    IsNext lists step outcome × Run (after step outcome lists) steps outcomes
 Run lists [] (outcome ∷ outcomes) = ⊥
 Run lists (step ∷ steps) [] = ⊥
 
@@ -65,11 +73,13 @@ Run lists (step ∷ steps) [] = ⊥
 abbrev pub OthersStay : Outcome → List View → List View → Type 0
 OthersStay outcome old new = (other : ℕ) → told_whom outcome ≢ Some other → kept_of other new ≡ kept_of other old
 
--- the outcomes of a list of steps from what is kept before to what is kept afterwards, of whichever members the own steps are known
+-- the outcomes of a list of steps, from what is kept before to what is kept afterwards, whether or not the own steps of
+-- every member are known
 abbrev pub RunFrom : Lists → List View → List Step → List Outcome → List View → Type 0
 RunFrom lists old [] [] new = new ≡ old
 RunFrom lists old (step ∷ steps) (outcome ∷ outcomes) new =
-    IsOutcome lists old step outcome × (middle : List View) × OthersStay outcome old middle × RunFrom (after step outcome lists) middle steps outcomes new
+    IsOutcome lists old step outcome × (middle : List View) × OthersStay outcome old middle
+    × RunFrom (after step outcome lists) middle steps outcomes new
 RunFrom lists old [] (outcome ∷ outcomes) new = ⊥
 RunFrom lists old (step ∷ steps) [] new = ⊥
 
@@ -79,13 +89,16 @@ after_all [] outcomes lists = lists
 after_all (step ∷ steps) [] lists = lists
 after_all (step ∷ steps) (outcome ∷ outcomes) lists = after_all steps outcomes (after step outcome lists)
 
--- a step was done: whatever own steps the shard stands for, the outcome is the step's, and the shard stands for them with it
+-- a step was done: whatever own steps the shard stands for, the outcome is the next one, and it stands for them with
+-- this step
 pub record ShardSteps (step : Step) (old : List View) (outcome : Outcome) (new : List View) : Type 0 where
-  pub stands : (lists : Lists) → ShardStands lists old → IsOutcome lists old step outcome × ShardStands (after step outcome lists) new
+  pub stands : (lists : Lists) → ShardStands lists old →
+      IsOutcome lists old step outcome × ShardStands (after step outcome lists) new
   pub others : OthersStay outcome old new
   pub by_own_steps : (lists : Lists) → ShardStands lists old → AllKnown lists → IsNext lists step outcome
 
 -- whatever own steps the shard stands for, the outcomes are a run from them, and it stands for them with the run's
 pub record ShardRuns (steps : List Step) (old : List View) (outcomes : List Outcome) (new : List View) : Type 0 where
-  pub stands : (lists : Lists) → ShardStands lists old → RunFrom lists old steps outcomes new × ShardStands (after_all steps outcomes lists) new
+  pub stands : (lists : Lists) → ShardStands lists old →
+      RunFrom lists old steps outcomes new × ShardStands (after_all steps outcomes lists) new
   pub by_own_steps : (lists : Lists) → ShardStands lists old → AllKnown lists → Run lists steps outcomes

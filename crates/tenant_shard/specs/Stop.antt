@@ -8,7 +8,7 @@ use Rattle.tenant_shard.specs.Run.{ShardRuns, after_all}
 use Rattle.tenant_shard.specs.Alone.{EachAlone}
 use Rattle.tenant_shard.specs.Refusal.{IsRefused, without}
 
--- what was refused: the room for the outcomes, before the first step, which changes nothing, or a step of this tenant's
+-- what was refused: room for the outcomes, before the first step, and nothing has changed; or a step of this tenant's
 abbrev pub WasRefused : Option ℕ → Option Step → List Outcome → List View → List View → Type 0
 WasRefused None next outcomes old new = (outcomes ≡ []) × (new ≡ old)
 WasRefused (Some tenant) None outcomes old new = ⊥
@@ -18,11 +18,13 @@ abbrev pub without_any : Option ℕ → Lists → Lists
 without_any None lists = lists
 without_any (Some tenant) lists = without tenant lists
 
--- the outcomes are a run of the steps before the refused one, and the shard stands for their own steps, but for the refused step's tenant
+-- the outcomes are a run of the steps before the refused one, and the shard stands for the own steps in it, but for the
+-- refused step's tenant
 pub record IsStopped (steps : List Step) (old : List View) (outcomes : List Outcome) (new : List View) : Type 0 where
   pub middle : List View
   pub runs : ShardRuns (take (length outcomes) steps) old outcomes middle
   pub each_alone : EachAlone (take (length outcomes) steps) old outcomes
   pub whose : Option ℕ
   pub refused : WasRefused whose (slice_get steps (length outcomes)) outcomes middle new
-  pub stands : (lists : Lists) → ShardStands lists old → ShardStands (without_any whose (after_all (take (length outcomes) steps) outcomes lists)) new
+  pub stands : (lists : Lists) → ShardStands lists old →
+      ShardStands (without_any whose (after_all (take (length outcomes) steps) outcomes lists)) new

@@ -11,7 +11,8 @@ section_at settings number = option_map (λ tenant. tenant.section) (slice_get s
 
 -- a member is a tenant number of the table that stands in the list
 abbrev pub section_of : SettingsData → List ℕ → ℕ → Option SectionData
-section_of settings members tenant = if list_any (λ member. member == tenant) members then section_at settings tenant else None
+section_of settings members tenant =
+    if list_any (λ member. member == tenant) members then section_at settings tenant else None
 
 -- a shard that was opened stands for no steps
 abbrev pub opened : SettingsData → List ℕ → Lists

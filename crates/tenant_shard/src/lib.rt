@@ -1,8 +1,10 @@
 //! A shard: the pipelines of several tenants behind one call.
 //!
-//! A step is a tenant's post, or a worker's turn, which goes to the member that is ready first. `Shard::run` promises
-//! what the whole collector is for: whatever the other tenants' settings and steps, each member is told exactly what a
-//! pipeline of its own answers to the steps that were its own. `Shard::step` promises it one step at a time.
+//! A step is a tenant's post, or a worker's turn, which goes to the member that is ready first, the
+//! lower number first where several are ready at one moment. `Shard::run` promises what the whole
+//! collector is for: whatever the other tenants' settings and steps, each member is told exactly
+//! what a pipeline of its own answers to the steps that were its own. `Shard::step` promises it one
+//! step at a time, and says what is left where memory was refused.
 #![tactic(auto)]
 
 ghost use Rattle.tenant_shard.specs.Alone.{OwnStepsDecide};
@@ -15,7 +17,8 @@ mod step;
 pub use shard::{Shard, Stopped};
 pub use step::{Outcome, Step};
 
-/// What a tenant is told depends on its section and its own steps alone: a law over runs, also of different shards.
+/// What a tenant is told follows from its section and its own steps alone: a law over runs, also
+/// over those of different shards.
 pub fn own_steps_decide()
     ensures { OwnStepsDecide }
 {}

@@ -1,3 +1,5 @@
+//! The members, which stand by number, and what a step of one of them does.
+
 ghost use Rattle.std.specs.Prelude.{◌≡◌, ◌≢◌, ℕ, List, [], ◌∷◌, ◌<◌, ◌≤◌, IfOk, IfErr, OnErr, Option, Some, None, length};
 ghost use Rattle.tenant_pipeline.specs.Own as own;
 ghost use Rattle.tenant_shard.specs.View.{AreInOrder};
@@ -45,8 +47,10 @@ pub fn post_at(
 ) -> Result<Outcome, AllocError>
     requires within { i < length members.old.items }
     requires place { IsPlaceOf prepared.now.tenant members.old.items i }
-    ensures ok { IfOk result (λ outcome. IsStepOf prepared.now.tenant (own.Post now prepared.now.arrivals) (views members.old.items) outcome (views members.new.items)) }
-    ensures refused { OnErr result (IsLossOf prepared.now.tenant (own.Post now prepared.now.arrivals) (views members.old.items) (views members.new.items)) }
+    ensures ok { IfOk result (λ outcome. IsStepOf prepared.now.tenant (own.Post now prepared.now.arrivals)
+        (views members.old.items) outcome (views members.new.items)) }
+    ensures refused { OnErr result (IsLossOf prepared.now.tenant (own.Post now prepared.now.arrivals)
+        (views members.old.items) (views members.new.items)) }
     ensures order { AreInOrder (views members.old.items) → AreInOrder (views members.new.items) }
 {
     let member = &mut members[i];
@@ -63,8 +67,10 @@ pub fn turn_at(
 ) -> Result<Outcome, AllocError>
     requires within { i < length members.old.items }
     requires place { IsPlaceOf tenant members.old.items i }
-    ensures ok { IfOk result (λ outcome. IsStepOf tenant (own.Turn now) (views members.old.items) outcome (views members.new.items)) }
-    ensures refused { OnErr result (IsLossOf tenant (own.Turn now) (views members.old.items) (views members.new.items)) }
+    ensures ok { IfOk result (λ outcome. IsStepOf tenant (own.Turn now)
+        (views members.old.items) outcome (views members.new.items)) }
+    ensures refused { OnErr result (IsLossOf tenant (own.Turn now)
+        (views members.old.items) (views members.new.items)) }
     ensures order { AreInOrder (views members.old.items) → AreInOrder (views members.new.items) }
 {
     let member = &mut members[i];

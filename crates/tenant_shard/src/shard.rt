@@ -1,3 +1,5 @@
+//! The shard.
+
 ghost use Rattle.std.specs.Prelude.{◌≡◌, ◌≢◌, ℕ, List, [], ◌∷◌, ◌++◌, ◌<◌, IfOk, OnOk, OnErr, IsOk, IfErr, Option, Some, None, min, length, take};
 ghost use Rattle.tail_settings.specs.Settings.{settings_view};
 ghost use Rattle.tenant_shard.specs.View.{View, AreInOrder};
@@ -23,14 +25,16 @@ const LATEST_MOMENT: u64 = 1 << 62;
 /// The number of the refusal of a tenant that is no member.
 const NOT_MEMBER: u8 = 22;
 
-/// The pipelines of several tenants, each once, by number.
+/// The pipelines of several tenants, by number. Of each member it keeps what its pipeline keeps.
 #[derive(Drop)]
 pub struct Shard {
     alloc: Global,
     members: Vec<Member>,
 }
 
-/// Memory was refused, after these outcomes.
+/// Memory was refused: for the outcomes' room before the first step, or at a step, after the
+/// outcomes of those before it. The shard goes on with any steps, but what the refused step's own
+/// tenant is told is then no longer promised.
 #[derive(Debug, Drop, Error)]
 #[error("out of memory")]
 pub struct Stopped {
@@ -53,10 +57,10 @@ impl Shard {
     ghost use Rattle.tenant_shard.specs.Alone.{EachAlone};
     ghost use Rattle.tenant_shard.specs.Stop.{IsStopped};
 
-    /// Opens a shard of the tenant numbers of the settings that stand in `members`; it stands for no steps of theirs.
-    /// Other numbers count for nothing, and one that stands there twice counts once.
+    /// Opens a shard of the tenants of the settings whose numbers stand in `members`, with no steps
+    /// so far. Other numbers count for nothing, and one that stands there twice counts once.
     pub fn open(alloc: Global, settings: &Settings, members: &[u32]) -> Result<Self, AllocError>
-        ensures { IfOk result (λ shard. ShardStands (opened (settings_view settings.now) members.now) shard) }
+        ensures { IfOk result (ShardStands (opened (settings_view settings.now) members.now)) }
     {
         let mut opened = Vec::new(alloc);
         for tenant in members {
@@ -68,8 +72,9 @@ impl Shard {
         })
     }
 
-    /// One step. Where memory is refused, of the step's own tenant some first due timers may have run, and all else
-    /// is as before. A step that is no member's takes no memory and changes nothing.
+    /// Does one step. Where memory is refused, of the step's own tenant some first due timers may
+    /// have run, and all else is as before. A step that is no member's takes no memory and changes
+    /// nothing.
     pub fn step(&mut self, step: &Step) -> Result<Outcome, AllocError>
         ensures ok { IfOk result (λ outcome. ShardSteps step.now self.old outcome self.new) }
         ensures refused { OnErr result (ShardRefuses step.now self.old self.new) }
@@ -81,11 +86,13 @@ impl Shard {
         }
     }
 
-    /// The steps one after the other. Each member is told what its pipeline alone would answer.
+    /// Does the steps one after the other: each member is told exactly what a pipeline of its own
+    /// answers to the steps that were its own. An error carries the outcomes so far.
     pub fn run(&mut self, steps: &[Step]) -> Result<Vec<Outcome>, Stopped>
         ensures ok { IfOk result (λ outcomes. ShardRuns steps.now self.old outcomes.items self.new) }
         ensures each_alone { IfOk result (λ outcomes. EachAlone steps.now self.old outcomes.items) }
-        ensures stopped { IfErr result (λ stopped. IsStopped steps.now self.old stopped.outcomes.items self.new) }
+        ensures stopped { IfErr result (λ stopped.
+            IsStopped steps.now self.old stopped.outcomes.items self.new) }
     {
         let alloc = self.alloc;
         let Ok(mut outcomes) = Vec::with_capacity(alloc, steps.len()) else {
@@ -108,9 +115,12 @@ impl Shard {
 /// The body goes to its tenant, where that is a member.
 fn post_to(members: &mut Vec<Member>, now: u64, prepared: &Prepared) -> Result<Outcome, AllocError>
     requires { AreInOrder (views members.old.items) }
-    ensures ok { IfOk result (λ outcome. ShardSteps (Post now prepared.now) (views members.old.items) outcome (views members.new.items)) }
-    ensures refused { OnErr result (ShardRefuses (Post now prepared.now) (views members.old.items) (views members.new.items)) }
-    ensures nobodys { IsNobodys (Post now prepared.now) (views members.old.items) → (IsOk result) × (views members.new.items ≡ views members.old.items) }
+    ensures ok { IfOk result (λ outcome. ShardSteps (Post now prepared.now)
+        (views members.old.items) outcome (views members.new.items)) }
+    ensures refused { OnErr result (ShardRefuses (Post now prepared.now)
+        (views members.old.items) (views members.new.items)) }
+    ensures nobodys { IsNobodys (Post now prepared.now) (views members.old.items) →
+        (IsOk result) × (views members.new.items ≡ views members.old.items) }
     ensures order { AreInOrder (views members.new.items) }
 {
     let tenant = prepared.tenant();
@@ -126,9 +136,12 @@ fn post_to(members: &mut Vec<Member>, now: u64, prepared: &Prepared) -> Result<O
 /// The turn goes to the member that is ready first.
 fn turn(members: &mut Vec<Member>, now: u64) -> Result<Outcome, AllocError>
     requires { AreInOrder (views members.old.items) }
-    ensures ok { IfOk result (λ outcome. ShardSteps (Turn now) (views members.old.items) outcome (views members.new.items)) }
-    ensures refused { OnErr result (ShardRefuses (Turn now) (views members.old.items) (views members.new.items)) }
-    ensures nobodys { IsNobodys (Turn now) (views members.old.items) → (IsOk result) × (views members.new.items ≡ views members.old.items) }
+    ensures ok { IfOk result (λ outcome. ShardSteps (Turn now)
+        (views members.old.items) outcome (views members.new.items)) }
+    ensures refused { OnErr result (ShardRefuses (Turn now)
+        (views members.old.items) (views members.new.items)) }
+    ensures nobodys { IsNobodys (Turn now) (views members.old.items) →
+        (IsOk result) × (views members.new.items ≡ views members.old.items) }
     ensures order { AreInOrder (views members.new.items) }
 {
     let Some((_, tenant)) = least(members, now.min(LATEST_MOMENT)) else {
@@ -150,7 +163,9 @@ fn open_member(
 ) -> Result<(), AllocError>
     requires { AreInOrder (views members.old.items) }
     ensures order { OnOk result (AreInOrder (views members.new.items)) }
-    ensures stands { OnOk result ((earlier : List ℕ) → ShardStands (opened (settings_view settings.now) earlier) (views members.old.items) → ShardStands (opened (settings_view settings.now) (earlier ++ tenant ∷ [])) (views members.new.items)) }
+    ensures stands { OnOk result ((earlier : List ℕ) →
+        ShardStands (opened (settings_view settings.now) earlier) (views members.old.items) →
+        ShardStands (opened (settings_view settings.now) (earlier ++ tenant ∷ [])) (views members.new.items)) }
 {
     let Err(at) = place_of(members, tenant) else {
         return Ok(());

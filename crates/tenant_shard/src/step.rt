@@ -1,3 +1,5 @@
+//! Steps, and what they give.
+
 use bytes::Bytes;
 use tenant_pipeline::{Prepared, Reply};
 

@@ -120,7 +120,10 @@ fn each_is_told_what_it_is_told_alone(rt: HostRuntime) -> Result<(), Fail> {
     let expected = [(1, 1, first), (2, 1, second), (1, 2, first), (2, 2, second)];
     for (tenant, ticket, payload) in expected {
         let told = shared.step(&turn)?;
-        assert!(rt; told == job(alloc, tenant, ticket, &payload)?, "ticket {ticket} of {tenant}");
+        assert!(rt;
+            told == job(alloc, tenant, ticket, &payload)?,
+            "ticket {ticket} of {tenant}"
+        );
         if tenant == 2 {
             assert!(rt; alone.step(&turn)? == told, "ticket {ticket} alone");
         }
