@@ -1,6 +1,11 @@
 -- A replay, from the run of its script.
-use Rattle.std.proofs.Common.{◌≡◌, ℕ, List, Option, Some, None, Result, Ok, Err, IfSome, sym, subst, ◌∙◌}
+use Rattle.std.proofs.Common.{◌≡◌, ℕ, List, [], Option, Some, None, Result, Ok, Err, IfSome, refl, sym, subst, ◌∙◌}
+use Rattle.std.proofs.lemmas.List.{append-nil}
 use Rattle.std.specs.Io.KnownBytes.{Appends}
+use Rattle.std.specs.Prelude.{string_bytes}
+use Rattle.tail_settings.specs.declared.fault.SettingsFault.{SettingsFault}
+use Rattle.tail_settings.specs.declared.fault.SettingsFault.TheVariants as settings
+use Rattle.tail_settings.specs.Fault.{TellsFault, not_toml, missing_key, wrong_kind, out_of_range, double_tenant, too_many}
 use Rattle.tail_settings.specs.Settings.{SettingsData, settings_view, settings_of}
 use Rattle.tenant_pipeline.specs.Own.{Own}
 use Rattle.replay_script.specs.declared.fault.ScriptFault.{ScriptFault}
@@ -9,7 +14,7 @@ use Rattle.replay_script.specs.Command.{CommandData}
 use Rattle.replay_script.specs.Line.{lines_of}
 use Rattle.replay_script.specs.Told.{Ends}
 use Rattle.trace_collector.specs.declared.shards.Shards.{Shards}
-use Rattle.trace_collector.specs.Fault.{script_fault}
+use Rattle.trace_collector.specs.Fault.{script_fault, settings_fault}
 use Rattle.trace_collector.specs.Answered.{IsAnswered}
 use Rattle.trace_collector.specs.Script.{no_steps, BeginsScriptText}
 use Rattle.trace_collector.specs.Standing.{AllStand, Answers}
@@ -43,14 +48,40 @@ fault_replays text script written shards settings (Script line) is along ends =
     (settings, is, told_through Answers (IsAnswered settings) (Along settings) (goes_along settings) (lines_of script) 1 shards no_steps written (Some line) along ends)
 fault_replays text script written shards settings Line is along ends =
     (settings, is, begins_through Answers (IsAnswered settings) (Along settings) (goes_along settings) (lines_of script) shards no_steps written along ends)
-fault_replays text script written shards settings OutOfMemory is along ends =
-    λ s means.
-    let same : ◌≡◌ {A = SettingsData} settings s = ok_same _ settings s is means in
-    subst (λ t. BeginsScriptText t script written) same
-    (begins_through Answers (IsAnswered settings) (Along settings) (goes_along settings) (lines_of script) shards no_steps written along ends)
+fault_replays text script written shards settings OutOfMemory is along ends = (
+  λ s means.
+      let same : ◌≡◌ {A = SettingsData} settings s = ok_same _ settings s is means in
+      subst (λ t. BeginsScriptText t script written) same
+      (begins_through Answers (IsAnswered settings) (Along settings) (goes_along settings) (lines_of script) shards no_steps written along ends),
+  λ f fails.
+      absurd (let never : Ok settings ≡ Err f = sym is ∙ fails in cc),
+)
 
 pub some_told : (old : Option (List ℕ)) (P Q : List ℕ → List ℕ → Type 0) (w w' : Option (List ℕ)) → ((script written : List ℕ) → P script written → Q script written)
     → IfSome old (λ script. (written : List ℕ) × Appends w w' written × P script written)
     → IfSome old (λ script. (written : List ℕ) × Appends w w' written × Q script written)
 some_told None P Q w w' on told = tt
 some_told (Some script) P Q w w' on told = (told.0, told.1, on script told.0 told.2)
+
+-- nothing is a beginning of every script's text
+pub nothing_begins : (settings : SettingsData) (script : List ℕ) → BeginsScriptText settings script []
+nothing_begins settings script = ([], lines_of script, [], None, refl, (refl, refl))
+
+-- settings that aren't read
+pub unread_replays : (text script : List ℕ) (fault : SettingsFault) → TellsFault fault (settings_of text) → IsReplay text script [] (Err (settings_fault fault))
+unread_replays text script settings.NotToml tells = (not_toml, refl, tells, refl)
+unread_replays text script (settings.MissingKey key) tells = (missing_key key.now, refl, tells, refl)
+unread_replays text script (settings.WrongKind key) tells = (wrong_kind key.now, refl, tells, refl)
+unread_replays text script (settings.OutOfRange key) tells = (out_of_range key.now, refl, tells, refl)
+unread_replays text script (settings.DoubleTenant name) tells = (double_tenant (string_bytes name), refl, tells, refl)
+unread_replays text script settings.TooMany tells = (too_many, refl, tells, refl)
+unread_replays text script settings.OutOfMemory tells = (λ s means. nothing_begins s script, λ f fails. refl)
+
+appends_nothing : (w : Option (List ℕ)) → Appends w w []
+appends_nothing None = tt
+appends_nothing (Some xs) = sym (append-nil xs)
+
+pub nothing_told : (old : Option (List ℕ)) (Q : List ℕ → List ℕ → Type 0) (w : Option (List ℕ)) → ((script : List ℕ) → Q script [])
+    → IfSome old (λ script. (written : List ℕ) × Appends w w written × Q script written)
+nothing_told None Q w on = tt
+nothing_told (Some script) Q w on = ([], appends_nothing w, on script)

@@ -7,10 +7,11 @@ use Rattle.trace_collector.specs.declared.engine.ReplayFault.TheVariants.{Settin
 use Rattle.trace_collector.specs.Script.{ScriptText, BeginsScriptText}
 
 -- the settings that the text means, and the text that the script is told under them; a settings fault is the text's own, and then
--- nothing is written; where a call failed or memory was refused, a beginning
+-- nothing is written; where a call failed or memory was refused, a beginning, and nothing where the text means no settings
 abbrev pub IsReplay : List ℕ → List ℕ → List ℕ → Result Unit ReplayFault → Type 0
 IsReplay text script written (Ok done) = (s : SettingsData) × (settings_of text ≡ Ok s) × ScriptText s script written None
 IsReplay text script written (Err (Script line)) = (s : SettingsData) × (settings_of text ≡ Ok s) × ScriptText s script written (Some line)
 IsReplay text script written (Err (Settings fault)) = (f : FaultData) × (fault_view fault ≡ Some f) × (settings_of text ≡ Err f) × (written ≡ [])
 IsReplay text script written (Err Line) = (s : SettingsData) × (settings_of text ≡ Ok s) × BeginsScriptText s script written
-IsReplay text script written (Err OutOfMemory) = (s : SettingsData) → settings_of text ≡ Ok s → BeginsScriptText s script written
+IsReplay text script written (Err OutOfMemory) =
+    ((s : SettingsData) → settings_of text ≡ Ok s → BeginsScriptText s script written) × ((f : FaultData) → settings_of text ≡ Err f → written ≡ [])

@@ -3,12 +3,21 @@ use Rattle.std.proofs.lemmas.Result.{err_from_is_err_and}
 use Rattle.tail_settings.specs.Settings.{settings_view}
 use Rattle.replay_script.specs.Line.{lines_of}
 use Rattle.replay_script.specs.Told.{Ends}
-use Rattle.trace_collector.specs.Fault.{script_fault}
+use Rattle.trace_collector.specs.Fault.{script_fault, settings_fault}
 use Rattle.trace_collector.specs.Script.{no_steps}
 use Rattle.trace_collector.specs.Standing.{Answers}
 use Rattle.trace_collector.specs.Replay.{IsReplay}
-use Rattle.trace_collector.proofs.Replayed.{Along, ran_replays, fault_replays, some_told}
+use Rattle.trace_collector.proofs.Replayed.{Along, ran_replays, fault_replays, some_told, unread_replays, nothing_told}
 use Rattle.trace_collector.proofs.engine.replay.Goals as goal
+
+pub returns-in_err-settings : goal.returns-in_err-settings
+returns-in_err-settings g c =
+    let p = err_from_is_err_and c.from_residual.result c.from_residual.ensures.1 in
+    let text = c.args.settings.now in
+    let fault = c.in_err-settings.field-0.0 in
+    rw (p.1, p.2) (nothing_told _
+    (λ (script written : List ℕ). IsReplay text script written (Err (settings_fault fault))) _
+    (λ script. unread_replays text script fault c.in_err-settings.ensures.fault))
 
 pub returns-in_err-run_script : goal.returns-in_err-run_script
 returns-in_err-run_script g c =
