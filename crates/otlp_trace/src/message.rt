@@ -1,41 +1,52 @@
-//! The messages.
-
-ghost use Rattle.std.specs.Prelude.{◌≡◌, ◌↔◌, true};
+//! What a client posts: spans by resource and scope.
 
 use crate::octets::Octets;
 use crate::repeated::Repeated;
+use crate::span::Span;
+use crate::value::KeyValue;
 
-/// One operation of a trace.
-#[derive(Clone, Debug, PartialEq, Eq, Drop)]
-pub struct Span {
-    /// Sixteen bytes, not all zero, where the span is valid.
-    pub trace_id: Octets,
-    /// Eight bytes, not all zero, where the span is valid.
-    pub span_id: Octets,
+/// What produced the spans: a process, a host, a service.
+#[derive(Drop)]
+pub struct Resource {
+    pub attributes: Repeated<KeyValue>,
+    /// How many attributes were left out by the client.
+    pub dropped_attributes_count: u32,
+    /// Fields that this version doesn't know, as they were spelled.
+    pub unknown: Octets,
+}
+
+/// The library that made the spans.
+#[derive(Drop)]
+pub struct InstrumentationScope {
+    pub name: String,
+    pub version: String,
+    pub attributes: Repeated<KeyValue>,
+    /// How many attributes were left out by the client.
+    pub dropped_attributes_count: u32,
+    /// Fields that this version doesn't know, as they were spelled.
+    pub unknown: Octets,
 }
 
 /// Spans of one instrumentation scope.
-#[derive(Debug, PartialEq, Eq, Drop)]
+#[derive(Drop)]
 pub struct ScopeSpans {
+    pub scope: Option<InstrumentationScope>,
     pub spans: Repeated<Span>,
+    /// The schema of the spans and the scope.
+    pub schema_url: String,
 }
 
 /// Spans of one resource, by scope.
-#[derive(Debug, PartialEq, Eq, Drop)]
+#[derive(Drop)]
 pub struct ResourceSpans {
+    pub resource: Option<Resource>,
     pub scope_spans: Repeated<ScopeSpans>,
+    /// The schema of the resource.
+    pub schema_url: String,
 }
 
 /// What a client posts.
-#[derive(Debug, PartialEq, Eq, Drop)]
+#[derive(Drop)]
 pub struct ExportTraceServiceRequest {
     pub resource_spans: Repeated<ResourceSpans>,
 }
-
-/// Two messages are equal where their fields are, wherever they lie in memory.
-pub fn equal_messages()
-    ensures span { (a b : Span) → (⟦<Span as PartialEq>⟧.eq a b ≡ true) ↔ (a ≡ b) }
-    ensures scope_spans { (a b : ScopeSpans) → (⟦<ScopeSpans as PartialEq>⟧.eq a b ≡ true) ↔ (a ≡ b) }
-    ensures resource_spans { (a b : ResourceSpans) → (⟦<ResourceSpans as PartialEq>⟧.eq a b ≡ true) ↔ (a ≡ b) }
-    ensures request { (a b : ExportTraceServiceRequest) → (⟦<ExportTraceServiceRequest as PartialEq>⟧.eq a b ≡ true) ↔ (a ≡ b) }
-{}

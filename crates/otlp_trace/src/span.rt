@@ -1,0 +1,76 @@
+//! Spans.
+
+use crate::octets::Octets;
+use crate::repeated::Repeated;
+use crate::value::KeyValue;
+
+/// How a span ended.
+#[derive(Drop)]
+pub struct Status {
+    pub message: String,
+    /// 0 unset, 1 ok, 2 error. Other numbers are carried.
+    pub code: i32,
+    /// Fields that this version doesn't know, as they were spelled.
+    pub unknown: Octets,
+}
+
+/// Something that happened during a span.
+#[derive(Drop)]
+pub struct Event {
+    /// Nanoseconds since 1970.
+    pub time_unix_nano: u64,
+    pub name: String,
+    pub attributes: Repeated<KeyValue>,
+    /// How many attributes were left out by the client.
+    pub dropped_attributes_count: u32,
+    /// Fields that this version doesn't know, as they were spelled.
+    pub unknown: Octets,
+}
+
+/// A span that this one is linked to, in this trace or another.
+#[derive(Drop)]
+pub struct Link {
+    pub trace_id: Octets,
+    pub span_id: Octets,
+    pub trace_state: String,
+    pub attributes: Repeated<KeyValue>,
+    /// How many attributes were left out by the client.
+    pub dropped_attributes_count: u32,
+    /// The W3C trace flags in the lowest eight bits.
+    pub flags: u32,
+    /// Fields that this version doesn't know, as they were spelled.
+    pub unknown: Octets,
+}
+
+/// One operation of a trace.
+#[derive(Drop)]
+pub struct Span {
+    /// Sixteen bytes, not all zero, where the span is valid.
+    pub trace_id: Octets,
+    /// Eight bytes, not all zero, where the span is valid.
+    pub span_id: Octets,
+    pub trace_state: String,
+    /// The span that this one is a part of; none for the first of a trace.
+    pub parent_span_id: Octets,
+    pub name: String,
+    /// 0 unspecified, 1 internal, 2 server, 3 client, 4 producer, 5 consumer. Other numbers are carried.
+    pub kind: i32,
+    /// Nanoseconds since 1970.
+    pub start_time_unix_nano: u64,
+    /// Nanoseconds since 1970.
+    pub end_time_unix_nano: u64,
+    pub attributes: Repeated<KeyValue>,
+    /// How many attributes were left out by the client.
+    pub dropped_attributes_count: u32,
+    pub events: Repeated<Event>,
+    /// How many events were left out by the client.
+    pub dropped_events_count: u32,
+    pub links: Repeated<Link>,
+    /// How many links were left out by the client.
+    pub dropped_links_count: u32,
+    pub status: Option<Status>,
+    /// The W3C trace flags in the lowest eight bits.
+    pub flags: u32,
+    /// Fields that this version doesn't know, as they were spelled.
+    pub unknown: Octets,
+}
