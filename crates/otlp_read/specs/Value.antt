@@ -1,52 +1,205 @@
--- The value of a body, by the rules of proto3: a field that isn't repeated takes its last value, repeated fields keep
--- their order, and each known message must itself be sound. Unknown fields, and known ones with another wire type, are
--- skipped.
-use Rattle.std.specs.Prelude.{ℕ, ◌==◌, if◌then◌else◌, List, [], Result, Ok}
-use Rattle.pb_wire.specs.Grammar.{Datum, Bytes}
-use Rattle.otlp_trace.specs.Data.{SpanData, ScopeSpansData, ResourceSpansData, RequestData}
+-- The value of a body, by the rules of proto3: a field that isn't repeated takes its last value, an embedded message that
+-- stands again is merged, repeated fields keep their order, and each known string and message must itself be sound.
+-- Fields that aren't known, and known ones with another wire type, are kept as they were spelled, but in a request, a
+-- resource spans, a scope spans and a response, where they are dropped.
+use Rattle.std.specs.Prelude.{ℕ, pos, ◌==◌, if◌then◌else◌, List, [], ◌++◌, Option, Some, None, unwrap_or, Result, Ok}
+use Rattle.pb_wire.specs.Grammar.{Datum, Varint, Eight, Bytes, Four}
+use Rattle.otlp_trace.specs.Data.{ResourceData, ScopeData, StatusData, EventData, LinkData, SpanData, ScopeSpansData, ResourceSpansData, RequestData, PartialSuccessData, ResponseData}
 use Rattle.otlp_read.specs.declared.fault.ReadFault.{ReadFault}
-use Rattle.otlp_read.specs.Walk.{◌>>=◌, Step, read_with, with_another}
+use Rattle.otlp_read.specs.AnyValue.{no_key_value, key_value_step}
+use Rattle.otlp_read.specs.Numbers.{utf8, int32, uint32, int64, fixed64, fixed32}
+use Rattle.otlp_read.specs.Walk.{◌>>=◌, Step, Known, known_or_kept, known_or_dropped, read_with, with_another}
 use Rattle.otlp_read.specs.Stands.{Makes, Stands}
 
-abbrev pub no_span : SpanData
-no_span = record { trace_id = []; span_id = [] }
+-- ---- a resource
 
-abbrev pub span_datum : SpanData → ℕ → Datum → Result SpanData ReadFault
-span_datum s n (Bytes bs) = if n == 1 then Ok (record s { trace_id = bs }) else if n == 2 then Ok (record s { span_id = bs }) else Ok s
-span_datum s n _ = Ok s
+abbrev pub no_resource : ResourceData
+no_resource = record { attributes = []; dropped_attributes_count = 0; unknown = [] }
+
+abbrev pub keep_resource : ResourceData → List ℕ → ResourceData
+keep_resource r spelled = record r { unknown = r.unknown ++ spelled }
+
+abbrev pub resource_known : ℕ → Known ResourceData
+resource_known room r n (Varint x) = if n == 2 then Some (Ok (record r { dropped_attributes_count = uint32 x })) else None
+resource_known room r n (Bytes bs) = if n == 1 then Some (with_another r.attributes (read_with key_value_step room no_key_value bs) >>= λ l. Ok (record r { attributes = l })) else None
+resource_known room r n _ = None
+
+abbrev pub resource_step : ℕ → Step ResourceData
+resource_step room = known_or_kept (resource_known room) keep_resource
+
+-- ---- an instrumentation scope
+
+abbrev pub no_scope : ScopeData
+no_scope = record { name = []; version = []; attributes = []; dropped_attributes_count = 0; unknown = [] }
+
+abbrev pub keep_scope : ScopeData → List ℕ → ScopeData
+keep_scope s spelled = record s { unknown = s.unknown ++ spelled }
+
+abbrev pub scope_known : ℕ → Known ScopeData
+scope_known room s n (Varint x) = if n == 4 then Some (Ok (record s { dropped_attributes_count = uint32 x })) else None
+scope_known room s n (Bytes bs) =
+    if n == 1 then Some (utf8 bs >>= λ text. Ok (record s { name = text }))
+    else if n == 2 then Some (utf8 bs >>= λ text. Ok (record s { version = text }))
+    else if n == 3 then Some (with_another s.attributes (read_with key_value_step room no_key_value bs) >>= λ l. Ok (record s { attributes = l }))
+    else None
+scope_known room s n _ = None
+
+abbrev pub scope_step : ℕ → Step ScopeData
+scope_step room = known_or_kept (scope_known room) keep_scope
+
+-- ---- a span's status
+
+abbrev pub no_status : StatusData
+no_status = record { message = []; code = pos 0; unknown = [] }
+
+abbrev pub keep_status : StatusData → List ℕ → StatusData
+keep_status s spelled = record s { unknown = s.unknown ++ spelled }
+
+abbrev pub status_known : Known StatusData
+status_known s n (Varint x) = if n == 3 then Some (Ok (record s { code = int32 x })) else None
+status_known s n (Bytes bs) = if n == 2 then Some (utf8 bs >>= λ text. Ok (record s { message = text })) else None
+status_known s n _ = None
+
+abbrev pub status_step : ℕ → Step StatusData
+status_step room = known_or_kept status_known keep_status
+
+-- ---- an event
+
+abbrev pub no_event : EventData
+no_event = record { time_unix_nano = 0; name = []; attributes = []; dropped_attributes_count = 0; unknown = [] }
+
+abbrev pub keep_event : EventData → List ℕ → EventData
+keep_event e spelled = record e { unknown = e.unknown ++ spelled }
+
+abbrev pub event_known : ℕ → Known EventData
+event_known room e n (Varint x) = if n == 4 then Some (Ok (record e { dropped_attributes_count = uint32 x })) else None
+event_known room e n (Eight bs) = if n == 1 then Some (Ok (record e { time_unix_nano = fixed64 bs })) else None
+event_known room e n (Bytes bs) =
+    if n == 2 then Some (utf8 bs >>= λ text. Ok (record e { name = text }))
+    else if n == 3 then Some (with_another e.attributes (read_with key_value_step room no_key_value bs) >>= λ l. Ok (record e { attributes = l }))
+    else None
+event_known room e n _ = None
+
+abbrev pub event_step : ℕ → Step EventData
+event_step room = known_or_kept (event_known room) keep_event
+
+-- ---- a link
+
+abbrev pub no_link : LinkData
+no_link = record { trace_id = []; span_id = []; trace_state = []; attributes = []; dropped_attributes_count = 0; flags = 0; unknown = [] }
+
+abbrev pub keep_link : LinkData → List ℕ → LinkData
+keep_link l spelled = record l { unknown = l.unknown ++ spelled }
+
+abbrev pub link_known : ℕ → Known LinkData
+link_known room l n (Varint x) = if n == 5 then Some (Ok (record l { dropped_attributes_count = uint32 x })) else None
+link_known room l n (Four bs) = if n == 6 then Some (Ok (record l { flags = fixed32 bs })) else None
+link_known room l n (Bytes bs) =
+    if n == 1 then Some (Ok (record l { trace_id = bs }))
+    else if n == 2 then Some (Ok (record l { span_id = bs }))
+    else if n == 3 then Some (utf8 bs >>= λ text. Ok (record l { trace_state = text }))
+    else if n == 4 then Some (with_another l.attributes (read_with key_value_step room no_key_value bs) >>= λ ps. Ok (record l { attributes = ps }))
+    else None
+link_known room l n _ = None
+
+abbrev pub link_step : ℕ → Step LinkData
+link_step room = known_or_kept (link_known room) keep_link
+
+-- ---- a span
+
+abbrev pub no_span : SpanData
+no_span = record {
+  trace_id = [];
+  span_id = [];
+  trace_state = [];
+  parent_span_id = [];
+  name = [];
+  kind = pos 0;
+  start_time_unix_nano = 0;
+  end_time_unix_nano = 0;
+  attributes = [];
+  dropped_attributes_count = 0;
+  events = [];
+  dropped_events_count = 0;
+  links = [];
+  dropped_links_count = 0;
+  status = None;
+  flags = 0;
+  unknown = [];
+}
+
+abbrev pub keep_span : SpanData → List ℕ → SpanData
+keep_span s spelled = record s { unknown = s.unknown ++ spelled }
+
+abbrev pub span_known : ℕ → Known SpanData
+span_known room s n (Varint x) =
+    if n == 6 then Some (Ok (record s { kind = int32 x }))
+    else if n == 10 then Some (Ok (record s { dropped_attributes_count = uint32 x }))
+    else if n == 12 then Some (Ok (record s { dropped_events_count = uint32 x }))
+    else if n == 14 then Some (Ok (record s { dropped_links_count = uint32 x }))
+    else None
+span_known room s n (Eight bs) =
+    if n == 7 then Some (Ok (record s { start_time_unix_nano = fixed64 bs }))
+    else if n == 8 then Some (Ok (record s { end_time_unix_nano = fixed64 bs }))
+    else None
+span_known room s n (Four bs) = if n == 16 then Some (Ok (record s { flags = fixed32 bs })) else None
+span_known room s n (Bytes bs) =
+    if n == 1 then Some (Ok (record s { trace_id = bs }))
+    else if n == 2 then Some (Ok (record s { span_id = bs }))
+    else if n == 3 then Some (utf8 bs >>= λ text. Ok (record s { trace_state = text }))
+    else if n == 4 then Some (Ok (record s { parent_span_id = bs }))
+    else if n == 5 then Some (utf8 bs >>= λ text. Ok (record s { name = text }))
+    else if n == 9 then Some (with_another s.attributes (read_with key_value_step room no_key_value bs) >>= λ l. Ok (record s { attributes = l }))
+    else if n == 11 then Some (with_another s.events (read_with event_step room no_event bs) >>= λ l. Ok (record s { events = l }))
+    else if n == 13 then Some (with_another s.links (read_with link_step room no_link bs) >>= λ l. Ok (record s { links = l }))
+    else if n == 15 then Some (read_with status_step room (unwrap_or s.status no_status) bs >>= λ x. Ok (record s { status = Some x }))
+    else None
+span_known room s n _ = None
 
 abbrev pub span_step : ℕ → Step SpanData
-span_step room s e spelled = span_datum s e.number e.value
+span_step room = known_or_kept (span_known room) keep_span
+
+-- ---- spans by scope and resource
 
 abbrev pub no_scope_spans : ScopeSpansData
-no_scope_spans = record { spans = [] }
+no_scope_spans = record { scope = None; spans = []; schema_url = [] }
 
-abbrev pub scope_spans_datum : ℕ → ScopeSpansData → ℕ → Datum → Result ScopeSpansData ReadFault
-scope_spans_datum room s n (Bytes bs) = if n == 2 then (with_another s.spans (read_with span_step room no_span bs) >>= λ l. Ok (record s { spans = l })) else Ok s
-scope_spans_datum room s n _ = Ok s
+abbrev pub scope_spans_known : ℕ → Known ScopeSpansData
+scope_spans_known room s n (Bytes bs) =
+    if n == 1 then Some (read_with scope_step room (unwrap_or s.scope no_scope) bs >>= λ x. Ok (record s { scope = Some x }))
+    else if n == 2 then Some (with_another s.spans (read_with span_step room no_span bs) >>= λ l. Ok (record s { spans = l }))
+    else if n == 3 then Some (utf8 bs >>= λ text. Ok (record s { schema_url = text }))
+    else None
+scope_spans_known room s n _ = None
 
 abbrev pub scope_spans_step : ℕ → Step ScopeSpansData
-scope_spans_step room s e spelled = scope_spans_datum room s e.number e.value
+scope_spans_step room = known_or_dropped (scope_spans_known room)
 
 abbrev pub no_resource_spans : ResourceSpansData
-no_resource_spans = record { scope_spans = [] }
+no_resource_spans = record { resource = None; scope_spans = []; schema_url = [] }
 
-abbrev pub resource_spans_datum : ℕ → ResourceSpansData → ℕ → Datum → Result ResourceSpansData ReadFault
-resource_spans_datum room r n (Bytes bs) = if n == 2 then (with_another r.scope_spans (read_with scope_spans_step room no_scope_spans bs) >>= λ l. Ok (record r { scope_spans = l })) else Ok r
-resource_spans_datum room r n _ = Ok r
+abbrev pub resource_spans_known : ℕ → Known ResourceSpansData
+resource_spans_known room r n (Bytes bs) =
+    if n == 1 then Some (read_with resource_step room (unwrap_or r.resource no_resource) bs >>= λ x. Ok (record r { resource = Some x }))
+    else if n == 2 then Some (with_another r.scope_spans (read_with scope_spans_step room no_scope_spans bs) >>= λ l. Ok (record r { scope_spans = l }))
+    else if n == 3 then Some (utf8 bs >>= λ text. Ok (record r { schema_url = text }))
+    else None
+resource_spans_known room r n _ = None
 
 abbrev pub resource_spans_step : ℕ → Step ResourceSpansData
-resource_spans_step room r e spelled = resource_spans_datum room r e.number e.value
+resource_spans_step room = known_or_dropped (resource_spans_known room)
+
+-- ---- a request
 
 abbrev pub no_request : RequestData
 no_request = record { resource_spans = [] }
 
-abbrev pub request_datum : ℕ → RequestData → ℕ → Datum → Result RequestData ReadFault
-request_datum room r n (Bytes bs) = if n == 1 then (with_another r.resource_spans (read_with resource_spans_step room no_resource_spans bs) >>= λ l. Ok (record r { resource_spans = l })) else Ok r
-request_datum room r n _ = Ok r
+abbrev pub request_known : ℕ → Known RequestData
+request_known room r n (Bytes bs) = if n == 1 then Some (with_another r.resource_spans (read_with resource_spans_step room no_resource_spans bs) >>= λ l. Ok (record r { resource_spans = l })) else None
+request_known room r n _ = None
 
 abbrev pub request_step : ℕ → Step RequestData
-request_step room r e spelled = request_datum room r e.number e.value
+request_step room = known_or_dropped (request_known room)
 
 -- the value of a body, or the first fault that is met
 abbrev pub value_of : List ℕ → Result RequestData ReadFault

@@ -1,7 +1,7 @@
 -- The fields of a text, taken one after the other into a message.
-use Rattle.std.specs.Prelude.{ℕ, zero, suc, ◌-◌, List, [], ◌∷◌, ◌++◌, length, take, Option, Some, None, Result, Ok, Err}
+use Rattle.std.specs.Prelude.{ℕ, zero, suc, ◌-◌, List, [], ◌∷◌, ◌++◌, length, take, Option, Some, None, unwrap_or, Result, Ok, Err}
 use Rattle.pb_wire.specs.declared.field.WireFault.{WireFault}
-use Rattle.pb_wire.specs.Grammar.{Entry, IsField}
+use Rattle.pb_wire.specs.Grammar.{Entry, Datum, IsField}
 use Rattle.pb_wire.specs.Reading.{next_at}
 use Rattle.otlp_read.specs.declared.fault.ReadFault.{ReadFault}
 use Rattle.otlp_read.specs.declared.fault.ReadFault.TheVariants.{TooDeep}
@@ -63,3 +63,15 @@ read_with step (suc room) a bytes = walk (step room) (100 - room) a bytes
 -- a repeated field with one more message, where that can be read
 abbrev pub with_another : {A : Type 0} → List A → Result A ReadFault → Result (List A) ReadFault
 with_another others read = read >>= λ x. Ok (others ++ x ∷ [])
+
+-- what a known field makes of a message; none where the message has no field of this number and wire type
+abbrev pub Known : Type 0 → Type 0
+Known A = A → ℕ → Datum → Option (Result A ReadFault)
+
+-- a field that isn't known is kept as it was spelled
+abbrev pub known_or_kept : {A : Type 0} → Known A → (A → List ℕ → A) → Step A
+known_or_kept known keep a e spelled = unwrap_or (known a e.number e.value) (Ok (keep a spelled))
+
+-- a field that isn't known is dropped
+abbrev pub known_or_dropped : {A : Type 0} → Known A → Step A
+known_or_dropped known a e spelled = unwrap_or (known a e.number e.value) (Ok a)
