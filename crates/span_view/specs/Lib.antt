@@ -1,0 +1,4 @@
+pub mod Facts
+pub mod Reading
+pub mod Shown
+pub mod Canonical

@@ -1,0 +1,71 @@
+//! Spans, borrowed from their canonical text.
+
+ghost use Rattle.std.specs.Prelude.{◌≡◌};
+ghost use Rattle.span_view.specs.Facts.{AreText};
+ghost use Rattle.span_view.specs.Reading.{facts_of};
+
+use crate::attributes::Attributes;
+use crate::fields::{bytes, eight, varint};
+use std::marker::Model;
+
+/// A span with its resource, which contracts see as its facts.
+#[derive(Drop)]
+pub struct SpanRef<'a> {
+    span: &'a [u8],
+    resource: &'a [u8],
+}
+
+impl<'a> Model for SpanRef<'a> {
+    ghost use Rattle.span_view.specs.Facts.{SpanFacts, AreText};
+    ghost use Rattle.span_view.specs.Reading.{facts_of};
+
+    ghost Value = { SpanFacts };
+
+    ghost view = { λ s. facts_of s.span.now s.resource.now };
+
+    ghost invariant = { λ s. AreText (facts_of s.span.now s.resource.now).attributes };
+}
+
+impl<'a> SpanRef<'a> {
+    pub fn of(span: &'a [u8], resource: &'a [u8]) -> SpanRef<'a>
+        requires text { AreText (facts_of span.now resource.now).attributes }
+        ensures { result ≡ facts_of span.now resource.now }
+    {
+        SpanRef { span, resource }
+    }
+
+    pub fn trace_id(&self) -> &'a [u8]
+        ensures { result.now ≡ self.now.trace_id }
+    {
+        bytes(self.span, 1)
+    }
+
+    /// Nanoseconds since 1970.
+    pub fn start(&self) -> u64
+        ensures { result ≡ self.now.start_time_unix_nano }
+    {
+        eight(self.span, 7)
+    }
+
+    /// Nanoseconds since 1970.
+    pub fn end(&self) -> u64
+        ensures { result ≡ self.now.end_time_unix_nano }
+    {
+        eight(self.span, 8)
+    }
+
+    /// The code of the span's status: 0 unset, also where there is no status, 1 ok, 2 error. Other numbers are carried.
+    pub fn status(&self) -> i32
+        ensures { result ≡ self.now.status }
+    {
+        let code = varint(bytes(self.span, 15), 3);
+        ((code & 0xffff_ffff) as u32).cast_signed()
+    }
+
+    /// The attributes of the span, and then those of its resource.
+    pub fn attributes(&self) -> Attributes<'a>
+        ensures { result ≡ self.now.attributes }
+    {
+        Attributes::of(self.span, self.resource)
+    }
+}
