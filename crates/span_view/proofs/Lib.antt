@@ -1,1 +1,5 @@
 pub mod Walks
+pub mod Shallower
+pub mod Parts
+pub mod Messages
+pub mod Told
