@@ -8,11 +8,6 @@
 
 mod fault;
 mod message;
-mod request;
 
 pub use fault::ReadFault;
 pub use message::messages_inside;
-pub use request::{read_request, values_or_faults, written_reads_back};
-
-#[cfg(test)]
-mod tests;
