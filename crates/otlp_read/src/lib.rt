@@ -8,6 +8,8 @@
 
 mod fault;
 mod message;
+mod round_trip;
 
 pub use fault::ReadFault;
 pub use message::messages_inside;
+pub use round_trip::written_reads_back;
