@@ -4,5 +4,6 @@ pub mod Laws
 pub mod Leaves
 pub mod Opened
 pub mod Taken
+pub mod TypedParts
 pub mod ValueBack
 pub mod Walks

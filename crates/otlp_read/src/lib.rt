@@ -9,6 +9,7 @@
 mod fault;
 mod message;
 mod round_trip;
+mod typed;
 
 pub use fault::ReadFault;
 pub use message::messages_inside;
