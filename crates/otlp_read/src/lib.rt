@@ -14,3 +14,6 @@ mod typed;
 pub use fault::ReadFault;
 pub use message::messages_inside;
 pub use round_trip::written_reads_back;
+pub use typed::{
+    request_is_typed, resource_is_typed, response_is_typed, scope_is_typed, span_is_typed,
+};
