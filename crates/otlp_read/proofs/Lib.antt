@@ -1,7 +1,11 @@
 pub mod Answered
+pub mod Back
 pub mod Laws
 pub mod Leaves
 pub mod Opened
 pub mod Pushed
+pub mod Taken
 pub mod Turns
+pub mod TypedParts
+pub mod ValueBack
 pub mod Walks

@@ -12,10 +12,16 @@ mod leaf;
 mod message;
 mod request;
 mod response;
+mod round_trip;
 mod span;
+mod typed;
 mod value;
 
 pub use fault::ReadFault;
 pub use message::messages_inside;
 pub use request::{read_request, values_or_faults};
 pub use response::{Partial, read_response};
+pub use round_trip::written_reads_back;
+pub use typed::{
+    request_is_typed, resource_is_typed, response_is_typed, scope_is_typed, span_is_typed,
+};
