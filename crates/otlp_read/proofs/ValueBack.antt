@@ -31,7 +31,7 @@ unfolding read_any
 key_value_opened room p bs = refl
 
 -- a key with its value is read as any other message is
-attribute_read : (room : ℕ) (p : KeyValueData) (bs : List ℕ) → read_with key_value_step room p bs ≡ read_key_value room p bs
+pub attribute_read : (room : ℕ) (p : KeyValueData) (bs : List ℕ) → read_with key_value_step room p bs ≡ read_key_value room p bs
 unfolding read_any read_with
 attribute_read zero p bs = refl
 attribute_read (suc room) p bs = refl
