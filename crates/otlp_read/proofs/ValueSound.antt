@@ -6,39 +6,25 @@ use Rattle.otlp_trace.specs.Data.{AnyValueData, any_value, KindData, unset, stri
 use Rattle.otlp_read.specs.declared.fault.ReadFault.TheVariants.{TooDeep}
 use Rattle.otlp_read.specs.AnyValue.{no_value, no_array, no_list, no_key_value, array_in, list_in, any_known, keep_any, any_step, push_value, array_known, keep_array, array_step, push_key_value, list_known, keep_list, list_step, key_value_known, keep_key_value, key_value_step, read_any, read_array, read_list, read_key_value}
 use Rattle.otlp_read.specs.Numbers.{bool, int64}
-use Rattle.otlp_read.specs.Nested.{NestedAny, NestedKind, NestedArray, NestedValues, NestedList, NestedKeyValue, NestedKeyValues}
+use Rattle.otlp_read.specs.Nested.{known_of_any, known_of_array, known_of_list, known_of_key_value, NestedAny, NestedKind, NestedArray, NestedValues, NestedList, NestedKeyValue, NestedKeyValues}
 use Rattle.otlp_read.specs.Typed.{TypedAny, TypedKind, TypedArray, TypedValues, TypedList, TypedKeyValue, TypedKeyValues}
 use Rattle.otlp_read.specs.Walk.{Known, read_with}
 use Rattle.otlp_read.proofs.Sound.{AreBytes, FromWire, not_known, made, read_fine, string_fine, Keeps, kept_keeps, nothing_kept, kept_more, walk_kept, Good, Before, Reads, FieldsFine, fresh, from_nested, int64_fits, test, err_not_ok}
 use Rattle.otlp_read.proofs.ValueBack.{attribute_read}
 
--- ---- what each message knows, by the room inside it
-
-abbrev pub AnyKnown : ℕ → Known AnyValueData
-AnyKnown room = any_known (read_array room) (read_list room)
-
-abbrev ArrayKnown : ℕ → Known ArrayValueData
-ArrayKnown room = array_known (read_any room)
-
-abbrev ListKnown : ℕ → Known KeyValueListData
-ListKnown room = list_known (read_key_value room)
-
-abbrev KeyValueKnown : ℕ → Known KeyValueData
-KeyValueKnown room = key_value_known (read_any room)
-
 -- ---- the messages of no fields
 
 empty_any : (room : ℕ) → NestedAny (suc room) no_value
-empty_any room = (tt, nothing_kept AnyKnown room)
+empty_any room = (tt, nothing_kept known_of_any room)
 
 empty_array : (room : ℕ) → NestedArray (suc room) no_array
-empty_array room = (tt, nothing_kept ArrayKnown room)
+empty_array room = (tt, nothing_kept known_of_array room)
 
 empty_list : (room : ℕ) → NestedList (suc room) no_list
-empty_list room = (tt, nothing_kept ListKnown room)
+empty_list room = (tt, nothing_kept known_of_list room)
 
 pub empty_key_value : (room : ℕ) → NestedKeyValue (suc room) no_key_value
-empty_key_value room = nothing_kept KeyValueKnown room
+empty_key_value room = nothing_kept known_of_key_value room
 
 -- ---- what a member of a value is merged into
 
@@ -87,7 +73,7 @@ record ReadsAll (F : Type 0) (room : ℕ) : Type 0 where
   lists : Reads F NestedList TypedList read_list room
   key_values : Reads F NestedKeyValue TypedKeyValue read_key_value room
 
-any_fine : (F : Type 0) (room : ℕ) → ReadsAll F room → FieldsFine F NestedAny TypedAny AnyKnown room
+any_fine : (F : Type 0) (room : ℕ) → ReadsAll F room → FieldsFine F NestedAny TypedAny known_of_any room
 any_fine F room below (any_value kind unknown) n (Varint x) wire good =
     elim (test (n == 2)) [
       | inl e ↦ rw e (made (any_value (boolean (bool x)) unknown) ((tt, good.0.1), λ f. tt))
@@ -121,7 +107,7 @@ any_fine F room below (any_value kind unknown) n (Bytes bs) wire good =
     ]
 any_fine F room below v n _ wire good = not_known (λ y. refl)
 
-array_fine : (F : Type 0) (room : ℕ) → ReadsAll F room → FieldsFine F NestedArray TypedArray ArrayKnown room
+array_fine : (F : Type 0) (room : ℕ) → ReadsAll F room → FieldsFine F NestedArray TypedArray known_of_array room
 array_fine F room below (array_value vs unknown) n (Bytes bs) wire good =
     elim (test (n == 1)) [
       | inl e ↦ rw e (read_fine (read_any room no_value bs) (λ v. array_value (push_value vs v) unknown) (λ v is. let g = below.any no_value v bs wire (fresh NestedAny no_value empty_any room) (λ f. tt) is in ((nested_push room vs v good.0.0 g.0, good.0.1), λ f. typed_push vs v (good.1 f) (g.1 f))))
@@ -129,7 +115,7 @@ array_fine F room below (array_value vs unknown) n (Bytes bs) wire good =
     ]
 array_fine F room below a n _ wire good = not_known (λ y. refl)
 
-list_fine : (F : Type 0) (room : ℕ) → ReadsAll F room → FieldsFine F NestedList TypedList ListKnown room
+list_fine : (F : Type 0) (room : ℕ) → ReadsAll F room → FieldsFine F NestedList TypedList known_of_list room
 list_fine F room below (key_value_list ps unknown) n (Bytes bs) wire good =
     elim (test (n == 1)) [
       | inl e ↦ rw e (read_fine (read_key_value room no_key_value bs) (λ p. key_value_list (push_key_value ps p) unknown) (λ p is. let g = below.key_values no_key_value p bs wire (fresh NestedKeyValue no_key_value empty_key_value room) (λ f. IsUtf8-nil) is in ((nested_key_push room ps p good.0.0 g.0, good.0.1), λ f. typed_key_push ps p (good.1 f) (g.1 f))))
@@ -137,7 +123,7 @@ list_fine F room below (key_value_list ps unknown) n (Bytes bs) wire good =
     ]
 list_fine F room below l n _ wire good = not_known (λ y. refl)
 
-key_value_fine : (F : Type 0) (room : ℕ) → ReadsAll F room → FieldsFine F NestedKeyValue TypedKeyValue KeyValueKnown room
+key_value_fine : (F : Type 0) (room : ℕ) → ReadsAll F room → FieldsFine F NestedKeyValue TypedKeyValue known_of_key_value room
 key_value_fine F room below (bare_key key unknown) n (Bytes bs) wire good =
     elim (test (n == 1)) [
       | inl e ↦ rw e (string_fine bs (λ k. bare_key k unknown) (λ k valid. (good.0, λ f. valid)))
@@ -160,18 +146,18 @@ key_value_fine F room below p n _ wire good = not_known (λ y. refl)
 
 -- ---- what isn't known
 
-any_kept : (F : Type 0) (room : ℕ) (a : AnyValueData) (e : Entry) (spelled : List ℕ) → IsField (100 - room) spelled e → ((x : AnyValueData) → AnyKnown room x e.number e.value ≡ None) → Good F NestedAny TypedAny (suc room) a → Good F NestedAny TypedAny (suc room) (keep_any a spelled)
-any_kept F room (any_value kind unknown) e spelled is none good = ((good.0.0, kept_more AnyKnown room unknown spelled e good.0.1 is none), good.1)
+any_kept : (F : Type 0) (room : ℕ) (a : AnyValueData) (e : Entry) (spelled : List ℕ) → IsField (100 - room) spelled e → ((x : AnyValueData) → known_of_any room x e.number e.value ≡ None) → Good F NestedAny TypedAny (suc room) a → Good F NestedAny TypedAny (suc room) (keep_any a spelled)
+any_kept F room (any_value kind unknown) e spelled is none good = ((good.0.0, kept_more known_of_any room unknown spelled e good.0.1 is none), good.1)
 
-array_kept : (F : Type 0) (room : ℕ) (a : ArrayValueData) (e : Entry) (spelled : List ℕ) → IsField (100 - room) spelled e → ((x : ArrayValueData) → ArrayKnown room x e.number e.value ≡ None) → Good F NestedArray TypedArray (suc room) a → Good F NestedArray TypedArray (suc room) (keep_array a spelled)
-array_kept F room (array_value vs unknown) e spelled is none good = ((good.0.0, kept_more ArrayKnown room unknown spelled e good.0.1 is none), good.1)
+array_kept : (F : Type 0) (room : ℕ) (a : ArrayValueData) (e : Entry) (spelled : List ℕ) → IsField (100 - room) spelled e → ((x : ArrayValueData) → known_of_array room x e.number e.value ≡ None) → Good F NestedArray TypedArray (suc room) a → Good F NestedArray TypedArray (suc room) (keep_array a spelled)
+array_kept F room (array_value vs unknown) e spelled is none good = ((good.0.0, kept_more known_of_array room unknown spelled e good.0.1 is none), good.1)
 
-list_kept : (F : Type 0) (room : ℕ) (l : KeyValueListData) (e : Entry) (spelled : List ℕ) → IsField (100 - room) spelled e → ((x : KeyValueListData) → ListKnown room x e.number e.value ≡ None) → Good F NestedList TypedList (suc room) l → Good F NestedList TypedList (suc room) (keep_list l spelled)
-list_kept F room (key_value_list ps unknown) e spelled is none good = ((good.0.0, kept_more ListKnown room unknown spelled e good.0.1 is none), good.1)
+list_kept : (F : Type 0) (room : ℕ) (l : KeyValueListData) (e : Entry) (spelled : List ℕ) → IsField (100 - room) spelled e → ((x : KeyValueListData) → known_of_list room x e.number e.value ≡ None) → Good F NestedList TypedList (suc room) l → Good F NestedList TypedList (suc room) (keep_list l spelled)
+list_kept F room (key_value_list ps unknown) e spelled is none good = ((good.0.0, kept_more known_of_list room unknown spelled e good.0.1 is none), good.1)
 
-key_value_kept : (F : Type 0) (room : ℕ) (p : KeyValueData) (e : Entry) (spelled : List ℕ) → IsField (100 - room) spelled e → ((x : KeyValueData) → KeyValueKnown room x e.number e.value ≡ None) → Good F NestedKeyValue TypedKeyValue (suc room) p → Good F NestedKeyValue TypedKeyValue (suc room) (keep_key_value p spelled)
-key_value_kept F room (bare_key key unknown) e spelled is none good = (kept_more KeyValueKnown room unknown spelled e good.0 is none, good.1)
-key_value_kept F room (key_value key v unknown) e spelled is none good = ((good.0.0, kept_more KeyValueKnown room unknown spelled e good.0.1 is none), good.1)
+key_value_kept : (F : Type 0) (room : ℕ) (p : KeyValueData) (e : Entry) (spelled : List ℕ) → IsField (100 - room) spelled e → ((x : KeyValueData) → known_of_key_value room x e.number e.value ≡ None) → Good F NestedKeyValue TypedKeyValue (suc room) p → Good F NestedKeyValue TypedKeyValue (suc room) (keep_key_value p spelled)
+key_value_kept F room (bare_key key unknown) e spelled is none good = (kept_more known_of_key_value room unknown spelled e good.0 is none, good.1)
+key_value_kept F room (key_value key v unknown) e spelled is none good = ((good.0.0, kept_more known_of_key_value room unknown spelled e good.0.1 is none), good.1)
 
 -- ---- the readers
 
@@ -187,10 +173,10 @@ all_read F (suc room) =
     let below = all_read F room in
     let d = 100 - room in
     record {
-      any = λ a b text are start typed e. walk_kept F (any_step (read_array room) (read_list room)) d (Good F NestedAny TypedAny (suc room)) (kept_keeps F (AnyKnown room) d (Good F NestedAny TypedAny (suc room)) (any_fine F room below) keep_any (any_kept F room)) a b text are (start, typed) e;
-      arrays = λ a b text are start typed e. walk_kept F (array_step (read_any room)) d (Good F NestedArray TypedArray (suc room)) (kept_keeps F (ArrayKnown room) d (Good F NestedArray TypedArray (suc room)) (array_fine F room below) keep_array (array_kept F room)) a b text are (start, typed) e;
-      lists = λ a b text are start typed e. walk_kept F (list_step (read_key_value room)) d (Good F NestedList TypedList (suc room)) (kept_keeps F (ListKnown room) d (Good F NestedList TypedList (suc room)) (list_fine F room below) keep_list (list_kept F room)) a b text are (start, typed) e;
-      key_values = λ a b text are start typed e. walk_kept F (key_value_step room) d (Good F NestedKeyValue TypedKeyValue (suc room)) (kept_keeps F (KeyValueKnown room) d (Good F NestedKeyValue TypedKeyValue (suc room)) (key_value_fine F room below) keep_key_value (key_value_kept F room)) a b text are (start, typed) e;
+      any = λ a b text are start typed e. walk_kept F (any_step (read_array room) (read_list room)) d (Good F NestedAny TypedAny (suc room)) (kept_keeps F (known_of_any room) d (Good F NestedAny TypedAny (suc room)) (any_fine F room below) keep_any (any_kept F room)) a b text are (start, typed) e;
+      arrays = λ a b text are start typed e. walk_kept F (array_step (read_any room)) d (Good F NestedArray TypedArray (suc room)) (kept_keeps F (known_of_array room) d (Good F NestedArray TypedArray (suc room)) (array_fine F room below) keep_array (array_kept F room)) a b text are (start, typed) e;
+      lists = λ a b text are start typed e. walk_kept F (list_step (read_key_value room)) d (Good F NestedList TypedList (suc room)) (kept_keeps F (known_of_list room) d (Good F NestedList TypedList (suc room)) (list_fine F room below) keep_list (list_kept F room)) a b text are (start, typed) e;
+      key_values = λ a b text are start typed e. walk_kept F (key_value_step room) d (Good F NestedKeyValue TypedKeyValue (suc room)) (kept_keeps F (known_of_key_value room) d (Good F NestedKeyValue TypedKeyValue (suc room)) (key_value_fine F room below) keep_key_value (key_value_kept F room)) a b text are (start, typed) e;
     }
 
 -- an attribute of a message

@@ -67,10 +67,11 @@ pub fn written_scope_reads_back(scope: &InstrumentationScope)
     written_reads_back();
 }
 
-/// What is read of a body reads back once it is written: it is nested no deeper than a reader takes, keeps nothing but
-/// fields that aren't known, and has what the types of the code give.
+/// What is read of a body is nested no deeper than a reader takes, keeps nothing but fields that aren't known, and has what
+/// the types of the code give. So it reads back once it is written.
 pub fn values_are_sound()
     ensures nested { (bytes : List ℕ) (v : RequestData) → IsValue bytes v → NestedRequest v }
     ensures typed { (bytes : List ℕ) (v : RequestData) → All (λ b. b < 2 ^ 8) bytes → IsValue bytes v → TypedRequest v }
+    ensures again { (bytes : List ℕ) (v : RequestData) → All (λ b. b < 2 ^ 8) bytes → IsValue bytes v → length (request_text v) < 2 ^ 64 → IsValue (request_text v) v }
     ensures response { (bytes : List ℕ) (v : ResponseData) → IsResponse bytes v → TypedResponse v }
 {}
