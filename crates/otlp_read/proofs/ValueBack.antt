@@ -6,7 +6,7 @@ use Rattle.std.specs.Str.{IsUtf8}
 use Rattle.otlp_trace.specs.Data.{AnyValueData, any_value, KindData, unset, string, boolean, int, double, array, kvlist, bytes, ArrayValueData, array_value, AnyValues, no_values, a_value, KeyValueListData, key_value_list, KeyValueData, bare_key, key_value, KeyValues, no_key_values, a_key_value}
 use Rattle.otlp_trace.specs.Text.{some_bytes, any_text, kind_text, array_text, values_text, list_text, key_value_text, key_values_text}
 use Rattle.otlp_read.specs.AnyValue.{no_value, no_array, no_list, no_key_value, any_known, keep_any, any_step, push_value, array_known, keep_array, array_step, push_key_value, list_known, keep_list, list_step, key_value_known, keep_key_value, key_value_step_of, read_any, read_array, read_list, read_key_value, key_value_step}
-use Rattle.otlp_read.specs.Nested.{NestedAny, NestedKind, NestedArray, NestedValues, NestedList, NestedKeyValue, NestedKeyValues}
+use Rattle.otlp_read.specs.Nested.{known_of_any, known_of_array, known_of_list, known_of_key_value, NestedAny, NestedKind, NestedArray, NestedValues, NestedList, NestedKeyValue, NestedKeyValues}
 use Rattle.otlp_read.specs.Typed.{TypedAny, TypedKind, TypedArray, TypedValues, TypedList, TypedKeyValue, TypedKeyValues}
 use Rattle.otlp_read.specs.Walk.{walk, read_with}
 use Rattle.otlp_read.proofs.Leaves.{utf8_yes}
@@ -31,7 +31,7 @@ unfolding read_any
 key_value_opened room p bs = refl
 
 -- a key with its value is read as any other message is
-attribute_read : (room : ℕ) (p : KeyValueData) (bs : List ℕ) → read_with key_value_step room p bs ≡ read_key_value room p bs
+pub attribute_read : (room : ℕ) (p : KeyValueData) (bs : List ℕ) → read_with key_value_step room p bs ≡ read_key_value room p bs
 unfolding read_any read_with
 attribute_read zero p bs = refl
 attribute_read (suc room) p bs = refl
@@ -79,7 +79,7 @@ mutual
   any_back zero v typed nested short = absurd nested
   any_back (suc room) (any_value kind unknown) typed nested short =
       any_opened room no_value (any_text (any_value kind unknown))
-      ∙ whole (then (kind_taken room kind typed nested.0) (kept_taken (λ r. any_known (read_array r) (read_list r)) keep_any room (any_value kind) (λ u s. refl) unknown nested.1)) short
+      ∙ whole (then (kind_taken room kind typed nested.0) (kept_taken known_of_any keep_any room (any_value kind) (λ u s. refl) unknown nested.1)) short
 
   kind_taken : (room : ℕ) (kind : KindData) → TypedKind kind → NestedKind room kind → Taken (any_step (read_array room) (read_list room)) (100 - room) no_value (kind_text kind) (any_value kind [])
   kind_taken room unset typed nested = nothing (any_step (read_array room) (read_list room)) (100 - room) no_value
@@ -96,7 +96,7 @@ mutual
   array_back zero a typed nested short = absurd nested
   array_back (suc room) (array_value vs unknown) typed nested short =
       array_opened room no_array (array_text (array_value vs unknown))
-      ∙ whole (then (values_taken room vs no_values typed nested.0) (kept_taken (λ r. array_known (read_any r)) keep_array room (array_value vs) (λ u s. refl) unknown nested.1)) short
+      ∙ whole (then (values_taken room vs no_values typed nested.0) (kept_taken known_of_array keep_array room (array_value vs) (λ u s. refl) unknown nested.1)) short
 
   values_taken : (room : ℕ) (vs ws : AnyValues) → TypedValues vs → NestedValues room vs → Taken (array_step (read_any room)) (100 - room) (array_value ws []) (values_text vs) (array_value (values_on ws vs) [])
   values_taken room no_values ws typed nested =
@@ -109,7 +109,7 @@ mutual
   list_back zero l typed nested short = absurd nested
   list_back (suc room) (key_value_list ps unknown) typed nested short =
       list_opened room no_list (list_text (key_value_list ps unknown))
-      ∙ whole (then (key_values_taken room ps no_key_values typed nested.0) (kept_taken (λ r. list_known (read_key_value r)) keep_list room (key_value_list ps) (λ u s. refl) unknown nested.1)) short
+      ∙ whole (then (key_values_taken room ps no_key_values typed nested.0) (kept_taken known_of_list keep_list room (key_value_list ps) (λ u s. refl) unknown nested.1)) short
 
   key_values_taken : (room : ℕ) (ps qs : KeyValues) → TypedKeyValues ps → NestedKeyValues room ps → Taken (list_step (read_key_value room)) (100 - room) (key_value_list qs []) (key_values_text ps) (key_value_list (key_values_on qs ps) [])
   key_values_taken room no_key_values qs typed nested =
@@ -122,12 +122,12 @@ mutual
   key_value_back zero p typed nested short = absurd nested
   key_value_back (suc room) (bare_key key unknown) typed nested short =
       key_value_opened room no_key_value (key_value_text (bare_key key unknown))
-      ∙ whole (then (key_taken room key typed) (kept_taken (λ r. key_value_known (read_any r)) keep_key_value room (bare_key key) (λ u s. refl) unknown nested)) short
+      ∙ whole (then (key_taken room key typed) (kept_taken known_of_key_value keep_key_value room (bare_key key) (λ u s. refl) unknown nested)) short
   key_value_back (suc room) (key_value key v unknown) typed nested short =
       key_value_opened room no_key_value (key_value_text (key_value key v unknown))
       ∙ whole (then (key_taken room key typed.0)
       (then (bytes_taken (key_value_step room) (100 - room) 2 refl (bare_key key []) (key_value key v []) (any_text v) (λ short'. rw (any_back room v typed.1 nested.0 short') refl))
-      (kept_taken (λ r. key_value_known (read_any r)) keep_key_value room (key_value key v) (λ u s. refl) unknown nested.1))) short
+      (kept_taken known_of_key_value keep_key_value room (key_value key v) (λ u s. refl) unknown nested.1))) short
 
 -- an attribute of a message
 pub attribute_back : (room : ℕ) → Back (read_with key_value_step room no_key_value) key_value_text TypedKeyValue (NestedKeyValue room)

@@ -24,10 +24,23 @@ Within inside (suc room) a = inside room a
 
 -- ---- attribute values
 
+-- the fields that each message knows, with room for so many levels inside it
+abbrev pub known_of_any : ℕ → Known AnyValueData
+known_of_any room = any_known (read_array room) (read_list room)
+
+abbrev pub known_of_array : ℕ → Known ArrayValueData
+known_of_array room = array_known (read_any room)
+
+abbrev pub known_of_list : ℕ → Known KeyValueListData
+known_of_list room = list_known (read_key_value room)
+
+abbrev pub known_of_key_value : ℕ → Known KeyValueData
+known_of_key_value room = key_value_known (read_any room)
+
 abbrev mutual
   pub NestedAny : ℕ → AnyValueData → Type 0
   NestedAny zero v = ⊥
-  NestedAny (suc room) (any_value kind unknown) = NestedKind room kind × Kept (λ r. any_known (read_array r) (read_list r)) room unknown
+  NestedAny (suc room) (any_value kind unknown) = NestedKind room kind × Kept known_of_any room unknown
 
   pub NestedKind : ℕ → KindData → Type 0
   NestedKind room (array a) = NestedArray room a
@@ -36,7 +49,7 @@ abbrev mutual
 
   pub NestedArray : ℕ → ArrayValueData → Type 0
   NestedArray zero a = ⊥
-  NestedArray (suc room) (array_value vs unknown) = NestedValues room vs × Kept (λ r. array_known (read_any r)) room unknown
+  NestedArray (suc room) (array_value vs unknown) = NestedValues room vs × Kept known_of_array room unknown
 
   pub NestedValues : ℕ → AnyValues → Type 0
   NestedValues room no_values = Unit {0}
@@ -44,12 +57,12 @@ abbrev mutual
 
   pub NestedList : ℕ → KeyValueListData → Type 0
   NestedList zero l = ⊥
-  NestedList (suc room) (key_value_list ps unknown) = NestedKeyValues room ps × Kept (λ r. list_known (read_key_value r)) room unknown
+  NestedList (suc room) (key_value_list ps unknown) = NestedKeyValues room ps × Kept known_of_list room unknown
 
   pub NestedKeyValue : ℕ → KeyValueData → Type 0
   NestedKeyValue zero p = ⊥
-  NestedKeyValue (suc room) (bare_key key unknown) = Kept (λ r. key_value_known (read_any r)) room unknown
-  NestedKeyValue (suc room) (key_value key v unknown) = NestedAny room v × Kept (λ r. key_value_known (read_any r)) room unknown
+  NestedKeyValue (suc room) (bare_key key unknown) = Kept known_of_key_value room unknown
+  NestedKeyValue (suc room) (key_value key v unknown) = NestedAny room v × Kept known_of_key_value room unknown
 
   pub NestedKeyValues : ℕ → KeyValues → Type 0
   NestedKeyValues room no_key_values = Unit {0}

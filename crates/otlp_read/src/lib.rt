@@ -21,7 +21,10 @@ pub use fault::ReadFault;
 pub use message::messages_inside;
 pub use request::{read_request, values_or_faults};
 pub use response::{Partial, read_response};
-pub use round_trip::written_reads_back;
+pub use round_trip::{
+    values_are_sound, written_reads_back, written_request_reads_back, written_resource_reads_back,
+    written_response_reads_back, written_scope_reads_back, written_span_reads_back,
+};
 pub use typed::{
     request_is_typed, resource_is_typed, response_is_typed, scope_is_typed, span_is_typed,
 };
