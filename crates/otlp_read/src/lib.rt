@@ -19,3 +19,6 @@ pub use fault::ReadFault;
 pub use message::messages_inside;
 pub use request::{read_request, values_or_faults};
 pub use response::{Partial, read_response};
+
+#[cfg(test)]
+mod tests;
