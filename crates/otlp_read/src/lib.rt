@@ -28,3 +28,6 @@ pub use round_trip::{
 pub use typed::{
     request_is_typed, resource_is_typed, response_is_typed, scope_is_typed, span_is_typed,
 };
+
+#[cfg(test)]
+mod tests;

@@ -92,32 +92,27 @@ fn any_field(
         Value::Varint(n) => {
             if field.number == 2 {
                 let kind = AnyValueKind::Bool(n != 0);
-                Ok(AnyValue { kind, unknown })
-            } else if field.number == 3 {
+                return Ok(AnyValue { kind, unknown });
+            }
+            if field.number == 3 {
                 let kind = AnyValueKind::Int(n.cast_signed());
-                Ok(AnyValue { kind, unknown })
-            } else {
-                let unknown = keep(unknown, spelled)?;
-                Ok(AnyValue { kind, unknown })
+                return Ok(AnyValue { kind, unknown });
             }
         }
         Value::Eight(bits) => {
             if field.number == 4 {
                 let kind = AnyValueKind::Double(DoubleBits(bits));
-                Ok(AnyValue { kind, unknown })
-            } else {
-                let unknown = keep(unknown, spelled)?;
-                Ok(AnyValue { kind, unknown })
+                return Ok(AnyValue { kind, unknown });
             }
         }
         Value::Bytes(bytes) => {
-            any_bytes(alloc, AnyValue { kind, unknown }, field.number, bytes, spelled, room)
+            let before = AnyValue { kind, unknown };
+            return any_bytes(alloc, before, field.number, bytes, spelled, room);
         }
-        _ => {
-            let unknown = keep(unknown, spelled)?;
-            Ok(AnyValue { kind, unknown })
-        }
+        _ => {}
     }
+    let unknown = keep(unknown, spelled)?;
+    Ok(AnyValue { kind, unknown })
 }
 
 /// The value after one more field that holds these bytes.
