@@ -1,6 +1,6 @@
--- The spans of a body, and its refusal.
+-- The spans of a body, its policies, and its refusal.
 use Rattle.std.proofs.Common.{◌≡◌, List, [], ◌∷◌, ◌++◌, map, refl, sym, ap, ◌∙◌, Ok, append_assoc, append-nil, length, arith}
-use Rattle.std.specs.List.{flat_map}
+use Rattle.std.specs.List.{flat_map, AllZip}
 use Rattle.otlp_trace.specs.Data.{RequestData}
 use Rattle.otlp_trace.specs.View.{span_view}
 use Rattle.otlp_trace.specs.declared.message.Span.{Span}
@@ -35,3 +35,10 @@ only_memory OutOfMemory v is = refl
 pub none_left : {A B : Type 0} → (f : A → List B) (before whole : List B) (rest : List A) → length rest ≡ 0 → before ++ flat_map f rest ≡ whole → before ≡ whole
 none_left f before whole [] none all = sym (append-nil before) ∙ all
 none_left f before whole (a ∷ rest) none all = absurd (omega arith)
+
+-- what clones are is the same where what each of them is is
+pub same_clones : {A B : Type 0} → (view : A → B) (R : A → A → Type 0) → ((a b : A) → R a b → view b ≡ view a) → (xs ys : List A) → AllZip R xs ys → map view ys ≡ map view xs
+same_clones view R each [] [] all = refl
+same_clones view R each [] (y ∷ ys) all = absurd all
+same_clones view R each (x ∷ xs) [] all = absurd all
+same_clones view R each (x ∷ xs) (y ∷ ys) all = λ i. each x y all.0 i ∷ same_clones view R each xs ys all.1 i

@@ -1,8 +1,10 @@
 -- When bodies that were read are equal.
-use Rattle.std.specs.Prelude.{Bool, nat_eq}
+use Rattle.std.specs.Prelude.{◌≡◌, Bool, true, nat_eq}
+use mathlib.Core.Path.{refl}
 use Rattle.std.specs.Cmp.{IsPartialEquivalence, partial_equiv_from_equiv, on_per, and_per, nat_eq_equiv}
 use Rattle.std.specs.Cmp.Lexicographic.{pointwise, nat_list_eq_equiv, lists_per}
 use Rattle.std.specs.Ordering.{on, eq_of_both}
+use Rattle.tail_settings.specs.Section.{PolicyData, always_sample}
 use Rattle.tenant_pipeline.specs.Arrivals.{Arrival}
 use Rattle.tenant_pipeline.specs.Prepared.{PreparedData}
 
@@ -10,12 +12,26 @@ use Rattle.tenant_pipeline.specs.Prepared.{PreparedData}
 abbrev pub arrival_eq : Arrival → Arrival → Bool
 arrival_eq = eq_of_both (on (λ a. a.span.trace_id) (pointwise nat_eq)) (on (λ a. a.span.span_id) (pointwise nat_eq))
 
--- the same tenant, and the same spans in the same order
+-- the same kind
+abbrev pub policy_eq : PolicyData → PolicyData → Bool
+policy_eq always_sample always_sample = true
+
+-- the same tenant, the same policies in the same order, and the same spans in the same order
 abbrev pub prepared_eq : PreparedData → PreparedData → Bool
-prepared_eq = eq_of_both (on (λ p. p.tenant) nat_eq) (on (λ p. p.arrivals) (pointwise arrival_eq))
+prepared_eq =
+    eq_of_both (eq_of_both (on (λ p. p.tenant) nat_eq) (on (λ p. p.policies) (pointwise policy_eq))) (on (λ p. p.arrivals) (pointwise arrival_eq))
 
 arrival_laws : IsPartialEquivalence arrival_eq
 arrival_laws = and_per (on_per (λ a. a.span.trace_id) (partial_equiv_from_equiv nat_list_eq_equiv)) (on_per (λ a. a.span.span_id) (partial_equiv_from_equiv nat_list_eq_equiv))
 
+policy_laws : IsPartialEquivalence policy_eq
+policy_laws = record { symm = symm; trans = trans }
+  where
+    symm : (x y : PolicyData) → policy_eq x y ≡ policy_eq y x
+    symm always_sample always_sample = refl
+    trans : (x y z : PolicyData) → policy_eq x y ≡ true → policy_eq y z ≡ true → policy_eq x z ≡ true
+    trans always_sample always_sample always_sample same again = again
+
 pub prepared_laws : IsPartialEquivalence prepared_eq
-prepared_laws = and_per (on_per (λ p. p.tenant) (partial_equiv_from_equiv nat_eq_equiv)) (on_per (λ p. p.arrivals) (lists_per arrival_laws))
+prepared_laws =
+    and_per (and_per (on_per (λ p. p.tenant) (partial_equiv_from_equiv nat_eq_equiv)) (on_per (λ p. p.policies) (lists_per policy_laws))) (on_per (λ p. p.arrivals) (lists_per arrival_laws))

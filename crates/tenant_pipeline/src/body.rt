@@ -5,6 +5,7 @@ ghost use Rattle.otlp_trace.specs.Data.{RequestData};
 ghost use Rattle.otlp_trace.specs.View.{scope_spans_view, resource_spans_view, request_view};
 ghost use Rattle.otlp_read.specs.Value.{IsValue, IsFault};
 ghost use Rattle.otlp_read.specs.declared.fault.ReadFault.{ReadFault};
+ghost use Rattle.tail_settings.specs.Section.{section_view};
 ghost use Rattle.tenant_pipeline.specs.Arrivals.{arrivals_of, arrivals_of_resource};
 ghost use Rattle.tenant_pipeline.specs.Prepared.{IsPrepared, prepared_of, refusal_of};
 ghost use Rattle.tenant_pipeline.specs.View.{arrival_views};
@@ -14,23 +15,30 @@ use otlp_read::{ReadFault, read_request};
 use otlp_trace::{ExportTraceServiceRequest, ResourceSpans, Span};
 use std::alloc::{AllocError, Global};
 use std::marker::Model;
-use tail_settings::Section;
+use tail_settings::{PolicySpec, Section};
 use thiserror::Error;
 
-/// A body's spans, ready to be posted to a tenant.
+/// A body's spans, ready to be posted to a tenant, with the policies that the tenant had then.
 #[derive(Debug, Drop)]
 pub struct Prepared {
     tenant: u32,
+    policies: Vec<PolicySpec>,
     spans: Vec<Span>,
 }
 
 impl Model for Prepared {
+    ghost use Rattle.std.specs.Prelude.{map};
+    ghost use Rattle.tail_settings.specs.Section.{policy_view};
     ghost use Rattle.tenant_pipeline.specs.Prepared.{PreparedData};
     ghost use Rattle.tenant_pipeline.specs.View.{arrival_views};
 
     ghost Value = { PreparedData };
 
-    ghost view = { λ p. record { tenant = p.tenant; arrivals = arrival_views p.spans.items } };
+    ghost view = { λ p. record {
+      tenant = p.tenant;
+      policies = map policy_view p.policies.items;
+      arrivals = arrival_views p.spans.items;
+    } };
 }
 
 impl PartialEq for Prepared {
@@ -41,7 +49,9 @@ impl PartialEq for Prepared {
     ghost laws = { prepared_laws };
 
     fn eq(&self, other: &Self) -> bool {
-        self.spans == other.spans && self.tenant == other.tenant
+        self.tenant == other.tenant
+            && self.policies == other.policies
+            && self.spans == other.spans
     }
 }
 
@@ -90,26 +100,31 @@ impl Prepared {
     }
 }
 
-/// Reads a body, a request in protobuf, for the tenant with this number and section. No setting
-/// bears on a body yet.
+/// Reads a body, a request in protobuf, for the tenant with this number and section. What is prepared names the tenant and
+/// the section's policies.
 pub fn prepare(
     alloc: Global,
     tenant: u32,
-    _section: &Section,
+    section: &Section,
     body: &[u8],
 ) -> Result<Prepared, Refusal>
-    // What is prepared is the value of the body.
-    ensures value { IfOk result (λ prepared. IsPrepared tenant body.now prepared) }
+    // What is prepared is the section's policies and the value of the body.
+    ensures value { IfOk result (λ prepared. IsPrepared tenant (section_view section.now) body.now prepared) }
 
     // A body with a value is prepared, unless memory runs out.
-    ensures only { (v : RequestData) → IsValue body.now v → MatchResult result (λ prepared. prepared ≡ prepared_of tenant v) (λ refused. refused ≡ refusal.OutOfMemory) }
+    ensures only { (v : RequestData) → IsValue body.now v → MatchResult result (λ prepared. prepared ≡ prepared_of tenant (section_view section.now) v) (λ refused. refused ≡ refusal.OutOfMemory) }
 
     // The fault of a body that is bad stands in it.
     ensures bad { (fault : ReadFault) → IfErr result (λ refused. refused ≡ refusal.Bad fault → IsFault body.now fault) }
 {
     let request = read_request(alloc, body)?;
     let spans = spans_of(alloc, request)?;
-    Ok(Prepared { tenant, spans })
+    let policies = section.policies.clone()?;
+    Ok(Prepared {
+        tenant,
+        policies,
+        spans,
+    })
 }
 
 /// The spans of a request, in its order.

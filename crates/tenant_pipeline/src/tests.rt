@@ -24,11 +24,17 @@ pub const OTHER: [u8; 34] =
     *b"\x0a\x20\x12\x1e\x12\x1c\x0a\x10\x12\x12\x12\x12\x12\x12\x12\x12\x12\x12\x12\x12\x12\x12\x12\x12\x12\x08\x23\x23\x23\x23\x23\x23\x23\x23";
 
 pub fn section(alloc: Global) -> Result<Section, Fail> {
-    let mut policies = Vec::new(alloc);
-    policies.push(PolicySpec::AlwaysSample)?;
     Ok(Section {
         decision_wait: 1000,
-        policies,
+        policies: vec![in alloc; PolicySpec::AlwaysSample]?,
+    })
+}
+
+/// A section with other policies.
+fn other_section(alloc: Global) -> Result<Section, Fail> {
+    Ok(Section {
+        decision_wait: 1000,
+        policies: vec![in alloc; PolicySpec::AlwaysSample, PolicySpec::AlwaysSample]?,
     })
 }
 
@@ -101,6 +107,17 @@ fn invalid_spans_are_left_out(rt: HostRuntime) -> Result<(), Fail> {
     assert!(rt; post(alloc, &mut pipeline, 0, short)?);
     assert!(rt; is_job(&pipeline.turn(1000)?, 1, &BODY));
     assert!(rt; pipeline.turn(1000)? == Told::Worked);
+    Ok(())
+}
+
+#[test]
+fn a_body_names_its_tenant_and_its_policies(rt: HostRuntime) -> Result<(), Fail> {
+    let alloc = rt.alloc();
+    let prepared = prepare(alloc, 7, &section(alloc)?, &BODY)?;
+    assert!(rt; prepared == prepare(alloc, 7, &section(alloc)?, &BODY)?);
+    assert!(rt; prepared != prepare(alloc, 8, &section(alloc)?, &BODY)?);
+    assert!(rt; prepared != prepare(alloc, 7, &other_section(alloc)?, &BODY)?);
+    assert!(rt; prepared != prepare(alloc, 7, &section(alloc)?, &SECOND)?);
     Ok(())
 }
 
