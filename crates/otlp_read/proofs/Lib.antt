@@ -1,6 +1,7 @@
 pub mod Answered
-pub mod Back
-pub mod Carried
 pub mod Laws
+pub mod Leaves
 pub mod Opened
+pub mod Pushed
+pub mod Turns
 pub mod Walks
