@@ -1,10 +1,13 @@
 //! `Pipeline` answers as the definitions do, step by step, and both as worked out by hand.
 
 use crate::reference::{OwnStep, answer};
-use crate::tests::{BODY, BOTH, OTHER, SECOND, section};
+use crate::stored::{Origin, StoredSpan};
+use crate::tests::{
+    BODY, BOTH, BY_SCHEMA, OF_RESOURCE, OTHER, SECOND, SECOND_OF_RESOURCE, WITH_SCHEMA, section,
+};
 use crate::{Pipeline, Reply, Told, prepare};
 use bytes::Bytes;
-use otlp_trace::{Octets, Span};
+use otlp_trace::Octets;
 use std::alloc::Global;
 use std::process::Abort;
 use std::test::Fail;
@@ -30,11 +33,19 @@ fn make_tenant(alloc: Global) -> Result<Tenant, Fail> {
     })
 }
 
-/// A span with these ids.
-fn span(alloc: Global, trace_id: &[u8], span_id: &[u8]) -> Result<Span, Fail> {
-    let trace_id = Octets::from_slice(alloc, trace_id)?;
-    let span_id = Octets::from_slice(alloc, span_id)?;
-    Ok(Span { trace_id, span_id })
+/// A span with these ids and this text, of no resource and no scope.
+fn span(alloc: Global, trace_id: &[u8], span_id: &[u8], text: &[u8]) -> Result<StoredSpan, Fail> {
+    Ok(StoredSpan {
+        trace_id: Bytes::copy_from_slice(alloc, trace_id)?,
+        span_id: Bytes::copy_from_slice(alloc, span_id)?,
+        text: Bytes::copy_from_slice(alloc, text)?,
+        origin: Origin {
+            resource: None,
+            resource_schema_url: Bytes::new(),
+            scope: None,
+            scope_schema_url: Bytes::new(),
+        },
+    })
 }
 
 /// The definitions tell the same of this step, which is past from then on.
@@ -51,7 +62,7 @@ fn post(
     tenant: &mut Tenant,
     at: u64,
     body: &[u8],
-    spans: Vec<Span>,
+    spans: Vec<StoredSpan>,
 ) -> Result<(), Fail> {
     let prepared = prepare(tenant.alloc, 7, &tenant.section, body)?;
     let told = Told::Reply(tenant.pipeline.post(at, &prepared)?);
@@ -61,7 +72,7 @@ fn post(
     tell(rt, tenant, OwnStep { at, spans }, &told)
 }
 
-/// A body with one span, whose ids are these bytes again and again, is posted.
+/// A body with one span, its last 28 bytes, whose ids are these bytes again and again, is posted.
 fn post_one(
     rt: &impl Abort,
     tenant: &mut Tenant,
@@ -71,8 +82,26 @@ fn post_one(
     id: u8,
 ) -> Result<(), Fail> {
     let mut spans = Vec::new(tenant.alloc);
-    spans.push(span(tenant.alloc, &[trace; 16], &[id; 8])?)?;
+    spans.push(span(tenant.alloc, &[trace; 16], &[id; 8], &body[6..])?)?;
     post(rt, tenant, at, body, spans)
+}
+
+/// A body with one span of trace 11.., whose text begins at its tenth byte, is posted. Its resource left out five
+/// attributes, and has this schema.
+fn post_of_resource(
+    rt: &impl Abort,
+    tenant: &mut Tenant,
+    body: &[u8],
+    id: u8,
+    schema_url: &[u8],
+) -> Result<(), Fail> {
+    let alloc = tenant.alloc;
+    let mut posted = span(alloc, &[0x11; 16], &[id; 8], &body[10..38])?;
+    posted.origin.resource = Some(Bytes::copy_from_slice(alloc, b"\x10\x05")?);
+    posted.origin.resource_schema_url = Bytes::copy_from_slice(alloc, schema_url)?;
+    let mut spans = Vec::new(alloc);
+    spans.push(posted)?;
+    post(rt, tenant, 0, body, spans)
 }
 
 /// A worker is told that there is no batch.
@@ -172,9 +201,9 @@ fn invalid_spans(rt: HostRuntime) -> Result<(), Fail> {
     let mut tenant = make_tenant(alloc)?;
     // A trace id of zeros, a span id of zeros, and none.
     let mut spans = Vec::new(alloc);
-    spans.push(span(alloc, &[0; 16], &[0x22; 8])?)?;
-    spans.push(span(alloc, &[0x11; 16], &[0; 8])?)?;
-    spans.push(span(alloc, &[0x11; 16], &[])?)?;
+    spans.push(span(alloc, &[0; 16], &[0x22; 8], b"")?)?;
+    spans.push(span(alloc, &[0x11; 16], &[0; 8], b"")?)?;
+    spans.push(span(alloc, &[0x11; 16], &[], b"")?)?;
     post(
         &rt,
         &mut tenant,
@@ -193,8 +222,8 @@ fn a_trace_id_that_is_short(rt: HostRuntime) -> Result<(), Fail> {
     let alloc = rt.alloc();
     let mut tenant = make_tenant(alloc)?;
     let mut spans = Vec::new(alloc);
-    spans.push(span(alloc, &[0x11; 15], &[0x22; 8])?)?;
-    spans.push(span(alloc, &[0x11; 16], &[0x21; 8])?)?;
+    spans.push(span(alloc, &[0x11; 15], &[0x22; 8], b"")?)?;
+    spans.push(span(alloc, &[0x11; 16], &[0x21; 8], &BODY[6..])?)?;
     post(
         &rt,
         &mut tenant,
@@ -203,5 +232,15 @@ fn a_trace_id_that_is_short(rt: HostRuntime) -> Result<(), Fail> {
         spans,
     )?;
     job(&rt, &mut tenant, 1000, 1, &BODY)?;
+    no_job(&rt, &mut tenant, 1000)
+}
+
+#[test]
+fn spans_by_resource(rt: HostRuntime) -> Result<(), Fail> {
+    let mut tenant = make_tenant(rt.alloc())?;
+    post_of_resource(&rt, &mut tenant, &OF_RESOURCE, 0x21, b"")?;
+    post_of_resource(&rt, &mut tenant, &SECOND_OF_RESOURCE, 0x22, b"")?;
+    post_of_resource(&rt, &mut tenant, &WITH_SCHEMA, 0x23, b"u")?;
+    job(&rt, &mut tenant, 1000, 1, &BY_SCHEMA)?;
     no_job(&rt, &mut tenant, 1000)
 }

@@ -1,7 +1,7 @@
-use Rattle.std.proofs.Common.{rules, ◌≡◌, Ok, Result, ap, ◌∙◌}
+use Rattle.std.proofs.Common.{rules, ◌≡◌, Ok, List, Result, ap, ◌∙◌}
 use Rattle.otlp_trace.specs.Data.{RequestData}
 use Rattle.otlp_trace.specs.View.{request_view}
-use Rattle.tenant_pipeline.specs.Arrivals.{arrivals_of}
+use Rattle.tenant_pipeline.specs.Arrivals.{Arrival, arrivals_of}
 use Rattle.tail_settings.specs.Section.{policy_view}
 use Rattle.otlp_read.specs.declared.fault.ReadFault.{ReadFault}
 use Rattle.tenant_pipeline.proofs.Bodies.{only_memory, same_clones}
@@ -17,4 +17,5 @@ returns-clause-only c = λ v is.
     let only : Path (Result RequestData ReadFault) (Ok v) (Ok (request_view c.in_ok-request.request)) = c.in_ok-request.ensures.only v is in
     let same : request_view c.in_ok-request.request ≡ v = cc in
     let policies = same_clones policy_view _ (λ a b same. ap policy_view same) c.args.section.now.policies.items _ c.in_ok-policies.ensures.cases.0 in
-    cc (policies, c.in_ok-spans.ensures ∙ ap arrivals_of same)
+    let arrivals : c.in_ok-spans.spans.items ≡ arrivals_of v = c.in_ok-spans.ensures ∙ ap arrivals_of same in
+    λ i. record { tenant = c.args.tenant; policies = policies i; arrivals = arrivals i }

@@ -1,9 +1,8 @@
-use Rattle.std.proofs.Common.{◌≡◌, ◌∙◌, map, refl, eqb}
+use Rattle.std.proofs.Common.{◌≡◌, ◌∙◌, map, eqb}
 use Rattle.std.specs.Prelude.{◌&&◌}
 use Rattle.std.specs.Cmp.Lexicographic.{pointwise}
 use Rattle.tail_settings.specs.Section.{policy_view}
-use Rattle.tenant_pipeline.specs.Equal.{policy_eq, arrival_eq}
-use Rattle.tenant_pipeline.specs.View.{arrival_view}
+use Rattle.tenant_pipeline.specs.Equal.{policy_eq}
 use Rattle.tenant_pipeline.proofs.Equals.{same_policy, same_views, after_equal, after_unequal, and_true, and_false}
 use Rattle.tenant_pipeline.proofs.body.PreparedPartialEq.eq.Goals.{then-self-other, else-self-other}
 use Rattle.tenant_pipeline.proofs.body.PreparedPartialEq.eq.Goals as goal
@@ -16,8 +15,7 @@ returns-then-eq c =
       | then-self-other w ↦ after_equal a.tenant b.tenant _ _ w.if-self-other.true (w.value-is ∙ w.eq.ensures ∙ same_views policy_view _ policy_eq same_policy a.policies.items b.policies.items)
       | else-self-other w ↦ after_unequal a.tenant b.tenant _ _ w.if-self-other.false w.value-is
     ] in
-    let spans = c.eq-then-eq.ensures ∙ same_views arrival_view _ arrival_eq (λ a b. refl) a.spans.items b.spans.items in
-    rw (← c.self.view_is, ← c.other.view_is) (spans ∙ and_true _ _ _ first c.if-eq.true)
+    rw (← c.self.view_is, ← c.other.view_is) (c.eq-then-eq.ensures ∙ and_true _ _ _ first c.if-eq.true)
 
 pub returns-else-eq : goal.returns-else-eq
 returns-else-eq c =
