@@ -3,10 +3,10 @@ use Rattle.std.proofs.Common.{◌≡◌, ℕ, suc, ◌+◌, ◌*◌, ◌<◌, �
 use Rattle.std.proofs.lemmas.Bool.Decides.{nat_tests}
 use Rattle.pb_wire.specs.declared.field.WireType.{WireType}
 use Rattle.pb_wire.specs.declared.field.WireType.TheVariants as types
-use Rattle.pb_wire.specs.Grammar.{Bytes, IsField, IsTag, bytes_field as bytes_is}
+use Rattle.pb_wire.specs.Grammar.{Varint, Eight, Bytes, Four, IsField, IsTag, varint_field as varint_is, eight_field as eight_is, bytes_field as bytes_is, four_field as four_is}
 use Rattle.pb_wire.specs.Text.{varint_text, tag_text}
 use Rattle.pb_wire.proofs.Written.{groups_are}
-use Rattle.otlp_trace.specs.Text.{bytes_field, unless_empty}
+use Rattle.otlp_trace.specs.Text.{number_field, eight_field, bytes_field, four_field, unless_empty}
 
 pub tag_is : (n : ℕ) (kind : WireType) → 0 < n → n < 2 ^ 29 → IsTag (tag_text n kind) n kind
 tag_is n types.Varint some fits = record { spelled = groups_are (8 * n + 0) (omega arith); numbered = some; fits = omega arith }
@@ -15,6 +15,15 @@ tag_is n types.Bytes some fits = record { spelled = groups_are (8 * n + 2) (omeg
 tag_is n types.GroupStart some fits = record { spelled = groups_are (8 * n + 3) (omega arith); numbered = some; fits = omega arith }
 tag_is n types.GroupEnd some fits = record { spelled = groups_are (8 * n + 4) (omega arith); numbered = some; fits = omega arith }
 tag_is n types.Four some fits = record { spelled = groups_are (8 * n + 5) (omega arith); numbered = some; fits = omega arith }
+
+pub number_at : (d n x : ℕ) → 0 < n → n < 2 ^ 29 → x < 2 ^ 64 → IsField d (number_field n x) (record { number = n; value = Varint x })
+number_at d n x some fits short = varint_is (tag_is n types.Varint some fits) (groups_are x short)
+
+pub eight_at : (d n : ℕ) (bs : List ℕ) → 0 < n → n < 2 ^ 29 → length bs ≡ 8 → IsField d (eight_field n bs) (record { number = n; value = Eight bs })
+eight_at d n bs some fits long = eight_is (tag_is n types.Eight some fits) long
+
+pub four_at : (d n : ℕ) (bs : List ℕ) → 0 < n → n < 2 ^ 29 → length bs ≡ 4 → IsField d (four_field n bs) (record { number = n; value = Four bs })
+four_at d n bs some fits long = four_is (tag_is n types.Four some fits) long
 
 pub bytes_at : (d n : ℕ) (bs : List ℕ) → 0 < n → n < 2 ^ 29 → length bs < 2 ^ 64 → IsField d (bytes_field n bs) (record { number = n; value = Bytes bs })
 bytes_at d n bs some fits short = bytes_is (tag_is n types.Bytes some fits) (groups_are (length bs) short)

@@ -16,6 +16,7 @@ mod repeated;
 mod response;
 mod span;
 mod value;
+mod write;
 
 pub use message::{
     ExportTraceServiceRequest, InstrumentationScope, Resource, ResourceSpans, ScopeSpans,
@@ -25,3 +26,6 @@ pub use repeated::Repeated;
 pub use response::{ExportTracePartialSuccess, ExportTraceServiceResponse};
 pub use span::{Event, Link, Span, Status};
 pub use value::{AnyValue, AnyValueKind, ArrayValue, DoubleBits, KeyValue, KeyValueList};
+pub use write::{
+    write_request, write_resource, write_response, write_scope, write_span, write_status,
+};

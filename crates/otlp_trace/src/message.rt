@@ -6,7 +6,7 @@ use crate::span::Span;
 use crate::value::KeyValue;
 
 /// What produced the spans: a process, a host, a service.
-#[derive(Drop)]
+#[derive(Debug, Drop)]
 pub struct Resource {
     pub attributes: Repeated<KeyValue>,
     /// How many attributes were left out by the client.
@@ -16,7 +16,7 @@ pub struct Resource {
 }
 
 /// The library that made the spans.
-#[derive(Drop)]
+#[derive(Debug, Drop)]
 pub struct InstrumentationScope {
     pub name: String,
     pub version: String,
@@ -28,7 +28,7 @@ pub struct InstrumentationScope {
 }
 
 /// Spans of one instrumentation scope.
-#[derive(Drop)]
+#[derive(Debug, Drop)]
 pub struct ScopeSpans {
     pub scope: Option<InstrumentationScope>,
     pub spans: Repeated<Span>,
@@ -37,7 +37,7 @@ pub struct ScopeSpans {
 }
 
 /// Spans of one resource, by scope.
-#[derive(Drop)]
+#[derive(Debug, Drop)]
 pub struct ResourceSpans {
     pub resource: Option<Resource>,
     pub scope_spans: Repeated<ScopeSpans>,
@@ -46,7 +46,7 @@ pub struct ResourceSpans {
 }
 
 /// What a client posts.
-#[derive(Drop)]
+#[derive(Debug, Drop)]
 pub struct ExportTraceServiceRequest {
     pub resource_spans: Repeated<ResourceSpans>,
 }

@@ -5,7 +5,7 @@ use crate::repeated::Repeated;
 use crate::value::KeyValue;
 
 /// How a span ended.
-#[derive(Drop)]
+#[derive(Debug, Drop)]
 pub struct Status {
     pub message: String,
     /// 0 unset, 1 ok, 2 error. Other numbers are carried.
@@ -15,7 +15,7 @@ pub struct Status {
 }
 
 /// Something that happened during a span.
-#[derive(Drop)]
+#[derive(Debug, Drop)]
 pub struct Event {
     /// Nanoseconds since 1970.
     pub time_unix_nano: u64,
@@ -28,7 +28,7 @@ pub struct Event {
 }
 
 /// A span that this one is linked to, in this trace or another.
-#[derive(Drop)]
+#[derive(Debug, Drop)]
 pub struct Link {
     pub trace_id: Octets,
     pub span_id: Octets,
@@ -43,7 +43,7 @@ pub struct Link {
 }
 
 /// One operation of a trace.
-#[derive(Drop)]
+#[derive(Debug, Drop)]
 pub struct Span {
     /// Sixteen bytes, not all zero, where the span is valid.
     pub trace_id: Octets,

@@ -9,7 +9,7 @@ pub struct DoubleBits(pub [u8; 8]);
 
 /// A value of any kind, or of none.
 #[cycle(any)]
-#[derive(Drop)]
+#[derive(Debug, Drop)]
 pub struct AnyValue {
     pub kind: AnyValueKind,
     /// Fields that this version doesn't know, as they were spelled.
@@ -18,7 +18,7 @@ pub struct AnyValue {
 
 /// Which member of the value's oneof is chosen.
 #[cycle(any)]
-#[derive(Drop)]
+#[derive(Debug, Drop)]
 pub enum AnyValueKind {
     Unset,
     String(String),
@@ -32,7 +32,7 @@ pub enum AnyValueKind {
 
 /// Values in order, of any kinds.
 #[cycle(any)]
-#[derive(Drop)]
+#[derive(Debug, Drop)]
 pub struct ArrayValue {
     pub values: Vec<AnyValue>,
     /// Fields that this version doesn't know, as they were spelled.
@@ -41,7 +41,7 @@ pub struct ArrayValue {
 
 /// Keys with values, in order.
 #[cycle(any)]
-#[derive(Drop)]
+#[derive(Debug, Drop)]
 pub struct KeyValueList {
     pub values: Vec<KeyValue>,
     /// Fields that this version doesn't know, as they were spelled.
@@ -50,7 +50,7 @@ pub struct KeyValueList {
 
 /// An attribute: a key, and a value where one is given.
 #[cycle(any)]
-#[derive(Drop)]
+#[derive(Debug, Drop)]
 pub struct KeyValue {
     pub key: String,
     pub value: Option<AnyValue>,

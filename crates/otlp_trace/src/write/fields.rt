@@ -1,0 +1,106 @@
+//! Single fields. Those with `some` in their name are left out at their proto3 default.
+
+ghost use Rattle.std.specs.Prelude.{◌≡◌, ◌^◌, ◌<◌, ◌≤◌, ◌++◌, length, take, drop, OnOk};
+ghost use Rattle.otlp_trace.specs.Text.{number_field, bytes_field, eight_field, some_bytes, some_number, some_signed, some_eight, some_four};
+
+use pb_wire::{WireType, put_bytes, put_tag, put_varint};
+use std::alloc::AllocError;
+
+pub fn put_number_field(out: &mut Vec<u8>, number: u32, value: u64) -> Result<(), AllocError>
+    requires some { 0 < number }
+    requires fits { number < 2 ^ 29 }
+    ensures ok { OnOk result (out.new.items ≡ out.old.items ++ number_field number value) }
+{
+    put_tag(out, number, WireType::Varint)?;
+    put_varint(out, value)
+}
+
+pub fn put_bytes_field(out: &mut Vec<u8>, number: u32, bytes: &[u8]) -> Result<(), AllocError>
+    requires some { 0 < number }
+    requires fits { number < 2 ^ 29 }
+    ensures ok { OnOk result (out.new.items ≡ out.old.items ++ bytes_field number bytes.now) }
+{
+    put_tag(out, number, WireType::Bytes)?;
+    put_bytes(out, bytes)
+}
+
+pub fn put_eight_field(out: &mut Vec<u8>, number: u32, bytes: [u8; 8]) -> Result<(), AllocError>
+    requires some { 0 < number }
+    requires fits { number < 2 ^ 29 }
+    ensures ok { OnOk result (out.new.items ≡ out.old.items ++ eight_field number bytes) }
+{
+    put_tag(out, number, WireType::Eight)?;
+    out.extend_from_slice(&bytes)
+}
+
+/// Bytes, or a string's.
+pub fn put_some_bytes(out: &mut Vec<u8>, number: u32, bytes: &[u8]) -> Result<(), AllocError>
+    requires some { 0 < number }
+    requires fits { number < 2 ^ 29 }
+    ensures ok { OnOk result (out.new.items ≡ out.old.items ++ some_bytes number bytes.now) }
+{
+    if bytes.len() == 0 {
+        return Ok(());
+    }
+    put_bytes_field(out, number, bytes)
+}
+
+pub fn put_some_number(out: &mut Vec<u8>, number: u32, value: u64) -> Result<(), AllocError>
+    requires some { 0 < number }
+    requires fits { number < 2 ^ 29 }
+    ensures ok { OnOk result (out.new.items ≡ out.old.items ++ some_number number value) }
+{
+    if value == 0 {
+        return Ok(());
+    }
+    put_number_field(out, number, value)
+}
+
+/// A number with a sign, a negative one in ten bytes.
+pub fn put_some_signed(out: &mut Vec<u8>, number: u32, value: i64) -> Result<(), AllocError>
+    requires some { 0 < number }
+    requires fits { number < 2 ^ 29 }
+    ensures ok { OnOk result (out.new.items ≡ out.old.items ++ some_signed number value) }
+{
+    put_some_number(out, number, value.cast_unsigned())
+}
+
+/// A number in eight bytes.
+pub fn put_some_eight(out: &mut Vec<u8>, number: u32, value: u64) -> Result<(), AllocError>
+    requires some { 0 < number }
+    requires fits { number < 2 ^ 29 }
+    ensures ok { OnOk result (out.new.items ≡ out.old.items ++ some_eight number value) }
+{
+    if value == 0 {
+        return Ok(());
+    }
+    put_eight_field(out, number, value.to_le_bytes())
+}
+
+/// A number in four bytes.
+pub fn put_some_four(out: &mut Vec<u8>, number: u32, value: u32) -> Result<(), AllocError>
+    requires some { 0 < number }
+    requires fits { number < 2 ^ 29 }
+    ensures ok { OnOk result (out.new.items ≡ out.old.items ++ some_four number value) }
+{
+    if value == 0 {
+        return Ok(());
+    }
+    put_tag(out, number, WireType::Four)?;
+    out.extend_from_slice(&value.to_le_bytes())
+}
+
+/// Makes the bytes from a place on the content of a field.
+pub fn wrap(out: &mut Vec<u8>, start: usize, number: u32) -> Result<(), AllocError>
+    requires within { start ≤ length out.old.items }
+    requires some { 0 < number }
+    requires fits { number < 2 ^ 29 }
+    ensures ok { OnOk result (out.new.items ≡ take start out.old.items ++ bytes_field number (drop start out.old.items)) }
+{
+    let end = out.len();
+    put_tag(out, number, WireType::Bytes)?;
+    put_varint(out, (end - start) as u64)?;
+    let added = out.len() - end;
+    out[start..].rotate_right(added);
+    Ok(())
+}
