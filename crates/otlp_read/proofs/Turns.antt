@@ -1,5 +1,5 @@
 -- The turns of a reader's loop, which keeps that what is left, read on, gives what the whole reading gives.
-use Rattle.std.proofs.Common.{◌≡◌, ℕ, List, Option, Some, None, Result, Ok, Err, sym, ◌∙◌}
+use Rattle.std.proofs.Common.{◌≡◌, ℕ, List, Some, None, Result, Ok, Err, sym, ◌∙◌}
 use Rattle.pb_wire.specs.declared.field.WireFault.{WireFault}
 use Rattle.pb_wire.specs.Grammar.{Entry}
 use Rattle.pb_wire.specs.Reading.{next_at}

@@ -158,7 +158,14 @@ impl Message for Link {
                     return Ok(link);
                 }
             }
-            Value::Bytes(bytes) => return link_bytes(alloc, link, field.number, bytes, spelled, room),
+            Value::Bytes(bytes) => return link_bytes(
+                alloc,
+                link,
+                field.number,
+                bytes,
+                spelled,
+                room,
+            ),
             _ => {}
         }
         link.unknown = keep(link.unknown, spelled)?;

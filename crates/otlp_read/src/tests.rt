@@ -1,8 +1,8 @@
 use super::*;
 use crate::message::{Message, merged};
 use otlp_trace::{
-    AnyValueKind, DoubleBits, Event, InstrumentationScope, KeyValue, Link, ResourceSpans, ScopeSpans,
-    Span,
+    AnyValueKind, DoubleBits, Event, InstrumentationScope, KeyValue, Link, ResourceSpans,
+    ScopeSpans, Span,
 };
 use std::alloc::Global;
 use std::test::Fail;
@@ -92,45 +92,64 @@ fn messages_in(span: &Span) -> bool {
 }
 
 fn event_is_read(alloc: Global) -> Result<bool, Fail> {
-    let event: Event =
-        read(alloc, b"\x09\x03\x00\x00\x00\x00\x00\x00\x00\x12\x01e\x1a\x00\x20\x06")?;
-    Ok(event.name.as_str() == "e"
-        && (event.time_unix_nano, event.dropped_attributes_count) == (3, 6)
-        && event.attributes.as_slice().len() == 1)
+    let event: Event = read(
+        alloc,
+        b"\x09\x03\x00\x00\x00\x00\x00\x00\x00\x12\x01e\x1a\x00\x20\x06",
+    )?;
+    Ok(
+        event.name.as_str() == "e"
+            && (event.time_unix_nano, event.dropped_attributes_count) == (3, 6)
+            && event.attributes.as_slice().len() == 1,
+    )
 }
 
 fn link_is_read(alloc: Global) -> Result<bool, Fail> {
-    let link: Link =
-        read(alloc, b"\x0a\x015\x12\x016\x1a\x027=\x22\x00\x28\x08\x35\x09\x00\x00\x00")?;
-    Ok(link.trace_id.as_slice() == b"5".as_slice()
-        && link.span_id.as_slice() == b"6".as_slice()
-        && link.trace_state.as_str() == "7="
-        && (link.dropped_attributes_count, link.flags) == (8, 9)
-        && link.attributes.as_slice().len() == 1)
+    let link: Link = read(
+        alloc,
+        b"\x0a\x015\x12\x016\x1a\x027=\x22\x00\x28\x08\x35\x09\x00\x00\x00",
+    )?;
+    Ok(
+        link.trace_id.as_slice() == b"5".as_slice()
+            && link.span_id.as_slice() == b"6".as_slice()
+            && link.trace_state.as_str() == "7="
+            && (link.dropped_attributes_count, link.flags) == (8, 9)
+            && link.attributes.as_slice().len() == 1,
+    )
 }
 
 /// A resource in two pieces, a scope spans and a schema.
 fn resource_spans_are_read(alloc: Global) -> Result<bool, Fail> {
-    let spans: ResourceSpans =
-        read(alloc, b"\x0a\x04\x10\x04\x0a\x00\x0a\x02\x0a\x00\x12\x00\x1a\x01w")?;
-    Ok(spans.scope_spans.as_slice().len() == 1
-        && spans.schema_url.as_str() == "w"
-        && matches!(&spans.resource, Some(resource) if resource.dropped_attributes_count == 4 && resource.attributes.as_slice().len() == 2))
+    let spans: ResourceSpans = read(
+        alloc,
+        b"\x0a\x04\x10\x04\x0a\x00\x0a\x02\x0a\x00\x12\x00\x1a\x01w",
+    )?;
+    Ok(
+        spans.scope_spans.as_slice().len() == 1
+            && spans.schema_url.as_str() == "w"
+            && matches!(&spans.resource, Some(resource) if resource.dropped_attributes_count == 4 && resource.attributes.as_slice().len() == 2),
+    )
 }
 
 /// A field that isn't known, of which nothing stays, a scope, a span and a schema.
 fn scope_spans_are_read(alloc: Global) -> Result<bool, Fail> {
-    let spans: ScopeSpans =
-        read(alloc, b"\x20\x01\x0a\x0a\x0a\x01s\x12\x01v\x1a\x00\x20\x03\x12\x00\x1a\x01u")?;
-    Ok(spans.spans.as_slice().len() == 1
-        && spans.schema_url.as_str() == "u"
-        && matches!(&spans.scope, Some(scope) if is_filled(scope)))
+    let spans: ScopeSpans = read(
+        alloc,
+        b"\x20\x01\x0a\x0a\x0a\x01s\x12\x01v\x1a\x00\x20\x03\x12\x00\x1a\x01u",
+    )?;
+    Ok(
+        spans.spans.as_slice().len() == 1
+            && spans.schema_url.as_str() == "u"
+            && matches!(&spans.scope, Some(scope) if is_filled(scope)),
+    )
 }
 
 fn is_filled(scope: &InstrumentationScope) -> bool {
     scope.name.as_str() == "s"
         && scope.version.as_str() == "v"
-        && (scope.attributes.as_slice().len(), scope.dropped_attributes_count) == (1, 3)
+        && (
+            scope.attributes.as_slice().len(),
+            scope.dropped_attributes_count,
+        ) == (1, 3)
         && scope.unknown.as_slice().is_empty()
 }
 
@@ -184,16 +203,34 @@ fn values(rt: HostRuntime) -> Result<(), Fail> {
     for (value, want) in [
         (b"\x0a\x00".as_slice(), Want::EmptyString),
         (b"\x10\x02".as_slice(), Want::Bool(true)),
-        (b"\x18\xfe\xff\xff\xff\xff\xff\xff\xff\xff\x01".as_slice(), Want::Int(-2)),
-        (b"\x21\x01\x00\x00\x00\x00\x00\xf8\x7f".as_slice(), Want::Double(nan)),
-        (b"\x21\x00\x00\x00\x00\x00\x00\x00\x80".as_slice(), Want::Double(minus_zero)),
+        (
+            b"\x18\xfe\xff\xff\xff\xff\xff\xff\xff\xff\x01".as_slice(),
+            Want::Int(-2),
+        ),
+        (
+            b"\x21\x01\x00\x00\x00\x00\x00\xf8\x7f".as_slice(),
+            Want::Double(nan),
+        ),
+        (
+            b"\x21\x00\x00\x00\x00\x00\x00\x00\x80".as_slice(),
+            Want::Double(minus_zero),
+        ),
         (b"\x3a\x01\xff".as_slice(), Want::Bytes(1)),
         // Of two members the last counts.
         (b"\x10\x01\x18\x05".as_slice(), Want::Int(5)),
         // Arrays and lists are merged, but where another member stands between.
-        (b"\x2a\x02\x0a\x00\x2a\x04\x0a\x02\x10\x01".as_slice(), Want::Array(2)),
-        (b"\x2a\x02\x0a\x00\x10\x01\x2a\x04\x0a\x02\x10\x01".as_slice(), Want::Array(1)),
-        (b"\x32\x02\x0a\x00\x32\x05\x0a\x03\x0a\x01k".as_slice(), Want::KeyValueList(2)),
+        (
+            b"\x2a\x02\x0a\x00\x2a\x04\x0a\x02\x10\x01".as_slice(),
+            Want::Array(2),
+        ),
+        (
+            b"\x2a\x02\x0a\x00\x10\x01\x2a\x04\x0a\x02\x10\x01".as_slice(),
+            Want::Array(1),
+        ),
+        (
+            b"\x32\x02\x0a\x00\x32\x05\x0a\x03\x0a\x01k".as_slice(),
+            Want::KeyValueList(2),
+        ),
     ] {
         assert!(rt; holds(rt.alloc(), value, want)?);
     }
@@ -204,7 +241,10 @@ fn values(rt: HostRuntime) -> Result<(), Fail> {
 fn unknown_fields(rt: HostRuntime) -> Result<(), Fail> {
     let alloc = rt.alloc();
     // A number that isn't known, a name with a length of two bytes, a trace id that is a number, and a group.
-    let span: Span = read(alloc, b"\xa0\x06\x01\x2a\x81\x00n\x08\x05\xa3\x06\x08\x05\xa4\x06")?;
+    let span: Span = read(
+        alloc,
+        b"\xa0\x06\x01\x2a\x81\x00n\x08\x05\xa3\x06\x08\x05\xa4\x06",
+    )?;
     let kept = b"\xa0\x06\x01\x08\x05\xa3\x06\x08\x05\xa4\x06".as_slice();
     assert!(rt; span.name.as_str() == "n" && span.unknown.as_slice() == kept);
     let attribute = attribute(alloc, b"\x4a\x01\xff\x10\x01\x12\x00")?;
@@ -234,15 +274,24 @@ fn has_status(span: &Span) -> bool {
 #[test]
 fn faults(rt: HostRuntime) {
     for (body, want) in [
-        (b"\x0a\xff\xff\xff\xff\xff\xff\xff\xff\xff\x01".as_slice(), ReadFault::Truncated),
-        (b"\x08\xff\xff\xff\xff\xff\xff\xff\xff\xff\xff".as_slice(), ReadFault::VarintTooLong),
+        (
+            b"\x0a\xff\xff\xff\xff\xff\xff\xff\xff\xff\x01".as_slice(),
+            ReadFault::Truncated,
+        ),
+        (
+            b"\x08\xff\xff\xff\xff\xff\xff\xff\xff\xff\xff".as_slice(),
+            ReadFault::VarintTooLong,
+        ),
         (b"\x00\x00".as_slice(), ReadFault::BadTag),
         (b"\x0e".as_slice(), ReadFault::BadTag),
         (b"\x0b".as_slice(), ReadFault::GroupMismatch),
         (b"\x0c".as_slice(), ReadFault::GroupMismatch),
         (b"\x0a\x03\x1a\x01\xff".as_slice(), ReadFault::NotUtf8),
         // A string that a later one replaces has to be UTF-8 too.
-        (b"\x0a\x06\x1a\x01\xff\x1a\x01u".as_slice(), ReadFault::NotUtf8),
+        (
+            b"\x0a\x06\x1a\x01\xff\x1a\x01u".as_slice(),
+            ReadFault::NotUtf8,
+        ),
         // A fault in a known message is the body's, though a later one is sound.
         (b"\x0a\x01\x00\x0a\x00".as_slice(), ReadFault::BadTag),
     ] {
@@ -272,7 +321,15 @@ fn arrays(alloc: Global, levels: u32, innermost: &[u8]) -> Result<Vec<u8>, Fail>
     for _ in 0..levels {
         text = inside(alloc, 0x2a, inside(alloc, 0x0a, text)?)?;
     }
-    inside(alloc, 0x0a, inside(alloc, 0x0a, inside(alloc, 0x0a, inside(alloc, 0x12, text)?)?)?)
+    inside(
+        alloc,
+        0x0a,
+        inside(
+            alloc,
+            0x0a,
+            inside(alloc, 0x0a, inside(alloc, 0x12, text)?)?,
+        )?,
+    )
 }
 
 /// The bytes as a field with this tag.
@@ -300,10 +357,11 @@ fn depth(rt: HostRuntime) -> Result<(), Fail> {
 
 /// What a reply's body is read as.
 fn reply_is(body: &[u8], rejected_spans: i64, error_message: &str) -> bool {
-    read_response(body) == Ok(Some(Partial {
-        rejected_spans,
-        error_message,
-    }))
+    read_response(body)
+        == Ok(Some(Partial {
+            rejected_spans,
+            error_message,
+        }))
 }
 
 #[test]

@@ -289,11 +289,19 @@ fn key_value_field(
     requires room { room ≤ 100 }
     ensures exact { Gives key_value_view result (key_value_step_of (read_any room) (key_value_view before) (entry field.entry) spelled.now) }
 {
-    let KeyValue { key, value, unknown } = before;
+    let KeyValue {
+        key,
+        value,
+        unknown,
+    } = before;
     if let Value::Bytes(bytes) = field.value {
         if field.number == 1 {
             let key = text(alloc, bytes)?;
-            return Ok(KeyValue { key, value, unknown });
+            return Ok(KeyValue {
+                key,
+                value,
+                unknown,
+            });
         }
         if field.number == 2 {
             let start = match value {
@@ -301,11 +309,19 @@ fn key_value_field(
                 None => empty_value(alloc),
             };
             let value = Some(any_value(alloc, start, bytes, room)?);
-            return Ok(KeyValue { key, value, unknown });
+            return Ok(KeyValue {
+                key,
+                value,
+                unknown,
+            });
         }
     }
     let unknown = keep(unknown, spelled)?;
-    Ok(KeyValue { key, value, unknown })
+    Ok(KeyValue {
+        key,
+        value,
+        unknown,
+    })
 }
 
 impl Message for KeyValue {

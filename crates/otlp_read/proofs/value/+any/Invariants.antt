@@ -1,4 +1,4 @@
-use Rattle.std.proofs.Common.{◌≡◌, ◌-◌, ◌+◌, ◌*◌, length}
+use Rattle.std.proofs.Common.{◌-◌, ◌+◌, ◌*◌, length}
 use Rattle.otlp_trace.specs.View.{any_view, array_view, list_view, key_value_view}
 use Rattle.otlp_read.specs.AnyValue.{any_step, array_step, list_step, key_value_step_of, read_any, read_array, read_list, read_key_value}
 use Rattle.otlp_read.proofs.Turns.{Kept}
