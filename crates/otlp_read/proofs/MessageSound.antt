@@ -60,14 +60,14 @@ scope_fine F room s n (Bytes bs) wire good =
     elim (test (n == 1)) [
       | inl e ↦ rw e (string_fine bs (λ text. record s { name = text }) (λ text valid. (assumption good.0, λ f. assumption (good.1 f, valid))))
       | inr e1 ↦
-        elim (test (n == 2)) [
-          | inl e ↦ rw (e1, e) (string_fine bs (λ text. record s { version = text }) (λ text valid. (assumption good.0, λ f. assumption (good.1 f, valid))))
-          | inr e2 ↦
-            elim (test (n == 3)) [
-              | inl e ↦ rw (e1, e2, e) (another_fine s.attributes (read_with key_value_step room no_key_value bs) (λ l. record s { attributes = l }) (λ p is. let g = attribute_sound F room p bs wire is in (assumption (good.0, each_push (NestedKeyValue room) s.attributes p good.0.attributes g.0), λ f. assumption (good.1 f, each_push TypedKeyValue s.attributes p (good.1 f).attributes (g.1 f)))))
-              | inr e3 ↦ rw (e1, e2, e3) (not_known (λ y. refl))
-            ]
-        ]
+          elim (test (n == 2)) [
+            | inl e ↦ rw (e1, e) (string_fine bs (λ text. record s { version = text }) (λ text valid. (assumption good.0, λ f. assumption (good.1 f, valid))))
+            | inr e2 ↦
+                elim (test (n == 3)) [
+                  | inl e ↦ rw (e1, e2, e) (another_fine s.attributes (read_with key_value_step room no_key_value bs) (λ l. record s { attributes = l }) (λ p is. let g = attribute_sound F room p bs wire is in (assumption (good.0, each_push (NestedKeyValue room) s.attributes p good.0.attributes g.0), λ f. assumption (good.1 f, each_push TypedKeyValue s.attributes p (good.1 f).attributes (g.1 f)))))
+                  | inr e3 ↦ rw (e1, e2, e3) (not_known (λ y. refl))
+                ]
+          ]
     ]
 scope_fine F room s n _ wire good = not_known (λ y. refl)
 
@@ -127,10 +127,10 @@ event_fine F room v n (Bytes bs) wire good =
     elim (test (n == 2)) [
       | inl e ↦ rw e (string_fine bs (λ text. record v { name = text }) (λ text valid. (assumption good.0, λ f. assumption (good.1 f, valid))))
       | inr e2 ↦
-        elim (test (n == 3)) [
-          | inl e ↦ rw (e2, e) (another_fine v.attributes (read_with key_value_step room no_key_value bs) (λ l. record v { attributes = l }) (λ p is. let g = attribute_sound F room p bs wire is in (assumption (good.0, each_push (NestedKeyValue room) v.attributes p good.0.attributes g.0), λ f. assumption (good.1 f, each_push TypedKeyValue v.attributes p (good.1 f).attributes (g.1 f)))))
-          | inr e3 ↦ rw (e2, e3) (not_known (λ y. refl))
-        ]
+          elim (test (n == 3)) [
+            | inl e ↦ rw (e2, e) (another_fine v.attributes (read_with key_value_step room no_key_value bs) (λ l. record v { attributes = l }) (λ p is. let g = attribute_sound F room p bs wire is in (assumption (good.0, each_push (NestedKeyValue room) v.attributes p good.0.attributes g.0), λ f. assumption (good.1 f, each_push TypedKeyValue v.attributes p (good.1 f).attributes (g.1 f)))))
+            | inr e3 ↦ rw (e2, e3) (not_known (λ y. refl))
+          ]
     ]
 event_fine F room v n _ wire good = not_known (λ y. refl)
 
@@ -163,18 +163,18 @@ link_fine F room v n (Bytes bs) wire good =
     elim (test (n == 1)) [
       | inl e ↦ rw e (made (record v { trace_id = bs }) (assumption good.0, λ f. assumption (good.1 f)))
       | inr e1 ↦
-        elim (test (n == 2)) [
-          | inl e ↦ rw (e1, e) (made (record v { span_id = bs }) (assumption good.0, λ f. assumption (good.1 f)))
-          | inr e2 ↦
-            elim (test (n == 3)) [
-              | inl e ↦ rw (e1, e2, e) (string_fine bs (λ text. record v { trace_state = text }) (λ text valid. (assumption good.0, λ f. assumption (good.1 f, valid))))
-              | inr e3 ↦
-                elim (test (n == 4)) [
-                  | inl e ↦ rw (e1, e2, e3, e) (another_fine v.attributes (read_with key_value_step room no_key_value bs) (λ l. record v { attributes = l }) (λ p is. let g = attribute_sound F room p bs wire is in (assumption (good.0, each_push (NestedKeyValue room) v.attributes p good.0.attributes g.0), λ f. assumption (good.1 f, each_push TypedKeyValue v.attributes p (good.1 f).attributes (g.1 f)))))
-                  | inr e4 ↦ rw (e1, e2, e3, e4) (not_known (λ y. refl))
+          elim (test (n == 2)) [
+            | inl e ↦ rw (e1, e) (made (record v { span_id = bs }) (assumption good.0, λ f. assumption (good.1 f)))
+            | inr e2 ↦
+                elim (test (n == 3)) [
+                  | inl e ↦ rw (e1, e2, e) (string_fine bs (λ text. record v { trace_state = text }) (λ text valid. (assumption good.0, λ f. assumption (good.1 f, valid))))
+                  | inr e3 ↦
+                      elim (test (n == 4)) [
+                        | inl e ↦ rw (e1, e2, e3, e) (another_fine v.attributes (read_with key_value_step room no_key_value bs) (λ l. record v { attributes = l }) (λ p is. let g = attribute_sound F room p bs wire is in (assumption (good.0, each_push (NestedKeyValue room) v.attributes p good.0.attributes g.0), λ f. assumption (good.1 f, each_push TypedKeyValue v.attributes p (good.1 f).attributes (g.1 f)))))
+                        | inr e4 ↦ rw (e1, e2, e3, e4) (not_known (λ y. refl))
+                      ]
                 ]
-            ]
-        ]
+          ]
     ]
 link_fine F room v n _ wire good = not_known (λ y. refl)
 
@@ -197,27 +197,27 @@ span_fine F room s n (Varint x) wire good =
     elim (test (n == 6)) [
       | inl e ↦ rw e (made (record s { kind = int32 x }) (assumption good.0, λ f. assumption (good.1 f, int32_fits x)))
       | inr e6 ↦
-        elim (test (n == 10)) [
-          | inl e ↦ rw (e6, e) (made (record s { dropped_attributes_count = uint32 x }) (assumption good.0, λ f. assumption (good.1 f, uint32_fits x)))
-          | inr e10 ↦
-            elim (test (n == 12)) [
-              | inl e ↦ rw (e6, e10, e) (made (record s { dropped_events_count = uint32 x }) (assumption good.0, λ f. assumption (good.1 f, uint32_fits x)))
-              | inr e12 ↦
-                elim (test (n == 14)) [
-                  | inl e ↦ rw (e6, e10, e12, e) (made (record s { dropped_links_count = uint32 x }) (assumption good.0, λ f. assumption (good.1 f, uint32_fits x)))
-                  | inr e14 ↦ rw (e6, e10, e12, e14) (not_known (λ y. refl))
+          elim (test (n == 10)) [
+            | inl e ↦ rw (e6, e) (made (record s { dropped_attributes_count = uint32 x }) (assumption good.0, λ f. assumption (good.1 f, uint32_fits x)))
+            | inr e10 ↦
+                elim (test (n == 12)) [
+                  | inl e ↦ rw (e6, e10, e) (made (record s { dropped_events_count = uint32 x }) (assumption good.0, λ f. assumption (good.1 f, uint32_fits x)))
+                  | inr e12 ↦
+                      elim (test (n == 14)) [
+                        | inl e ↦ rw (e6, e10, e12, e) (made (record s { dropped_links_count = uint32 x }) (assumption good.0, λ f. assumption (good.1 f, uint32_fits x)))
+                        | inr e14 ↦ rw (e6, e10, e12, e14) (not_known (λ y. refl))
+                      ]
                 ]
-            ]
-        ]
+          ]
     ]
 span_fine F room s n (Eight bs) wire good =
     elim (test (n == 7)) [
       | inl e ↦ rw e (made (record s { start_time_unix_nano = fixed64 bs }) (assumption good.0, λ f. assumption (good.1 f, fixed64_fits bs wire.0 (wire.1 f))))
       | inr e7 ↦
-        elim (test (n == 8)) [
-          | inl e ↦ rw (e7, e) (made (record s { end_time_unix_nano = fixed64 bs }) (assumption good.0, λ f. assumption (good.1 f, fixed64_fits bs wire.0 (wire.1 f))))
-          | inr e8 ↦ rw (e7, e8) (not_known (λ y. refl))
-        ]
+          elim (test (n == 8)) [
+            | inl e ↦ rw (e7, e) (made (record s { end_time_unix_nano = fixed64 bs }) (assumption good.0, λ f. assumption (good.1 f, fixed64_fits bs wire.0 (wire.1 f))))
+            | inr e8 ↦ rw (e7, e8) (not_known (λ y. refl))
+          ]
     ]
 span_fine F room s n (Four bs) wire good =
     elim (test (n == 16)) [
@@ -228,38 +228,38 @@ span_fine F room s n (Bytes bs) wire good =
     elim (test (n == 1)) [
       | inl e ↦ rw e (made (record s { trace_id = bs }) (assumption good.0, λ f. assumption (good.1 f)))
       | inr e1 ↦
-        elim (test (n == 2)) [
-          | inl e ↦ rw (e1, e) (made (record s { span_id = bs }) (assumption good.0, λ f. assumption (good.1 f)))
-          | inr e2 ↦
-            elim (test (n == 3)) [
-              | inl e ↦ rw (e1, e2, e) (string_fine bs (λ text. record s { trace_state = text }) (λ text valid. (assumption good.0, λ f. assumption (good.1 f, valid))))
-              | inr e3 ↦
-                elim (test (n == 4)) [
-                  | inl e ↦ rw (e1, e2, e3, e) (made (record s { parent_span_id = bs }) (assumption good.0, λ f. assumption (good.1 f)))
-                  | inr e4 ↦
-                    elim (test (n == 5)) [
-                      | inl e ↦ rw (e1, e2, e3, e4, e) (string_fine bs (λ text. record s { name = text }) (λ text valid. (assumption good.0, λ f. assumption (good.1 f, valid))))
-                      | inr e5 ↦
-                        elim (test (n == 9)) [
-                          | inl e ↦ rw (e1, e2, e3, e4, e5, e) (another_fine s.attributes (read_with key_value_step room no_key_value bs) (λ l. record s { attributes = l }) (λ p is. let g = attribute_sound F room p bs wire is in (assumption (good.0, each_push (NestedKeyValue room) s.attributes p good.0.attributes g.0), λ f. assumption (good.1 f, each_push TypedKeyValue s.attributes p (good.1 f).attributes (g.1 f)))))
-                          | inr e9 ↦
-                            elim (test (n == 11)) [
-                              | inl e ↦ rw (e1, e2, e3, e4, e5, e9, e) (another_fine s.events (read_with event_step room no_event bs) (λ l. record s { events = l }) (λ x is. let g = event_sound F room x bs wire is in (assumption (good.0, each_push (NestedEvent room) s.events x good.0.events g.0), λ f. assumption (good.1 f, each_push TypedEvent s.events x (good.1 f).events (g.1 f)))))
-                              | inr e11 ↦
-                                elim (test (n == 13)) [
-                                  | inl e ↦ rw (e1, e2, e3, e4, e5, e9, e11, e) (another_fine s.links (read_with link_step room no_link bs) (λ l. record s { links = l }) (λ x is. let g = link_sound F room x bs wire is in (assumption (good.0, each_push (NestedLink room) s.links x good.0.links g.0), λ f. assumption (good.1 f, each_push TypedLink s.links x (good.1 f).links (g.1 f)))))
-                                  | inr e13 ↦
-                                    elim (test (n == 15)) [
-                                      | inl e ↦ rw (e1, e2, e3, e4, e5, e9, e11, e13, e) (read_fine (read_with status_step room (unwrap_or s.status no_status) bs) (λ x. record s { status = Some x }) (λ x is. let g = status_reads F room (unwrap_or s.status no_status) x bs wire (standing NestedStatus no_status empty_status room s.status good.0.status) (λ f. typed_standing TypedStatus no_status s.status empty_status_typed (good.1 f).status) is in (assumption (good.0, g.0), λ f. assumption (good.1 f, g.1 f))))
-                                      | inr e15 ↦ rw (e1, e2, e3, e4, e5, e9, e11, e13, e15) (not_known (λ y. refl))
-                                    ]
-                                ]
+          elim (test (n == 2)) [
+            | inl e ↦ rw (e1, e) (made (record s { span_id = bs }) (assumption good.0, λ f. assumption (good.1 f)))
+            | inr e2 ↦
+                elim (test (n == 3)) [
+                  | inl e ↦ rw (e1, e2, e) (string_fine bs (λ text. record s { trace_state = text }) (λ text valid. (assumption good.0, λ f. assumption (good.1 f, valid))))
+                  | inr e3 ↦
+                      elim (test (n == 4)) [
+                        | inl e ↦ rw (e1, e2, e3, e) (made (record s { parent_span_id = bs }) (assumption good.0, λ f. assumption (good.1 f)))
+                        | inr e4 ↦
+                            elim (test (n == 5)) [
+                              | inl e ↦ rw (e1, e2, e3, e4, e) (string_fine bs (λ text. record s { name = text }) (λ text valid. (assumption good.0, λ f. assumption (good.1 f, valid))))
+                              | inr e5 ↦
+                                  elim (test (n == 9)) [
+                                    | inl e ↦ rw (e1, e2, e3, e4, e5, e) (another_fine s.attributes (read_with key_value_step room no_key_value bs) (λ l. record s { attributes = l }) (λ p is. let g = attribute_sound F room p bs wire is in (assumption (good.0, each_push (NestedKeyValue room) s.attributes p good.0.attributes g.0), λ f. assumption (good.1 f, each_push TypedKeyValue s.attributes p (good.1 f).attributes (g.1 f)))))
+                                    | inr e9 ↦
+                                        elim (test (n == 11)) [
+                                          | inl e ↦ rw (e1, e2, e3, e4, e5, e9, e) (another_fine s.events (read_with event_step room no_event bs) (λ l. record s { events = l }) (λ x is. let g = event_sound F room x bs wire is in (assumption (good.0, each_push (NestedEvent room) s.events x good.0.events g.0), λ f. assumption (good.1 f, each_push TypedEvent s.events x (good.1 f).events (g.1 f)))))
+                                          | inr e11 ↦
+                                              elim (test (n == 13)) [
+                                                | inl e ↦ rw (e1, e2, e3, e4, e5, e9, e11, e) (another_fine s.links (read_with link_step room no_link bs) (λ l. record s { links = l }) (λ x is. let g = link_sound F room x bs wire is in (assumption (good.0, each_push (NestedLink room) s.links x good.0.links g.0), λ f. assumption (good.1 f, each_push TypedLink s.links x (good.1 f).links (g.1 f)))))
+                                                | inr e13 ↦
+                                                    elim (test (n == 15)) [
+                                                      | inl e ↦ rw (e1, e2, e3, e4, e5, e9, e11, e13, e) (read_fine (read_with status_step room (unwrap_or s.status no_status) bs) (λ x. record s { status = Some x }) (λ x is. let g = status_reads F room (unwrap_or s.status no_status) x bs wire (standing NestedStatus no_status empty_status room s.status good.0.status) (λ f. typed_standing TypedStatus no_status s.status empty_status_typed (good.1 f).status) is in (assumption (good.0, g.0), λ f. assumption (good.1 f, g.1 f))))
+                                                      | inr e15 ↦ rw (e1, e2, e3, e4, e5, e9, e11, e13, e15) (not_known (λ y. refl))
+                                                    ]
+                                              ]
+                                        ]
+                                  ]
                             ]
-                        ]
-                    ]
+                      ]
                 ]
-            ]
-        ]
+          ]
     ]
 span_fine F room s n _ wire good = not_known (λ y. refl)
 
@@ -282,14 +282,14 @@ scope_spans_fine F room s n (Bytes bs) wire good =
     elim (test (n == 1)) [
       | inl e ↦ rw e (read_fine (read_with scope_step room (unwrap_or s.scope no_scope) bs) (λ x. record s { scope = Some x }) (λ x is. let g = scope_reads F room (unwrap_or s.scope no_scope) x bs wire (standing NestedScope no_scope empty_scope room s.scope good.0.scope) (λ f. typed_standing TypedScope no_scope s.scope empty_scope_typed (good.1 f).scope) is in (assumption (good.0, g.0), λ f. assumption (good.1 f, g.1 f))))
       | inr e1 ↦
-        elim (test (n == 2)) [
-          | inl e ↦ rw (e1, e) (another_fine s.spans (read_with span_step room no_span bs) (λ l. record s { spans = l }) (λ x is. let g = span_sound F room x bs wire is in (assumption (good.0, each_push (NestedSpan room) s.spans x good.0.spans g.0), λ f. assumption (good.1 f, each_push TypedSpan s.spans x (good.1 f).spans (g.1 f)))))
-          | inr e2 ↦
-            elim (test (n == 3)) [
-              | inl e ↦ rw (e1, e2, e) (string_fine bs (λ text. record s { schema_url = text }) (λ text valid. (assumption good.0, λ f. assumption (good.1 f, valid))))
-              | inr e3 ↦ rw (e1, e2, e3) (not_known (λ y. refl))
-            ]
-        ]
+          elim (test (n == 2)) [
+            | inl e ↦ rw (e1, e) (another_fine s.spans (read_with span_step room no_span bs) (λ l. record s { spans = l }) (λ x is. let g = span_sound F room x bs wire is in (assumption (good.0, each_push (NestedSpan room) s.spans x good.0.spans g.0), λ f. assumption (good.1 f, each_push TypedSpan s.spans x (good.1 f).spans (g.1 f)))))
+            | inr e2 ↦
+                elim (test (n == 3)) [
+                  | inl e ↦ rw (e1, e2, e) (string_fine bs (λ text. record s { schema_url = text }) (λ text valid. (assumption good.0, λ f. assumption (good.1 f, valid))))
+                  | inr e3 ↦ rw (e1, e2, e3) (not_known (λ y. refl))
+                ]
+          ]
     ]
 scope_spans_fine F room s n _ wire good = not_known (λ y. refl)
 
@@ -312,14 +312,14 @@ resource_spans_fine F room r n (Bytes bs) wire good =
     elim (test (n == 1)) [
       | inl e ↦ rw e (read_fine (read_with resource_step room (unwrap_or r.resource no_resource) bs) (λ x. record r { resource = Some x }) (λ x is. let g = resource_reads F room (unwrap_or r.resource no_resource) x bs wire (standing NestedResource no_resource empty_resource room r.resource good.0.resource) (λ f. typed_standing TypedResource no_resource r.resource empty_resource_typed (good.1 f).resource) is in (assumption (good.0, g.0), λ f. assumption (good.1 f, g.1 f))))
       | inr e1 ↦
-        elim (test (n == 2)) [
-          | inl e ↦ rw (e1, e) (another_fine r.scope_spans (read_with scope_spans_step room no_scope_spans bs) (λ l. record r { scope_spans = l }) (λ x is. let g = scope_spans_sound F room x bs wire is in (assumption (good.0, each_push (NestedScopeSpans room) r.scope_spans x good.0.scope_spans g.0), λ f. assumption (good.1 f, each_push TypedScopeSpans r.scope_spans x (good.1 f).scope_spans (g.1 f)))))
-          | inr e2 ↦
-            elim (test (n == 3)) [
-              | inl e ↦ rw (e1, e2, e) (string_fine bs (λ text. record r { schema_url = text }) (λ text valid. (assumption good.0, λ f. assumption (good.1 f, valid))))
-              | inr e3 ↦ rw (e1, e2, e3) (not_known (λ y. refl))
-            ]
-        ]
+          elim (test (n == 2)) [
+            | inl e ↦ rw (e1, e) (another_fine r.scope_spans (read_with scope_spans_step room no_scope_spans bs) (λ l. record r { scope_spans = l }) (λ x is. let g = scope_spans_sound F room x bs wire is in (assumption (good.0, each_push (NestedScopeSpans room) r.scope_spans x good.0.scope_spans g.0), λ f. assumption (good.1 f, each_push TypedScopeSpans r.scope_spans x (good.1 f).scope_spans (g.1 f)))))
+            | inr e2 ↦
+                elim (test (n == 3)) [
+                  | inl e ↦ rw (e1, e2, e) (string_fine bs (λ text. record r { schema_url = text }) (λ text valid. (assumption good.0, λ f. assumption (good.1 f, valid))))
+                  | inr e3 ↦ rw (e1, e2, e3) (not_known (λ y. refl))
+                ]
+          ]
     ]
 resource_spans_fine F room r n _ wire good = not_known (λ y. refl)
 

@@ -38,8 +38,8 @@ nothing step d a = record { taken = λ short rest. refl }
 pub then : {A : Type 0} {step : Step A} {d : ℕ} {a b c : A} {t u : List ℕ} → Taken step d a t b → Taken step d b u c → Taken step d a (t ++ u) c
 then {step = step} {d = d} {a = a} {t = t} {u = u} first second = record {
   taken = λ short rest.
-    let parts = length-append t u in
-    ap (walk step d a) (append_assoc t u rest) ∙ first.taken (omega (arith, short, parts)) (u ++ rest) ∙ second.taken (omega (arith, short, parts)) rest;
+      let parts = length-append t u in
+      ap (walk step d a) (append_assoc t u rest) ∙ first.taken (omega (arith, short, parts)) (u ++ rest) ∙ second.taken (omega (arith, short, parts)) rest;
 }
 
 pub whole : {A : Type 0} {step : Step A} {d : ℕ} {a b : A} {text : List ℕ} → Taken step d a text b → Short text → walk step d a text ≡ Ok b
@@ -61,8 +61,8 @@ module _ {A : Type 0} (step : Step A) (d n : ℕ) (is : numbers n ≡ true) wher
   pub bytes_taken : (a b : A) (bs : List ℕ) → (Short bs → step a (record { number = n; value = Bytes bs }) (bytes_field n bs) ≡ Ok b) → Taken step d a (bytes_field n bs) b
   bytes_taken a b bs made = record {
     taken = λ short rest.
-      let inside : Short bs = omega (arith, short, bytes_within n bs) in
-      front_taken step d a b (bytes_field n bs) rest (record { number = n; value = Bytes bs }) (bytes_at d n bs (above n is) (below n is) inside) (made inside);
+        let inside : Short bs = omega (arith, short, bytes_within n bs) in
+        front_taken step d a b (bytes_field n bs) rest (record { number = n; value = Bytes bs }) (bytes_at d n bs (above n is) (below n is) inside) (made inside);
   }
 
   pub number_taken : (a b : A) (x : ℕ) → x < 2 ^ 64 → step a (record { number = n; value = Varint x }) (number_field n x) ≡ Ok b → Taken step d a (number_field n x) b
@@ -149,7 +149,7 @@ module _ {A B : Type 0} (step : Step A) (d n : ℕ) (is : numbers n ≡ true) (r
   repeated_after put ys [] typed nested made = subst (λ l. Taken step d (put ys) [] (put l)) (sym (append-nil ys)) (nothing step d (put ys))
   repeated_after put ys (x ∷ xs) typed nested made =
       let one : Taken step d (put ys) (bytes_field n (text x)) (put (ys ++ x ∷ [])) =
-          bytes_taken step d n is (put ys) (put (ys ++ x ∷ [])) (text x) (λ short. made ys (text x) ∙ ap (λ (r : Result B ReadFault). with_another ys r >>= λ l. Ok (put l)) (back x typed.0 nested.0 short)) in
+      bytes_taken step d n is (put ys) (put (ys ++ x ∷ [])) (text x) (λ short. made ys (text x) ∙ ap (λ (r : Result B ReadFault). with_another ys r >>= λ l. Ok (put l)) (back x typed.0 nested.0 short)) in
       subst (λ l. Taken step d (put ys) (repeated n text (x ∷ xs)) (put l)) (append_assoc ys (x ∷ []) xs) (then one (repeated_after put (ys ++ x ∷ []) xs typed.1 nested.1 made))
 
   pub repeated_taken : (put : List B → A) (xs : List B) → AllByRecursion Typed xs → AllByRecursion Nested xs

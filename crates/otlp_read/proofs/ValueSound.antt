@@ -78,10 +78,10 @@ any_fine F room below (any_value kind unknown) n (Varint x) wire good =
     elim (test (n == 2)) [
       | inl e ↦ rw e (made (any_value (boolean (bool x)) unknown) ((tt, good.0.1), λ f. tt))
       | inr e2 ↦
-        elim (test (n == 3)) [
-          | inl e ↦ rw (e2, e) (made (any_value (int (int64 x)) unknown) ((tt, good.0.1), λ f. int64_fits x wire))
-          | inr e3 ↦ rw (e2, e3) (not_known (λ y. refl))
-        ]
+          elim (test (n == 3)) [
+            | inl e ↦ rw (e2, e) (made (any_value (int (int64 x)) unknown) ((tt, good.0.1), λ f. int64_fits x wire))
+            | inr e3 ↦ rw (e2, e3) (not_known (λ y. refl))
+          ]
     ]
 any_fine F room below (any_value kind unknown) n (Eight bs) wire good =
     elim (test (n == 4)) [
@@ -92,18 +92,18 @@ any_fine F room below (any_value kind unknown) n (Bytes bs) wire good =
     elim (test (n == 1)) [
       | inl e ↦ rw e (string_fine bs (λ text. any_value (string text) unknown) (λ text valid. ((tt, good.0.1), λ f. valid)))
       | inr e1 ↦
-        elim (test (n == 5)) [
-          | inl e ↦ rw (e1, e) (read_fine (read_array room (array_in kind) bs) (λ a. any_value (array a) unknown) (λ a is. let g = below.arrays (array_in kind) a bs wire (array_before room kind good.0.0) (λ f. array_typed kind (good.1 f)) is in ((g.0, good.0.1), g.1)))
-          | inr e5 ↦
-            elim (test (n == 6)) [
-              | inl e ↦ rw (e1, e5, e) (read_fine (read_list room (list_in kind) bs) (λ l. any_value (kvlist l) unknown) (λ l is. let g = below.lists (list_in kind) l bs wire (list_before room kind good.0.0) (λ f. list_typed kind (good.1 f)) is in ((g.0, good.0.1), g.1)))
-              | inr e6 ↦
-                elim (test (n == 7)) [
-                  | inl e ↦ rw (e1, e5, e6, e) (made (any_value (bytes bs) unknown) ((tt, good.0.1), λ f. tt))
-                  | inr e7 ↦ rw (e1, e5, e6, e7) (not_known (λ y. refl))
+          elim (test (n == 5)) [
+            | inl e ↦ rw (e1, e) (read_fine (read_array room (array_in kind) bs) (λ a. any_value (array a) unknown) (λ a is. let g = below.arrays (array_in kind) a bs wire (array_before room kind good.0.0) (λ f. array_typed kind (good.1 f)) is in ((g.0, good.0.1), g.1)))
+            | inr e5 ↦
+                elim (test (n == 6)) [
+                  | inl e ↦ rw (e1, e5, e) (read_fine (read_list room (list_in kind) bs) (λ l. any_value (kvlist l) unknown) (λ l is. let g = below.lists (list_in kind) l bs wire (list_before room kind good.0.0) (λ f. list_typed kind (good.1 f)) is in ((g.0, good.0.1), g.1)))
+                  | inr e6 ↦
+                      elim (test (n == 7)) [
+                        | inl e ↦ rw (e1, e5, e6, e) (made (any_value (bytes bs) unknown) ((tt, good.0.1), λ f. tt))
+                        | inr e7 ↦ rw (e1, e5, e6, e7) (not_known (λ y. refl))
+                      ]
                 ]
-            ]
-        ]
+          ]
     ]
 any_fine F room below v n _ wire good = not_known (λ y. refl)
 
@@ -128,19 +128,19 @@ key_value_fine F room below (bare_key key unknown) n (Bytes bs) wire good =
     elim (test (n == 1)) [
       | inl e ↦ rw e (string_fine bs (λ k. bare_key k unknown) (λ k valid. (good.0, λ f. valid)))
       | inr e1 ↦
-        elim (test (n == 2)) [
-          | inl e ↦ rw (e1, e) (read_fine (read_any room no_value bs) (λ v. key_value key v unknown) (λ v is. let g = below.any no_value v bs wire (fresh NestedAny no_value empty_any room) (λ f. tt) is in ((g.0, good.0), λ f. (good.1 f, g.1 f))))
-          | inr e2 ↦ rw (e1, e2) (not_known (λ y. refl))
-        ]
+          elim (test (n == 2)) [
+            | inl e ↦ rw (e1, e) (read_fine (read_any room no_value bs) (λ v. key_value key v unknown) (λ v is. let g = below.any no_value v bs wire (fresh NestedAny no_value empty_any room) (λ f. tt) is in ((g.0, good.0), λ f. (good.1 f, g.1 f))))
+            | inr e2 ↦ rw (e1, e2) (not_known (λ y. refl))
+          ]
     ]
 key_value_fine F room below (key_value key old unknown) n (Bytes bs) wire good =
     elim (test (n == 1)) [
       | inl e ↦ rw e (string_fine bs (λ k. key_value k old unknown) (λ k valid. (good.0, λ f. (valid, (good.1 f).1))))
       | inr e1 ↦
-        elim (test (n == 2)) [
-          | inl e ↦ rw (e1, e) (read_fine (read_any room old bs) (λ v. key_value key v unknown) (λ v is. let g = below.any old v bs wire (from_nested NestedAny room old good.0.0) (λ f. (good.1 f).1) is in ((g.0, good.0.1), λ f. ((good.1 f).0, g.1 f))))
-          | inr e2 ↦ rw (e1, e2) (not_known (λ y. refl))
-        ]
+          elim (test (n == 2)) [
+            | inl e ↦ rw (e1, e) (read_fine (read_any room old bs) (λ v. key_value key v unknown) (λ v is. let g = below.any old v bs wire (from_nested NestedAny room old good.0.0) (λ f. (good.1 f).1) is in ((g.0, good.0.1), λ f. ((good.1 f).0, g.1 f))))
+            | inr e2 ↦ rw (e1, e2) (not_known (λ y. refl))
+          ]
     ]
 key_value_fine F room below p n _ wire good = not_known (λ y. refl)
 

@@ -47,6 +47,7 @@ policy_laws = record { symm = symm; trans = trans }
   where
     symm : (x y : PolicyData) → policy_eq x y ≡ policy_eq y x
     symm always_sample always_sample = refl
+
     trans : (x y z : PolicyData) → policy_eq x y ≡ true → policy_eq y z ≡ true → policy_eq x z ≡ true
     trans always_sample always_sample always_sample same again = again
 

@@ -53,9 +53,7 @@ impl PartialEq for Prepared {
     ghost laws = { prepared_laws };
 
     fn eq(&self, other: &Self) -> bool {
-        self.tenant == other.tenant
-            && self.policies == other.policies
-            && self.spans == other.spans
+        self.tenant == other.tenant && self.policies == other.policies && self.spans == other.spans
     }
 }
 
@@ -132,7 +130,10 @@ pub fn prepare(
 }
 
 /// The spans of a request, in its order.
-fn spans_of(alloc: Global, request: ExportTraceServiceRequest) -> Result<Vec<StoredSpan>, AllocError>
+fn spans_of(
+    alloc: Global,
+    request: ExportTraceServiceRequest,
+) -> Result<Vec<StoredSpan>, AllocError>
     ensures { IfOk result (λ spans. spans.items ≡ arrivals_of (request_view request)) }
 {
     let mut spans = Vec::new(alloc);
@@ -224,10 +225,7 @@ fn written_span(alloc: Global, span: Span, origin: &Origin) -> Result<StoredSpan
 }
 
 /// A resource's text, where there is one.
-fn written_resource(
-    alloc: Global,
-    resource: &Option<Resource>,
-) -> Result<Option<Bytes>, AllocError>
+fn written_resource(alloc: Global, resource: &Option<Resource>) -> Result<Option<Bytes>, AllocError>
     ensures { IfOk result (λ text. text ≡ option_map resource_text (option_map resource_view resource.now)) }
 {
     let Some(resource) = resource else {

@@ -181,7 +181,11 @@ fn take_one(moment: u64, span: &StoredSpan, spans: &mut Vec<TakenSpan>) -> Resul
 }
 
 /// The valid ones of these spans join those that were taken before.
-fn taken_after(moment: u64, arrivals: &[StoredSpan], spans: &mut Vec<TakenSpan>) -> Result<(), AllocError>
+fn taken_after(
+    moment: u64,
+    arrivals: &[StoredSpan],
+    spans: &mut Vec<TakenSpan>,
+) -> Result<(), AllocError>
     ensures { OnOk result (spans.new.items ≡ taken_after moment (valid arrivals.now) spans.old.items) }
 {
     match arrivals.split_first() {
