@@ -2,7 +2,9 @@
 
 use crate::vectors::{FAULTS, RESPONSES, VECTORS};
 use otlp_read::{read_request, read_response};
-use otlp_trace::{ExportTracePartialSuccess, ExportTraceServiceResponse, write_request, write_response};
+use otlp_trace::{
+    ExportTracePartialSuccess, ExportTraceServiceResponse, write_request, write_response,
+};
 use std::alloc::Global;
 use std::test::Fail;
 
@@ -79,7 +81,11 @@ fn reply(alloc: Global, body: &str) -> Result<String, Fail> {
         None => None,
     };
     let mut out = Vec::new(alloc);
-    write_response(alloc, &mut out, &ExportTraceServiceResponse { partial_success })?;
+    write_response(
+        alloc,
+        &mut out,
+        &ExportTraceServiceResponse { partial_success },
+    )?;
     if out.is_empty() {
         return Ok(format!(in alloc; "-")?);
     }
