@@ -1,4 +1,4 @@
-use Rattle.std.proofs.Common.{rules, ◌≡◌, true, false, List, [], ◌∷◌, ℕ, map, string_bytes, length, sym, ap, ◌∙◌, subst, arith}
+use Rattle.std.proofs.Common.{rules, ◌≡◌, true, false, map, string_bytes, length, sym, ap, ◌∙◌, subst, arith}
 use Rattle.codec_bench.specs.Task.{Asks, IsRounds, rounds_of, measure}
 use Rattle.codec_bench.proofs.Words.{no_words, two_words, named, not_named}
 use Rattle.codec_bench.proofs.task.asked_task.Goals as goal
