@@ -33,19 +33,41 @@ fn make_tenant(alloc: Global) -> Result<Tenant, Fail> {
     })
 }
 
-/// A span with these ids and this text, of no resource and no scope.
-fn span(alloc: Global, trace_id: &[u8], span_id: &[u8], text: &[u8]) -> Result<StoredSpan, Fail> {
+/// A span with these ids and this text, from this origin.
+fn span_from(
+    alloc: Global,
+    trace_id: &[u8],
+    span_id: &[u8],
+    text: &[u8],
+    origin: Origin,
+) -> Result<StoredSpan, Fail> {
     Ok(StoredSpan {
         trace_id: Bytes::copy_from_slice(alloc, trace_id)?,
         span_id: Bytes::copy_from_slice(alloc, span_id)?,
         text: Bytes::copy_from_slice(alloc, text)?,
-        origin: Origin {
-            resource: None,
-            resource_schema_url: Bytes::new(),
-            scope: None,
-            scope_schema_url: Bytes::new(),
-        },
+        origin,
     })
+}
+
+/// Where a span with no scope comes from.
+fn make_origin(resource: Option<Bytes>, resource_schema_url: Bytes) -> Origin {
+    Origin {
+        resource,
+        resource_schema_url,
+        scope: None,
+        scope_schema_url: Bytes::new(),
+    }
+}
+
+/// A span with these ids and this text, of no resource and no scope.
+fn span(alloc: Global, trace_id: &[u8], span_id: &[u8], text: &[u8]) -> Result<StoredSpan, Fail> {
+    span_from(
+        alloc,
+        trace_id,
+        span_id,
+        text,
+        make_origin(None, Bytes::new()),
+    )
 }
 
 /// The definitions tell the same of this step, which is past from then on.
@@ -77,28 +99,30 @@ fn post_one(
     rt: &impl Abort,
     tenant: &mut Tenant,
     at: u64,
-    body: &[u8],
+    body: &[u8; 34],
     trace: u8,
     id: u8,
 ) -> Result<(), Fail> {
     let mut spans = Vec::new(tenant.alloc);
     spans.push(span(tenant.alloc, &[trace; 16], &[id; 8], &body[6..])?)?;
-    post(rt, tenant, at, body, spans)
+    post(rt, tenant, at, body.as_slice(), spans)
 }
 
-/// A body with one span of trace 11.., whose text begins at its tenth byte, is posted. Its resource left out five
-/// attributes, and has this schema.
+/// A body with one span of trace 11.., which has this text, is posted. Its resource left out five attributes, and has this
+/// schema.
 fn post_of_resource(
     rt: &impl Abort,
     tenant: &mut Tenant,
     body: &[u8],
     id: u8,
+    text: &[u8],
     schema_url: &[u8],
 ) -> Result<(), Fail> {
     let alloc = tenant.alloc;
-    let mut posted = span(alloc, &[0x11; 16], &[id; 8], &body[10..38])?;
-    posted.origin.resource = Some(Bytes::copy_from_slice(alloc, b"\x10\x05")?);
-    posted.origin.resource_schema_url = Bytes::copy_from_slice(alloc, schema_url)?;
+    let resource = Bytes::copy_from_slice(alloc, b"\x10\x05")?;
+    let schema_url = Bytes::copy_from_slice(alloc, schema_url)?;
+    let origin = make_origin(Some(resource), schema_url);
+    let posted = span_from(alloc, &[0x11; 16], &[id; 8], text, origin)?;
     let mut spans = Vec::new(alloc);
     spans.push(posted)?;
     post(rt, tenant, 0, body, spans)
@@ -238,9 +262,23 @@ fn a_trace_id_that_is_short(rt: HostRuntime) -> Result<(), Fail> {
 #[test]
 fn spans_by_resource(rt: HostRuntime) -> Result<(), Fail> {
     let mut tenant = make_tenant(rt.alloc())?;
-    post_of_resource(&rt, &mut tenant, &OF_RESOURCE, 0x21, b"")?;
-    post_of_resource(&rt, &mut tenant, &SECOND_OF_RESOURCE, 0x22, b"")?;
-    post_of_resource(&rt, &mut tenant, &WITH_SCHEMA, 0x23, b"u")?;
+    post_of_resource(&rt, &mut tenant, &OF_RESOURCE, 0x21, &BODY[6..], b"")?;
+    post_of_resource(
+        &rt,
+        &mut tenant,
+        &SECOND_OF_RESOURCE,
+        0x22,
+        &SECOND[6..],
+        b"",
+    )?;
+    post_of_resource(
+        &rt,
+        &mut tenant,
+        &WITH_SCHEMA,
+        0x23,
+        &WITH_SCHEMA[10..38],
+        b"u",
+    )?;
     job(&rt, &mut tenant, 1000, 1, &BY_SCHEMA)?;
     no_job(&rt, &mut tenant, 1000)
 }
