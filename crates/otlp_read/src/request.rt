@@ -142,22 +142,22 @@ impl Message for ScopeSpans {
         _spelled: &[u8],
         room: u32,
     ) -> Result<ScopeSpans, ReadFault> {
-        let mut group = self;
+        let mut scope_spans = self;
         if let Value::Bytes(bytes) = field.value {
             if field.number == 1 {
-                group.scope = Some(merged_into(alloc, group.scope, bytes, room)?);
-                return Ok(group);
+                scope_spans.scope = Some(merged_into(alloc, scope_spans.scope, bytes, room)?);
+                return Ok(scope_spans);
             }
             if field.number == 2 {
-                group.spans = read_on(alloc, group.spans, bytes, room)?;
-                return Ok(group);
+                scope_spans.spans = read_on(alloc, scope_spans.spans, bytes, room)?;
+                return Ok(scope_spans);
             }
             if field.number == 3 {
-                group.schema_url = text(alloc, bytes)?;
-                return Ok(group);
+                scope_spans.schema_url = text(alloc, bytes)?;
+                return Ok(scope_spans);
             }
         }
-        Ok(group)
+        Ok(scope_spans)
     }
 }
 
