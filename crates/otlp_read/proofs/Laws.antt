@@ -14,7 +14,7 @@ use Rattle.otlp_read.specs.Walk.{◌>>=◌, Step, Piece, Pieces, no_pieces, more
 use Rattle.otlp_read.specs.Stands.{Makes, Stands, no_field, unsound, behind}
 use Rattle.otlp_read.proofs.Walks.{walk_step, before_rest, turn_end, turn_more, turn_fault, bind_same}
 
-bind_ok : {A B : Type 0} (r : Result A ReadFault) (f : A → Result B ReadFault) (y : B) → (r >>= f) ≡ Ok y → (x : A) × (r ≡ Ok x) × (f x ≡ Ok y)
+pub bind_ok : {A B : Type 0} (r : Result A ReadFault) (f : A → Result B ReadFault) (y : B) → (r >>= f) ≡ Ok y → (x : A) × (r ≡ Ok x) × (f x ≡ Ok y)
 bind_ok (Ok x) f y e = (x, refl, e)
 bind_ok (Err g) f y e = absurd (let never : ◌≡◌ {A = Result _ ReadFault} (Err g) (Ok y) = e in cc)
 

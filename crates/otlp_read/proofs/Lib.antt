@@ -1,6 +1,14 @@
 pub mod Answered
 pub mod Back
-pub mod Carried
 pub mod Laws
+pub mod Leaves
+pub mod MessageSound
 pub mod Opened
+pub mod Pushed
+pub mod Sound
+pub mod Taken
+pub mod Turns
+pub mod TypedParts
+pub mod ValueBack
+pub mod ValueSound
 pub mod Walks

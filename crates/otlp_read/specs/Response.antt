@@ -1,6 +1,6 @@
 -- The value of a reply's body: how much of a request was refused, and why (the partial success of the OTLP specification).
-use Rattle.std.specs.Prelude.{ℕ, pos, ◌==◌, if◌then◌else◌, List, [], Option, Some, None, unwrap_or, Result, Ok}
-use Rattle.pb_wire.specs.Grammar.{Datum, Varint, Bytes}
+use Rattle.std.specs.Prelude.{ℕ, pos, ◌==◌, if◌then◌else◌, List, [], Some, None, unwrap_or, Result, Ok}
+use Rattle.pb_wire.specs.Grammar.{Varint, Bytes}
 use Rattle.otlp_trace.specs.Data.{PartialSuccessData, ResponseData}
 use Rattle.otlp_read.specs.declared.fault.ReadFault.{ReadFault}
 use Rattle.otlp_read.specs.Numbers.{utf8, int64}

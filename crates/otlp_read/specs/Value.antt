@@ -2,12 +2,12 @@
 -- stands again is merged, repeated fields keep their order, and each known string and message must itself be sound.
 -- Fields that aren't known, and known ones with another wire type, are kept as they were spelled, but in a request, a
 -- resource spans, a scope spans and a response, where they are dropped.
-use Rattle.std.specs.Prelude.{ℕ, pos, ◌==◌, if◌then◌else◌, List, [], ◌++◌, Option, Some, None, unwrap_or, Result, Ok}
-use Rattle.pb_wire.specs.Grammar.{Datum, Varint, Eight, Bytes, Four}
-use Rattle.otlp_trace.specs.Data.{ResourceData, ScopeData, StatusData, EventData, LinkData, SpanData, ScopeSpansData, ResourceSpansData, RequestData, PartialSuccessData, ResponseData}
+use Rattle.std.specs.Prelude.{ℕ, pos, ◌==◌, if◌then◌else◌, List, [], ◌++◌, Some, None, unwrap_or, Result, Ok}
+use Rattle.pb_wire.specs.Grammar.{Varint, Eight, Bytes, Four}
+use Rattle.otlp_trace.specs.Data.{ResourceData, ScopeData, StatusData, EventData, LinkData, SpanData, ScopeSpansData, ResourceSpansData, RequestData}
 use Rattle.otlp_read.specs.declared.fault.ReadFault.{ReadFault}
 use Rattle.otlp_read.specs.AnyValue.{no_key_value, key_value_step}
-use Rattle.otlp_read.specs.Numbers.{utf8, int32, uint32, int64, fixed64, fixed32}
+use Rattle.otlp_read.specs.Numbers.{utf8, int32, uint32, fixed64, fixed32}
 use Rattle.otlp_read.specs.Walk.{◌>>=◌, Step, Known, known_or_kept, known_or_dropped, read_with, with_another}
 use Rattle.otlp_read.specs.Stands.{Makes, Stands}
 

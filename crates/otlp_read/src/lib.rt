@@ -1,18 +1,33 @@
 //! Reading the messages of OTLP traces.
 //!
 //! A body is fields of protobuf wire text, and its value is a function of that list of fields (`specs/Value`): a field
-//! that isn't repeated takes its last value, repeated fields keep their order, and unknown fields, and known ones with
-//! another wire type, are skipped. `read_request` answers the value exactly where the body has one. Otherwise it
+//! that isn't repeated takes its last value, an embedded message that stands again is merged, repeated fields keep
+//! their order, and fields that aren't known, and known ones with another wire type, are kept as they were spelled, or
+//! dropped in a message that keeps none. `read_request` answers the value exactly where the body has one. Otherwise it
 //! answers a fault that stands in the body, or `OutOfMemory` where a growth was refused.
 #![tactic(auto)]
 
 mod fault;
+mod leaf;
 mod message;
 mod request;
+mod response;
+mod round_trip;
+mod span;
+mod typed;
+mod value;
 
 pub use fault::ReadFault;
 pub use message::messages_inside;
-pub use request::{read_request, values_or_faults, written_reads_back};
+pub use request::{read_request, values_or_faults};
+pub use response::{Partial, read_response};
+pub use round_trip::{
+    values_are_sound, written_reads_back, written_request_reads_back, written_resource_reads_back,
+    written_response_reads_back, written_scope_reads_back, written_span_reads_back,
+};
+pub use typed::{
+    request_is_typed, resource_is_typed, response_is_typed, scope_is_typed, span_is_typed,
+};
 
 #[cfg(test)]
 mod tests;

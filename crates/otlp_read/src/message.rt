@@ -1,6 +1,6 @@
 //! Reading a message field by field.
 
-ghost use Rattle.std.specs.Prelude.{◌≡◌, ◌≤◌, ◌↔◌, ◌-◌, ℕ, suc, List, Ok, Err, map};
+ghost use Rattle.std.specs.Prelude.{◌≡◌, ◌≤◌, ◌↔◌, ◌-◌, ℕ, suc, List, Ok, Err, map, option_map, unwrap_or};
 ghost use Rattle.pb_wire.specs.Grammar.{entry};
 ghost use Rattle.otlp_read.specs.Fault.{Gives};
 ghost use Rattle.otlp_read.specs.declared.fault.ReadFault.{ReadFault};
@@ -12,6 +12,9 @@ use crate::fault::ReadFault;
 use otlp_trace::Repeated;
 use pb_wire::{Field, next_field};
 use std::alloc::Global;
+
+/// Levels of messages and groups in a body, its own among them.
+pub const LEVELS: u32 = 101;
 
 /// A message, which takes one field after the other.
 pub trait Message: Drop {
@@ -56,6 +59,23 @@ pub fn merged<M: Message>(alloc: Global, before: M, bytes: &[u8], room: u32) -> 
         left = rest;
     }
     Ok(value)
+}
+
+/// Goes on reading an embedded message, from the one that stands, where one does.
+pub fn merged_into<M: Message>(
+    alloc: Global,
+    before: Option<M>,
+    bytes: &[u8],
+    room: u32,
+) -> Result<M, ReadFault>
+    requires room { room ≤ 101 }
+    ensures exact { Gives M.view result (read_with M.step room (unwrap_or (option_map M.view before) M.empty) bytes.now) }
+{
+    let start = match before {
+        Some(message) => message,
+        None => M::empty(alloc),
+    };
+    merged(alloc, start, bytes, room)
 }
 
 /// Reads a message of a repeated field, and puts it behind the others.

@@ -1,37 +1,37 @@
-//! Reading requests.
+//! Requests, and the groups of spans in them.
 
-ghost use Rattle.std.specs.Prelude.{◌≡◌, ◌≢◌, ◌^◌, ◌<◌, ◌↔◌, ◌++◌, ℕ, suc, List, length, Ok, Err, IfOk, IfErr};
-ghost use Rattle.otlp_trace.specs.Data.{SpanData, ScopeSpansData, ResourceSpansData, RequestData};
-ghost use Rattle.otlp_trace.specs.Text.{span_text, request_text};
-ghost use Rattle.otlp_trace.specs.View.{span_view, scope_spans_view, resource_spans_view, request_view};
+ghost use Rattle.std.specs.Prelude.{◌≡◌, ◌≢◌, ◌↔◌, ◌++◌, ℕ, List, Ok, Err, IfOk, IfErr};
+ghost use Rattle.otlp_trace.specs.Data.{ResourceData, ScopeData, ScopeSpansData, ResourceSpansData, RequestData};
+ghost use Rattle.otlp_trace.specs.View.{resource_view, scope_view, scope_spans_view, resource_spans_view, request_view};
 ghost use Rattle.otlp_read.specs.declared.fault.ReadFault.{ReadFault};
 ghost use Rattle.otlp_read.specs.Fault.{Gives};
-ghost use Rattle.otlp_read.specs.Walk.{Piece, fold_fields, with_more, read_with};
-ghost use Rattle.otlp_read.specs.Sound.{SoundSpan, SoundRequest};
-ghost use Rattle.otlp_read.specs.Value.{no_span, no_scope_spans, no_resource_spans, no_request, span_step, scope_spans_step, resource_spans_step, request_step, value_of, IsValue, IsFault};
+ghost use Rattle.otlp_read.specs.Walk.{Piece, fold_fields, with_more};
+ghost use Rattle.otlp_read.specs.Value.{no_resource, no_scope, no_scope_spans, no_resource_spans, no_request, resource_step, scope_step, scope_spans_step, resource_spans_step, request_step, value_of, IsValue, IsFault};
 
 use crate::fault::ReadFault;
-use crate::message::{Message, merged, read_on};
-use otlp_trace::{ExportTraceServiceRequest, Octets, Repeated, ResourceSpans, ScopeSpans, Span};
+use crate::leaf::{keep, low32, text};
+use crate::message::{LEVELS, Message, merged, merged_into, read_on};
+use otlp_trace::{
+    ExportTraceServiceRequest, InstrumentationScope, Octets, Repeated, Resource, ResourceSpans,
+    ScopeSpans,
+};
 use pb_wire::{Field, Value};
 use std::alloc::Global;
 
-/// Levels of messages and groups in a body, its own among them.
-const LEVELS: u32 = 101;
+impl Message for Resource {
+    ghost Data = { ResourceData };
 
-impl Message for Span {
-    ghost Data = { SpanData };
+    ghost view = { resource_view };
 
-    ghost view = { span_view };
+    ghost empty = { no_resource };
 
-    ghost empty = { no_span };
+    ghost step = { resource_step };
 
-    ghost step = { span_step };
-
-    fn empty(alloc: Global) -> Span {
-        Span {
-            trace_id: Octets::new(alloc),
-            span_id: Octets::new(alloc),
+    fn empty(alloc: Global) -> Resource {
+        Resource {
+            attributes: Repeated::new(alloc),
+            dropped_attributes_count: 0,
+            unknown: Octets::new(alloc),
         }
     }
 
@@ -39,24 +39,82 @@ impl Message for Span {
         self,
         alloc: Global,
         field: Field<'_>,
-        _spelled: &[u8],
-        _room: u32,
-    ) -> Result<Span, ReadFault> {
-        let mut span = self;
+        spelled: &[u8],
+        room: u32,
+    ) -> Result<Resource, ReadFault> {
+        let mut resource = self;
         match field.value {
-            Value::Bytes(bytes) => {
-                if field.number == 1 {
-                    span.trace_id = Octets::from_slice(alloc, bytes)?;
-                    Ok(span)
-                } else if field.number == 2 {
-                    span.span_id = Octets::from_slice(alloc, bytes)?;
-                    Ok(span)
-                } else {
-                    Ok(span)
+            Value::Varint(n) => {
+                if field.number == 2 {
+                    resource.dropped_attributes_count = low32(n);
+                    return Ok(resource);
                 }
             }
-            _ => Ok(span),
+            Value::Bytes(bytes) => {
+                if field.number == 1 {
+                    resource.attributes = read_on(alloc, resource.attributes, bytes, room)?;
+                    return Ok(resource);
+                }
+            }
+            _ => {}
         }
+        resource.unknown = keep(resource.unknown, spelled)?;
+        Ok(resource)
+    }
+}
+
+impl Message for InstrumentationScope {
+    ghost Data = { ScopeData };
+
+    ghost view = { scope_view };
+
+    ghost empty = { no_scope };
+
+    ghost step = { scope_step };
+
+    fn empty(alloc: Global) -> InstrumentationScope {
+        InstrumentationScope {
+            name: String::new(alloc),
+            version: String::new(alloc),
+            attributes: Repeated::new(alloc),
+            dropped_attributes_count: 0,
+            unknown: Octets::new(alloc),
+        }
+    }
+
+    fn field(
+        self,
+        alloc: Global,
+        field: Field<'_>,
+        spelled: &[u8],
+        room: u32,
+    ) -> Result<InstrumentationScope, ReadFault> {
+        let mut scope = self;
+        match field.value {
+            Value::Varint(n) => {
+                if field.number == 4 {
+                    scope.dropped_attributes_count = low32(n);
+                    return Ok(scope);
+                }
+            }
+            Value::Bytes(bytes) => {
+                if field.number == 1 {
+                    scope.name = text(alloc, bytes)?;
+                    return Ok(scope);
+                }
+                if field.number == 2 {
+                    scope.version = text(alloc, bytes)?;
+                    return Ok(scope);
+                }
+                if field.number == 3 {
+                    scope.attributes = read_on(alloc, scope.attributes, bytes, room)?;
+                    return Ok(scope);
+                }
+            }
+            _ => {}
+        }
+        scope.unknown = keep(scope.unknown, spelled)?;
+        Ok(scope)
     }
 }
 
@@ -71,7 +129,9 @@ impl Message for ScopeSpans {
 
     fn empty(alloc: Global) -> ScopeSpans {
         ScopeSpans {
+            scope: None,
             spans: Repeated::new(alloc),
+            schema_url: String::new(alloc),
         }
     }
 
@@ -82,17 +142,22 @@ impl Message for ScopeSpans {
         _spelled: &[u8],
         room: u32,
     ) -> Result<ScopeSpans, ReadFault> {
-        match field.value {
-            Value::Bytes(bytes) => {
-                if field.number == 2 {
-                    let spans = read_on(alloc, self.spans, bytes, room)?;
-                    Ok(ScopeSpans { spans })
-                } else {
-                    Ok(self)
-                }
+        let mut scope_spans = self;
+        if let Value::Bytes(bytes) = field.value {
+            if field.number == 1 {
+                scope_spans.scope = Some(merged_into(alloc, scope_spans.scope, bytes, room)?);
+                return Ok(scope_spans);
             }
-            _ => Ok(self),
+            if field.number == 2 {
+                scope_spans.spans = read_on(alloc, scope_spans.spans, bytes, room)?;
+                return Ok(scope_spans);
+            }
+            if field.number == 3 {
+                scope_spans.schema_url = text(alloc, bytes)?;
+                return Ok(scope_spans);
+            }
         }
+        Ok(scope_spans)
     }
 }
 
@@ -107,7 +172,9 @@ impl Message for ResourceSpans {
 
     fn empty(alloc: Global) -> ResourceSpans {
         ResourceSpans {
+            resource: None,
             scope_spans: Repeated::new(alloc),
+            schema_url: String::new(alloc),
         }
     }
 
@@ -118,17 +185,22 @@ impl Message for ResourceSpans {
         _spelled: &[u8],
         room: u32,
     ) -> Result<ResourceSpans, ReadFault> {
-        match field.value {
-            Value::Bytes(bytes) => {
-                if field.number == 2 {
-                    let scope_spans = read_on(alloc, self.scope_spans, bytes, room)?;
-                    Ok(ResourceSpans { scope_spans })
-                } else {
-                    Ok(self)
-                }
+        let mut group = self;
+        if let Value::Bytes(bytes) = field.value {
+            if field.number == 1 {
+                group.resource = Some(merged_into(alloc, group.resource, bytes, room)?);
+                return Ok(group);
             }
-            _ => Ok(self),
+            if field.number == 2 {
+                group.scope_spans = read_on(alloc, group.scope_spans, bytes, room)?;
+                return Ok(group);
+            }
+            if field.number == 3 {
+                group.schema_url = text(alloc, bytes)?;
+                return Ok(group);
+            }
         }
+        Ok(group)
     }
 }
 
@@ -154,17 +226,14 @@ impl Message for ExportTraceServiceRequest {
         _spelled: &[u8],
         room: u32,
     ) -> Result<ExportTraceServiceRequest, ReadFault> {
-        match field.value {
-            Value::Bytes(bytes) => {
-                if field.number == 1 {
-                    let resource_spans = read_on(alloc, self.resource_spans, bytes, room)?;
-                    Ok(ExportTraceServiceRequest { resource_spans })
-                } else {
-                    Ok(self)
-                }
+        let mut request = self;
+        if let Value::Bytes(bytes) = field.value {
+            if field.number == 1 {
+                request.resource_spans = read_on(alloc, request.resource_spans, bytes, room)?;
+                return Ok(request);
             }
-            _ => Ok(self),
         }
+        Ok(request)
     }
 }
 
@@ -200,12 +269,4 @@ pub fn values_or_faults()
     ensures exact { (bytes : List ℕ) (v : RequestData) → (value_of bytes ≡ Ok v) ↔ IsValue bytes v }
     ensures fault { (bytes : List ℕ) (fault : ReadFault) → value_of bytes ≡ Err fault → IsFault bytes fault }
     ensures merge { (v : RequestData) (xs ys : List Piece) → fold_fields (request_step 100) v (xs ++ ys) ≡ with_more (request_step 100) (fold_fields (request_step 100) v xs) ys }
-{}
-
-/// The canonical text of a request reads back to the request, and that of a span to the span. It carries each request
-/// whose text is shorter than 2^64 bytes, as any text in memory is.
-pub fn written_reads_back()
-    ensures request { (v : RequestData) → SoundRequest v → IsValue (request_text v) v }
-    ensures span { (v : SpanData) (room : ℕ) → SoundSpan v → read_with span_step (suc room) no_span (span_text v) ≡ Ok v }
-    ensures carried { (v : RequestData) → length (request_text v) < 2 ^ 64 → SoundRequest v }
 {}

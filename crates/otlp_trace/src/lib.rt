@@ -29,3 +29,6 @@ pub use value::{AnyValue, AnyValueKind, ArrayValue, DoubleBits, KeyValue, KeyVal
 pub use write::{
     write_request, write_resource, write_response, write_scope, write_span, write_status,
 };
+
+#[cfg(test)]
+mod tests;

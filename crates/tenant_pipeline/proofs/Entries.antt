@@ -4,25 +4,22 @@ use Rattle.std.specs.Prelude.{option_map}
 use Rattle.std.specs.List.{position_or_len}
 use Rattle.std.specs.Map.{keys_of, values_of}
 use Rattle.std.proofs.lemmas.Bool.Decides.{nat_tests}
-use Rattle.std.proofs.lemmas.List.{take-map, length-map, map-append}
+use Rattle.std.proofs.lemmas.List.{map-append}
 use Rattle.std.proofs.Math.Seq.{take-append_seam}
 use Rattle.std.proofs.lemmas.Option.{slice_get-map}
 use Rattle.indexmap.specs.Layout.{set_value_at}
 use Rattle.indexmap.specs.IndexMap.{insert_entry}
 use Rattle.std.proofs.lemmas.List.Elements.{filter-append}
 use Rattle.tenant_pipeline.specs.declared.place.Addition.{Addition}
-use Rattle.otlp_trace.specs.declared.message.Span.{Span}
 use Rattle.tenant_pipeline.specs.declared.rows.Row.{Row}
 use Rattle.tenant_pipeline.specs.Arrivals.{Arrival, valid, is_valid}
 use Rattle.tenant_pipeline.specs.Groups.{GroupData}
 use Rattle.tenant_pipeline.specs.State.{RowData}
 use Rattle.tenant_pipeline.specs.Rows.{trace_of, is_same}
-use Rattle.otlp_trace.specs.View.{span_view}
-use Rattle.tenant_pipeline.specs.ExportText.{span_of}
 use Rattle.tenant_pipeline.specs.Timers.{without_spans}
 use Rattle.tenant_pipeline.specs.Machine.{rows_with, late_with, rows_with_all, late_with_all, joined, late_of, IsDecided}
 use Rattle.tenant_pipeline.specs.Additions.{but_last, shortened, without_last, rows_before, queue_before, rows_without, queue_without}
-use Rattle.tenant_pipeline.specs.View.{row_view, row_views, arrival_view, arrival_views}
+use Rattle.tenant_pipeline.specs.View.{row_view, row_views}
 
 -- the row at a place
 pub record RowAt (es : List (List ℕ × Row)) (i : ℕ) (v : Row) : Type 0 where
@@ -83,30 +80,26 @@ but_last-push xs x =
     let short : length (xs ++ x ∷ []) - 1 ≡ length xs = rw length-append (omega arith) in
     rw short (take-append_seam xs (x ∷ []))
 
-pub map-but_last : {A B : Type 0} → (f : A → B) (xs : List A) → map f (but_last xs) ≡ but_last (map f xs)
-map-but_last f xs = sym (take-map f (length xs - 1) xs) ∙ ap (λ n. take (n - 1) (map f xs)) (sym (length-map xs f))
-
 -- a row that was decided
 pub decided_at : (es : List (List ℕ × Row)) (i : ℕ) (v w : Row) (queue new_queue : List GroupData) → slice_get (values_of es) i ≡ Some v → w.due ≡ v.due → w.spans.items ≡ [] →
-    new_queue ≡ queue ++ record { moment = v.due; spans = arrival_views v.spans.items } ∷ [] → IsDecided i w.due (row_views es) queue (row_views (set_value_at es i w)) new_queue
+    new_queue ≡ queue ++ record { moment = v.due; spans = v.spans.items } ∷ [] → IsDecided i w.due (row_views es) queue (row_views (set_value_at es i w)) new_queue
 decided_at es i v w queue new_queue is due spans queued =
     let at = row_at es i v is in
-    let row : row_view (at.trace, w) ≡ without_spans (row_view (at.trace, v)) = cc (due, ap arrival_views spans) in
+    let row : row_view (at.trace, w) ≡ without_spans (row_view (at.trace, v)) = cc (due, spans) in
     record { row = row_view (at.trace, v); is_there = at.view; is_due = sym due; rows_are = set_row es i at.trace v w at.entry ∙ ap (set (row_views es) i) row; queue_is = queued }
 
 -- a row that stayed as it was
 pub kept_at : (es : List (List ℕ × Row)) (i : ℕ) (v w : Row) → slice_get (values_of es) i ≡ Some v → w.due ≡ v.due → w.spans.items ≡ v.spans.items → row_views (set_value_at es i w) ≡ row_views es
 kept_at es i v w is due spans =
     let at = row_at es i v is in
-    let row : row_view (at.trace, w) ≡ row_view (at.trace, v) = cc (due, ap arrival_views spans) in
+    let row : row_view (at.trace, w) ≡ row_view (at.trace, v) = cc (due, spans) in
     set_row es i at.trace v w at.entry ∙ (ap (set (row_views es) i) row ∙ set_same (row_views es) i (row_view (at.trace, v)) at.view)
 
 -- a row that lost its last span
 pub popped_at : (es : List (List ℕ × Row)) (i : ℕ) (v w : Row) → slice_get (values_of es) i ≡ Some v → w.due ≡ v.due → w.spans.items ≡ but_last v.spans.items → row_views (set_value_at es i w) ≡ shortened i (row_views es)
 popped_at es i v w is due spans =
     let at = row_at es i v is in
-    let fewer : arrival_views w.spans.items ≡ but_last (arrival_views v.spans.items) = ap arrival_views spans ∙ map-but_last arrival_view v.spans.items in
-    let row : row_view (at.trace, w) ≡ without_last (row_view (at.trace, v)) = cc (due, fewer) in
+    let row : row_view (at.trace, w) ≡ without_last (row_view (at.trace, v)) = cc (due, spans) in
     set_row es i at.trace v w at.entry ∙ (ap (set (row_views es) i) row ∙ sym (shortened_at (row_views es) i (row_view (at.trace, v)) at.view))
 
 -- what the map knows of a trace's place
@@ -160,42 +153,39 @@ pub missing : (p : List ℕ → Bool) (ks : List (List ℕ)) → position p ks �
 missing p ks e = missing_by (position_or_len p ks) (length ks) (ltb (position_or_len p ks) (length ks)) refl e
 
 -- a span that joins the row at a place, or is late
-abbrev pub JoinedAt : ℕ → ℕ → Span → List (List ℕ × Row) → ℕ → Row → Bool → Type 0
+abbrev pub JoinedAt : ℕ → ℕ → Arrival → List (List ℕ × Row) → ℕ → Row → Bool → Type 0
 JoinedAt wait moment span es i w b =
-    (row_views (set_value_at es i w) ≡ rows_with wait moment (arrival_view span) (row_views es))
-    × (late_with moment (arrival_view span) (row_views es) ≡ cond b [] (record { moment = moment; spans = arrival_view span ∷ [] } ∷ []))
+    (row_views (set_value_at es i w) ≡ rows_with wait moment span (row_views es))
+    × (late_with moment span (row_views es) ≡ cond b [] (record { moment = moment; spans = span ∷ [] } ∷ []))
     × (cond b (shortened i (row_views (set_value_at es i w))) (row_views (set_value_at es i w)) ≡ row_views es)
 
-joined_by : (wait moment : ℕ) (span : Span) (es : List (List ℕ × Row)) (i : ℕ) (v w : Row) (b : Bool) (at : RowAt es i v) →
-    (rows_with wait moment (arrival_view span) (row_views es) ≡ set (row_views es) i (joined moment (arrival_view span) (row_view (at.trace, v)))) → (late_with moment (arrival_view span) (row_views es) ≡ late_of moment (arrival_view span) (row_view (at.trace, v))) →
+joined_by : (wait moment : ℕ) (span : Arrival) (es : List (List ℕ × Row)) (i : ℕ) (v w : Row) (b : Bool) (at : RowAt es i v) →
+    (rows_with wait moment span (row_views es) ≡ set (row_views es) i (joined moment span (row_view (at.trace, v)))) → (late_with moment span (row_views es) ≡ late_of moment span (row_view (at.trace, v))) →
     ltb moment v.due ≡ b → w.due ≡ v.due → w.spans.items ≡ cond b (v.spans.items ++ span ∷ []) v.spans.items → JoinedAt wait moment span es i w b
 joined_by wait moment span es i v w true at with late test due spans =
-    let x = arrival_view span in
-    let more : arrival_views w.spans.items ≡ arrival_views v.spans.items ++ x ∷ [] = ap arrival_views spans ∙ map-append arrival_view v.spans.items (span ∷ []) in
-    let grown : row_view (at.trace, w) ≡ record { trace = at.trace; due = v.due; spans = arrival_views v.spans.items ++ x ∷ [] } = cc (due, more) in
-    let join : joined moment x (row_view (at.trace, v)) ≡ record { trace = at.trace; due = v.due; spans = arrival_views v.spans.items ++ x ∷ [] } = rw test refl in
-    let written : row_views (set_value_at es i w) ≡ set (row_views es) i (record { trace = at.trace; due = v.due; spans = arrival_views v.spans.items ++ x ∷ [] }) = set_row es i at.trace v w at.entry ∙ ap (set (row_views es) i) grown in
-    let rows : row_views (set_value_at es i w) ≡ rows_with wait moment x (row_views es) = written ∙ (sym (ap (set (row_views es) i) join) ∙ sym with) in
-    let none : late_of moment x (row_view (at.trace, v)) ≡ [] = rw test refl in
-    let short : without_last (record { trace = at.trace; due = v.due; spans = arrival_views v.spans.items ++ x ∷ [] }) ≡ row_view (at.trace, v) = ap (λ (spans : List Arrival). record { trace = at.trace; due = v.due; spans = spans }) (but_last-push (arrival_views v.spans.items) x) in
+    let grown : row_view (at.trace, w) ≡ record { trace = at.trace; due = v.due; spans = v.spans.items ++ span ∷ [] } = cc (due, spans) in
+    let join : joined moment span (row_view (at.trace, v)) ≡ record { trace = at.trace; due = v.due; spans = v.spans.items ++ span ∷ [] } = rw test refl in
+    let written : row_views (set_value_at es i w) ≡ set (row_views es) i (record { trace = at.trace; due = v.due; spans = v.spans.items ++ span ∷ [] }) = set_row es i at.trace v w at.entry ∙ ap (set (row_views es) i) grown in
+    let rows : row_views (set_value_at es i w) ≡ rows_with wait moment span (row_views es) = written ∙ (sym (ap (set (row_views es) i) join) ∙ sym with) in
+    let none : late_of moment span (row_view (at.trace, v)) ≡ [] = rw test refl in
+    let short : without_last (record { trace = at.trace; due = v.due; spans = v.spans.items ++ span ∷ [] }) ≡ row_view (at.trace, v) = ap (λ (spans : List Arrival). record { trace = at.trace; due = v.due; spans = spans }) (but_last-push v.spans.items span) in
     (rows, late ∙ none, ap (shortened i) written ∙ shortened-set (row_views es) i (row_view (at.trace, v)) _ at.view short)
 joined_by wait moment span es i v w false at with late test due spans =
-    let x = arrival_view span in
-    let join : joined moment x (row_view (at.trace, v)) ≡ row_view (at.trace, v) = rw test refl in
-    let one : late_of moment x (row_view (at.trace, v)) ≡ record { moment = moment; spans = x ∷ [] } ∷ [] = rw test refl in
+    let join : joined moment span (row_view (at.trace, v)) ≡ row_view (at.trace, v) = rw test refl in
+    let one : late_of moment span (row_view (at.trace, v)) ≡ record { moment = moment; spans = span ∷ [] } ∷ [] = rw test refl in
     let kept : row_views (set_value_at es i w) ≡ row_views es =
-    set_row es i at.trace v w at.entry ∙ (ap (set (row_views es) i) (cc (due, ap arrival_views spans)) ∙ set_same (row_views es) i (row_view (at.trace, v)) at.view) in
-    let same : rows_with wait moment x (row_views es) ≡ row_views es = with ∙ (ap (set (row_views es) i) join ∙ set_same (row_views es) i (row_view (at.trace, v)) at.view) in
+    set_row es i at.trace v w at.entry ∙ (ap (set (row_views es) i) (cc (due, spans)) ∙ set_same (row_views es) i (row_view (at.trace, v)) at.view) in
+    let same : rows_with wait moment span (row_views es) ≡ row_views es = with ∙ (ap (set (row_views es) i) join ∙ set_same (row_views es) i (row_view (at.trace, v)) at.view) in
     (kept ∙ sym same, late ∙ one, kept)
 
-pub joined_at : (wait moment : ℕ) (span : Span) (es : List (List ℕ × Row)) (i : ℕ) (v w : Row) (b : Bool) → position (is_same span.trace_id) (keys_of es) ≡ Some i → slice_get (values_of es) i ≡ Some v →
+pub joined_at : (wait moment : ℕ) (span : Arrival) (es : List (List ℕ × Row)) (i : ℕ) (v w : Row) (b : Bool) → position (is_same span.trace_id) (keys_of es) ≡ Some i → slice_get (values_of es) i ≡ Some v →
     b ≡ ltb moment v.due → w.due ≡ v.due → w.spans.items ≡ cond b (v.spans.items ++ span ∷ []) v.spans.items → JoinedAt wait moment span es i w b
 joined_at wait moment span es i v w b found is test due spans =
     let at = row_at es i v is in
     let n = found_at (is_same span.trace_id) (keys_of es) i found in
     let there : slice_get (row_views es) (position_or_len (is_same span.trace_id) (keys_of es)) ≡ Some (row_view (at.trace, v)) = ap (slice_get (row_views es)) n ∙ at.view in
-    let parts = rows_with-at wait moment (arrival_view span) es (row_view (at.trace, v)) there in
-    joined_by wait moment span es i v w b at (parts.0 ∙ ap (λ k. set (row_views es) k (joined moment (arrival_view span) (row_view (at.trace, v)))) n) parts.1 (sym test) due spans
+    let parts = rows_with-at wait moment span es (row_view (at.trace, v)) there in
+    joined_by wait moment span es i v w b at (parts.0 ∙ ap (λ k. set (row_views es) k (joined moment span (row_view (at.trace, v)))) n) parts.1 (sym test) due spans
 
 -- a span that opens a row
 insert_by : (k : List ℕ) (w : Row) (e : List ℕ × Row) (es : List (List ℕ × Row)) (n : ℕ) (b : Bool) → (length (keys_of es) ≤ n → insert_entry is_same es k w ≡ es ++ (k, w) ∷ []) → 1 + length (keys_of es) ≤ cond (not b) (1 + n) 0 →
@@ -207,18 +197,17 @@ insert_entry-end : (k : List ℕ) (w : Row) (es : List (List ℕ × Row)) → le
 insert_entry-end k w [] all = refl
 insert_entry-end k w (e ∷ es) all = insert_by k w e es (position_or_len (is_same k) (keys_of es)) (is_same k e.0) (insert_entry-end k w es) (omega arith)
 
-abbrev pub OpenedAt : ℕ → ℕ → Span → List (List ℕ × Row) → List (List ℕ × Row) → Type 0
+abbrev pub OpenedAt : ℕ → ℕ → Arrival → List (List ℕ × Row) → List (List ℕ × Row) → Type 0
 OpenedAt wait moment span es new =
-    (row_views new ≡ rows_with wait moment (arrival_view span) (row_views es)) × (late_with moment (arrival_view span) (row_views es) ≡ []) × (but_last (row_views new) ≡ row_views es)
+    (row_views new ≡ rows_with wait moment span (row_views es)) × (late_with moment span (row_views es) ≡ []) × (but_last (row_views new) ≡ row_views es)
 
-pub opened_at : (wait moment : ℕ) (span : Span) (es new : List (List ℕ × Row)) (w : Row) → position (is_same span.trace_id) (keys_of es) ≡ None → new ≡ insert_entry is_same es span.trace_id w →
+pub opened_at : (wait moment : ℕ) (span : Arrival) (es new : List (List ℕ × Row)) (w : Row) → position (is_same span.trace_id) (keys_of es) ≡ None → new ≡ insert_entry is_same es span.trace_id w →
     w.due ≡ moment + wait → w.spans.items ≡ span ∷ [] → OpenedAt wait moment span es new
 opened_at wait moment span es new w found is due spans =
-    let x = arrival_view span in
     let past = missing (is_same span.trace_id) (keys_of es) found in
-    let parts = rows_with-end wait moment x es past in
-    let row : row_view (span.trace_id, w) ≡ record { trace = trace_of x; due = moment + wait; spans = x ∷ [] } = cc (due, ap arrival_views spans) in
-    let added : row_views new ≡ row_views es ++ record { trace = trace_of x; due = moment + wait; spans = x ∷ [] } ∷ [] =
+    let parts = rows_with-end wait moment span es past in
+    let row : row_view (span.trace_id, w) ≡ record { trace = trace_of span; due = moment + wait; spans = span ∷ [] } = cc (due, spans) in
+    let added : row_views new ≡ row_views es ++ record { trace = trace_of span; due = moment + wait; spans = span ∷ [] } ∷ [] =
     ap row_views (is ∙ insert_entry-end span.trace_id w es past) ∙ (map-append row_view es ((span.trace_id, w) ∷ []) ∙ ap (λ (r : RowData). row_views es ++ r ∷ []) row) in
     (added ∙ sym parts.0, parts.1, ap but_last added ∙ but_last-push (row_views es) _)
 
@@ -253,8 +242,3 @@ pub none_at : (es : List (List ℕ × Row)) (i : ℕ) → slice_get (values_of e
 none_at es i is =
     let none = none_by es i (slice_get es i) refl (sym (slice_get-map (λ (e : List ℕ × Row). e.1) es i) ∙ is) in
     shortened_past (row_views es) i (slice_get-map row_view es i ∙ ap (option_map row_view) none)
-
--- the spans of what is kept of them
-pub span_of_views : (spans : List Span) → map span_of (arrival_views spans) ≡ map span_view spans
-span_of_views [] = refl
-span_of_views (x ∷ xs) = ap (λ ys. span_view x ∷ ys) (span_of_views xs)

@@ -8,4 +8,5 @@ mod Coming
 mod Entries
 mod Run
 mod Bodies
+mod Runs
 mod Equals

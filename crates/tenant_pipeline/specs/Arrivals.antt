@@ -1,20 +1,44 @@
--- The spans of a body as they arrive, and which of them are valid (the trace data model of OpenTelemetry).
-use Rattle.std.specs.Prelude.{ℕ, Bool, List, map, filter, flat_map, length, not, ◌==◌, ◌&&◌}
+-- The spans of a body as they arrive, each with what stands round it as canonical text, and which of them are valid (the
+-- trace data model of OpenTelemetry).
+use Rattle.std.specs.Prelude.{ℕ, Bool, List, Option, map, option_map, filter, flat_map, length, not, ◌==◌, ◌&&◌}
 use Rattle.std.specs.List.{list_all}
 use Rattle.otlp_trace.specs.Data.{SpanData, ScopeSpansData, ResourceSpansData, RequestData}
+use Rattle.otlp_trace.specs.Text.{span_text, scope_text, resource_text}
 
--- one span of a body, with what stands round it
+-- the resource and the scope of a span, where it has any, and their schemas
+pub record Origin : Type 0 where
+  pub resource : Option (List ℕ)
+  pub resource_schema_url : List ℕ
+  pub scope : Option (List ℕ)
+  pub scope_schema_url : List ℕ
+
+-- one span of a body
 pub record Arrival : Type 0 where
-  pub span : SpanData
+  pub trace_id : List ℕ
+  pub span_id : List ℕ
+  pub text : List ℕ
+  pub origin : Origin
 
-abbrev pub arrival_of : SpanData → Arrival
-arrival_of span = record { span = span }
+-- of a scope's spans, in a resource of this text and this schema
+abbrev pub origin_with : Option (List ℕ) → List ℕ → ScopeSpansData → Origin
+origin_with resource schema_url scope = record {
+  resource = resource;
+  resource_schema_url = schema_url;
+  scope = option_map scope_text scope.scope;
+  scope_schema_url = scope.schema_url;
+}
 
-abbrev pub arrivals_of_scope : ScopeSpansData → List Arrival
-arrivals_of_scope scope = map arrival_of scope.spans
+abbrev pub origin_of : ResourceSpansData → ScopeSpansData → Origin
+origin_of resource scope = origin_with (option_map resource_text resource.resource) resource.schema_url scope
+
+abbrev pub arrival_of : Origin → SpanData → Arrival
+arrival_of origin span = record { trace_id = span.trace_id; span_id = span.span_id; text = span_text span; origin = origin }
+
+abbrev pub arrivals_of_scope : ResourceSpansData → ScopeSpansData → List Arrival
+arrivals_of_scope resource scope = map (arrival_of (origin_of resource scope)) scope.spans
 
 abbrev pub arrivals_of_resource : ResourceSpansData → List Arrival
-arrivals_of_resource resource = flat_map arrivals_of_scope resource.scope_spans
+arrivals_of_resource resource = flat_map (arrivals_of_scope resource) resource.scope_spans
 
 -- all spans of a body, in its order
 abbrev pub arrivals_of : RequestData → List Arrival
@@ -26,7 +50,7 @@ is_id size bytes = length bytes == size && not (list_all (λ byte. byte == 0) by
 
 -- a trace id has 16 bytes, a span id 8
 abbrev pub is_valid : Arrival → Bool
-is_valid arrival = is_id 16 arrival.span.trace_id && is_id 8 arrival.span.span_id
+is_valid arrival = is_id 16 arrival.trace_id && is_id 8 arrival.span_id
 
 -- what is left where the invalid ones are left out
 abbrev pub valid : List Arrival → List Arrival

@@ -1,21 +1,56 @@
 -- When bodies that were read are equal.
-use Rattle.std.specs.Prelude.{Bool, nat_eq}
+use Rattle.std.specs.Prelude.{◌≡◌, Bool, true, nat_eq}
+use mathlib.Core.Path.{refl}
 use Rattle.std.specs.Cmp.{IsPartialEquivalence, partial_equiv_from_equiv, on_per, and_per, nat_eq_equiv}
-use Rattle.std.specs.Cmp.Lexicographic.{pointwise, nat_list_eq_equiv, lists_per}
+use Rattle.std.specs.Cmp.Lexicographic.{pointwise, nat_list_eq_equiv, lists_per, options_equiv}
 use Rattle.std.specs.Ordering.{on, eq_of_both}
-use Rattle.tenant_pipeline.specs.Arrivals.{Arrival}
+use Rattle.tail_settings.specs.Section.{PolicyData, always_sample}
+use Rattle.tenant_pipeline.specs.Arrivals.{Origin, Arrival}
+use Rattle.tenant_pipeline.specs.ExportText.{same_bytes, same_text}
 use Rattle.tenant_pipeline.specs.Prepared.{PreparedData}
 
--- the same ids
+-- the same resource and scope with the same schemas
+abbrev pub origin_eq : Origin → Origin → Bool
+origin_eq =
+    eq_of_both (eq_of_both (on (λ o. o.resource) same_text) (on (λ o. o.resource_schema_url) same_bytes)) (eq_of_both (on (λ o. o.scope) same_text) (on (λ o. o.scope_schema_url) same_bytes))
+
+-- the same ids, the same text and the same origin
 abbrev pub arrival_eq : Arrival → Arrival → Bool
-arrival_eq = eq_of_both (on (λ a. a.span.trace_id) (pointwise nat_eq)) (on (λ a. a.span.span_id) (pointwise nat_eq))
+arrival_eq =
+    eq_of_both (eq_of_both (eq_of_both (on (λ a. a.trace_id) same_bytes) (on (λ a. a.span_id) same_bytes)) (on (λ a. a.text) same_bytes)) (on (λ a. a.origin) origin_eq)
 
--- the same tenant, and the same spans in the same order
+-- the same kind
+abbrev pub policy_eq : PolicyData → PolicyData → Bool
+policy_eq always_sample always_sample = true
+
+-- the same tenant, the same policies in the same order, and the same spans in the same order
 abbrev pub prepared_eq : PreparedData → PreparedData → Bool
-prepared_eq = eq_of_both (on (λ p. p.tenant) nat_eq) (on (λ p. p.arrivals) (pointwise arrival_eq))
+prepared_eq =
+    eq_of_both (eq_of_both (on (λ p. p.tenant) nat_eq) (on (λ p. p.policies) (pointwise policy_eq))) (on (λ p. p.arrivals) (pointwise arrival_eq))
 
-arrival_laws : IsPartialEquivalence arrival_eq
-arrival_laws = and_per (on_per (λ a. a.span.trace_id) (partial_equiv_from_equiv nat_list_eq_equiv)) (on_per (λ a. a.span.span_id) (partial_equiv_from_equiv nat_list_eq_equiv))
+bytes_laws : IsPartialEquivalence same_bytes
+bytes_laws = partial_equiv_from_equiv nat_list_eq_equiv
+
+text_laws : IsPartialEquivalence same_text
+text_laws = partial_equiv_from_equiv (options_equiv nat_list_eq_equiv)
+
+pub origin_laws : IsPartialEquivalence origin_eq
+origin_laws =
+    and_per (and_per (on_per (λ o. o.resource) text_laws) (on_per (λ o. o.resource_schema_url) bytes_laws)) (and_per (on_per (λ o. o.scope) text_laws) (on_per (λ o. o.scope_schema_url) bytes_laws))
+
+pub arrival_laws : IsPartialEquivalence arrival_eq
+arrival_laws =
+    and_per (and_per (and_per (on_per (λ a. a.trace_id) bytes_laws) (on_per (λ a. a.span_id) bytes_laws)) (on_per (λ a. a.text) bytes_laws)) (on_per (λ a. a.origin) origin_laws)
+
+policy_laws : IsPartialEquivalence policy_eq
+policy_laws = record { symm = symm; trans = trans }
+  where
+    symm : (x y : PolicyData) → policy_eq x y ≡ policy_eq y x
+    symm always_sample always_sample = refl
+
+    trans : (x y z : PolicyData) → policy_eq x y ≡ true → policy_eq y z ≡ true → policy_eq x z ≡ true
+    trans always_sample always_sample always_sample same again = again
 
 pub prepared_laws : IsPartialEquivalence prepared_eq
-prepared_laws = and_per (on_per (λ p. p.tenant) (partial_equiv_from_equiv nat_eq_equiv)) (on_per (λ p. p.arrivals) (lists_per arrival_laws))
+prepared_laws =
+    and_per (and_per (on_per (λ p. p.tenant) (partial_equiv_from_equiv nat_eq_equiv)) (on_per (λ p. p.policies) (lists_per policy_laws))) (on_per (λ p. p.arrivals) (lists_per arrival_laws))

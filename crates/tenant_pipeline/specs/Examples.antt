@@ -1,8 +1,9 @@
 -- What the definitions give on small inputs, for the tests.
-use Rattle.std.specs.Prelude.{◌≡◌, ℕ, List, [], ◌∷◌, ◌++◌, replicate, Some}
+use Rattle.std.specs.Prelude.{◌≡◌, ℕ, List, [], ◌∷◌, ◌++◌, replicate, Option, Some, None}
 use Rattle.tail_settings.specs.Section.{SectionData, always_sample}
 use Rattle.tenant_pipeline.specs.declared.told.Told.TheVariants as tell
 use Rattle.tenant_pipeline.specs.Arrivals.{Arrival}
+use Rattle.tenant_pipeline.specs.ExportText.{export_text}
 use Rattle.tenant_pipeline.specs.Own.{Own, Post, Turn}
 use Rattle.tenant_pipeline.specs.State.{state, answer}
 use Rattle.tenant_pipeline.specs.Ready.{ready}
@@ -10,13 +11,22 @@ use Rattle.tenant_pipeline.specs.Ready.{ready}
 abbrev pub one_second : SectionData
 one_second = record { decision_wait = 1000; policies = always_sample ∷ [] }
 
--- a span whose trace id and span id are one byte again and again
-abbrev pub span : ℕ → ℕ → Arrival
-span trace id = record { span = record { trace_id = replicate 16 trace; span_id = replicate 8 id } }
-
--- its 28 bytes of text
+-- the 28 bytes of a span whose trace id and span id are one byte again and again
 abbrev pub text : ℕ → ℕ → List ℕ
 text trace id = 10 ∷ 16 ∷ (replicate 16 trace ++ (18 ∷ 8 ∷ replicate 8 id))
+
+-- that span, of this resource
+abbrev pub span_of : Option (List ℕ) → ℕ → ℕ → Arrival
+span_of resource trace id = record {
+  trace_id = replicate 16 trace;
+  span_id = replicate 8 id;
+  text = text trace id;
+  origin = record { resource = resource; resource_schema_url = []; scope = None; scope_schema_url = [] };
+}
+
+-- and of none
+abbrev pub span : ℕ → ℕ → Arrival
+span trace id = span_of None trace id
 
 -- a request with this span alone
 abbrev pub body : ℕ → ℕ → List ℕ
@@ -46,3 +56,8 @@ pub record FourPosts : Type 0 where
 -- spans of zeros, beside a valid one
 pub record Invalid : Type 0 where
   pub valid_alone : answer one_second (Post 0 (span 0 33 ∷ span 17 0 ∷ span 17 34 ∷ []) ∷ []) (Turn 1000) ≡ tell.Job 1 (body 17 34)
+
+-- two spans of one resource, whose text is one byte, and one of another: the two share a resource spans
+pub record TwoResources : Type 0 where
+  pub by_resource : export_text (span_of (Some (1 ∷ [])) 17 33 ∷ span_of (Some (1 ∷ [])) 17 34 ∷ span_of (Some (2 ∷ [])) 17 35 ∷ []) ≡
+      10 ∷ 65 ∷ 10 ∷ 1 ∷ 1 ∷ 18 ∷ 60 ∷ 18 ∷ 28 ∷ (text 17 33 ++ (18 ∷ 28 ∷ (text 17 34 ++ (10 ∷ 35 ∷ 10 ∷ 1 ∷ 2 ∷ 18 ∷ 30 ∷ 18 ∷ 28 ∷ text 17 35))))

@@ -1,16 +1,46 @@
--- What a batch of spans is sent as. Each group is one batch.
-use Rattle.std.specs.Prelude.{ℕ, List, [], ◌∷◌, map}
-use Rattle.otlp_trace.specs.Data.{SpanData, RequestData}
-use Rattle.otlp_trace.specs.Text.{request_text}
+-- What a batch of spans is sent as: neighbours of one resource and one schema of it share a resource spans, and in it
+-- neighbours of one scope and one schema of it share a scope spans. Each group is one batch.
+use Rattle.std.specs.Prelude.{ℕ, Bool, List, [], ◌∷◌, Option, flat_map, nat_eq, ◌&&◌, if◌then◌else◌}
+use Rattle.std.specs.Option.{option_eq}
+use Rattle.std.specs.Cmp.Lexicographic.{pointwise}
+use Rattle.otlp_trace.specs.Text.{bytes_field, repeated, scope_spans_of, resource_spans_of}
 use Rattle.tenant_pipeline.specs.Arrivals.{Arrival}
 
-abbrev pub span_of : Arrival → SpanData
-span_of arrival = arrival.span
+-- one more before the runs of the others
+abbrev pub joined_to : {A : Type 0} → (A → A → Bool) → A → List (List A) → List (List A)
+joined_to same x [] = (x ∷ []) ∷ []
+joined_to same x ([] ∷ rest) = (x ∷ []) ∷ rest
+joined_to same x ((y ∷ ys) ∷ rest) = if same x y then (x ∷ y ∷ ys) ∷ rest else (x ∷ []) ∷ (y ∷ ys) ∷ rest
 
--- all spans in one resource spans with one scope spans
-abbrev pub request_of : List Arrival → RequestData
-request_of spans = record { resource_spans = record { scope_spans = record { spans = map span_of spans } ∷ [] } ∷ [] }
+-- a list cut where neighbours differ
+abbrev pub runs : {A : Type 0} → (A → A → Bool) → List A → List (List A)
+runs same [] = []
+runs same (x ∷ xs) = joined_to same x (runs same xs)
+
+abbrev pub same_bytes : List ℕ → List ℕ → Bool
+same_bytes one other = pointwise nat_eq one other
+
+-- both are missing, or both are there with the same bytes
+abbrev pub same_text : Option (List ℕ) → Option (List ℕ) → Bool
+same_text one other = option_eq same_bytes one other
+
+abbrev pub same_resource : Arrival → Arrival → Bool
+same_resource a b = same_text a.origin.resource b.origin.resource && same_bytes a.origin.resource_schema_url b.origin.resource_schema_url
+
+abbrev pub same_scope : Arrival → Arrival → Bool
+same_scope a b = same_text a.origin.scope b.origin.scope && same_bytes a.origin.scope_schema_url b.origin.scope_schema_url
+
+-- a scope spans with these spans, which have one scope
+abbrev pub scope_spans_field : List Arrival → List ℕ
+scope_spans_field [] = []
+scope_spans_field (x ∷ xs) = bytes_field 2 (scope_spans_of x.origin.scope (repeated 2 (λ a. a.text) (x ∷ xs)) x.origin.scope_schema_url)
+
+-- a resource spans with these spans, which have one resource
+abbrev pub resource_spans_field : List Arrival → List ℕ
+resource_spans_field [] = []
+resource_spans_field (x ∷ xs) =
+    bytes_field 1 (resource_spans_of x.origin.resource (flat_map scope_spans_field (runs same_scope (x ∷ xs))) x.origin.resource_schema_url)
 
 -- the canonical text of that request
 unfoldable pub export_text : List Arrival → List ℕ
-export_text spans = request_text (request_of spans)
+export_text spans = flat_map resource_spans_field (runs same_resource spans)

@@ -1,28 +1,19 @@
 -- What the code's rows and groups are.
 use Rattle.std.specs.Prelude.{ℕ, List, map}
-use Rattle.otlp_trace.specs.declared.message.Span.{Span}
-use Rattle.otlp_trace.specs.View.{span_view}
 use Rattle.tenant_pipeline.specs.declared.rows.Row.{Row}
 use Rattle.tenant_pipeline.specs.declared.rows.Group.{Group}
-use Rattle.tenant_pipeline.specs.Arrivals.{Arrival}
 use Rattle.tenant_pipeline.specs.Groups.{GroupData}
 use Rattle.tenant_pipeline.specs.State.{RowData}
 
-abbrev pub arrival_view : Span → Arrival
-arrival_view span = record { span = span_view span }
-
-abbrev pub arrival_views : List Span → List Arrival
-arrival_views spans = map arrival_view spans
-
 -- an entry of the rows, named by its trace
 abbrev pub row_view : List ℕ × Row → RowData
-row_view entry = record { trace = entry.0; due = entry.1.due; spans = arrival_views entry.1.spans.items }
+row_view entry = record { trace = entry.0; due = entry.1.due; spans = entry.1.spans.items }
 
 abbrev pub row_views : List (List ℕ × Row) → List RowData
 row_views entries = map row_view entries
 
 abbrev pub group_view : Group → GroupData
-group_view group = record { moment = group.moment; spans = arrival_views group.spans.items }
+group_view group = record { moment = group.moment; spans = group.spans.items }
 
 abbrev pub group_views : List Group → List GroupData
 group_views groups = map group_view groups

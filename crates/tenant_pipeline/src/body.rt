@@ -1,36 +1,48 @@
 //! Bodies are read for a tenant.
 
-ghost use Rattle.std.specs.Prelude.{◌≡◌, ◌≢◌, ◌++◌, map, IfOk, IfErr, OnOk, MatchResult};
+ghost use Rattle.std.specs.Prelude.{◌≡◌, ◌≢◌, ◌++◌, [], map, option_map, string_bytes, None, IfOk, IfErr, OnOk, MatchResult};
 ghost use Rattle.otlp_trace.specs.Data.{RequestData};
-ghost use Rattle.otlp_trace.specs.View.{scope_spans_view, resource_spans_view, request_view};
+ghost use Rattle.otlp_trace.specs.Text.{resource_text, scope_text};
+ghost use Rattle.otlp_trace.specs.View.{span_view, scope_view, resource_view, scope_spans_view, resource_spans_view, request_view};
 ghost use Rattle.otlp_read.specs.Value.{IsValue, IsFault};
 ghost use Rattle.otlp_read.specs.declared.fault.ReadFault.{ReadFault};
-ghost use Rattle.tenant_pipeline.specs.Arrivals.{arrivals_of, arrivals_of_resource};
+ghost use Rattle.tail_settings.specs.Section.{section_view};
+ghost use Rattle.tenant_pipeline.specs.Arrivals.{arrivals_of, arrivals_of_resource, arrival_of, origin_with};
 ghost use Rattle.tenant_pipeline.specs.Prepared.{IsPrepared, prepared_of, refusal_of};
-ghost use Rattle.tenant_pipeline.specs.View.{arrival_views};
 ghost use Rattle.tenant_pipeline.specs.declared.body.Refusal.TheVariants as refusal;
 
+use crate::stored::{Origin, StoredSpan, share};
+use bytes::Bytes;
 use otlp_read::{ReadFault, read_request};
-use otlp_trace::{ExportTraceServiceRequest, ResourceSpans, Span};
+use otlp_trace::{
+    ExportTraceServiceRequest, InstrumentationScope, Resource, ResourceSpans, ScopeSpans, Span,
+    write_resource, write_scope, write_span,
+};
 use std::alloc::{AllocError, Global};
 use std::marker::Model;
-use tail_settings::Section;
+use tail_settings::{PolicySpec, Section};
 use thiserror::Error;
 
-/// A body's spans, ready to be posted to a tenant.
+/// A body's spans, ready to be posted to a tenant, with the policies that the tenant had then.
 #[derive(Debug, Drop)]
 pub struct Prepared {
     tenant: u32,
-    spans: Vec<Span>,
+    policies: Vec<PolicySpec>,
+    spans: Vec<StoredSpan>,
 }
 
 impl Model for Prepared {
+    ghost use Rattle.std.specs.Prelude.{map};
+    ghost use Rattle.tail_settings.specs.Section.{policy_view};
     ghost use Rattle.tenant_pipeline.specs.Prepared.{PreparedData};
-    ghost use Rattle.tenant_pipeline.specs.View.{arrival_views};
 
     ghost Value = { PreparedData };
 
-    ghost view = { λ p. record { tenant = p.tenant; arrivals = arrival_views p.spans.items } };
+    ghost view = { λ p. record {
+      tenant = p.tenant;
+      policies = map policy_view p.policies.items;
+      arrivals = p.spans.items;
+    } };
 }
 
 impl PartialEq for Prepared {
@@ -41,7 +53,7 @@ impl PartialEq for Prepared {
     ghost laws = { prepared_laws };
 
     fn eq(&self, other: &Self) -> bool {
-        self.spans == other.spans && self.tenant == other.tenant
+        self.tenant == other.tenant && self.policies == other.policies && self.spans == other.spans
     }
 }
 
@@ -83,52 +95,158 @@ impl Prepared {
         self.tenant
     }
 
-    pub(crate) fn spans(&self) -> &[Span]
-        ensures { arrival_views result.now ≡ self.now.arrivals }
+    pub(crate) fn spans(&self) -> &[StoredSpan]
+        ensures { result.now ≡ self.now.arrivals }
     {
         self.spans.as_slice()
     }
 }
 
-/// Reads a body, a request in protobuf, for the tenant with this number and section. No setting
-/// bears on a body yet.
+/// Reads a body, a request in protobuf, for the tenant with this number and section. What is prepared names the tenant and
+/// the section's policies.
 pub fn prepare(
     alloc: Global,
     tenant: u32,
-    _section: &Section,
+    section: &Section,
     body: &[u8],
 ) -> Result<Prepared, Refusal>
-    // What is prepared is the value of the body.
-    ensures value { IfOk result (λ prepared. IsPrepared tenant body.now prepared) }
+    // What is prepared is the section's policies and the value of the body.
+    ensures value { IfOk result (λ prepared. IsPrepared tenant (section_view section.now) body.now prepared) }
 
     // A body with a value is prepared, unless memory runs out.
-    ensures only { (v : RequestData) → IsValue body.now v → MatchResult result (λ prepared. prepared ≡ prepared_of tenant v) (λ refused. refused ≡ refusal.OutOfMemory) }
+    ensures only { (v : RequestData) → IsValue body.now v → MatchResult result (λ prepared. prepared ≡ prepared_of tenant (section_view section.now) v) (λ refused. refused ≡ refusal.OutOfMemory) }
 
     // The fault of a body that is bad stands in it.
     ensures bad { (fault : ReadFault) → IfErr result (λ refused. refused ≡ refusal.Bad fault → IsFault body.now fault) }
 {
     let request = read_request(alloc, body)?;
     let spans = spans_of(alloc, request)?;
-    Ok(Prepared { tenant, spans })
+    let policies = section.policies.clone()?;
+    Ok(Prepared {
+        tenant,
+        policies,
+        spans,
+    })
 }
 
 /// The spans of a request, in its order.
-fn spans_of(alloc: Global, request: ExportTraceServiceRequest) -> Result<Vec<Span>, AllocError>
-    ensures { IfOk result (λ spans. arrival_views spans.items ≡ arrivals_of (request_view request)) }
+fn spans_of(
+    alloc: Global,
+    request: ExportTraceServiceRequest,
+) -> Result<Vec<StoredSpan>, AllocError>
+    ensures { IfOk result (λ spans. spans.items ≡ arrivals_of (request_view request)) }
 {
     let mut spans = Vec::new(alloc);
-    for resource in request.resource_spans.into_vec() {
-        add_spans(&mut spans, resource)?;
+    for resource_spans in request.resource_spans.into_vec() {
+        add_resource(alloc, &mut spans, resource_spans)?;
     }
     Ok(spans)
 }
 
-/// Appends the spans of one resource.
-fn add_spans(spans: &mut Vec<Span>, resource: ResourceSpans) -> Result<(), AllocError>
-    ensures { OnOk result (arrival_views spans.new.items ≡ arrival_views spans.old.items ++ arrivals_of_resource (resource_spans_view resource)) }
+/// Appends the spans of one resource, whose text is written once.
+fn add_resource(
+    alloc: Global,
+    spans: &mut Vec<StoredSpan>,
+    resource_spans: ResourceSpans,
+) -> Result<(), AllocError>
+    ensures { OnOk result (spans.new.items ≡ spans.old.items ++ arrivals_of_resource (resource_spans_view resource_spans)) }
 {
-    for scope in resource.scope_spans.into_vec() {
-        spans.append(&mut scope.spans.into_vec())?;
+    let schema_url = resource_spans.schema_url;
+    let outer = of_resource(alloc, &resource_spans.resource, schema_url)?;
+    for scope_spans in resource_spans.scope_spans.into_vec() {
+        add_scope(alloc, spans, &outer, scope_spans)?;
     }
     Ok(())
+}
+
+/// Appends the spans of one scope, whose text is written once, of the resource that `outer` names.
+fn add_scope(
+    alloc: Global,
+    spans: &mut Vec<StoredSpan>,
+    outer: &Origin,
+    scope_spans: ScopeSpans,
+) -> Result<(), AllocError>
+    ensures { OnOk result (spans.new.items ≡ spans.old.items ++ map (arrival_of (origin_with outer.now.resource outer.now.resource_schema_url (scope_spans_view scope_spans))) (map span_view scope_spans.spans)) }
+{
+    let schema_url = scope_spans.schema_url;
+    let origin = with_scope(alloc, outer, &scope_spans.scope, schema_url)?;
+    for span in scope_spans.spans.into_vec() {
+        let stored = written_span(alloc, span, &origin)?;
+        spans.push(stored)?;
+    }
+    Ok(())
+}
+
+/// What stands round the spans of a resource, but for their scope.
+fn of_resource(
+    alloc: Global,
+    resource: &Option<Resource>,
+    schema_url: String,
+) -> Result<Origin, AllocError>
+    ensures { IfOk result (λ origin. origin ≡ record { resource = option_map resource_text (option_map resource_view resource.now); resource_schema_url = string_bytes schema_url; scope = None; scope_schema_url = [] }) }
+{
+    Ok(Origin {
+        resource: written_resource(alloc, resource)?,
+        resource_schema_url: Bytes::from_string(schema_url)?,
+        scope: None,
+        scope_schema_url: Bytes::new(),
+    })
+}
+
+/// What stands round the spans of a scope, of the resource that `outer` names.
+fn with_scope(
+    alloc: Global,
+    outer: &Origin,
+    scope: &Option<InstrumentationScope>,
+    schema_url: String,
+) -> Result<Origin, AllocError>
+    ensures { IfOk result (λ origin. origin ≡ record { resource = outer.now.resource; resource_schema_url = outer.now.resource_schema_url; scope = option_map scope_text (option_map scope_view scope.now); scope_schema_url = string_bytes schema_url }) }
+{
+    Ok(Origin {
+        resource: share(&outer.resource)?,
+        resource_schema_url: outer.resource_schema_url.clone()?,
+        scope: written_scope(alloc, scope)?,
+        scope_schema_url: Bytes::from_string(schema_url)?,
+    })
+}
+
+/// A span with its text.
+fn written_span(alloc: Global, span: Span, origin: &Origin) -> Result<StoredSpan, AllocError>
+    ensures { IfOk result (λ stored. stored ≡ arrival_of origin.now (span_view span)) }
+{
+    let mut text = Vec::new(alloc);
+    write_span(alloc, &mut text, &span)?;
+    Ok(StoredSpan {
+        trace_id: Bytes::from_vec(span.trace_id.into_vec())?,
+        span_id: Bytes::from_vec(span.span_id.into_vec())?,
+        text: Bytes::from_vec(text)?,
+        origin: origin.clone()?,
+    })
+}
+
+/// A resource's text, where there is one.
+fn written_resource(alloc: Global, resource: &Option<Resource>) -> Result<Option<Bytes>, AllocError>
+    ensures { IfOk result (λ text. text ≡ option_map resource_text (option_map resource_view resource.now)) }
+{
+    let Some(resource) = resource else {
+        return Ok(None);
+    };
+    let mut text = Vec::new(alloc);
+    write_resource(alloc, &mut text, resource)?;
+    Ok(Some(Bytes::from_vec(text)?))
+}
+
+/// A scope's text, where there is one.
+fn written_scope(
+    alloc: Global,
+    scope: &Option<InstrumentationScope>,
+) -> Result<Option<Bytes>, AllocError>
+    ensures { IfOk result (λ text. text ≡ option_map scope_text (option_map scope_view scope.now)) }
+{
+    let Some(scope) = scope else {
+        return Ok(None);
+    };
+    let mut text = Vec::new(alloc);
+    write_scope(alloc, &mut text, scope)?;
+    Ok(Some(Bytes::from_vec(text)?))
 }

@@ -1,24 +1,26 @@
 //! The text of a batch.
 
-ghost use Rattle.std.specs.Prelude.{◌≡◌, ◌^◌, ◌<◌, ◌≤◌, ◌++◌, IfOk, OnOk, map};
-ghost use Rattle.otlp_trace.specs.Text.{bytes_field, repeated, span_text};
-ghost use Rattle.otlp_trace.specs.View.{span_view};
-ghost use Rattle.tenant_pipeline.specs.ExportText.{export_text};
-ghost use Rattle.tenant_pipeline.specs.View.{arrival_views};
+ghost use Rattle.std.specs.Prelude.{◌≡◌, ◌^◌, ◌<◌, ◌≤◌, ◌++◌, ◌∷◌, ℕ, Bool, List, length, take, drop, flat_map, IfOk, OnOk};
+ghost use Rattle.otlp_trace.specs.Text.{bytes_field, some_bytes, embedded, repeated};
+ghost use Rattle.tenant_pipeline.specs.Arrivals.{Arrival};
+ghost use Rattle.tenant_pipeline.specs.ExportText.{runs, same_resource, same_scope, scope_spans_field, resource_spans_field, export_text};
 
+use crate::stored::StoredSpan;
 use bytes::Bytes;
-use otlp_trace::{Span, write_span};
-use pb_wire::{WireType, put_bytes, put_tag};
+use pb_wire::{WireType, put_bytes, put_tag, put_varint};
 use std::alloc::{AllocError, Global};
 
-/// The number of `spans` in a `ScopeSpans`, and of `scope_spans` in a `ResourceSpans`.
+/// The number of `resource` in a `ResourceSpans`, of `scope` in a `ScopeSpans`, and of `resource_spans` in a request.
+const FIRST: u32 = 1;
+
+/// The number of `scope_spans` in a `ResourceSpans`, and of `spans` in a `ScopeSpans`.
 const INNER: u32 = 2;
 
-/// The number of `resource_spans` in a request.
-const OUTER: u32 = 1;
+/// The number of `schema_url` in both.
+const SCHEMA_URL: u32 = 3;
 
 /// Appends a field of bytes.
-fn put_field(out: &mut Vec<u8>, number: u32, bytes: &[u8]) -> Result<(), AllocError>
+pub fn put_field(out: &mut Vec<u8>, number: u32, bytes: &[u8]) -> Result<(), AllocError>
     requires some { 0 < number }
     requires fits { number < 2 ^ 29 }
     ensures { OnOk result (out.new.items ≡ out.old.items ++ bytes_field number bytes.now) }
@@ -27,43 +29,145 @@ fn put_field(out: &mut Vec<u8>, number: u32, bytes: &[u8]) -> Result<(), AllocEr
     put_bytes(out, bytes)
 }
 
-/// A message of one field.
-fn wrap(alloc: Global, number: u32, content: &[u8]) -> Result<Vec<u8>, AllocError>
+/// Appends the resource or the scope, where there is one.
+pub fn put_embedded(out: &mut Vec<u8>, text: &Option<Bytes>) -> Result<(), AllocError>
+    ensures { OnOk result (out.new.items ≡ out.old.items ++ embedded 1 text.now) }
+{
+    match text {
+        Some(text) => put_field(out, FIRST, text.as_slice()),
+        None => Ok(()),
+    }
+}
+
+/// Appends the schema, where it has any bytes.
+pub fn put_schema_url(out: &mut Vec<u8>, url: &Bytes) -> Result<(), AllocError>
+    ensures { OnOk result (out.new.items ≡ out.old.items ++ some_bytes 3 url.now) }
+{
+    if url.is_empty() {
+        return Ok(());
+    }
+    put_field(out, SCHEMA_URL, url.as_slice())
+}
+
+/// Makes the bytes from a place on the content of a field.
+fn wrap(out: &mut Vec<u8>, start: usize, number: u32) -> Result<(), AllocError>
+    requires within { start ≤ length out.old.items }
     requires some { 0 < number }
     requires fits { number < 2 ^ 29 }
-    ensures { IfOk result (λ text. text.items ≡ bytes_field number content.now) }
+    ensures { OnOk result (out.new.items ≡ take start out.old.items ++ bytes_field number (drop start out.old.items)) }
 {
-    let mut text = Vec::new(alloc);
-    put_field(&mut text, number, content)?;
-    Ok(text)
+    let end = out.len();
+    put_tag(out, number, WireType::Bytes)?;
+    put_varint(out, (end - start) as u64)?;
+    let added = out.len() - end;
+    out[start..].rotate_right(added);
+    Ok(())
 }
 
-/// Appends a span as a field.
-fn put_span(alloc: Global, out: &mut Vec<u8>, span: &Span) -> Result<(), AllocError>
-    ensures { OnOk result (out.new.items ≡ out.old.items ++ bytes_field 2 (span_text (span_view span.now))) }
+/// Appends the spans, each as a field of a `ScopeSpans`.
+pub fn put_spans(out: &mut Vec<u8>, spans: &[StoredSpan]) -> Result<(), AllocError>
+    ensures { OnOk result (out.new.items ≡ out.old.items ++ repeated 2 (λ a. a.text) spans.now) }
 {
-    let mut text = Vec::new(alloc);
-    write_span(alloc, &mut text, span)?;
-    put_field(out, INNER, text.as_slice())
-}
-
-/// The spans, as the fields of a `ScopeSpans`.
-fn spans_text(alloc: Global, spans: &[Span]) -> Result<Vec<u8>, AllocError>
-    ensures { IfOk result (λ text. text.items ≡ repeated 2 span_text (map span_view spans.now)) }
-{
-    let mut text = Vec::new(alloc);
     for span in spans {
-        put_span(alloc, &mut text, span)?;
+        put_field(out, INNER, span.text.as_slice())?;
     }
-    Ok(text)
+    Ok(())
+}
+
+/// What neighbours share, and what is written of those that share it.
+pub trait Level {
+    ghost same: { Arrival → Arrival → Bool };
+
+    ghost field: { List Arrival → List ℕ };
+
+    fn is_same(one: &StoredSpan, other: &StoredSpan) -> bool
+        ensures { result ≡ same one.now other.now };
+
+    fn put(out: &mut Vec<u8>, spans: &[StoredSpan]) -> Result<(), AllocError>
+        ensures { OnOk result (out.new.items ≡ out.old.items ++ field spans.now) };
+}
+
+/// A scope, with its schema.
+pub struct ScopeLevel;
+
+impl Level for ScopeLevel {
+    ghost same = { same_scope };
+
+    ghost field = { scope_spans_field };
+
+    fn is_same(one: &StoredSpan, other: &StoredSpan) -> bool {
+        one.origin.is_same_scope(&other.origin)
+    }
+
+    fn put(out: &mut Vec<u8>, spans: &[StoredSpan]) -> Result<(), AllocError> {
+        let Some(first) = spans.first() else {
+            return Ok(());
+        };
+        let start = out.len();
+        put_embedded(out, &first.origin.scope)?;
+        put_spans(out, spans)?;
+        put_schema_url(out, &first.origin.scope_schema_url)?;
+        wrap(out, start, INNER)
+    }
+}
+
+/// A resource, with its schema.
+pub struct ResourceLevel;
+
+impl Level for ResourceLevel {
+    ghost same = { same_resource };
+
+    ghost field = { resource_spans_field };
+
+    fn is_same(one: &StoredSpan, other: &StoredSpan) -> bool {
+        one.origin.is_same_resource(&other.origin)
+    }
+
+    fn put(out: &mut Vec<u8>, spans: &[StoredSpan]) -> Result<(), AllocError> {
+        let Some(first) = spans.first() else {
+            return Ok(());
+        };
+        let start = out.len();
+        put_embedded(out, &first.origin.resource)?;
+        put_runs::<ScopeLevel>(out, spans)?;
+        put_schema_url(out, &first.origin.resource_schema_url)?;
+        wrap(out, start, FIRST)
+    }
+}
+
+/// How many spans the first run has.
+fn leading<L: Level>(spans: &[StoredSpan]) -> usize
+    requires { 0 < length spans.now }
+    ensures some { 0 < result }
+    ensures within { result ≤ length spans.now }
+    ensures first { runs L.same spans.now ≡ take result spans.now ∷ runs L.same (drop result spans.now) }
+{
+    let mut last = 0;
+    while last + 1 < spans.len() && L::is_same(&spans[last], &spans[last + 1]) {
+        last += 1;
+    }
+    last + 1
+}
+
+/// Appends the spans run by run.
+fn put_runs<L: Level>(out: &mut Vec<u8>, spans: &[StoredSpan]) -> Result<(), AllocError>
+    ensures { OnOk result (out.new.items ≡ out.old.items ++ flat_map L.field (runs L.same spans.now)) }
+{
+    let mut left = spans;
+    while !left.is_empty() {
+        let (run, others) = left.split_at(leading::<L>(left));
+        L::put(out, run)?;
+        left = others;
+    }
+    Ok(())
 }
 
 /// What is sent for these spans.
-pub fn export(alloc: Global, spans: &[Span]) -> Result<Bytes, AllocError>
-    ensures { IfOk result (λ payload. payload ≡ export_text (arrival_views spans.now)) }
+#[tactic(auto, unfolding(crate::specs::ExportText::export_text))]
+pub fn export(alloc: Global, spans: &[StoredSpan]) -> Result<Bytes, AllocError>
+    ensures { IfOk result (λ payload. payload ≡ export_text spans.now) }
 {
-    let scope_spans = spans_text(alloc, spans)?;
-    let resource_spans = wrap(alloc, INNER, scope_spans.as_slice())?;
-    let request = wrap(alloc, OUTER, resource_spans.as_slice())?;
-    Ok(Bytes::from_vec(request)?)
+    let mut text = Vec::new(alloc);
+    put_runs::<ResourceLevel>(&mut text, spans)?;
+    Ok(Bytes::from_vec(text)?)
 }

@@ -1,8 +1,9 @@
 //! One tenant's pipeline.
 //!
-//! The spans of a body wait in their trace's row. A row is decided when the tenant's wait is over: its spans then form
-//! a group, in order of arrival. A span that comes after its row's decision forms a group alone. Each group is one
-//! batch, and a worker's turn hands out the oldest batch, with the tenant's next ticket and its text in OTLP.
+//! The spans of a body wait in their trace's row, each as its canonical text with its resource and its scope. A row is
+//! decided when the tenant's wait is over: its spans then form a group, in order of arrival. A span that comes after its
+//! row's decision forms a group alone. Each group is one batch, and a worker's turn hands out the oldest batch, with the
+//! tenant's next ticket and its text in OTLP, in which neighbours of one resource, and of one scope, share it.
 //!
 //! What a tenant is told depends on its settings and its own steps alone: `specs/State` says what it is after any list
 //! of own steps, and what it is told of the next one. `Pipeline` answers so. A step takes effect at the greatest moment
@@ -20,6 +21,7 @@ mod export;
 mod pipeline;
 mod place;
 mod rows;
+mod stored;
 mod told;
 
 pub use body::{Prepared, Refusal, prepare};

@@ -4,12 +4,12 @@ ghost use Rattle.std.specs.Prelude.{◌≡◌, ◌+◌, ◌^◌, ◌<◌, ◌≤
 ghost use Rattle.std.specs.List.{list_all};
 ghost use Rattle.indexmap.specs.IndexMap.{index_map_len};
 ghost use Rattle.tenant_pipeline.specs.Arrivals.{is_id, is_valid, valid};
-ghost use Rattle.tenant_pipeline.specs.View.{arrival_view, arrival_views, row_views, group_views};
+ghost use Rattle.tenant_pipeline.specs.View.{row_views, group_views};
 ghost use Rattle.tenant_pipeline.specs.Machine.{rows_with, late_with, rows_with_all, late_with_all};
 ghost use Rattle.tenant_pipeline.specs.Additions.{rows_before, queue_before, rows_without, queue_without};
 
 use crate::rows::{Group, Row, Rows};
-use otlp_trace::Span;
+use crate::stored::StoredSpan;
 use std::alloc::{AllocError, Global};
 use std::collections::VecDeque;
 
@@ -44,14 +44,14 @@ fn is_id(bytes: &[u8], size: usize) -> bool
 }
 
 /// Whether trace and span id are as they have to be.
-fn is_valid(span: &Span) -> bool
-    ensures { result ≡ is_valid (arrival_view span.now) }
+fn is_valid(span: &StoredSpan) -> bool
+    ensures { result ≡ is_valid span.now }
 {
     is_id(span.trace_id.as_slice(), 16) && is_id(span.span_id.as_slice(), 8)
 }
 
 /// A row's name.
-fn trace_key(span: &Span) -> [u8; 16]
+fn trace_key(span: &StoredSpan) -> [u8; 16]
     requires { length span.now.trace_id ≡ 16 }
     ensures { result ≡ span.now.trace_id }
 {
@@ -61,7 +61,7 @@ fn trace_key(span: &Span) -> [u8; 16]
 }
 
 /// A list of one span.
-fn one(alloc: Global, span: Span) -> Result<Vec<Span>, AllocError>
+fn one(alloc: Global, span: StoredSpan) -> Result<Vec<StoredSpan>, AllocError>
     ensures { IfOk result (λ spans. spans.items ≡ span ∷ []) }
 {
     let mut spans = Vec::new(alloc);
@@ -75,12 +75,12 @@ fn join(
     row: &mut Row,
     queue: &mut VecDeque<Group>,
     moment: u64,
-    span: Span,
+    span: StoredSpan,
 ) -> Result<bool, AllocError>
     ensures due { row.new.due ≡ row.old.due }
     ensures joined { IfOk result (λ joined. joined ≡ nat_lt moment row.old.due) }
     ensures row { IfOk result (λ joined. row.new.spans.items ≡ (if joined then row.old.spans.items ++ span ∷ [] else row.old.spans.items)) }
-    ensures queue { IfOk result (λ joined. group_views queue.new.items ≡ group_views queue.old.items ++ (if joined then [] else record { moment = moment; spans = arrival_view span ∷ [] } ∷ [])) }
+    ensures queue { IfOk result (λ joined. group_views queue.new.items ≡ group_views queue.old.items ++ (if joined then [] else record { moment = moment; spans = span ∷ [] } ∷ [])) }
     ensures refused_row { OnErr result (row.new.spans.items ≡ row.old.spans.items) }
     ensures refused_queue { OnErr result (queue.new.items ≡ queue.old.items) }
 {
@@ -100,13 +100,13 @@ fn place(
     queue: &mut VecDeque<Group>,
     wait: u64,
     moment: u64,
-    span: Span,
+    span: StoredSpan,
 ) -> Result<Addition, AllocError>
     requires wait { wait ≤ 2 ^ 32 }
     requires moment { moment ≤ 2 ^ 62 }
     requires id { length span.trace_id ≡ 16 }
-    ensures rows { OnOk result (row_views rows.new.entries ≡ rows_with wait moment (arrival_view span) (row_views rows.old.entries)) }
-    ensures queue { OnOk result (group_views queue.new.items ≡ group_views queue.old.items ++ late_with moment (arrival_view span) (row_views rows.old.entries)) }
+    ensures rows { OnOk result (row_views rows.new.entries ≡ rows_with wait moment span (row_views rows.old.entries)) }
+    ensures queue { OnOk result (group_views queue.new.items ≡ group_views queue.old.items ++ late_with moment span (row_views rows.old.entries)) }
     ensures rows_back { IfOk result (λ addition. rows_before addition (row_views rows.new.entries) ≡ row_views rows.old.entries) }
     ensures queue_back { IfOk result (λ addition. queue_before addition (group_views queue.new.items) ≡ group_views queue.old.items) }
     ensures refused_rows { OnErr result (row_views rows.new.entries ≡ row_views rows.old.entries) }
@@ -138,13 +138,13 @@ fn add(
     queue: &mut VecDeque<Group>,
     wait: u64,
     moment: u64,
-    span: &Span,
+    span: &StoredSpan,
     additions: &mut Vec<Addition>,
 ) -> Result<(), AllocError>
     requires wait { wait ≤ 2 ^ 32 }
     requires moment { moment ≤ 2 ^ 62 }
-    ensures rows { OnOk result (row_views rows.new.entries ≡ rows_with_all wait moment (valid (arrival_view span.now ∷ [])) (row_views rows.old.entries)) }
-    ensures queue { OnOk result (group_views queue.new.items ≡ group_views queue.old.items ++ late_with_all wait moment (valid (arrival_view span.now ∷ [])) (row_views rows.old.entries)) }
+    ensures rows { OnOk result (row_views rows.new.entries ≡ rows_with_all wait moment (valid (span.now ∷ [])) (row_views rows.old.entries)) }
+    ensures queue { OnOk result (group_views queue.new.items ≡ group_views queue.old.items ++ late_with_all wait moment (valid (span.now ∷ [])) (row_views rows.old.entries)) }
     ensures rows_back { rows_without additions.new.items (row_views rows.new.entries) ≡ rows_without additions.old.items (row_views rows.old.entries) }
     ensures queue_back { queue_without additions.new.items (group_views queue.new.items) ≡ queue_without additions.old.items (group_views queue.old.items) }
 {
@@ -195,12 +195,12 @@ pub fn place_all(
     queue: &mut VecDeque<Group>,
     wait: u64,
     moment: u64,
-    spans: &[Span],
+    spans: &[StoredSpan],
 ) -> Result<(), AllocError>
     requires wait { wait ≤ 2 ^ 32 }
     requires moment { moment ≤ 2 ^ 62 }
-    ensures rows { OnOk result (row_views rows.new.entries ≡ rows_with_all wait moment (valid (arrival_views spans.now)) (row_views rows.old.entries)) }
-    ensures queue { OnOk result (group_views queue.new.items ≡ group_views queue.old.items ++ late_with_all wait moment (valid (arrival_views spans.now)) (row_views rows.old.entries)) }
+    ensures rows { OnOk result (row_views rows.new.entries ≡ rows_with_all wait moment (valid spans.now) (row_views rows.old.entries)) }
+    ensures queue { OnOk result (group_views queue.new.items ≡ group_views queue.old.items ++ late_with_all wait moment (valid spans.now) (row_views rows.old.entries)) }
     ensures refused_rows { OnErr result (row_views rows.new.entries ≡ row_views rows.old.entries) }
     ensures refused_queue { OnErr result (group_views queue.new.items ≡ group_views queue.old.items) }
 {

@@ -1,23 +1,21 @@
 //! The definitions, computed over a tenant's whole past. Each function here is one of them as it stands: slow, and for
 //! tests alone. Lists of steps, spans and rows have the newest first, as there.
 
-ghost use Rattle.std.specs.Prelude.{◌≡◌, ◌++◌, ◌≤◌, ◌==◌, ◌∷◌, [], drop, length, is_some, if◌then◌else◌, IfOk, OnOk};
+ghost use Rattle.std.specs.Prelude.{◌≡◌, ◌++◌, ◌≤◌, ◌==◌, ◌∷◌, [], drop, length, is_some, if◌then◌else◌, flat_map, true, Bool, List, IfOk, OnOk};
 ghost use Rattle.std.specs.List.{insert, list_all};
 ghost use Rattle.tail_settings.specs.Section.{section_view};
-ghost use Rattle.tenant_pipeline.specs.Arrivals.{is_id, is_valid, valid};
+ghost use Rattle.tenant_pipeline.specs.Arrivals.{Arrival, is_id, is_valid, valid};
 ghost use Rattle.tenant_pipeline.specs.Own.{moment_of, clock};
 ghost use Rattle.tenant_pipeline.specs.Rows.{trace_of, taken_after, taken, latest, opened, seat, seated};
 ghost use Rattle.tenant_pipeline.specs.Groups.{GroupData, due_of, on_time, decided, late, put, by_moment, groups};
-ghost use Rattle.tenant_pipeline.specs.ExportText.{request_of, export_text};
+ghost use Rattle.tenant_pipeline.specs.ExportText.{joined_to, runs, same_resource, same_scope, scope_spans_field, resource_spans_field, export_text};
 ghost use Rattle.tenant_pipeline.specs.State.{handed, tickets_after, tickets, answer};
-ghost use Rattle.tenant_pipeline.specs.View.{arrival_view, arrival_views};
-ghost use Rattle.otlp_trace.specs.View.{request_view};
 
+use crate::export::{put_embedded, put_field, put_schema_url, put_spans};
+use crate::stored::StoredSpan;
 use crate::told::{Reply, Told};
 use bytes::Bytes;
-use otlp_trace::{
-    ExportTraceServiceRequest, Octets, Repeated, ResourceSpans, ScopeSpans, Span, write_request,
-};
+use otlp_trace::Octets;
 use std::alloc::{AllocError, Global};
 use std::collections::VecDeque;
 use std::marker::Model;
@@ -33,39 +31,37 @@ const LAST_TICKET: u64 = 4_611_686_018_427_387_904;
 #[derive(Drop)]
 pub struct OwnStep {
     pub at: u64,
-    pub spans: Option<Vec<Span>>,
+    pub spans: Option<Vec<StoredSpan>>,
 }
 
 impl Model for OwnStep {
     ghost use Rattle.std.specs.Prelude.{Some, None};
     ghost use Rattle.tenant_pipeline.specs.Own.{Own, Post, Turn};
-    ghost use Rattle.tenant_pipeline.specs.View.{arrival_views};
 
     ghost Value = { Own };
 
-    ghost view = { λ s. elim s.spans [ Some spans ↦ Post s.at (arrival_views spans.items) | None ↦ Turn s.at ] };
+    ghost view = { λ s. elim s.spans [ Some spans ↦ Post s.at spans.items | None ↦ Turn s.at ] };
 }
 
 /// A span that was taken, with the effective moment of its post.
 #[derive(Drop)]
 struct TakenSpan {
     moment: u64,
-    span: Span,
+    span: StoredSpan,
 }
 
 impl Model for TakenSpan {
     ghost use Rattle.tenant_pipeline.specs.Rows.{Taken};
-    ghost use Rattle.tenant_pipeline.specs.View.{arrival_view};
 
     ghost Value = { Taken };
 
-    ghost view = { λ t. record { moment = t.moment; arrival = arrival_view t.span } };
+    ghost view = { λ t. record { moment = t.moment; arrival = t.span } };
 }
 
 /// A row that was opened by a span of this trace.
 #[derive(Drop)]
 struct OpenedRow {
-    trace: Octets,
+    trace: Bytes,
     moment: u64,
 }
 
@@ -98,32 +94,30 @@ struct SeatedSpan {
     row: u128,
     opening: u64,
     moment: u64,
-    span: Span,
+    span: StoredSpan,
 }
 
 impl Model for SeatedSpan {
     ghost use Rattle.tenant_pipeline.specs.Rows.{Seated};
-    ghost use Rattle.tenant_pipeline.specs.View.{arrival_view};
 
     ghost Value = { Seated };
 
-    ghost view = { λ s. record { row = s.row; opening = s.opening; moment = s.moment; arrival = arrival_view s.span } };
+    ghost view = { λ s. record { row = s.row; opening = s.opening; moment = s.moment; arrival = s.span } };
 }
 
 /// Spans that leave together, with the moment at which the group formed. No sum of a moment and a wait is too great.
 #[derive(Drop)]
 struct Batch {
     moment: u128,
-    spans: Vec<Span>,
+    spans: Vec<StoredSpan>,
 }
 
 impl Model for Batch {
     ghost use Rattle.tenant_pipeline.specs.Groups.{GroupData};
-    ghost use Rattle.tenant_pipeline.specs.View.{arrival_views};
 
     ghost Value = { GroupData };
 
-    ghost view = { λ b. record { moment = b.moment; spans = arrival_views b.spans.items } };
+    ghost view = { λ b. record { moment = b.moment; spans = b.spans.items } };
 }
 
 fn moment_of(step: &OwnStep) -> u64
@@ -164,8 +158,8 @@ fn is_id(size: usize, bytes: &[u8]) -> bool
     bytes.len() == size && !is_zero(bytes)
 }
 
-fn is_valid(span: &Span) -> bool
-    ensures { result ≡ is_valid (arrival_view span.now) }
+fn is_valid(span: &StoredSpan) -> bool
+    ensures { result ≡ is_valid span.now }
 {
     is_id(16, span.trace_id.as_slice()) && is_id(8, span.span_id.as_slice())
 }
@@ -179,16 +173,20 @@ fn put_first<T: Drop>(list: &mut Vec<T>, newest: T) -> Result<(), AllocError>
 }
 
 /// One span is taken.
-fn take_one(moment: u64, span: &Span, spans: &mut Vec<TakenSpan>) -> Result<(), AllocError>
-    ensures { OnOk result (spans.new.items ≡ record { moment = moment; arrival = arrival_view span.now } ∷ spans.old.items) }
+fn take_one(moment: u64, span: &StoredSpan, spans: &mut Vec<TakenSpan>) -> Result<(), AllocError>
+    ensures { OnOk result (spans.new.items ≡ record { moment = moment; arrival = span.now } ∷ spans.old.items) }
 {
     let span = span.clone()?;
     put_first(spans, TakenSpan { moment, span })
 }
 
 /// The valid ones of these spans join those that were taken before.
-fn taken_after(moment: u64, arrivals: &[Span], spans: &mut Vec<TakenSpan>) -> Result<(), AllocError>
-    ensures { OnOk result (spans.new.items ≡ taken_after moment (valid (arrival_views arrivals.now)) spans.old.items) }
+fn taken_after(
+    moment: u64,
+    arrivals: &[StoredSpan],
+    spans: &mut Vec<TakenSpan>,
+) -> Result<(), AllocError>
+    ensures { OnOk result (spans.new.items ≡ taken_after moment (valid arrivals.now) spans.old.items) }
 {
     match arrivals.split_first() {
         Some((span, others)) => {
@@ -214,7 +212,7 @@ fn taken(alloc: Global, past: &[OwnStep]) -> Result<Vec<TakenSpan>, AllocError>
     Ok(spans)
 }
 
-fn latest(trace: &Octets, rows: &[OpenedRow]) -> Option<RowSeat>
+fn latest(trace: &Bytes, rows: &[OpenedRow]) -> Option<RowSeat>
     ensures { result ≡ latest trace.now rows.now }
 {
     let (row, before) = rows.split_first()?;
@@ -297,8 +295,8 @@ fn due_of(section: &Section, opening: u64) -> u128
 }
 
 /// Appends a span's copy.
-fn keep(span: &Span, spans: &mut Vec<Span>) -> Result<(), AllocError>
-    ensures { OnOk result (arrival_views spans.new.items ≡ arrival_views spans.old.items ++ arrival_view span.now ∷ []) }
+fn keep(span: &StoredSpan, spans: &mut Vec<StoredSpan>) -> Result<(), AllocError>
+    ensures { OnOk result (spans.new.items ≡ spans.old.items ++ span.now ∷ []) }
 {
     let span = span.clone()?;
     spans.push(span)?;
@@ -310,8 +308,8 @@ fn on_time(
     section: &Section,
     row: u128,
     seats: &[SeatedSpan],
-) -> Result<Vec<Span>, AllocError>
-    ensures { IfOk result (λ spans. arrival_views spans.items ≡ on_time (section_view section.now) row seats.now) }
+) -> Result<Vec<StoredSpan>, AllocError>
+    ensures { IfOk result (λ spans. spans.items ≡ on_time (section_view section.now) row seats.now) }
 {
     let Some((x, before)) = seats.split_first() else {
         return Ok(Vec::new(alloc));
@@ -486,39 +484,151 @@ fn one<T: Drop>(alloc: Global, x: T) -> Result<Vec<T>, AllocError>
     Ok(list)
 }
 
-#[tactic(auto, using(crate::proofs::Entries::span_of_views))]
-fn request_of(alloc: Global, spans: Vec<Span>) -> Result<ExportTraceServiceRequest, AllocError>
-    ensures { IfOk result (λ request. request_view request ≡ request_of (arrival_views spans.items)) }
+/// What neighbours are compared by.
+trait Compared {
+    ghost same: { Arrival → Arrival → Bool };
+
+    fn is_same(a: &StoredSpan, b: &StoredSpan) -> bool
+        ensures { result ≡ same a.now b.now };
+}
+
+/// Their resources and the resources' schemas.
+struct ByResource;
+
+impl Compared for ByResource {
+    ghost same = { same_resource };
+
+    fn is_same(a: &StoredSpan, b: &StoredSpan) -> bool {
+        a.origin.resource == b.origin.resource
+            && a.origin.resource_schema_url == b.origin.resource_schema_url
+    }
+}
+
+/// Their scopes and the scopes' schemas.
+struct ByScope;
+
+impl Compared for ByScope {
+    ghost same = { same_scope };
+
+    fn is_same(a: &StoredSpan, b: &StoredSpan) -> bool {
+        a.origin.scope == b.origin.scope && a.origin.scope_schema_url == b.origin.scope_schema_url
+    }
+}
+
+/// Neighbours that are the same.
+#[derive(Drop)]
+struct Run {
+    spans: Vec<StoredSpan>,
+}
+
+impl Model for Run {
+    ghost use Rattle.std.specs.Prelude.{List};
+    ghost use Rattle.tenant_pipeline.specs.Arrivals.{Arrival};
+
+    ghost Value = { List Arrival };
+
+    ghost view = { λ r. r.spans.items };
+}
+
+/// Whether a span before this run is of it.
+fn is_of<C: Compared>(x: &StoredSpan, run: &[StoredSpan]) -> bool
+    ensures none { length run.now ≡ 0 → result ≡ true }
+    ensures some { (y : Arrival) (ys : List Arrival) → run.now ≡ y ∷ ys → result ≡ C.same x.now y }
 {
-    let spans = Repeated::from_vec(spans);
-    let scope_spans = one(alloc, ScopeSpans { spans })?;
-    let scope_spans = Repeated::from_vec(scope_spans);
-    let resource_spans = one(alloc, ResourceSpans { scope_spans })?;
-    let resource_spans = Repeated::from_vec(resource_spans);
-    Ok(ExportTraceServiceRequest { resource_spans })
+    match run.split_first() {
+        Some((y, _)) => C::is_same(x, y),
+        None => true,
+    }
+}
+
+/// One more before the runs of the others.
+fn join<C: Compared>(alloc: Global, x: &StoredSpan, runs: &mut Vec<Run>) -> Result<(), AllocError>
+    ensures { OnOk result (runs.new.items ≡ joined_to C.same x.now runs.old.items) }
+{
+    let x = x.clone()?;
+    if !runs.is_empty() && is_of::<C>(&x, runs[0].spans.as_slice()) {
+        return put_first(&mut runs[0].spans, x);
+    }
+    let spans = one(alloc, x)?;
+    put_first(runs, Run { spans })
+}
+
+fn runs<C: Compared>(alloc: Global, spans: &[StoredSpan]) -> Result<Vec<Run>, AllocError>
+    ensures { IfOk result (λ all. all.items ≡ runs C.same spans.now) }
+{
+    let Some((x, others)) = spans.split_first() else {
+        return Ok(Vec::new(alloc));
+    };
+    let mut all = runs::<C>(alloc, others)?;
+    join::<C>(alloc, x, &mut all)?;
+    Ok(all)
+}
+
+fn scope_spans_field(alloc: Global, spans: &[StoredSpan]) -> Result<Vec<u8>, AllocError>
+    ensures { IfOk result (λ text. text.items ≡ scope_spans_field spans.now) }
+{
+    let mut text = Vec::new(alloc);
+    let Some((x, _)) = spans.split_first() else {
+        return Ok(text);
+    };
+    let mut content = Vec::new(alloc);
+    put_embedded(&mut content, &x.origin.scope)?;
+    put_spans(&mut content, spans)?;
+    put_schema_url(&mut content, &x.origin.scope_schema_url)?;
+    put_field(&mut text, 2, content.as_slice())?;
+    Ok(text)
+}
+
+/// The fields of these runs, each of one scope.
+fn scope_fields(alloc: Global, runs: &[Run]) -> Result<Vec<u8>, AllocError>
+    ensures { IfOk result (λ text. text.items ≡ flat_map scope_spans_field runs.now) }
+{
+    let Some((run, others)) = runs.split_first() else {
+        return Ok(Vec::new(alloc));
+    };
+    let mut text = scope_spans_field(alloc, run.spans.as_slice())?;
+    let mut rest = scope_fields(alloc, others)?;
+    text.append(&mut rest)?;
+    Ok(text)
+}
+
+fn resource_spans_field(alloc: Global, spans: &[StoredSpan]) -> Result<Vec<u8>, AllocError>
+    ensures { IfOk result (λ text. text.items ≡ resource_spans_field spans.now) }
+{
+    let mut text = Vec::new(alloc);
+    let Some((x, _)) = spans.split_first() else {
+        return Ok(text);
+    };
+    let scopes = runs::<ByScope>(alloc, spans)?;
+    let mut fields = scope_fields(alloc, scopes.as_slice())?;
+    let mut content = Vec::new(alloc);
+    put_embedded(&mut content, &x.origin.resource)?;
+    content.append(&mut fields)?;
+    put_schema_url(&mut content, &x.origin.resource_schema_url)?;
+    put_field(&mut text, 1, content.as_slice())?;
+    Ok(text)
+}
+
+/// The fields of these runs, each of one resource.
+fn resource_fields(alloc: Global, runs: &[Run]) -> Result<Vec<u8>, AllocError>
+    ensures { IfOk result (λ text. text.items ≡ flat_map resource_spans_field runs.now) }
+{
+    let Some((run, others)) = runs.split_first() else {
+        return Ok(Vec::new(alloc));
+    };
+    let mut text = resource_spans_field(alloc, run.spans.as_slice())?;
+    let mut rest = resource_fields(alloc, others)?;
+    text.append(&mut rest)?;
+    Ok(text)
 }
 
 #[tactic(auto, unfolding(crate::specs::ExportText::export_text))]
-fn export_text(alloc: Global, spans: Vec<Span>) -> Result<Bytes, AllocError>
-    ensures { IfOk result (λ payload. payload ≡ export_text (arrival_views spans.items)) }
+fn export_text(alloc: Global, spans: &[StoredSpan]) -> Result<Bytes, AllocError>
+    ensures { IfOk result (λ payload. payload ≡ export_text spans.now) }
 {
-    let request = request_of(alloc, spans)?;
-    let mut text = Vec::new(alloc);
-    write_request(alloc, &mut text, &request)?;
+    let resources = runs::<ByResource>(alloc, spans)?;
+    let text = resource_fields(alloc, resources.as_slice())?;
     Ok(Bytes::from_vec(text)?)
-}
-
-/// Copies of these spans.
-fn copies(alloc: Global, spans: &[Span]) -> Result<Vec<Span>, AllocError>
-    ensures { IfOk result (λ all. arrival_views all.items ≡ arrival_views spans.now) }
-{
-    let Some((span, others)) = spans.split_first() else {
-        return Ok(Vec::new(alloc));
-    };
-    let mut all = copies(alloc, others)?;
-    let span = span.clone()?;
-    put_first(&mut all, span)?;
-    Ok(all)
 }
 
 fn handed(alloc: Global, tickets: u64, left: &[Batch]) -> Result<Told, AllocError>
@@ -526,8 +636,7 @@ fn handed(alloc: Global, tickets: u64, left: &[Batch]) -> Result<Told, AllocErro
 {
     match left.split_first() {
         Some((group, _)) if tickets < LAST_TICKET => {
-            let spans = copies(alloc, group.spans.as_slice())?;
-            let payload = export_text(alloc, spans)?;
+            let payload = export_text(alloc, group.spans.as_slice())?;
             Ok(Told::Job {
                 ticket: tickets + 1,
                 payload,

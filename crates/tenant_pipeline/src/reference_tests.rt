@@ -1,10 +1,13 @@
 //! `Pipeline` answers as the definitions do, step by step, and both as worked out by hand.
 
 use crate::reference::{OwnStep, answer};
-use crate::tests::{BODY, BOTH, OTHER, SECOND, section};
+use crate::stored::{Origin, StoredSpan};
+use crate::tests::{
+    BODY, BOTH, BY_SCHEMA, OF_RESOURCE, OTHER, SECOND, SECOND_OF_RESOURCE, WITH_SCHEMA, section,
+};
 use crate::{Pipeline, Reply, Told, prepare};
 use bytes::Bytes;
-use otlp_trace::{Octets, Span};
+use otlp_trace::Octets;
 use std::alloc::Global;
 use std::process::Abort;
 use std::test::Fail;
@@ -30,11 +33,41 @@ fn make_tenant(alloc: Global) -> Result<Tenant, Fail> {
     })
 }
 
-/// A span with these ids.
-fn span(alloc: Global, trace_id: &[u8], span_id: &[u8]) -> Result<Span, Fail> {
-    let trace_id = Octets::from_slice(alloc, trace_id)?;
-    let span_id = Octets::from_slice(alloc, span_id)?;
-    Ok(Span { trace_id, span_id })
+/// A span with these ids and this text, from this origin.
+fn span_from(
+    alloc: Global,
+    trace_id: &[u8],
+    span_id: &[u8],
+    text: &[u8],
+    origin: Origin,
+) -> Result<StoredSpan, Fail> {
+    Ok(StoredSpan {
+        trace_id: Bytes::copy_from_slice(alloc, trace_id)?,
+        span_id: Bytes::copy_from_slice(alloc, span_id)?,
+        text: Bytes::copy_from_slice(alloc, text)?,
+        origin,
+    })
+}
+
+/// Where a span with no scope comes from.
+fn make_origin(resource: Option<Bytes>, resource_schema_url: Bytes) -> Origin {
+    Origin {
+        resource,
+        resource_schema_url,
+        scope: None,
+        scope_schema_url: Bytes::new(),
+    }
+}
+
+/// A span with these ids and this text, of no resource and no scope.
+fn span(alloc: Global, trace_id: &[u8], span_id: &[u8], text: &[u8]) -> Result<StoredSpan, Fail> {
+    span_from(
+        alloc,
+        trace_id,
+        span_id,
+        text,
+        make_origin(None, Bytes::new()),
+    )
 }
 
 /// The definitions tell the same of this step, which is past from then on.
@@ -51,7 +84,7 @@ fn post(
     tenant: &mut Tenant,
     at: u64,
     body: &[u8],
-    spans: Vec<Span>,
+    spans: Vec<StoredSpan>,
 ) -> Result<(), Fail> {
     let prepared = prepare(tenant.alloc, 7, &tenant.section, body)?;
     let told = Told::Reply(tenant.pipeline.post(at, &prepared)?);
@@ -61,18 +94,38 @@ fn post(
     tell(rt, tenant, OwnStep { at, spans }, &told)
 }
 
-/// A body with one span, whose ids are these bytes again and again, is posted.
+/// A body with one span, its last 28 bytes, whose ids are these bytes again and again, is posted.
 fn post_one(
     rt: &impl Abort,
     tenant: &mut Tenant,
     at: u64,
-    body: &[u8],
+    body: &[u8; 34],
     trace: u8,
     id: u8,
 ) -> Result<(), Fail> {
     let mut spans = Vec::new(tenant.alloc);
-    spans.push(span(tenant.alloc, &[trace; 16], &[id; 8])?)?;
-    post(rt, tenant, at, body, spans)
+    spans.push(span(tenant.alloc, &[trace; 16], &[id; 8], &body[6..])?)?;
+    post(rt, tenant, at, body.as_slice(), spans)
+}
+
+/// A body with one span of trace 11.., which has this text, is posted. Its resource left out five attributes, and has this
+/// schema.
+fn post_of_resource(
+    rt: &impl Abort,
+    tenant: &mut Tenant,
+    body: &[u8],
+    id: u8,
+    text: &[u8],
+    schema_url: &[u8],
+) -> Result<(), Fail> {
+    let alloc = tenant.alloc;
+    let resource = Bytes::copy_from_slice(alloc, b"\x10\x05")?;
+    let schema_url = Bytes::copy_from_slice(alloc, schema_url)?;
+    let origin = make_origin(Some(resource), schema_url);
+    let posted = span_from(alloc, &[0x11; 16], &[id; 8], text, origin)?;
+    let mut spans = Vec::new(alloc);
+    spans.push(posted)?;
+    post(rt, tenant, 0, body, spans)
 }
 
 /// A worker is told that there is no batch.
@@ -172,9 +225,9 @@ fn invalid_spans(rt: HostRuntime) -> Result<(), Fail> {
     let mut tenant = make_tenant(alloc)?;
     // A trace id of zeros, a span id of zeros, and none.
     let mut spans = Vec::new(alloc);
-    spans.push(span(alloc, &[0; 16], &[0x22; 8])?)?;
-    spans.push(span(alloc, &[0x11; 16], &[0; 8])?)?;
-    spans.push(span(alloc, &[0x11; 16], &[])?)?;
+    spans.push(span(alloc, &[0; 16], &[0x22; 8], b"")?)?;
+    spans.push(span(alloc, &[0x11; 16], &[0; 8], b"")?)?;
+    spans.push(span(alloc, &[0x11; 16], &[], b"")?)?;
     post(
         &rt,
         &mut tenant,
@@ -193,8 +246,8 @@ fn a_trace_id_that_is_short(rt: HostRuntime) -> Result<(), Fail> {
     let alloc = rt.alloc();
     let mut tenant = make_tenant(alloc)?;
     let mut spans = Vec::new(alloc);
-    spans.push(span(alloc, &[0x11; 15], &[0x22; 8])?)?;
-    spans.push(span(alloc, &[0x11; 16], &[0x21; 8])?)?;
+    spans.push(span(alloc, &[0x11; 15], &[0x22; 8], b"")?)?;
+    spans.push(span(alloc, &[0x11; 16], &[0x21; 8], &BODY[6..])?)?;
     post(
         &rt,
         &mut tenant,
@@ -203,5 +256,29 @@ fn a_trace_id_that_is_short(rt: HostRuntime) -> Result<(), Fail> {
         spans,
     )?;
     job(&rt, &mut tenant, 1000, 1, &BODY)?;
+    no_job(&rt, &mut tenant, 1000)
+}
+
+#[test]
+fn spans_by_resource(rt: HostRuntime) -> Result<(), Fail> {
+    let mut tenant = make_tenant(rt.alloc())?;
+    post_of_resource(&rt, &mut tenant, &OF_RESOURCE, 0x21, &BODY[6..], b"")?;
+    post_of_resource(
+        &rt,
+        &mut tenant,
+        &SECOND_OF_RESOURCE,
+        0x22,
+        &SECOND[6..],
+        b"",
+    )?;
+    post_of_resource(
+        &rt,
+        &mut tenant,
+        &WITH_SCHEMA,
+        0x23,
+        &WITH_SCHEMA[10..38],
+        b"u",
+    )?;
+    job(&rt, &mut tenant, 1000, 1, &BY_SCHEMA)?;
     no_job(&rt, &mut tenant, 1000)
 }

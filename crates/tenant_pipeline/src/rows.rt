@@ -2,11 +2,11 @@
 
 ghost use Rattle.std.specs.Prelude.{◌≡◌, ◌<◌, ◌++◌, [], ◌∷◌, IfOk, OnOk, OnErr};
 ghost use Rattle.indexmap.specs.IndexMap.{index_map_len};
-ghost use Rattle.tenant_pipeline.specs.View.{row_views, group_views, arrival_views};
+ghost use Rattle.tenant_pipeline.specs.View.{row_views, group_views};
 ghost use Rattle.tenant_pipeline.specs.Machine.{IsDecided};
 
+use crate::stored::StoredSpan;
 use indexmap::IndexMap;
-use otlp_trace::Span;
 use std::alloc::{AllocError, Global};
 use std::collections::VecDeque;
 use std::mem;
@@ -18,21 +18,21 @@ pub type Rows = IndexMap<[u8; 16], Row>;
 #[derive(Drop)]
 pub struct Row {
     pub due: u64,
-    pub spans: Vec<Span>,
+    pub spans: Vec<StoredSpan>,
 }
 
 /// Spans that leave together, with the moment at which the group formed.
 #[derive(Drop)]
 pub struct Group {
     pub moment: u64,
-    pub spans: Vec<Span>,
+    pub spans: Vec<StoredSpan>,
 }
 
 /// Decides a row: its spans become a group.
 fn decide(alloc: Global, row: &mut Row, queue: &mut VecDeque<Group>) -> Result<(), AllocError>
     ensures due { row.new.due ≡ row.old.due }
     ensures spans { OnOk result (row.new.spans.items ≡ []) }
-    ensures queue { OnOk result (group_views queue.new.items ≡ group_views queue.old.items ++ record { moment = row.old.due; spans = arrival_views row.old.spans.items } ∷ []) }
+    ensures queue { OnOk result (group_views queue.new.items ≡ group_views queue.old.items ++ record { moment = row.old.due; spans = row.old.spans.items } ∷ []) }
     ensures refused_row { OnErr result (row.new.spans.items ≡ row.old.spans.items) }
     ensures refused_queue { OnErr result (queue.new.items ≡ queue.old.items) }
 {

@@ -6,12 +6,14 @@ use Rattle.std.specs.Str.{bytes_eq}
 use Rattle.otlp_trace.specs.Data.{RequestData}
 use Rattle.otlp_read.specs.Value.{IsValue}
 use Rattle.otlp_read.specs.declared.fault.ReadFault.{ReadFault}
+use Rattle.tail_settings.specs.Section.{SectionData}
 use Rattle.tail_settings.specs.Settings.{SettingsData, settings_view}
 use Rattle.tenant_pipeline.specs.Own.{Own}
 use Rattle.tenant_pipeline.specs.Prepared.{PreparedData, IsPrepared}
 use Rattle.tenant_pipeline.specs.declared.body.Refusal.{Refusal}
 use Rattle.tenant_pipeline.specs.declared.body.Refusal.TheVariants as refusal
 use Rattle.tenant_shard.specs.declared.step.Step.TheVariants as steps
+use Rattle.tenant_shard.specs.Table.{section_at}
 use Rattle.replay_script.specs.Command.{Post, Turn}
 use Rattle.replay_script.specs.Answer.{reply_text}
 use Rattle.trace_collector.specs.declared.shards.Shards.{Shards}
@@ -24,13 +26,13 @@ posted_to : (settings : SettingsData) (pasts later : ℕ → List Own) (tenant :
     → found ≡ Some tenant → IsPosted settings pasts tenant name moment body line later → IsPostedTo settings pasts found name moment body line later
 posted_to settings pasts later tenant found name moment body line is posted = subst (λ f. IsPostedTo settings pasts f name moment body line later) (sym is) posted
 
-pub done_posts : (old new : Shards) (tenant moment : ℕ) (name body : List ℕ) (prepared : PreparedData) (before behind : List ℕ)
+pub done_posts : (old new : Shards) (tenant : ℕ) (section : SectionData) (moment : ℕ) (name body : List ℕ) (prepared : PreparedData) (before behind : List ℕ)
     → settings_view new.settings ≡ settings_view old.settings
     → position (λ t. bytes_eq name t.name) (settings_view old.settings).tenants ≡ Some tenant
-    → IsPrepared tenant body prepared
+    → section_at (settings_view old.settings) tenant ≡ Some section → IsPrepared tenant section body prepared
     → IsDone (settings_view old.settings) (tenant % (settings_view old.settings).shards) (steps.Post moment prepared) old.shards.items new.shards.items before behind
     → (line : List ℕ) × (behind ≡ before ++ line) × Answers old (Post name moment body) (Some line) new
-done_posts old new tenant moment name body prepared before behind same found value done =
+done_posts old new tenant section moment name body prepared before behind same found kept value done =
     let settings = settings_view old.settings in
     let shard = tenant % (settings_view old.settings).shards in (
       outcome_text settings shard done.outcome,
@@ -41,7 +43,7 @@ done_posts old new tenant moment name body prepared before behind same found val
             let next = stands_after settings pasts old.shards.items new.shards.items shard (steps.Post moment prepared) before behind all done in
             let stepped = subst (λ p. IsStepped (settings_view old.settings) pasts (tenant % (settings_view old.settings).shards) (steps.Post moment p)
             (Some (outcome_text (settings_view old.settings) (tenant % (settings_view old.settings).shards) done.outcome)) next.0) value.2 next.1 in
-            (next.0, posted_to settings pasts next.0 tenant _ name moment body _ found (inl (value.0, value.1, stepped)), next.2);
+            (next.0, posted_to settings pasts next.0 tenant _ name moment body _ found (inl (section, value.0, kept, value.1, stepped)), next.2);
       },
     )
 

@@ -18,6 +18,7 @@ use Rattle.tenant_shard.specs.declared.step.Step.TheVariants as steps
 use Rattle.tenant_shard.specs.declared.step.Outcome.{Outcome}
 use Rattle.tenant_shard.specs.Pick.{IsPick, NotAfter}
 use Rattle.tenant_shard.specs.Run.{IsAnswered, IsTurned, IsNext, after}
+use Rattle.tenant_shard.specs.Table.{section_at}
 use Rattle.replay_script.specs.Command.{CommandData, Post, Turn}
 use Rattle.replay_script.specs.Line.{Kind, Skipped, Says, Faulty, kind_of}
 use Rattle.replay_script.specs.Told.{Answered, Goes, Told, BeginsTold}
@@ -124,15 +125,20 @@ stepped_one settings pasts later later' shard step line line' h k =
       h.3 ∙ ap (λ o. (after step o (lists_of settings pasts shard)).pasts) same ∙ sym k.3,
     )
 
+one_section : (found : Option SectionData) (s t : SectionData) → found ≡ Some s → found ≡ Some t → s ≡ t
+one_section found s t e f = let same : ◌≡◌ {A = Option SectionData} (Some s) (Some t) = sym e ∙ f in cc
+
 module _ (one_value : (body : List ℕ) (v v' : RequestData) → IsValue body v → IsValue body v' → v ≡ v') where
   posted_one : (settings : SettingsData) (pasts later later' : ℕ → List Own) (tenant : ℕ) (name : List ℕ) (moment : ℕ) (body : List ℕ) (line line' : Option (List ℕ))
       → IsPosted settings pasts tenant name moment body line later → IsPosted settings pasts tenant name moment body line' later' → (line ≡ line') × (later ≡ later')
   posted_one settings pasts later later' tenant name moment body line line' (inl h) (inl k) =
-      let same = one_value body h.0 k.0 h.1 k.1 in
-      stepped_one settings pasts later later' (tenant % settings.shards) (steps.Post moment (prepared_of tenant k.0)) line line'
-      (subst (λ v. IsStepped settings pasts (tenant % settings.shards) (steps.Post moment (prepared_of tenant v)) line later) same h.2) k.2
-  posted_one settings pasts later later' tenant name moment body line line' (inl h) (inr k) = absurd (k.0 h.0 h.1)
-  posted_one settings pasts later later' tenant name moment body line line' (inr h) (inl k) = absurd (h.0 k.0 k.1)
+      let kept = one_section (section_at settings tenant) h.0 k.0 h.2 k.2 in
+      let value = one_value body h.1 k.1 h.3 k.3 in
+      let same : prepared_of tenant h.0 h.1 ≡ prepared_of tenant k.0 k.1 = λ i. prepared_of tenant (kept i) (value i) in
+      stepped_one settings pasts later later' (tenant % settings.shards) (steps.Post moment (prepared_of tenant k.0 k.1)) line line'
+      (subst (λ p. IsStepped settings pasts (tenant % settings.shards) (steps.Post moment p) line later) same h.4) k.4
+  posted_one settings pasts later later' tenant name moment body line line' (inl h) (inr k) = absurd (k.0 h.1 h.3)
+  posted_one settings pasts later later' tenant name moment body line line' (inr h) (inl k) = absurd (h.0 k.1 k.3)
   posted_one settings pasts later later' tenant name moment body line line' (inr h) (inr k) = (h.1 ∙ sym k.1, h.2 ∙ sym k.2)
 
   posted_to_one : (settings : SettingsData) (pasts later later' : ℕ → List Own) (found : Option ℕ) (name : List ℕ) (moment : ℕ) (body : List ℕ) (line line' : Option (List ℕ))

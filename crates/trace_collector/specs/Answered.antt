@@ -32,10 +32,12 @@ IsStepped settings pasts shard step line new = (outcome : Outcome) × IsNext (li
 abbrev pub HasNoValue : List ℕ → Type 0
 HasNoValue body = (v : RequestData) → IsValue body v → ⊥
 
--- a body's value is posted to its tenant on the tenant's shard; a body without a value is answered 400 and is no step
+-- a body's value is posted, with its tenant's policies, to the tenant on the tenant's shard; a body without a value is answered 400
+-- and is no step
 abbrev pub IsPosted : SettingsData → (ℕ → List Own) → ℕ → List ℕ → ℕ → List ℕ → Option (List ℕ) → (ℕ → List Own) → Type 0
 IsPosted settings pasts tenant name moment body line new =
-    ((v : RequestData) × IsValue body v × IsStepped settings pasts (tenant % settings.shards) (steps.Post moment (prepared_of tenant v)) line new)
+    ((section : SectionData) × (v : RequestData) × (section_at settings tenant ≡ Some section) × IsValue body v
+    × IsStepped settings pasts (tenant % settings.shards) (steps.Post moment (prepared_of tenant section v)) line new)
     ⊎ (HasNoValue body × (line ≡ Some (reply_text name 400 bad_protobuf)) × (new ≡ pasts))
 
 abbrev pub IsPostedTo : SettingsData → (ℕ → List Own) → Option ℕ → List ℕ → ℕ → List ℕ → Option (List ℕ) → (ℕ → List Own) → Type 0

@@ -1,34 +1,32 @@
 use Rattle.std.proofs.Common.{◌≡◌, ◌++◌, ◌∷◌, ◌+◌, map, length, refl, sym, ap, ◌∙◌, arith}
 use Rattle.std.specs.List.{flat_map}
 use Rattle.std.specs.Vec.Iter.{into_iter_items, into_iter_len}
-use Rattle.std.proofs.lemmas.List.{length-map}
 use Rattle.otlp_trace.specs.View.{resource_spans_view}
 use Rattle.tenant_pipeline.specs.Arrivals.{arrivals_of_resource}
-use Rattle.tenant_pipeline.specs.View.{arrival_views}
 use Rattle.tenant_pipeline.proofs.Bodies.{next_taken, none_left}
 use Rattle.tenant_pipeline.proofs.body.spans_of.Goals as goal
 
-pub loop-resource-init : goal.loop-resource-init
-loop-resource-init c =
-    let gives = c.into_iter-resource-iterator.ensures.into_iter_gives in
-    let items : into_iter_items c.into_iter-resource-iterator.result ≡ c.args.request.resource_spans = gives.0 ∙ c.into_vec-resource-items.ensures in
+pub loop-resource_spans-init : goal.loop-resource_spans-init
+loop-resource_spans-init c =
+    let gives = c.into_iter-resource_spans-iterator.ensures.into_iter_gives in
+    let items : into_iter_items c.into_iter-resource_spans-iterator.result ≡ c.args.request.resource_spans = gives.0 ∙ c.into_vec-resource_spans-items.ensures in
     record {
-      whole = ap (λ xs. arrival_views xs ++ flat_map arrivals_of_resource (map resource_spans_view (into_iter_items c.into_iter-resource-iterator.result))) c.new-spans.ensures.items ∙ ap (λ xs. flat_map arrivals_of_resource (map resource_spans_view xs)) items;
+      whole = ap (λ xs. xs ++ flat_map arrivals_of_resource (map resource_spans_view (into_iter_items c.into_iter-resource_spans-iterator.result))) c.new-spans.ensures.items ∙ ap (λ xs. flat_map arrivals_of_resource (map resource_spans_view xs)) items;
       len = ap length gives.0 ∙ omega (arith, gives.1);
     }
 
-pub loop-resource-preserved : goal.loop-resource-preserved
-loop-resource-preserved c =
+pub loop-resource_spans-preserved : goal.loop-resource_spans-preserved
+loop-resource_spans-preserved c =
     let rest = into_iter_items c.next.new.self in
-    let step : into_iter_items c.loop-resource.resource-iterator ≡ c.in-Some.resource ∷ rest = c.in-Some.ensures.steps.0 in
-    let count : into_iter_len c.next.new.self + 1 ≡ into_iter_len c.loop-resource.resource-iterator = c.in-Some.ensures.steps.1 in
-    let before = ap (λ xs. arrival_views c.loop-resource.spans.items ++ flat_map arrivals_of_resource (map resource_spans_view xs)) (sym step) ∙ c.loop-resource.invariant.whole in
+    let step : into_iter_items c.loop-resource_spans.resource_spans-iterator ≡ c.in-Some.resource_spans ∷ rest = c.in-Some.ensures.steps.0 in
+    let count : into_iter_len c.next.new.self + 1 ≡ into_iter_len c.loop-resource_spans.resource_spans-iterator = c.in-Some.ensures.steps.1 in
+    let before = ap (λ xs. c.loop-resource_spans.spans.items ++ flat_map arrivals_of_resource (map resource_spans_view xs)) (sym step) ∙ c.loop-resource_spans.invariant.whole in
     record {
-      whole = next_taken arrivals_of_resource (arrival_views c.loop-resource.spans.items) (arrivals_of_resource (resource_spans_view c.in-Some.resource)) (arrival_views c.add_spans.new.spans.items) _ (resource_spans_view c.in-Some.resource) (map resource_spans_view rest) c.in_ok-add_spans.ensures refl before;
-      len = omega (arith, ap length step, c.loop-resource.invariant.len);
+      whole = next_taken c.add_resource.new.spans.items c.loop-resource_spans.spans.items (arrivals_of_resource (resource_spans_view c.in-Some.resource_spans)) (flat_map arrivals_of_resource (map resource_spans_view rest)) _ c.in_ok-add_resource.ensures before;
+      len = omega (arith, ap length step, c.loop-resource_spans.invariant.len);
     }
 
 pub returns : goal.returns
 returns c =
-    let none : length (into_iter_items c.loop-resource.resource-iterator) ≡ 0 = c.loop-resource.invariant.len ∙ c.in-None.ensures.steps.0 in
-    none_left arrivals_of_resource (arrival_views c.loop-resource.spans.items) _ (map resource_spans_view (into_iter_items c.loop-resource.resource-iterator)) (length-map (into_iter_items c.loop-resource.resource-iterator) resource_spans_view ∙ none) c.loop-resource.invariant.whole
+    let none : length (into_iter_items c.loop-resource_spans.resource_spans-iterator) ≡ 0 = c.loop-resource_spans.invariant.len ∙ c.in-None.ensures.steps.0 in
+    none_left (λ xs. flat_map arrivals_of_resource (map resource_spans_view xs)) c.loop-resource_spans.spans.items _ (into_iter_items c.loop-resource_spans.resource_spans-iterator) refl none c.loop-resource_spans.invariant.whole

@@ -3,12 +3,11 @@ use Rattle.std.specs.List.{flat_map}
 use Rattle.std.specs.Vec.Iter.{into_iter_items, into_iter_len}
 use Rattle.otlp_trace.specs.View.{resource_spans_view, request_view}
 use Rattle.tenant_pipeline.specs.Arrivals.{arrivals_of, arrivals_of_resource}
-use Rattle.tenant_pipeline.specs.View.{arrival_views}
 use Rattle.tenant_pipeline.proofs.body.spans_of.Given as goal
 
 -- what is taken and what is left give the whole
-abbrev pub invariant-loop-resource : goal.invariant-loop-resource
-invariant-loop-resource l = record {
-  whole : arrival_views l.spans.items ++ flat_map arrivals_of_resource (map resource_spans_view (into_iter_items l.resource-iterator)) ≡ arrivals_of (request_view l.fn.request);
-  len : length (into_iter_items l.resource-iterator) ≡ into_iter_len l.resource-iterator;
+abbrev pub invariant-loop-resource_spans : goal.invariant-loop-resource_spans
+invariant-loop-resource_spans l = record {
+  whole : l.spans.items ++ flat_map arrivals_of_resource (map resource_spans_view (into_iter_items l.resource_spans-iterator)) ≡ arrivals_of (request_view l.fn.request);
+  len : length (into_iter_items l.resource_spans-iterator) ≡ into_iter_len l.resource_spans-iterator;
 }

@@ -2,7 +2,7 @@ use Rattle.std.proofs.Common.{◌≡◌, ◌++◌, ◌+◌, [], ◌∷◌, sym, 
 use Rattle.std.proofs.lemmas.List.{drop_more}
 use Rattle.tenant_pipeline.specs.Arrivals.{valid}
 use Rattle.tenant_pipeline.specs.Machine.{rows_with_all, late_with_all}
-use Rattle.tenant_pipeline.specs.View.{arrival_view, arrival_views, row_views, group_views}
+use Rattle.tenant_pipeline.specs.View.{row_views, group_views}
 use Rattle.tenant_pipeline.proofs.Entries.{rows_with_all-append, late_with_all-append, valid-cons}
 use Rattle.tenant_pipeline.proofs.place.place_all.Goals as goal
 
@@ -15,13 +15,13 @@ loop-span-preserved c =
     let span = c.span-item.result in
     let rows = row_views c.loop-span.rows.entries in
     let queue = group_views c.loop-span.queue.items in
-    let one = valid (arrival_view span ∷ []) in
-    let others = valid (arrival_views (drop (i + 1) spans)) in
+    let one = valid (span ∷ []) in
+    let others = valid (drop (i + 1) spans) in
     let rest : drop i spans ≡ span ∷ drop (i + 1) spans = drop_more spans i span c.loop-span-test.true ∙ ap (λ x. x ∷ drop (i + 1) spans) (sym c.span-item.is) in
-    let parts : valid (arrival_views (drop i spans)) ≡ one ++ others = ap (λ xs. valid (arrival_views xs)) rest ∙ valid-cons (arrival_view span) (arrival_views (drop (i + 1) spans)) in
+    let parts : valid (drop i spans) ≡ one ++ others = ap valid rest ∙ valid-cons span (drop (i + 1) spans) in
     let added : row_views c.add.new.rows.entries ≡ rows_with_all w m one rows = c.in_default.ensures.rows in
     let queued : group_views c.add.new.queue.items ≡ queue ++ late_with_all w m one rows = c.in_default.ensures.queue in
-    let late : late_with_all w m one rows ++ late_with_all w m others (rows_with_all w m one rows) ≡ late_with_all w m (valid (arrival_views (drop i spans))) rows = sym (late_with_all-append w m one others rows) ∙ ap (λ xs. late_with_all w m xs rows) (sym parts) in
+    let late : late_with_all w m one rows ++ late_with_all w m others (rows_with_all w m one rows) ≡ late_with_all w m (valid (drop i spans)) rows = sym (late_with_all-append w m one others rows) ∙ ap (λ xs. late_with_all w m xs rows) (sym parts) in
     record {
       rows = ap (rows_with_all w m others) added ∙ (sym (rows_with_all-append w m one others rows) ∙ (ap (λ xs. rows_with_all w m xs rows) (sym parts) ∙ c.loop-span.invariant.rows));
       queue =

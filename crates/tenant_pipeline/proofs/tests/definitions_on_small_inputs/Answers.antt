@@ -17,3 +17,7 @@ returns-clause-four c = record { both = refl; late = refl; not_yet = refl; other
 pub returns-clause-invalid : goal.returns-clause-invalid
 unfolding groups export_text state answer bits
 returns-clause-invalid c = record { valid_alone = refl }
+
+pub returns-clause-resources : goal.returns-clause-resources
+unfolding export_text bits
+returns-clause-resources c = record { by_resource = refl }

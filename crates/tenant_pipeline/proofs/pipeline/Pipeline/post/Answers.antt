@@ -6,7 +6,7 @@ use Rattle.tenant_pipeline.specs.State.{State}
 use Rattle.tenant_pipeline.specs.Timers.{ran}
 use Rattle.tenant_pipeline.specs.Machine.{rows_with_all, late_with_all, set_to, next, told}
 use Rattle.tenant_pipeline.specs.contracts.pipeline.Pipeline.{the_view}
-use Rattle.tenant_pipeline.specs.View.{arrival_views, row_views, group_views}
+use Rattle.tenant_pipeline.specs.View.{row_views, group_views}
 use Rattle.tenant_pipeline.proofs.OneByOne.{ran-wait}
 use Rattle.tenant_pipeline.proofs.Run.{answers_by, post_by}
 use Rattle.tenant_pipeline.proofs.pipeline.Pipeline.post.Goals as goal
@@ -22,7 +22,7 @@ returns-clause-ok c =
     let w = c.self.inside.wait in
     let before = row_views c.self.inside.rows.entries in
     let queued = group_views c.self.inside.queue.items in
-    let posted = arrival_views c.spans.result.now in
+    let posted = c.spans.result.now in
     let rows : row_views c.place_all.new.rows.entries ≡ rows_with_all w e (valid c.args.prepared.now.arrivals) before =
     c.in_ok-place_all.ensures.rows ∙ (ap (λ m. rows_with_all w m (valid posted) before) at ∙ ap (λ xs. rows_with_all w e (valid xs) before) c.spans.ensures) in
     let queue : group_views c.place_all.new.queue.items ≡ queued ++ late_with_all w e (valid c.args.prepared.now.arrivals) before =

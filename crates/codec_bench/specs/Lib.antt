@@ -1,0 +1,3 @@
+pub mod Round
+pub mod Status
+pub mod Task

@@ -1,0 +1,76 @@
+//! Why the program ends early.
+
+ghost use Rattle.std.specs.Prelude.{◌≡◌};
+ghost use Rattle.codec_bench.specs.Status.{status_of};
+ghost use Rattle.codec_bench.specs.Round.{body_fault};
+ghost use Rattle.codec_bench.specs.declared.fault.BenchFault.TheVariants.{OutOfMemory};
+
+use otlp_read::ReadFault;
+use std::alloc::{AllocError, AllocFailed};
+use std::io::{self, ErrorKind};
+use thiserror::Error;
+
+#[derive(Debug, Drop, Error)]
+pub enum BenchFault {
+    #[error("usage: codec_bench [FILE ROUNDS]")]
+    Usage,
+    #[error("the body is faulty: {0}")]
+    Body(ReadFault),
+    #[error("the body is not as it is written")]
+    NotCanonical,
+    #[error("input or output fault")]
+    InputOutput,
+    #[error("out of memory")]
+    OutOfMemory,
+}
+
+impl BenchFault {
+    /// The status with which the program ends.
+    pub fn status(&self) -> u8
+        ensures { result ≡ status_of self.now }
+    {
+        match self {
+            BenchFault::Usage => 2,
+            BenchFault::OutOfMemory => 3,
+            BenchFault::Body(_) | BenchFault::NotCanonical | BenchFault::InputOutput => 1,
+        }
+    }
+}
+
+impl From<ReadFault> for BenchFault {
+    ghost from_gives = { λ fault given. given ≡ body_fault fault };
+
+    fn from(fault: ReadFault) -> BenchFault {
+        match fault {
+            ReadFault::OutOfMemory => BenchFault::OutOfMemory,
+            _ => BenchFault::Body(fault),
+        }
+    }
+}
+
+impl From<AllocError> for BenchFault {
+    ghost from_gives = { λ _ given. given ≡ OutOfMemory };
+
+    fn from(_error: AllocError) -> BenchFault {
+        BenchFault::OutOfMemory
+    }
+}
+
+impl<T: Drop> From<AllocFailed<T>> for BenchFault {
+    ghost from_gives = { λ _ given. given ≡ OutOfMemory };
+
+    fn from(_error: AllocFailed<T>) -> BenchFault {
+        BenchFault::OutOfMemory
+    }
+}
+
+/// Of files, the clock and the output only the want of memory is told apart.
+impl From<io::Error> for BenchFault {
+    fn from(error: io::Error) -> BenchFault {
+        if error.kind() == ErrorKind::OutOfMemory {
+            BenchFault::OutOfMemory
+        } else {
+            BenchFault::InputOutput
+        }
+    }
+}

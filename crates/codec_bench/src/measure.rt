@@ -1,0 +1,93 @@
+//! Rounds by the clock.
+
+ghost use Rattle.std.specs.Prelude.{◌≡◌, ◌*◌, ◌/◌, max};
+
+use crate::fault::BenchFault;
+use crate::round::spans_len;
+use otlp_read::read_request;
+use otlp_trace::{ExportTraceServiceRequest, write_request};
+use std::alloc::Global;
+use std::rt::Clock;
+use std::time::{Duration, Instant};
+
+/// Nanoseconds in a second.
+const SECOND: u128 = 1_000_000_000;
+
+/// Reads the body so many times, writes what was read so many times, does both so many times, and prints for each how
+/// many bytes and spans a second it took.
+pub fn measure(
+    rt: &(impl Clock + Print + AllocGlobal),
+    body: &[u8],
+    rounds: u32,
+) -> Result<(), BenchFault> {
+    let alloc = rt.alloc();
+    let request = read_request(alloc, body)?;
+    let spans = spans_len(&request);
+    let mut text = Vec::new(alloc);
+    write_request(alloc, &mut text, &request)?;
+    let start = Instant::now(rt)?;
+    read_rounds(alloc, body, rounds)?;
+    report(rt, "read", body.len(), spans, rounds, start.elapsed(rt)?)?;
+    let start = Instant::now(rt)?;
+    write_rounds(alloc, &request, &mut text, rounds)?;
+    report(rt, "written", text.len(), spans, rounds, start.elapsed(rt)?)?;
+    let start = Instant::now(rt)?;
+    both_rounds(alloc, body, &mut text, rounds)?;
+    report(rt, "both", body.len(), spans, rounds, start.elapsed(rt)?)
+}
+
+fn read_rounds(alloc: Global, body: &[u8], rounds: u32) -> Result<(), BenchFault> {
+    for _ in 0..rounds {
+        let _request = read_request(alloc, body)?;
+    }
+    Ok(())
+}
+
+fn write_rounds(
+    alloc: Global,
+    request: &ExportTraceServiceRequest,
+    text: &mut Vec<u8>,
+    rounds: u32,
+) -> Result<(), BenchFault> {
+    for _ in 0..rounds {
+        text.clear();
+        write_request(alloc, text, request)?;
+    }
+    Ok(())
+}
+
+fn both_rounds(
+    alloc: Global,
+    body: &[u8],
+    text: &mut Vec<u8>,
+    rounds: u32,
+) -> Result<(), BenchFault> {
+    for _ in 0..rounds {
+        let request = read_request(alloc, body)?;
+        text.clear();
+        write_request(alloc, text, &request)?;
+    }
+    Ok(())
+}
+
+/// Prints how many bytes and spans a second this is.
+fn report(
+    rt: &impl Print,
+    what: &str,
+    bytes: usize,
+    spans: usize,
+    rounds: u32,
+    elapsed: Duration,
+) -> Result<(), BenchFault> {
+    let bytes = per_second(bytes, rounds, elapsed.as_nanos());
+    let spans = per_second(spans, rounds, elapsed.as_nanos());
+    println!(rt; "{what}: {bytes} bytes/s, {spans} spans/s")?;
+    Ok(())
+}
+
+/// How much a second it is, rounded down, where each round took that much. A time of 0 is taken for a nanosecond.
+fn per_second(amount: usize, rounds: u32, nanos: u128) -> u128
+    ensures { result ≡ amount * rounds * 1_000_000_000 / max 1 nanos }
+{
+    amount as u128 * u128::from(rounds) * SECOND / nanos.max(1)
+}

@@ -1,0 +1,11 @@
+use Rattle.std.proofs.Common.{rules}
+use Rattle.std.proofs.lemmas.Str.{IsUtf8-string_bytes}
+use Rattle.otlp_read.proofs.typed.InstrumentationScopeTyped.known.Goals as goal
+
+pub returns : goal.returns
+returns c = record {
+  name = IsUtf8-string_bytes c.args.self.now.name;
+  version = IsUtf8-string_bytes c.args.self.now.version;
+  attributes = search rules;
+  dropped_attributes_count = search rules;
+}

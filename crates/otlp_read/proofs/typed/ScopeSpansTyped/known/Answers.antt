@@ -1,0 +1,10 @@
+use Rattle.std.proofs.Common.{rules}
+use Rattle.std.proofs.lemmas.Str.{IsUtf8-string_bytes}
+use Rattle.otlp_read.proofs.typed.ScopeSpansTyped.known.Goals as goal
+
+pub returns : goal.returns
+returns c = record {
+  scope = search rules;
+  spans = search rules;
+  schema_url = IsUtf8-string_bytes c.args.self.now.schema_url;
+}

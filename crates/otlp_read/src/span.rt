@@ -1,0 +1,374 @@
+//! Spans, and the messages in them.
+
+ghost use Rattle.std.specs.Prelude.{◌≡◌, ◌≤◌, ◌<◌, ℕ};
+ghost use Rattle.pb_wire.specs.Grammar.{Varint, Eight, Bytes};
+ghost use Rattle.otlp_trace.specs.Data.{StatusData, EventData, LinkData, SpanData};
+ghost use Rattle.otlp_trace.specs.View.{status_view, event_view, link_view, span_view};
+ghost use Rattle.otlp_read.specs.Fault.{Gives};
+ghost use Rattle.otlp_read.specs.Value.{no_status, no_event, no_link, no_span, status_step, event_step, link_step, span_step};
+
+use crate::fault::ReadFault;
+use crate::leaf::{keep, low32, text};
+use crate::message::{Message, merged_into, read_on};
+use otlp_trace::{Event, Link, Octets, Repeated, Span, Status};
+use pb_wire::{Field, Value};
+use std::alloc::Global;
+
+impl Message for Status {
+    ghost Data = { StatusData };
+
+    ghost view = { status_view };
+
+    ghost empty = { no_status };
+
+    ghost step = { status_step };
+
+    fn empty(alloc: Global) -> Status {
+        Status {
+            message: String::new(alloc),
+            code: 0,
+            unknown: Octets::new(alloc),
+        }
+    }
+
+    fn field(
+        self,
+        alloc: Global,
+        field: Field<'_>,
+        spelled: &[u8],
+        _room: u32,
+    ) -> Result<Status, ReadFault> {
+        let mut status = self;
+        match field.value {
+            Value::Varint(n) => {
+                if field.number == 3 {
+                    status.code = low32(n).cast_signed();
+                    return Ok(status);
+                }
+            }
+            Value::Bytes(bytes) => {
+                if field.number == 2 {
+                    status.message = text(alloc, bytes)?;
+                    return Ok(status);
+                }
+            }
+            _ => {}
+        }
+        status.unknown = keep(status.unknown, spelled)?;
+        Ok(status)
+    }
+}
+
+impl Message for Event {
+    ghost Data = { EventData };
+
+    ghost view = { event_view };
+
+    ghost empty = { no_event };
+
+    ghost step = { event_step };
+
+    fn empty(alloc: Global) -> Event {
+        Event {
+            time_unix_nano: 0,
+            name: String::new(alloc),
+            attributes: Repeated::new(alloc),
+            dropped_attributes_count: 0,
+            unknown: Octets::new(alloc),
+        }
+    }
+
+    fn field(
+        self,
+        alloc: Global,
+        field: Field<'_>,
+        spelled: &[u8],
+        room: u32,
+    ) -> Result<Event, ReadFault> {
+        let mut event = self;
+        match field.value {
+            Value::Varint(n) => {
+                if field.number == 4 {
+                    event.dropped_attributes_count = low32(n);
+                    return Ok(event);
+                }
+            }
+            Value::Eight(bytes) => {
+                if field.number == 1 {
+                    event.time_unix_nano = u64::from_le_bytes(bytes);
+                    return Ok(event);
+                }
+            }
+            Value::Bytes(bytes) => {
+                if field.number == 2 {
+                    event.name = text(alloc, bytes)?;
+                    return Ok(event);
+                }
+                if field.number == 3 {
+                    event.attributes = read_on(alloc, event.attributes, bytes, room)?;
+                    return Ok(event);
+                }
+            }
+            _ => {}
+        }
+        event.unknown = keep(event.unknown, spelled)?;
+        Ok(event)
+    }
+}
+
+impl Message for Link {
+    ghost Data = { LinkData };
+
+    ghost view = { link_view };
+
+    ghost empty = { no_link };
+
+    ghost step = { link_step };
+
+    fn empty(alloc: Global) -> Link {
+        Link {
+            trace_id: Octets::new(alloc),
+            span_id: Octets::new(alloc),
+            trace_state: String::new(alloc),
+            attributes: Repeated::new(alloc),
+            dropped_attributes_count: 0,
+            flags: 0,
+            unknown: Octets::new(alloc),
+        }
+    }
+
+    fn field(
+        self,
+        alloc: Global,
+        field: Field<'_>,
+        spelled: &[u8],
+        room: u32,
+    ) -> Result<Link, ReadFault> {
+        let mut link = self;
+        match field.value {
+            Value::Varint(n) => {
+                if field.number == 5 {
+                    link.dropped_attributes_count = low32(n);
+                    return Ok(link);
+                }
+            }
+            Value::Four(bytes) => {
+                if field.number == 6 {
+                    link.flags = u32::from_le_bytes(bytes);
+                    return Ok(link);
+                }
+            }
+            Value::Bytes(bytes) => return link_bytes(
+                alloc,
+                link,
+                field.number,
+                bytes,
+                spelled,
+                room,
+            ),
+            _ => {}
+        }
+        link.unknown = keep(link.unknown, spelled)?;
+        Ok(link)
+    }
+}
+
+/// The link after one more field that holds these bytes.
+fn link_bytes(
+    alloc: Global,
+    before: Link,
+    number: u32,
+    bytes: &[u8],
+    spelled: &[u8],
+    room: u32,
+) -> Result<Link, ReadFault>
+    requires room { room ≤ 100 }
+    ensures { Gives link_view result (link_step room (link_view before) (record { number = number; value = Bytes bytes.now }) spelled.now) }
+{
+    let mut link = before;
+    if number == 1 {
+        link.trace_id = Octets::from_slice(alloc, bytes)?;
+        Ok(link)
+    } else if number == 2 {
+        link.span_id = Octets::from_slice(alloc, bytes)?;
+        Ok(link)
+    } else if number == 3 {
+        link.trace_state = text(alloc, bytes)?;
+        Ok(link)
+    } else if number == 4 {
+        link.attributes = read_on(alloc, link.attributes, bytes, room)?;
+        Ok(link)
+    } else {
+        link.unknown = keep(link.unknown, spelled)?;
+        Ok(link)
+    }
+}
+
+impl Message for Span {
+    ghost Data = { SpanData };
+
+    ghost view = { span_view };
+
+    ghost empty = { no_span };
+
+    ghost step = { span_step };
+
+    fn empty(alloc: Global) -> Span {
+        Span {
+            trace_id: Octets::new(alloc),
+            span_id: Octets::new(alloc),
+            trace_state: String::new(alloc),
+            parent_span_id: Octets::new(alloc),
+            name: String::new(alloc),
+            kind: 0,
+            start_time_unix_nano: 0,
+            end_time_unix_nano: 0,
+            attributes: Repeated::new(alloc),
+            dropped_attributes_count: 0,
+            events: Repeated::new(alloc),
+            dropped_events_count: 0,
+            links: Repeated::new(alloc),
+            dropped_links_count: 0,
+            status: None,
+            flags: 0,
+            unknown: Octets::new(alloc),
+        }
+    }
+
+    fn field(
+        self,
+        alloc: Global,
+        field: Field<'_>,
+        spelled: &[u8],
+        room: u32,
+    ) -> Result<Span, ReadFault> {
+        let mut span = self;
+        match field.value {
+            Value::Varint(n) => span_number(span, field.number, n, spelled),
+            Value::Eight(bytes) => span_time(span, field.number, bytes, spelled),
+            Value::Four(bytes) => {
+                if field.number == 16 {
+                    span.flags = u32::from_le_bytes(bytes);
+                    Ok(span)
+                } else {
+                    span.unknown = keep(span.unknown, spelled)?;
+                    Ok(span)
+                }
+            }
+            Value::Bytes(bytes) => span_bytes(alloc, span, field.number, bytes, spelled, room),
+            Value::Group(_) => {
+                span.unknown = keep(span.unknown, spelled)?;
+                Ok(span)
+            }
+        }
+    }
+}
+
+/// The span after one more field that holds a varint.
+fn span_number(before: Span, number: u32, n: u64, spelled: &[u8]) -> Result<Span, ReadFault>
+    ensures exact { (room : ℕ) → Gives span_view result (span_step room (span_view before) (record { number = number; value = Varint n }) spelled.now) }
+{
+    let mut span = before;
+    if number == 6 {
+        span.kind = low32(n).cast_signed();
+        Ok(span)
+    } else if number == 10 {
+        span.dropped_attributes_count = low32(n);
+        Ok(span)
+    } else if number == 12 {
+        span.dropped_events_count = low32(n);
+        Ok(span)
+    } else if number == 14 {
+        span.dropped_links_count = low32(n);
+        Ok(span)
+    } else {
+        span.unknown = keep(span.unknown, spelled)?;
+        Ok(span)
+    }
+}
+
+/// The span after one more field of eight bytes.
+fn span_time(before: Span, number: u32, bytes: [u8; 8], spelled: &[u8]) -> Result<Span, ReadFault>
+    ensures exact { (room : ℕ) → Gives span_view result (span_step room (span_view before) (record { number = number; value = Eight bytes }) spelled.now) }
+{
+    let mut span = before;
+    if number == 7 {
+        span.start_time_unix_nano = u64::from_le_bytes(bytes);
+        Ok(span)
+    } else if number == 8 {
+        span.end_time_unix_nano = u64::from_le_bytes(bytes);
+        Ok(span)
+    } else {
+        span.unknown = keep(span.unknown, spelled)?;
+        Ok(span)
+    }
+}
+
+/// The span after one more field that holds these bytes.
+fn span_bytes(
+    alloc: Global,
+    before: Span,
+    number: u32,
+    bytes: &[u8],
+    spelled: &[u8],
+    room: u32,
+) -> Result<Span, ReadFault>
+    requires room { room ≤ 100 }
+    ensures { Gives span_view result (span_step room (span_view before) (record { number = number; value = Bytes bytes.now }) spelled.now) }
+{
+    if number > 5 {
+        return span_message(alloc, before, number, bytes, spelled, room);
+    }
+    let mut span = before;
+    if number == 1 {
+        span.trace_id = Octets::from_slice(alloc, bytes)?;
+        Ok(span)
+    } else if number == 2 {
+        span.span_id = Octets::from_slice(alloc, bytes)?;
+        Ok(span)
+    } else if number == 3 {
+        span.trace_state = text(alloc, bytes)?;
+        Ok(span)
+    } else if number == 4 {
+        span.parent_span_id = Octets::from_slice(alloc, bytes)?;
+        Ok(span)
+    } else if number == 5 {
+        span.name = text(alloc, bytes)?;
+        Ok(span)
+    } else {
+        span.unknown = keep(span.unknown, spelled)?;
+        Ok(span)
+    }
+}
+
+/// The span after one more field that holds these bytes, with a number above those of ids and texts.
+fn span_message(
+    alloc: Global,
+    before: Span,
+    number: u32,
+    bytes: &[u8],
+    spelled: &[u8],
+    room: u32,
+) -> Result<Span, ReadFault>
+    requires number { 5 < number }
+    requires room { room ≤ 100 }
+    ensures { Gives span_view result (span_step room (span_view before) (record { number = number; value = Bytes bytes.now }) spelled.now) }
+{
+    let mut span = before;
+    if number == 9 {
+        span.attributes = read_on(alloc, span.attributes, bytes, room)?;
+        Ok(span)
+    } else if number == 11 {
+        span.events = read_on(alloc, span.events, bytes, room)?;
+        Ok(span)
+    } else if number == 13 {
+        span.links = read_on(alloc, span.links, bytes, room)?;
+        Ok(span)
+    } else if number == 15 {
+        span.status = Some(merged_into(alloc, span.status, bytes, room)?);
+        Ok(span)
+    } else {
+        span.unknown = keep(span.unknown, spelled)?;
+        Ok(span)
+    }
+}

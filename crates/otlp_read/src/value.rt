@@ -1,0 +1,349 @@
+//! Attribute values, which may hold others.
+
+ghost use Rattle.std.specs.Prelude.{◌≡◌, ◌≤◌, ℕ};
+ghost use Rattle.pb_wire.specs.Grammar.{entry, Bytes};
+ghost use Rattle.otlp_trace.specs.Data.{KeyValueData};
+ghost use Rattle.otlp_trace.specs.View.{any_view, array_view, list_view, key_value_view};
+ghost use Rattle.otlp_read.specs.AnyValue.{no_value, no_array, no_list, no_key_value, any_step, array_step, list_step, key_value_step_of, key_value_step, read_any, read_array, read_list, read_key_value};
+ghost use Rattle.otlp_read.specs.Fault.{Gives};
+
+use crate::fault::ReadFault;
+use crate::leaf::{keep, text};
+use crate::message::Message;
+use otlp_trace::{AnyValue, AnyValueKind, ArrayValue, DoubleBits, KeyValue, KeyValueList, Octets};
+use pb_wire::{Field, Value, next_field};
+use std::alloc::Global;
+
+fn empty_value(alloc: Global) -> AnyValue
+    ensures { any_view result ≡ no_value }
+{
+    AnyValue {
+        kind: AnyValueKind::Unset,
+        unknown: Octets::new(alloc),
+    }
+}
+
+fn empty_array(alloc: Global) -> ArrayValue
+    ensures { array_view result ≡ no_array }
+{
+    ArrayValue {
+        values: Vec::new(alloc),
+        unknown: Octets::new(alloc),
+    }
+}
+
+fn empty_list(alloc: Global) -> KeyValueList
+    ensures { list_view result ≡ no_list }
+{
+    KeyValueList {
+        values: Vec::new(alloc),
+        unknown: Octets::new(alloc),
+    }
+}
+
+fn empty_key_value(alloc: Global) -> KeyValue
+    ensures { key_value_view result ≡ no_key_value }
+{
+    KeyValue {
+        key: String::new(alloc),
+        value: None,
+        unknown: Octets::new(alloc),
+    }
+}
+
+/// Goes on reading a value, with room for so many levels, its own among them.
+#[cycle(any)]
+fn any_value(
+    alloc: Global,
+    before: AnyValue,
+    bytes: &[u8],
+    room: u32,
+) -> Result<AnyValue, ReadFault>
+    requires room { room ≤ 101 }
+    ensures exact { Gives any_view result (read_any room (any_view before) bytes.now) }
+{
+    if room == 0 {
+        return Err(ReadFault::TooDeep);
+    }
+    let mut value = before;
+    let mut left = bytes;
+    'fields: while let Some((field, rest)) = next_field(left, 101 - room)? {
+        let spelled = &left[..left.len() - rest.len()];
+        value = any_field(alloc, value, field, spelled, room - 1)?;
+        left = rest;
+    }
+    Ok(value)
+}
+
+/// The value after one more field. Messages in the field have room for so many levels.
+#[cycle(any)]
+fn any_field(
+    alloc: Global,
+    before: AnyValue,
+    field: Field<'_>,
+    spelled: &[u8],
+    room: u32,
+) -> Result<AnyValue, ReadFault>
+    requires room { room ≤ 100 }
+    ensures exact { Gives any_view result (any_step (read_array room) (read_list room) (any_view before) (entry field.entry) spelled.now) }
+{
+    let AnyValue { kind, unknown } = before;
+    match field.value {
+        Value::Varint(n) => {
+            if field.number == 2 {
+                let kind = AnyValueKind::Bool(n != 0);
+                return Ok(AnyValue { kind, unknown });
+            }
+            if field.number == 3 {
+                let kind = AnyValueKind::Int(n.cast_signed());
+                return Ok(AnyValue { kind, unknown });
+            }
+        }
+        Value::Eight(bits) => {
+            if field.number == 4 {
+                let kind = AnyValueKind::Double(DoubleBits(bits));
+                return Ok(AnyValue { kind, unknown });
+            }
+        }
+        Value::Bytes(bytes) => {
+            let before = AnyValue { kind, unknown };
+            return any_bytes(alloc, before, field.number, bytes, spelled, room);
+        }
+        _ => {}
+    }
+    let unknown = keep(unknown, spelled)?;
+    Ok(AnyValue { kind, unknown })
+}
+
+/// The value after one more field that holds these bytes.
+#[cycle(any)]
+fn any_bytes(
+    alloc: Global,
+    before: AnyValue,
+    number: u32,
+    bytes: &[u8],
+    spelled: &[u8],
+    room: u32,
+) -> Result<AnyValue, ReadFault>
+    requires room { room ≤ 100 }
+    ensures exact { Gives any_view result (any_step (read_array room) (read_list room) (any_view before) (record { number = number; value = Bytes bytes.now }) spelled.now) }
+{
+    let AnyValue { kind, unknown } = before;
+    if number == 1 {
+        let kind = AnyValueKind::String(text(alloc, bytes)?);
+        Ok(AnyValue { kind, unknown })
+    } else if number == 5 {
+        let start = match kind {
+            AnyValueKind::Array(array) => array,
+            _ => empty_array(alloc),
+        };
+        let kind = AnyValueKind::Array(array_value(alloc, start, bytes, room)?);
+        Ok(AnyValue { kind, unknown })
+    } else if number == 6 {
+        let start = match kind {
+            AnyValueKind::KeyValueList(list) => list,
+            _ => empty_list(alloc),
+        };
+        let kind = AnyValueKind::KeyValueList(key_value_list(alloc, start, bytes, room)?);
+        Ok(AnyValue { kind, unknown })
+    } else if number == 7 {
+        let kind = AnyValueKind::Bytes(Octets::from_slice(alloc, bytes)?);
+        Ok(AnyValue { kind, unknown })
+    } else {
+        let unknown = keep(unknown, spelled)?;
+        Ok(AnyValue { kind, unknown })
+    }
+}
+
+/// Goes on reading an array, with room for so many levels, its own among them.
+#[cycle(any)]
+fn array_value(
+    alloc: Global,
+    before: ArrayValue,
+    bytes: &[u8],
+    room: u32,
+) -> Result<ArrayValue, ReadFault>
+    requires room { room ≤ 101 }
+    ensures exact { Gives array_view result (read_array room (array_view before) bytes.now) }
+{
+    if room == 0 {
+        return Err(ReadFault::TooDeep);
+    }
+    let mut value = before;
+    let mut left = bytes;
+    'fields: while let Some((field, rest)) = next_field(left, 101 - room)? {
+        let spelled = &left[..left.len() - rest.len()];
+        value = array_field(alloc, value, field, spelled, room - 1)?;
+        left = rest;
+    }
+    Ok(value)
+}
+
+/// The array after one more field. Messages in the field have room for so many levels.
+#[cycle(any)]
+fn array_field(
+    alloc: Global,
+    before: ArrayValue,
+    field: Field<'_>,
+    spelled: &[u8],
+    room: u32,
+) -> Result<ArrayValue, ReadFault>
+    requires room { room ≤ 100 }
+    ensures exact { Gives array_view result (array_step (read_any room) (array_view before) (entry field.entry) spelled.now) }
+{
+    let ArrayValue { values, unknown } = before;
+    if let Value::Bytes(bytes) = field.value {
+        if field.number == 1 {
+            let value = any_value(alloc, empty_value(alloc), bytes, room)?;
+            let mut values = values;
+            values.push(value)?;
+            return Ok(ArrayValue { values, unknown });
+        }
+    }
+    let unknown = keep(unknown, spelled)?;
+    Ok(ArrayValue { values, unknown })
+}
+
+/// Goes on reading a list of keys with values, with room for so many levels, its own among them.
+#[cycle(any)]
+fn key_value_list(
+    alloc: Global,
+    before: KeyValueList,
+    bytes: &[u8],
+    room: u32,
+) -> Result<KeyValueList, ReadFault>
+    requires room { room ≤ 101 }
+    ensures exact { Gives list_view result (read_list room (list_view before) bytes.now) }
+{
+    if room == 0 {
+        return Err(ReadFault::TooDeep);
+    }
+    let mut value = before;
+    let mut left = bytes;
+    'fields: while let Some((field, rest)) = next_field(left, 101 - room)? {
+        let spelled = &left[..left.len() - rest.len()];
+        value = list_field(alloc, value, field, spelled, room - 1)?;
+        left = rest;
+    }
+    Ok(value)
+}
+
+/// The list after one more field. Messages in the field have room for so many levels.
+#[cycle(any)]
+fn list_field(
+    alloc: Global,
+    before: KeyValueList,
+    field: Field<'_>,
+    spelled: &[u8],
+    room: u32,
+) -> Result<KeyValueList, ReadFault>
+    requires room { room ≤ 100 }
+    ensures exact { Gives list_view result (list_step (read_key_value room) (list_view before) (entry field.entry) spelled.now) }
+{
+    let KeyValueList { values, unknown } = before;
+    if let Value::Bytes(bytes) = field.value {
+        if field.number == 1 {
+            let key_value = key_value(alloc, empty_key_value(alloc), bytes, room)?;
+            let mut values = values;
+            values.push(key_value)?;
+            return Ok(KeyValueList { values, unknown });
+        }
+    }
+    let unknown = keep(unknown, spelled)?;
+    Ok(KeyValueList { values, unknown })
+}
+
+/// Goes on reading a key with its value, with room for so many levels, its own among them.
+#[cycle(any)]
+fn key_value(
+    alloc: Global,
+    before: KeyValue,
+    bytes: &[u8],
+    room: u32,
+) -> Result<KeyValue, ReadFault>
+    requires room { room ≤ 101 }
+    ensures exact { Gives key_value_view result (read_key_value room (key_value_view before) bytes.now) }
+{
+    if room == 0 {
+        return Err(ReadFault::TooDeep);
+    }
+    let mut value = before;
+    let mut left = bytes;
+    'fields: while let Some((field, rest)) = next_field(left, 101 - room)? {
+        let spelled = &left[..left.len() - rest.len()];
+        value = key_value_field(alloc, value, field, spelled, room - 1)?;
+        left = rest;
+    }
+    Ok(value)
+}
+
+/// The key with its value after one more field. Messages in the field have room for so many levels.
+#[cycle(any)]
+fn key_value_field(
+    alloc: Global,
+    before: KeyValue,
+    field: Field<'_>,
+    spelled: &[u8],
+    room: u32,
+) -> Result<KeyValue, ReadFault>
+    requires room { room ≤ 100 }
+    ensures exact { Gives key_value_view result (key_value_step_of (read_any room) (key_value_view before) (entry field.entry) spelled.now) }
+{
+    let KeyValue {
+        key,
+        value,
+        unknown,
+    } = before;
+    if let Value::Bytes(bytes) = field.value {
+        if field.number == 1 {
+            let key = text(alloc, bytes)?;
+            return Ok(KeyValue {
+                key,
+                value,
+                unknown,
+            });
+        }
+        if field.number == 2 {
+            let start = match value {
+                Some(value) => value,
+                None => empty_value(alloc),
+            };
+            let value = Some(any_value(alloc, start, bytes, room)?);
+            return Ok(KeyValue {
+                key,
+                value,
+                unknown,
+            });
+        }
+    }
+    let unknown = keep(unknown, spelled)?;
+    Ok(KeyValue {
+        key,
+        value,
+        unknown,
+    })
+}
+
+impl Message for KeyValue {
+    ghost Data = { KeyValueData };
+
+    ghost view = { key_value_view };
+
+    ghost empty = { no_key_value };
+
+    ghost step = { key_value_step };
+
+    fn empty(alloc: Global) -> KeyValue {
+        empty_key_value(alloc)
+    }
+
+    fn field(
+        self,
+        alloc: Global,
+        field: Field<'_>,
+        spelled: &[u8],
+        room: u32,
+    ) -> Result<KeyValue, ReadFault> {
+        key_value_field(alloc, self, field, spelled, room)
+    }
+}

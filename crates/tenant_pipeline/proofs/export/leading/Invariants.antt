@@ -1,0 +1,14 @@
+use Rattle.std.proofs.Common.{◌≡◌, ◌<◌, ◌-◌, length, take, drop}
+use Rattle.tenant_pipeline.specs.ExportText.{runs}
+use Rattle.tenant_pipeline.proofs.Runs.{after}
+use Rattle.tenant_pipeline.proofs.export.leading.Given as goal
+
+-- those before the last one are in the first run
+abbrev pub invariant-loop-last : goal.invariant-loop-last
+invariant-loop-last g l = record {
+  within : l.last < length l.spans;
+  first : after (take l.last l.spans) (runs g.L.Level.same (drop l.last l.spans)) ≡ runs g.L.Level.same l.spans;
+}
+
+abbrev pub decreases-loop-last : goal.decreases-loop-last
+decreases-loop-last g l = length l.spans - l.last
