@@ -27,6 +27,8 @@ impl<'a> Model for SpanRef<'a> {
 }
 
 impl<'a> SpanRef<'a> {
+    /// A view of a span by its text, and by its resource's, which is empty where there is none. Both are canonical, or
+    /// at least have keys and strings that are UTF-8 (`is_text`).
     pub fn of(span: &'a [u8], resource: &'a [u8]) -> SpanRef<'a>
         requires text { AreText (facts_of span.now resource.now).attributes }
         ensures { result ≡ facts_of span.now resource.now }
@@ -34,6 +36,7 @@ impl<'a> SpanRef<'a> {
         SpanRef { span, resource }
     }
 
+    /// The bytes of the trace id, whatever their number.
     pub fn trace_id(&self) -> &'a [u8]
         ensures { result.now ≡ self.now.trace_id }
     {

@@ -1,6 +1,6 @@
 //! Attributes, borrowed from the texts that have them.
 
-ghost use Rattle.std.specs.Prelude.{◌≡◌};
+ghost use Rattle.std.specs.Prelude.{◌≡◌, ◌<◌, length, IfSome};
 ghost use Rattle.span_view.specs.Facts.{IsValueText, IsAttributeText};
 ghost use Rattle.span_view.specs.Reading.{member, value_in, attribute_in, attributes_in, found_attributes};
 ghost use Rattle.span_view.specs.Shown.{value_shown, attribute_shown};
@@ -78,7 +78,8 @@ fn value_of(text: &[u8]) -> ValueRef<'_>
 
 /// The text of the first attribute in the fields of this number, and the text behind it.
 pub fn next_attribute(text: &[u8], number: u32) -> Option<(&[u8], &[u8])>
-    ensures { attributes_in number text.now ≡ found_attributes number result }
+    ensures attributes { attributes_in number text.now ≡ found_attributes number result }
+    ensures shorter { IfSome result (λ found. length found.1.now < length text.now) }
 {
     match find(text, number, WireType::Bytes) {
         Some((Value::Bytes(attribute), rest)) => Some((attribute, rest)),
