@@ -1,5 +1,5 @@
 -- The parts of each message's canonical text.
-use Rattle.std.proofs.Common.{◌≡◌, ℕ, ℤ, pos, negsuc, suc, true, false, length, ◌-◌, ◌%◌, ◌<◌, ◌^◌, ◌==◌, FitsSigned, List, [], ◌∷◌, ◌++◌, option_map, refl, rules, arith, append_assoc}
+use Rattle.std.proofs.Common.{◌≡◌, ℕ, ℤ, pos, negsuc, suc, true, false, length, ◌-◌, ◌%◌, ◌<◌, ◌^◌, ◌==◌, FitsSigned, List, [], ◌∷◌, option_map, refl, arith, append_assoc}
 use Rattle.std.proofs.Math.Facts.{Fits-of_z}
 use Rattle.std.proofs.lemmas.Int.{to_z-of_z}
 use Rattle.std.specs.Int.{w32, w64, cast_signed, cast_unsigned, to_le_bytes}
@@ -7,7 +7,7 @@ use Rattle.std.specs.List.{AllByRecursion}
 use Rattle.pb_wire.specs.Grammar.{Varint, Eight, Bytes, Four}
 use Rattle.otlp_trace.specs.Data.{KindData, KeyValueData, bare_key, key_value, ResourceData, StatusData, SpanData}
 use Rattle.otlp_trace.specs.Data as otlp
-use Rattle.otlp_trace.specs.Text.{bit, any_text, array_text, list_text, key_value_text, status_text, event_text, link_text, span_text}
+use Rattle.otlp_trace.specs.Text.{bit, array_text, list_text, key_value_text, status_text, event_text, link_text, span_text}
 use Rattle.span_view.specs.Canonical.{SoundKind, SoundSpan}
 use Rattle.span_view.proofs.Parts.{is_number, Part, IsPart, parts_text, one, one_is, unless, unless_is, some, some_is, many, many_is}
 
@@ -103,13 +103,49 @@ span_parts s =
     ∷ some 15 (option_map status_text s.status) ∷ four_part 16 s.flags ∷ []
 
 pub span_are : (s : SpanData) → SoundSpan s → AllByRecursion IsPart (span_parts s)
-span_are s sound =
-    (bytes_is 1 s.trace_id refl, (bytes_is 2 s.span_id refl, (bytes_is 3 s.trace_state refl, (bytes_is 4 s.parent_span_id refl, (bytes_is 5 s.name refl,
-    (number_is 6 (cast_unsigned w64 s.kind) refl (fits32 s.kind sound.kind), (eight_is 7 s.start_time_unix_nano refl, (eight_is 8 s.end_time_unix_nano refl,
-    (many_is 9 key_value_text s.attributes refl, (number_is 10 s.dropped_attributes_count refl (omega (arith, sound.dropped_attributes_count)),
-    (many_is 11 event_text s.events refl, (number_is 12 s.dropped_events_count refl (omega (arith, sound.dropped_events_count)),
-    (many_is 13 link_text s.links refl, (number_is 14 s.dropped_links_count refl (omega (arith, sound.dropped_links_count)),
-    (some_is 15 (option_map status_text s.status) refl, (unless_is (s.flags == 0) 16 (Four (to_le_bytes w32 s.flags)) refl refl, tt))))))))))))))))
+span_are s sound = (
+  bytes_is 1 s.trace_id refl,
+  (
+    bytes_is 2 s.span_id refl,
+    (
+      bytes_is 3 s.trace_state refl,
+      (
+        bytes_is 4 s.parent_span_id refl,
+        (
+          bytes_is 5 s.name refl,
+          (
+            number_is 6 (cast_unsigned w64 s.kind) refl (fits32 s.kind sound.kind),
+            (
+              eight_is 7 s.start_time_unix_nano refl,
+              (
+                eight_is 8 s.end_time_unix_nano refl,
+                (
+                  many_is 9 key_value_text s.attributes refl,
+                  (
+                    number_is 10 s.dropped_attributes_count refl (omega (arith, sound.dropped_attributes_count)),
+                    (
+                      many_is 11 event_text s.events refl,
+                      (
+                        number_is 12 s.dropped_events_count refl (omega (arith, sound.dropped_events_count)),
+                        (
+                          many_is 13 link_text s.links refl,
+                          (
+                            number_is 14 s.dropped_links_count refl (omega (arith, sound.dropped_links_count)),
+                            (some_is 15 (option_map status_text s.status) refl, (unless_is (s.flags == 0) 16 (Four (to_le_bytes w32 s.flags)) refl refl, tt)),
+                          ),
+                        ),
+                      ),
+                    ),
+                  ),
+                ),
+              ),
+            ),
+          ),
+        ),
+      ),
+    ),
+  ),
+)
 
 pub span_same : (s : SpanData) → span_text s ≡ parts_text (span_parts s) s.unknown
 span_same s = simp append_assoc refl

@@ -1,5 +1,5 @@
 -- Canonical text in parts: each is the fields of one number, and what is kept stands behind them.
-use Rattle.std.proofs.Common.{◌≡◌, ◌≢◌, ℕ, ◌+◌, ◌<◌, ◌≤◌, ◌^◌, Bool, true, false, cond, ◌&&◌, ◌==◌, nat_lt, if◌then◌else◌, List, [], ◌∷◌, ◌++◌, length, map, filter, flat_map, Option, Some, None, refl, sym, ap, subst, ◌∙◌, arith, append_assoc, append-nil, length-append, ◌⊎◌, inl, inr}
+use Rattle.std.proofs.Common.{◌≡◌, ◌≢◌, ℕ, ◌+◌, ◌<◌, ◌^◌, Bool, true, false, cond, ◌&&◌, ◌==◌, nat_lt, if◌then◌else◌, List, [], ◌∷◌, ◌++◌, length, map, filter, flat_map, Option, Some, None, refl, sym, ap, subst, ◌∙◌, arith, append_assoc, append-nil, length-append, ◌⊎◌, inl, inr}
 use Rattle.std.proofs.lemmas.Bool.Decides.{nat_tests}
 use Rattle.std.proofs.lemmas.Bool.{ne_eqb}
 use Rattle.std.specs.List.{AllByRecursion}
@@ -93,7 +93,7 @@ parts_stand [] are rest es left short = left
 parts_stand (p ∷ ps) are rest es left short =
     let others : Fields 0 (parts_text ps rest) (parts_fields ps es) = parts_stand ps are.1 rest es left (omega (arith, short, length-append p.text (parts_text ps rest))) in
     subst (λ text. Fields 0 (text ++ parts_text ps rest) (map (numbered p.number) p.values ++ parts_fields ps es)) are.0.same
-        (values_stand p.number are.0.number p.values are.0.values (parts_text ps rest) (parts_fields ps es) others (subst (λ text. length (text ++ parts_text ps rest) < 2 ^ 64) (sym are.0.same) short))
+    (values_stand p.number are.0.number p.values are.0.values (parts_text ps rest) (parts_fields ps es) others (subst (λ text. length (text ++ parts_text ps rest) < 2 ^ 64) (sym are.0.same) short))
 
 -- no part is longer than the whole
 pub parts_short : (ps : List Part) (rest : List ℕ) → length (parts_text ps rest) < 2 ^ 64 → AllByRecursion (λ p. length p.text < 2 ^ 64) ps

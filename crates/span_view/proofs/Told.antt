@@ -1,5 +1,5 @@
 -- What a view tells over canonical text is what the message is.
-use Rattle.std.proofs.Common.{◌≡◌, ℕ, ℤ, pos, zero, suc, true, false, ◌<◌, ◌^◌, ◌%◌, ◌==◌, FitsSigned, List, [], ◌∷◌, ◌++◌, length, map, filter, Option, Some, None, option_map, IfSome, refl, sym, ap, subst, ◌∙◌, arith, length-append, append-nil}
+use Rattle.std.proofs.Common.{◌≡◌, ℕ, ℤ, zero, suc, true, false, ◌<◌, ◌^◌, ◌%◌, ◌==◌, List, [], ◌∷◌, ◌++◌, length, map, filter, Option, Some, None, option_map, IfSome, refl, sym, ap, subst, ◌∙◌, arith, length-append, append-nil}
 use Rattle.std.proofs.lemmas.Bool.Decides.{nat_tests}
 use Rattle.std.proofs.lemmas.Bool.{ne_eqb}
 use Rattle.std.proofs.lemmas.Int.{to_z-of_z}
@@ -10,14 +10,14 @@ use Rattle.pb_wire.specs.declared.field.WireType.TheVariants as types
 use Rattle.pb_wire.specs.Grammar.{Datum, Varint, Eight, Bytes, Four, Group, Entry}
 use Rattle.otlp_trace.specs.Data.{AnyValueData, any_value, KindData, KeyValueData, bare_key, key_value, ResourceData, StatusData, SpanData}
 use Rattle.otlp_trace.specs.Data as otlp
-use Rattle.otlp_trace.specs.Text.{bytes_field, any_text, kind_text, key_value_text, status_text, resource_text, span_text, repeated, embedded}
+use Rattle.otlp_trace.specs.Text.{bytes_field, any_text, kind_text, key_value_text, status_text, repeated, embedded}
 use Rattle.otlp_trace.proofs.Spelled.{bytes_within}
-use Rattle.span_view.specs.Canonical.{NotInSpan, NotInStatus, NotInResource, NotInKeyValue, NotInAnyValue, Skipped, SoundKind, SoundValue, SoundKeyValue, SoundStatus, SoundResource, SoundSpan, IsSpanText, IsOneResourceText, IsResourceText}
-use Rattle.span_view.specs.Facts.{ValueFact, unset, string, boolean, int, double, array, kvlist, bytes, AttributeFact, SpanFacts, kind_fact, value_fact, key_value_fact, status_fact, resource_attributes, facts, IsValueText, IsAttributeText, AreText}
+use Rattle.span_view.specs.Canonical.{NotInSpan, NotInStatus, NotInResource, NotInKeyValue, NotInAnyValue, Skipped, SoundKind, SoundValue, SoundKeyValue, SoundStatus, IsSpanText, IsResourceText}
+use Rattle.span_view.specs.Facts.{ValueFact, unset, int, AttributeFact, SpanFacts, kind_fact, value_fact, key_value_fact, status_fact, resource_attributes, facts, IsValueText, IsAttributeText, AreText}
 use Rattle.span_view.specs.Reading.{fields_of, is_kind, has, held, first_bytes, first_eight, first_varint, all_bytes, member, first_member, value_in, attribute_in, attributes_in, code_in, facts_of}
 use Rattle.span_view.proofs.Walks.{no_attributes, fields_step}
 use Rattle.span_view.proofs.Parts.{numbered, parts_text, parts_fields, parts_short, not_kind, not_number, canonical_fields, canonical_held, parts_held, unless, some}
-use Rattle.span_view.proofs.Messages.{fits32, low32, kind_parts, kind_are, bare_parts, bare_are, pair_parts, pair_are, status_parts, status_are, resource_parts, resource_are, span_parts, span_are, span_same}
+use Rattle.span_view.proofs.Messages.{low32, kind_parts, kind_are, bare_parts, bare_are, pair_parts, pair_are, status_parts, status_are, resource_parts, resource_are, span_parts, span_are, span_same}
 
 -- ---- what is left out at its default
 
@@ -183,14 +183,14 @@ span_told text resource s r is its =
     let bytes_at : (n : ℕ) → ((m : ℕ) (v : Datum) → NotInSpan m v → has n types.Bytes (numbered m v) ≡ false) → held n types.Bytes (fields_of text) ≡ parts_held n types.Bytes ps [] = λ n unread. ap (λ t. held n types.Bytes (fields_of t)) same ∙ canonical_held ps (span_are s is.sound) NotInSpan s.unknown is.sound.unknown short n types.Bytes unread in
     let eight_at : (n : ℕ) → ((m : ℕ) (v : Datum) → NotInSpan m v → has n types.Eight (numbered m v) ≡ false) → held n types.Eight (fields_of text) ≡ parts_held n types.Eight ps [] = λ n unread. ap (λ t. held n types.Eight (fields_of t)) same ∙ canonical_held ps (span_are s is.sound) NotInSpan s.unknown is.sound.unknown short n types.Eight unread in
     let own : attributes_in 9 text ≡ map key_value_fact s.attributes =
-        ap (λ ds. map attribute_in (all_bytes ds)) (bytes_at 9 (λ m v h. (span_bytes m v h).1)) ∙ ap (map attribute_in) (many_told key_value_text s.attributes)
-        ∙ key_values_told 9 s.attributes is.sound.attributes each.1.1.1.1.1.1.1.1.0 in
+    ap (λ ds. map attribute_in (all_bytes ds)) (bytes_at 9 (λ m v h. (span_bytes m v h).1)) ∙ ap (map attribute_in) (many_told key_value_text s.attributes)
+    ∙ key_values_told 9 s.attributes is.sound.attributes each.1.1.1.1.1.1.1.1.0 in
     facts_are
-        (ap first_bytes (bytes_at 1 (λ m v h. (span_bytes m v h).0)) ∙ some_bytes_told 1 s.trace_id)
-        (ap first_eight (eight_at 7 (λ m v h. (span_eights m v h).0)) ∙ some_eight_told 7 s.start_time_unix_nano is.sound.start_time_unix_nano)
-        (ap first_eight (eight_at 8 (λ m v h. (span_eights m v h).1)) ∙ some_eight_told 8 s.end_time_unix_nano is.sound.end_time_unix_nano)
-        (ap (λ ds. code_in (first_bytes ds)) (bytes_at 15 (λ m v h. (span_bytes m v h).2)) ∙ status_told s.status is.sound.status each.1.1.1.1.1.1.1.1.1.1.1.1.1.1.0)
-        (ap (λ l. l ++ attributes_in 1 resource) own ∙ ap (λ l. map key_value_fact s.attributes ++ l) (resource_told resource r its))
+    (ap first_bytes (bytes_at 1 (λ m v h. (span_bytes m v h).0)) ∙ some_bytes_told 1 s.trace_id)
+    (ap first_eight (eight_at 7 (λ m v h. (span_eights m v h).0)) ∙ some_eight_told 7 s.start_time_unix_nano is.sound.start_time_unix_nano)
+    (ap first_eight (eight_at 8 (λ m v h. (span_eights m v h).1)) ∙ some_eight_told 8 s.end_time_unix_nano is.sound.end_time_unix_nano)
+    (ap (λ ds. code_in (first_bytes ds)) (bytes_at 15 (λ m v h. (span_bytes m v h).2)) ∙ status_told s.status is.sound.status each.1.1.1.1.1.1.1.1.1.1.1.1.1.1.0)
+    (ap (λ l. l ++ attributes_in 1 resource) own ∙ ap (λ l. map key_value_fact s.attributes ++ l) (resource_told resource r its))
 
 -- ---- what is text is UTF-8
 

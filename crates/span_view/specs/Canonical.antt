@@ -4,7 +4,7 @@ use Rattle.std.specs.Prelude.{◌≡◌, ◌≢◌, ◌<◌, ◌^◌, ℕ, List,
 use Rattle.std.specs.Int.{w32, w64}
 use Rattle.std.specs.List.{AllByRecursion}
 use Rattle.std.specs.Str.{IsUtf8}
-use Rattle.pb_wire.specs.Grammar.{Datum, Varint, Eight, Bytes, Four, Group, Entry, Fields}
+use Rattle.pb_wire.specs.Grammar.{Datum, Varint, Eight, Bytes, Entry, Fields}
 use Rattle.otlp_trace.specs.Data.{AnyValueData, any_value, KindData, KeyValueData, bare_key, key_value, ResourceData, StatusData, SpanData}
 use Rattle.otlp_trace.specs.Data as otlp
 use Rattle.otlp_trace.specs.Text.{resource_text, span_text}

@@ -1,5 +1,5 @@
 -- What a view tells of a span and its resource: what sampling policies ask.
-use Rattle.std.specs.Prelude.{ℕ, ℤ, pos, Bool, List, [], ◌∷◌, ◌++◌, map, Option, Some, None}
+use Rattle.std.specs.Prelude.{ℕ, ℤ, pos, Bool, List, [], ◌++◌, map, Option, Some, None}
 use Rattle.std.specs.List.{AllByRecursion}
 use Rattle.std.specs.Str.{IsUtf8}
 use Rattle.otlp_trace.specs.Data.{AnyValueData, KindData, KeyValueData, ResourceData, StatusData, SpanData}

@@ -81,7 +81,10 @@ fn each_kind_of_value_is_told(rt: HostRuntime) {
     let cases: [(&[u8], ValueRef<'static>); 11] = [
         (b"\x0a\x04\x0a\x00\x12\x00", ValueRef::Unset),
         (b"\x0a\x04\x12\x02\x0a\x00", ValueRef::String("")),
-        (b"\x0a\x06\x12\x04\x0a\x02\xc3\xa4", ValueRef::String("\u{e4}")),
+        (
+            b"\x0a\x06\x12\x04\x0a\x02\xc3\xa4",
+            ValueRef::String("\u{e4}"),
+        ),
         (b"\x0a\x04\x12\x02\x10\x00", ValueRef::Bool(false)),
         (b"\x0a\x04\x12\x02\x10\x01", ValueRef::Bool(true)),
         (
@@ -94,7 +97,10 @@ fn each_kind_of_value_is_told(rt: HostRuntime) {
         ),
         (b"\x0a\x08\x12\x06\x2a\x04\x0a\x02\x18\x07", ValueRef::Array),
         (b"\x0a\x04\x12\x02\x32\x00", ValueRef::KeyValueList),
-        (b"\x0a\x06\x12\x04\x3a\x02\xff\x00", ValueRef::Bytes(b"\xff\x00")),
+        (
+            b"\x0a\x06\x12\x04\x3a\x02\xff\x00",
+            ValueRef::Bytes(b"\xff\x00"),
+        ),
         // A field that no value knows, and one with another wire type.
         (b"\x0a\x06\x12\x04\x40\x01\x08\x02", ValueRef::Unset),
     ];
@@ -121,7 +127,11 @@ fn strings_that_are_not_utf8_are_found(rt: HostRuntime) {
 #[test]
 fn a_text_ends_where_no_field_begins(rt: HostRuntime) {
     let none: &[u8] = b"";
-    let view = checked(&rt, b"\x39\x05\x00\x00\x00\x00\x00\x00\x00\x00\x41\x06\x00\x00\x00\x00\x00\x00\x00", none);
+    let view = checked(
+        &rt,
+        b"\x39\x05\x00\x00\x00\x00\x00\x00\x00\x00\x41\x06\x00\x00\x00\x00\x00\x00\x00",
+        none,
+    );
     assert_eq!(rt; view.start(), 5);
     assert_eq!(rt; view.end(), 0);
 }
