@@ -1,23 +1,30 @@
 -- Messages that were written read back.
-use Rattle.std.proofs.Common.{◌≡◌, ℕ, ℤ, pos, zero, suc, ◌-◌, List, [], Option, Some, None, IfSome, Ok, refl, ◌∙◌}
-use Rattle.otlp_trace.specs.Data.{KeyValueData, ResourceData, ScopeData, StatusData, EventData, LinkData, SpanData, ScopeSpansData, ResourceSpansData, RequestData, PartialSuccessData, ResponseData}
-use Rattle.otlp_trace.specs.Text.{key_value_text, resource_text, scope_text, status_text, event_text, link_text, span_names_text, span_times_text, span_lists_text, span_end_text, span_text, scope_spans_text, resource_spans_text, request_text, partial_success_text, response_text}
+use Rattle.std.proofs.Common.{◌≡◌, ℕ, zero, suc, true, ◌-◌, List, [], Option, Some, None, IfSome, Ok, refl, ◌∙◌}
+use Rattle.std.specs.List.{AllByRecursion}
+use Rattle.pb_wire.specs.Grammar.{Bytes}
+use Rattle.otlp_trace.specs.Data.{KeyValueData, SpanData, RequestData, PartialSuccessData, ResponseData}
+use Rattle.otlp_trace.specs.Text.{bytes_field, repeated, key_value_text, resource_text, scope_text, status_text, event_text, link_text, span_names_text, span_times_text, span_lists_text, span_end_text, span_text, scope_spans_text, resource_spans_text, request_text, partial_success_text, response_text}
 use Rattle.otlp_read.specs.AnyValue.{no_key_value, key_value_step}
-use Rattle.otlp_read.specs.Nested.{NestedKeyValue, NestedResource, NestedScope, NestedStatus, InStatus, NestedEvent, NestedLink, NestedSpan, InSpan, NestedScopeSpans, NestedResourceSpans, NestedRequest}
+use Rattle.otlp_read.specs.Nested.{NestedKeyValue, NestedResource, NestedScope, NestedStatus, NestedEvent, NestedLink, NestedSpan, InSpan, NestedScopeSpans, NestedResourceSpans, NestedRequest}
 use Rattle.otlp_read.specs.Response.{no_partial_success, no_response, partial_success_step, response_step}
 use Rattle.otlp_read.specs.Typed.{TypedKeyValue, TypedResource, TypedScope, TypedStatus, TypedEvent, TypedLink, TypedSpan, TypedScopeSpans, TypedResourceSpans, TypedRequest, TypedPartialSuccess, TypedResponse}
 use Rattle.otlp_read.specs.Value.{no_resource, keep_resource, resource_known, resource_step, no_scope, keep_scope, scope_known, scope_step, no_status, keep_status, status_known, status_step, no_event, keep_event, event_known, event_step, no_link, keep_link, link_known, link_step, no_span, keep_span, span_known, span_step, no_scope_spans, scope_spans_step, no_resource_spans, resource_spans_step, no_request, request_step}
-use Rattle.otlp_read.specs.Walk.{walk, read_with}
+use Rattle.otlp_read.specs.Walk.{◌>>=◌, Step, walk, read_with, with_another}
 use Rattle.otlp_read.proofs.Opened.{opened_at}
-use Rattle.otlp_read.proofs.Taken.{Short, Taken, Back, then, whole, some_bytes_taken, some_string_taken, some_uint32_taken, some_int32_taken, some_int64_taken, some_eight_taken, some_four_taken, embedded_taken, repeated_taken, kept_taken}
+use Rattle.otlp_read.proofs.Taken.{numbers, Short, Taken, Back, then, whole, some_bytes_taken, some_string_taken, some_uint32_taken, some_int32_taken, some_int64_taken, some_eight_taken, some_four_taken, embedded_taken, repeated_taken, kept_taken}
 use Rattle.otlp_read.proofs.ValueBack.{attribute_back}
+
+attributes_taken : {A : Type 0} (step : Step A) (d n room : ℕ) → numbers n ≡ true → (put : List KeyValueData → A) (ps : List KeyValueData) → AllByRecursion TypedKeyValue ps → AllByRecursion (NestedKeyValue room) ps
+    → ((qs : List KeyValueData) (bs : List ℕ) → step (put qs) (record { number = n; value = Bytes bs }) (bytes_field n bs) ≡ (with_another qs (read_with key_value_step room no_key_value bs) >>= λ l. Ok (put l)))
+    → Taken step d (put []) (repeated n key_value_text ps) (put ps)
+attributes_taken step d n room is = repeated_taken step d n is (read_with key_value_step room no_key_value) key_value_text TypedKeyValue (NestedKeyValue room) (attribute_back room)
 
 pub resource_back : (room : ℕ) → Back (read_with resource_step room no_resource) resource_text TypedResource (NestedResource room)
 resource_back zero r typed nested short = absurd nested
 resource_back (suc room) r typed nested short =
     let step = resource_step room in let d = 100 - room in
     opened_at resource_step room no_resource (resource_text r)
-    ∙ whole (then (repeated_taken step d 1 refl (read_with key_value_step room no_key_value) key_value_text TypedKeyValue (NestedKeyValue room) (attribute_back room) (λ l. record no_resource { attributes = l }) r.attributes typed.attributes nested.attributes (λ l bs. refl))
+    ∙ whole (then (attributes_taken step d 1 room refl (λ l. record no_resource { attributes = l }) r.attributes typed.attributes nested.attributes (λ l bs. refl))
     (then (some_uint32_taken step d 2 refl (λ n. record r { dropped_attributes_count = n; unknown = [] }) r.dropped_attributes_count typed.dropped_attributes_count refl)
     (kept_taken resource_known keep_resource room (λ u. record r { unknown = u }) (λ u s. refl) r.unknown nested.unknown))) short
 
@@ -28,7 +35,7 @@ scope_back (suc room) s typed nested short =
     opened_at scope_step room no_scope (scope_text s)
     ∙ whole (then (some_string_taken step d 1 refl (λ bs. record no_scope { name = bs }) s.name typed.name refl)
     (then (some_string_taken step d 2 refl (λ bs. record no_scope { name = s.name; version = bs }) s.version typed.version refl)
-    (then (repeated_taken step d 3 refl (read_with key_value_step room no_key_value) key_value_text TypedKeyValue (NestedKeyValue room) (attribute_back room) (λ l. record s { attributes = l; dropped_attributes_count = 0; unknown = [] }) s.attributes typed.attributes nested.attributes (λ l bs. refl))
+    (then (attributes_taken step d 3 room refl (λ l. record s { attributes = l; dropped_attributes_count = 0; unknown = [] }) s.attributes typed.attributes nested.attributes (λ l bs. refl))
     (then (some_uint32_taken step d 4 refl (λ n. record s { dropped_attributes_count = n; unknown = [] }) s.dropped_attributes_count typed.dropped_attributes_count refl)
     (kept_taken scope_known keep_scope room (λ u. record s { unknown = u }) (λ u x. refl) s.unknown nested.unknown))))) short
 
@@ -48,7 +55,7 @@ event_back (suc room) e typed nested short =
     opened_at event_step room no_event (event_text e)
     ∙ whole (then (some_eight_taken step d 1 refl (λ n. record no_event { time_unix_nano = n }) e.time_unix_nano typed.time_unix_nano (λ bs. refl))
     (then (some_string_taken step d 2 refl (λ bs. record no_event { time_unix_nano = e.time_unix_nano; name = bs }) e.name typed.name refl)
-    (then (repeated_taken step d 3 refl (read_with key_value_step room no_key_value) key_value_text TypedKeyValue (NestedKeyValue room) (attribute_back room) (λ l. record e { attributes = l; dropped_attributes_count = 0; unknown = [] }) e.attributes typed.attributes nested.attributes (λ l bs. refl))
+    (then (attributes_taken step d 3 room refl (λ l. record e { attributes = l; dropped_attributes_count = 0; unknown = [] }) e.attributes typed.attributes nested.attributes (λ l bs. refl))
     (then (some_uint32_taken step d 4 refl (λ n. record e { dropped_attributes_count = n; unknown = [] }) e.dropped_attributes_count typed.dropped_attributes_count refl)
     (kept_taken event_known keep_event room (λ u. record e { unknown = u }) (λ u x. refl) e.unknown nested.unknown))))) short
 
@@ -60,7 +67,7 @@ link_back (suc room) l typed nested short =
     ∙ whole (then (some_bytes_taken step d 1 refl (λ bs. record no_link { trace_id = bs }) l.trace_id refl)
     (then (some_bytes_taken step d 2 refl (λ bs. record no_link { trace_id = l.trace_id; span_id = bs }) l.span_id refl)
     (then (some_string_taken step d 3 refl (λ bs. record no_link { trace_id = l.trace_id; span_id = l.span_id; trace_state = bs }) l.trace_state typed.trace_state refl)
-    (then (repeated_taken step d 4 refl (read_with key_value_step room no_key_value) key_value_text TypedKeyValue (NestedKeyValue room) (attribute_back room) (λ ps. record l { attributes = ps; dropped_attributes_count = 0; flags = 0; unknown = [] }) l.attributes typed.attributes nested.attributes (λ ps bs. refl))
+    (then (attributes_taken step d 4 room refl (λ ps. record l { attributes = ps; dropped_attributes_count = 0; flags = 0; unknown = [] }) l.attributes typed.attributes nested.attributes (λ ps bs. refl))
     (then (some_uint32_taken step d 5 refl (λ n. record l { dropped_attributes_count = n; flags = 0; unknown = [] }) l.dropped_attributes_count typed.dropped_attributes_count refl)
     (then (some_four_taken step d 6 refl (λ n. record l { flags = n; unknown = [] }) l.flags typed.flags (λ bs. refl))
     (kept_taken link_known keep_link room (λ u. record l { unknown = u }) (λ u x. refl) l.unknown nested.unknown))))))) short
@@ -101,7 +108,7 @@ lists_taken : (room : ℕ) (s : SpanData) → TypedSpan s → InSpan room s → 
 unfolding named timed listed
 lists_taken room s typed nested =
     let step = span_step room in let d = 100 - room in
-    then (repeated_taken step d 9 refl (read_with key_value_step room no_key_value) key_value_text TypedKeyValue (NestedKeyValue room) (attribute_back room) (λ l. record (timed s) { attributes = l }) s.attributes typed.attributes nested.attributes (λ l bs. refl))
+    then (attributes_taken step d 9 room refl (λ l. record (timed s) { attributes = l }) s.attributes typed.attributes nested.attributes (λ l bs. refl))
     (then (some_uint32_taken step d 10 refl (λ n. record (timed s) { attributes = s.attributes; dropped_attributes_count = n }) s.dropped_attributes_count typed.dropped_attributes_count refl)
     (then (repeated_taken step d 11 refl (read_with event_step room no_event) event_text TypedEvent (NestedEvent room) (event_back room) (λ l. record (listed s) { events = l; dropped_events_count = 0; links = []; dropped_links_count = 0 }) s.events typed.events nested.events (λ l bs. refl))
     (then (some_uint32_taken step d 12 refl (λ n. record (listed s) { dropped_events_count = n; links = []; dropped_links_count = 0 }) s.dropped_events_count typed.dropped_events_count refl)

@@ -1,6 +1,6 @@
 -- What a walk keeps of a message from field to field: that it is nested no deeper than there is room, and, where the text
 -- is bytes, that it is typed.
-use Rattle.std.proofs.Common.{◌≡◌, ℕ, zero, suc, ◌+◌, ◌-◌, ◌*◌, ◌%◌, ◌<◌, ◌^◌, ◌⊎◌, inl, inr, Bool, true, false, FitsSigned, List, [], ◌∷◌, ◌++◌, length, Option, Some, None, unwrap_or, IfSome, Result, Ok, Err, refl, sym, ap, subst, ◌∙◌, arith, append-nil, append_assoc}
+use Rattle.std.proofs.Common.{◌≡◌, ℕ, zero, suc, ◌-◌, ◌<◌, ◌^◌, Bool, true, false, FitsSigned, List, [], ◌∷◌, ◌++◌, length, Option, Some, None, unwrap_or, IfSome, Result, Ok, Err, refl, sym, subst, arith, append-nil, append_assoc}
 use Rattle.std.proofs.Math.Facts.{sfits_to_z, Fits-of_lt}
 use Rattle.std.proofs.lemmas.Str.{IsUtf8-from_is_utf8}
 use Rattle.std.specs.Int.{w32, w64}
@@ -13,7 +13,6 @@ use Rattle.otlp_read.specs.Nested.{IsUnknown, Kept}
 use Rattle.otlp_read.specs.Numbers.{utf8, int32, uint32, int64, fixed64, fixed32}
 use Rattle.otlp_read.specs.Walk.{◌>>=◌, Step, Known, known_or_kept, known_or_dropped, Piece, Pieces, no_pieces, more_pieces, fold_fields, walk, read_with, with_another}
 use Rattle.otlp_read.proofs.Laws.{bind_ok, makes}
-use Rattle.otlp_read.proofs.Opened.{opened_at}
 
 -- ---- lists
 
@@ -75,16 +74,13 @@ ok_is x y e = cc
 pub err_not_ok : {A : Type 0} {Y : Type 0} (f : ReadFault) (y : A) → ◌≡◌ {A = Result A ReadFault} (Err f) (Ok y) → Y
 err_not_ok f y e = absurd cc
 
-pub test : (b : Bool) → (b ≡ true) ⊎ (b ≡ false)
-test true = inl refl
-test false = inr refl
+pub by_test : {G : Type 0} (b : Bool) → (b ≡ true → G) → (b ≡ false → G) → G
+by_test true passed failed = passed refl
+by_test false passed failed = failed refl
 
 string_valid : (bs text : List ℕ) → utf8 bs ≡ Ok text → IsUtf8 text
 unfolding utf8
-string_valid bs text e = elim (test (is_utf8 bs)) [
-  | inl is ↦ subst IsUtf8 (ok_is bs text (rw is at e)) (IsUtf8-from_is_utf8 bs is)
-  | inr not_so ↦ err_not_ok NotUtf8 text (rw not_so at e)
-]
+string_valid bs text e = by_test (is_utf8 bs) (λ is. subst IsUtf8 (ok_is bs text (rw is at e)) (IsUtf8-from_is_utf8 bs is)) (λ is. err_not_ok NotUtf8 text (rw is at e))
 
 -- ---- what the wire gives of a field's value; bytes are below 256 where F says so
 

@@ -7,7 +7,7 @@ use Rattle.std.proofs.lemmas.Nat.{from_le_bytes-to_le_bytes_4, from_le_bytes-to_
 use Rattle.std.specs.Int.{w32, w64, cast_unsigned, to_le_bytes}
 use Rattle.std.specs.List.{AllByRecursion}
 use Rattle.std.specs.Str.{IsUtf8}
-use Rattle.pb_wire.specs.Grammar.{Entry, Varint, Eight, Bytes, Four, IsField}
+use Rattle.pb_wire.specs.Grammar.{Varint, Eight, Bytes, Four}
 use Rattle.otlp_trace.specs.Text.{number_field, bytes_field, eight_field, four_field, unless_zero, some_bytes, some_number, some_signed, some_eight, some_four, embedded, repeated}
 use Rattle.otlp_trace.proofs.Spelled.{number_at, bytes_at, eight_at, four_at, bytes_within, unless_full}
 use Rattle.otlp_read.specs.declared.fault.ReadFault.{ReadFault}

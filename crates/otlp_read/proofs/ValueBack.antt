@@ -1,11 +1,11 @@
 -- Attribute values that were written read back.
-use Rattle.std.proofs.Common.{◌≡◌, ℕ, zero, suc, ◌-◌, ◌<◌, ◌^◌, true, false, FitsSigned, List, [], ◌++◌, Result, Ok, refl, sym, ap, subst, ◌∙◌, arith}
+use Rattle.std.proofs.Common.{◌≡◌, ℕ, zero, suc, ◌-◌, true, false, List, [], Ok, refl, sym, ap, subst, ◌∙◌, arith}
 use Rattle.std.proofs.lemmas.Int.{to_z-of_z}
 use Rattle.std.specs.Int.{w64, cast_unsigned}
 use Rattle.std.specs.Str.{IsUtf8}
 use Rattle.otlp_trace.specs.Data.{AnyValueData, any_value, KindData, unset, string, boolean, int, double, array, kvlist, bytes, ArrayValueData, array_value, AnyValues, no_values, a_value, KeyValueListData, key_value_list, KeyValueData, bare_key, key_value, KeyValues, no_key_values, a_key_value}
 use Rattle.otlp_trace.specs.Text.{some_bytes, any_text, kind_text, array_text, values_text, list_text, key_value_text, key_values_text}
-use Rattle.otlp_read.specs.AnyValue.{no_value, no_array, no_list, no_key_value, any_known, keep_any, any_step, push_value, array_known, keep_array, array_step, push_key_value, list_known, keep_list, list_step, key_value_known, keep_key_value, key_value_step_of, read_any, read_array, read_list, read_key_value, key_value_step}
+use Rattle.otlp_read.specs.AnyValue.{no_value, no_array, no_list, no_key_value, keep_any, any_step, push_value, keep_array, array_step, push_key_value, keep_list, list_step, keep_key_value, read_any, read_array, read_list, read_key_value, key_value_step}
 use Rattle.otlp_read.specs.Nested.{known_of_any, known_of_array, known_of_list, known_of_key_value, NestedAny, NestedKind, NestedArray, NestedValues, NestedList, NestedKeyValue, NestedKeyValues}
 use Rattle.otlp_read.specs.Typed.{TypedAny, TypedKind, TypedArray, TypedValues, TypedList, TypedKeyValue, TypedKeyValues}
 use Rattle.otlp_read.specs.Walk.{walk, read_with}

@@ -1,15 +1,15 @@
 -- Attribute values that are read are nested no deeper than there is room, and typed.
-use Rattle.std.proofs.Common.{◌≡◌, ℕ, zero, suc, ◌-◌, ◌==◌, inl, inr, List, [], ◌∷◌, ◌++◌, Option, Some, None, Result, Ok, Err, refl, sym, ◌∙◌}
+use Rattle.std.proofs.Common.{◌≡◌, ℕ, zero, suc, ◌-◌, ◌==◌, List, None, Ok, refl, sym, ◌∙◌}
 use Rattle.std.proofs.lemmas.Str.{IsUtf8-nil}
-use Rattle.pb_wire.specs.Grammar.{Datum, Varint, Eight, Bytes, Four, Group, Entry, IsField}
-use Rattle.otlp_trace.specs.Data.{AnyValueData, any_value, KindData, unset, string, boolean, int, double, array, kvlist, bytes, ArrayValueData, array_value, AnyValues, no_values, a_value, KeyValueListData, key_value_list, KeyValueData, bare_key, key_value, KeyValues, no_key_values, a_key_value}
+use Rattle.pb_wire.specs.Grammar.{Varint, Eight, Bytes, Entry, IsField}
+use Rattle.otlp_trace.specs.Data.{AnyValueData, any_value, KindData, string, boolean, int, double, array, kvlist, bytes, ArrayValueData, array_value, AnyValues, no_values, a_value, KeyValueListData, key_value_list, KeyValueData, bare_key, key_value, KeyValues, no_key_values, a_key_value}
 use Rattle.otlp_read.specs.declared.fault.ReadFault.TheVariants.{TooDeep}
-use Rattle.otlp_read.specs.AnyValue.{no_value, no_array, no_list, no_key_value, array_in, list_in, any_known, keep_any, any_step, push_value, array_known, keep_array, array_step, push_key_value, list_known, keep_list, list_step, key_value_known, keep_key_value, key_value_step, read_any, read_array, read_list, read_key_value}
+use Rattle.otlp_read.specs.AnyValue.{no_value, no_array, no_list, no_key_value, array_in, list_in, keep_any, any_step, push_value, keep_array, array_step, push_key_value, keep_list, list_step, keep_key_value, key_value_step, read_any, read_array, read_list, read_key_value}
 use Rattle.otlp_read.specs.Numbers.{bool, int64}
 use Rattle.otlp_read.specs.Nested.{known_of_any, known_of_array, known_of_list, known_of_key_value, NestedAny, NestedKind, NestedArray, NestedValues, NestedList, NestedKeyValue, NestedKeyValues}
 use Rattle.otlp_read.specs.Typed.{TypedAny, TypedKind, TypedArray, TypedValues, TypedList, TypedKeyValue, TypedKeyValues}
-use Rattle.otlp_read.specs.Walk.{Known, read_with}
-use Rattle.otlp_read.proofs.Sound.{AreBytes, FromWire, not_known, made, read_fine, string_fine, Keeps, kept_keeps, nothing_kept, kept_more, walk_kept, Good, Before, Reads, FieldsFine, fresh, from_nested, int64_fits, test, err_not_ok}
+use Rattle.otlp_read.specs.Walk.{read_with}
+use Rattle.otlp_read.proofs.Sound.{AreBytes, not_known, made, read_fine, string_fine, kept_keeps, nothing_kept, kept_more, walk_kept, Good, Before, Reads, FieldsFine, fresh, from_nested, int64_fits, by_test, err_not_ok}
 use Rattle.otlp_read.proofs.ValueBack.{attribute_read}
 
 -- ---- the messages of no fields
@@ -75,73 +75,41 @@ record ReadsAll (F : Type 0) (room : ℕ) : Type 0 where
 
 any_fine : (F : Type 0) (room : ℕ) → ReadsAll F room → FieldsFine F NestedAny TypedAny known_of_any room
 any_fine F room below (any_value kind unknown) n (Varint x) wire good =
-    elim (test (n == 2)) [
-      | inl e ↦ rw e (made (any_value (boolean (bool x)) unknown) ((tt, good.0.1), λ f. tt))
-      | inr e2 ↦
-          elim (test (n == 3)) [
-            | inl e ↦ rw (e2, e) (made (any_value (int (int64 x)) unknown) ((tt, good.0.1), λ f. int64_fits x wire))
-            | inr e3 ↦ rw (e2, e3) (not_known (λ y. refl))
-          ]
-    ]
+    by_test (n == 2) (λ e. rw e (made (any_value (boolean (bool x)) unknown) ((tt, good.0.1), λ f. tt))) λ e2.
+    by_test (n == 3) (λ e. rw (e2, e) (made (any_value (int (int64 x)) unknown) ((tt, good.0.1), λ f. int64_fits x wire))) λ e3.
+    rw (e2, e3) (not_known (λ y. refl))
 any_fine F room below (any_value kind unknown) n (Eight bs) wire good =
-    elim (test (n == 4)) [
-      | inl e ↦ rw e (made (any_value (double bs) unknown) ((tt, good.0.1), λ f. wire.0))
-      | inr e4 ↦ rw e4 (not_known (λ y. refl))
-    ]
+    by_test (n == 4) (λ e. rw e (made (any_value (double bs) unknown) ((tt, good.0.1), λ f. wire.0))) λ e4.
+    rw e4 (not_known (λ y. refl))
 any_fine F room below (any_value kind unknown) n (Bytes bs) wire good =
-    elim (test (n == 1)) [
-      | inl e ↦ rw e (string_fine bs (λ text. any_value (string text) unknown) (λ text valid. ((tt, good.0.1), λ f. valid)))
-      | inr e1 ↦
-          elim (test (n == 5)) [
-            | inl e ↦ rw (e1, e) (read_fine (read_array room (array_in kind) bs) (λ a. any_value (array a) unknown) (λ a is. let g = below.arrays (array_in kind) a bs wire (array_before room kind good.0.0) (λ f. array_typed kind (good.1 f)) is in ((g.0, good.0.1), g.1)))
-            | inr e5 ↦
-                elim (test (n == 6)) [
-                  | inl e ↦ rw (e1, e5, e) (read_fine (read_list room (list_in kind) bs) (λ l. any_value (kvlist l) unknown) (λ l is. let g = below.lists (list_in kind) l bs wire (list_before room kind good.0.0) (λ f. list_typed kind (good.1 f)) is in ((g.0, good.0.1), g.1)))
-                  | inr e6 ↦
-                      elim (test (n == 7)) [
-                        | inl e ↦ rw (e1, e5, e6, e) (made (any_value (bytes bs) unknown) ((tt, good.0.1), λ f. tt))
-                        | inr e7 ↦ rw (e1, e5, e6, e7) (not_known (λ y. refl))
-                      ]
-                ]
-          ]
-    ]
+    by_test (n == 1) (λ e. rw e (string_fine bs (λ text. any_value (string text) unknown) (λ text valid. ((tt, good.0.1), λ f. valid)))) λ e1.
+    by_test (n == 5) (λ e. rw (e1, e) (read_fine (read_array room (array_in kind) bs) (λ a. any_value (array a) unknown) (λ a is. let g = below.arrays (array_in kind) a bs wire (array_before room kind good.0.0) (λ f. array_typed kind (good.1 f)) is in ((g.0, good.0.1), g.1)))) λ e5.
+    by_test (n == 6) (λ e. rw (e1, e5, e) (read_fine (read_list room (list_in kind) bs) (λ l. any_value (kvlist l) unknown) (λ l is. let g = below.lists (list_in kind) l bs wire (list_before room kind good.0.0) (λ f. list_typed kind (good.1 f)) is in ((g.0, good.0.1), g.1)))) λ e6.
+    by_test (n == 7) (λ e. rw (e1, e5, e6, e) (made (any_value (bytes bs) unknown) ((tt, good.0.1), λ f. tt))) λ e7.
+    rw (e1, e5, e6, e7) (not_known (λ y. refl))
 any_fine F room below v n _ wire good = not_known (λ y. refl)
 
 array_fine : (F : Type 0) (room : ℕ) → ReadsAll F room → FieldsFine F NestedArray TypedArray known_of_array room
 array_fine F room below (array_value vs unknown) n (Bytes bs) wire good =
-    elim (test (n == 1)) [
-      | inl e ↦ rw e (read_fine (read_any room no_value bs) (λ v. array_value (push_value vs v) unknown) (λ v is. let g = below.any no_value v bs wire (fresh NestedAny no_value empty_any room) (λ f. tt) is in ((nested_push room vs v good.0.0 g.0, good.0.1), λ f. typed_push vs v (good.1 f) (g.1 f))))
-      | inr e1 ↦ rw e1 (not_known (λ y. refl))
-    ]
+    by_test (n == 1) (λ e. rw e (read_fine (read_any room no_value bs) (λ v. array_value (push_value vs v) unknown) (λ v is. let g = below.any no_value v bs wire (fresh NestedAny no_value empty_any room) (λ f. tt) is in ((nested_push room vs v good.0.0 g.0, good.0.1), λ f. typed_push vs v (good.1 f) (g.1 f))))) λ e1.
+    rw e1 (not_known (λ y. refl))
 array_fine F room below a n _ wire good = not_known (λ y. refl)
 
 list_fine : (F : Type 0) (room : ℕ) → ReadsAll F room → FieldsFine F NestedList TypedList known_of_list room
 list_fine F room below (key_value_list ps unknown) n (Bytes bs) wire good =
-    elim (test (n == 1)) [
-      | inl e ↦ rw e (read_fine (read_key_value room no_key_value bs) (λ p. key_value_list (push_key_value ps p) unknown) (λ p is. let g = below.key_values no_key_value p bs wire (fresh NestedKeyValue no_key_value empty_key_value room) (λ f. IsUtf8-nil) is in ((nested_key_push room ps p good.0.0 g.0, good.0.1), λ f. typed_key_push ps p (good.1 f) (g.1 f))))
-      | inr e1 ↦ rw e1 (not_known (λ y. refl))
-    ]
+    by_test (n == 1) (λ e. rw e (read_fine (read_key_value room no_key_value bs) (λ p. key_value_list (push_key_value ps p) unknown) (λ p is. let g = below.key_values no_key_value p bs wire (fresh NestedKeyValue no_key_value empty_key_value room) (λ f. IsUtf8-nil) is in ((nested_key_push room ps p good.0.0 g.0, good.0.1), λ f. typed_key_push ps p (good.1 f) (g.1 f))))) λ e1.
+    rw e1 (not_known (λ y. refl))
 list_fine F room below l n _ wire good = not_known (λ y. refl)
 
 key_value_fine : (F : Type 0) (room : ℕ) → ReadsAll F room → FieldsFine F NestedKeyValue TypedKeyValue known_of_key_value room
 key_value_fine F room below (bare_key key unknown) n (Bytes bs) wire good =
-    elim (test (n == 1)) [
-      | inl e ↦ rw e (string_fine bs (λ k. bare_key k unknown) (λ k valid. (good.0, λ f. valid)))
-      | inr e1 ↦
-          elim (test (n == 2)) [
-            | inl e ↦ rw (e1, e) (read_fine (read_any room no_value bs) (λ v. key_value key v unknown) (λ v is. let g = below.any no_value v bs wire (fresh NestedAny no_value empty_any room) (λ f. tt) is in ((g.0, good.0), λ f. (good.1 f, g.1 f))))
-            | inr e2 ↦ rw (e1, e2) (not_known (λ y. refl))
-          ]
-    ]
+    by_test (n == 1) (λ e. rw e (string_fine bs (λ k. bare_key k unknown) (λ k valid. (good.0, λ f. valid)))) λ e1.
+    by_test (n == 2) (λ e. rw (e1, e) (read_fine (read_any room no_value bs) (λ v. key_value key v unknown) (λ v is. let g = below.any no_value v bs wire (fresh NestedAny no_value empty_any room) (λ f. tt) is in ((g.0, good.0), λ f. (good.1 f, g.1 f))))) λ e2.
+    rw (e1, e2) (not_known (λ y. refl))
 key_value_fine F room below (key_value key old unknown) n (Bytes bs) wire good =
-    elim (test (n == 1)) [
-      | inl e ↦ rw e (string_fine bs (λ k. key_value k old unknown) (λ k valid. (good.0, λ f. (valid, (good.1 f).1))))
-      | inr e1 ↦
-          elim (test (n == 2)) [
-            | inl e ↦ rw (e1, e) (read_fine (read_any room old bs) (λ v. key_value key v unknown) (λ v is. let g = below.any old v bs wire (from_nested NestedAny room old good.0.0) (λ f. (good.1 f).1) is in ((g.0, good.0.1), λ f. ((good.1 f).0, g.1 f))))
-            | inr e2 ↦ rw (e1, e2) (not_known (λ y. refl))
-          ]
-    ]
+    by_test (n == 1) (λ e. rw e (string_fine bs (λ k. key_value k old unknown) (λ k valid. (good.0, λ f. (valid, (good.1 f).1))))) λ e1.
+    by_test (n == 2) (λ e. rw (e1, e) (read_fine (read_any room old bs) (λ v. key_value key v unknown) (λ v is. let g = below.any old v bs wire (from_nested NestedAny room old good.0.0) (λ f. (good.1 f).1) is in ((g.0, good.0.1), λ f. ((good.1 f).0, g.1 f))))) λ e2.
+    rw (e1, e2) (not_known (λ y. refl))
 key_value_fine F room below p n _ wire good = not_known (λ y. refl)
 
 -- ---- what isn't known

@@ -1,8 +1,8 @@
 -- Values that a reader takes: nested no deeper than there is room for, and with nothing kept but fields that the message
 -- that keeps them doesn't know. A message has room for so many levels, its own among them: for 101 - d at depth d.
-use Rattle.std.specs.Prelude.{◌≡◌, ◌-◌, ℕ, zero, suc, List, Option, None, IfSome}
+use Rattle.std.specs.Prelude.{◌≡◌, ◌-◌, ℕ, zero, suc, List, None, IfSome}
 use Rattle.std.specs.List.{AllByRecursion}
-use Rattle.otlp_trace.specs.Data.{AnyValueData, any_value, KindData, unset, string, boolean, int, double, array, kvlist, bytes, ArrayValueData, array_value, AnyValues, no_values, a_value, KeyValueListData, key_value_list, KeyValueData, bare_key, key_value, KeyValues, no_key_values, a_key_value, ResourceData, ScopeData, StatusData, EventData, LinkData, SpanData, ScopeSpansData, ResourceSpansData, RequestData}
+use Rattle.otlp_trace.specs.Data.{AnyValueData, any_value, KindData, array, kvlist, ArrayValueData, array_value, AnyValues, no_values, a_value, KeyValueListData, key_value_list, KeyValueData, bare_key, key_value, KeyValues, no_key_values, a_key_value, ResourceData, ScopeData, StatusData, EventData, LinkData, SpanData, ScopeSpansData, ResourceSpansData, RequestData}
 use Rattle.otlp_read.specs.AnyValue.{any_known, array_known, list_known, key_value_known, read_any, read_array, read_list, read_key_value}
 use Rattle.otlp_read.specs.Value.{resource_known, scope_known, status_known, event_known, link_known, span_known}
 use Rattle.otlp_read.specs.Walk.{Known, Piece, Pieces}

@@ -1,7 +1,7 @@
 //! What the types of the code give of a message: strings are UTF-8, and numbers fit their widths.
 //!
-//! A message behind a reference is known to be typed once its parts have been gone over, so the functions below do
-//! nothing else.
+//! A message behind a reference is known to be typed once its parts have been gone over, and a number in it to fit once it
+//! has been read. So the functions below do nothing else.
 
 ghost use Rattle.std.specs.Prelude.{◌≡◌, length, map, option_map, IfSome};
 ghost use Rattle.std.specs.List.{AllByRecursion};
@@ -28,6 +28,7 @@ trait Typed {
         ensures { typed (view self.now) };
 }
 
+/// Goes over each of the messages.
 fn each_known<T: Typed>(values: &[T])
     ensures { AllByRecursion T.typed (map T.view values.now) }
 {
@@ -36,6 +37,7 @@ fn each_known<T: Typed>(values: &[T])
     }
 }
 
+/// Goes over the message, where there is one.
 fn some_known<T: Typed>(value: &Option<T>)
     ensures { IfSome (option_map T.view value.now) T.typed }
 {
@@ -44,6 +46,7 @@ fn some_known<T: Typed>(value: &Option<T>)
     }
 }
 
+/// A double has its eight bytes.
 fn double_known(double: DoubleBits)
     ensures { length double.0 ≡ 8 }
 {}

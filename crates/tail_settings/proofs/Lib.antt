@@ -1,4 +1,5 @@
 pub mod Arrays
+pub mod Policies
 pub mod Rules
 pub mod Sound
 pub mod Tenants

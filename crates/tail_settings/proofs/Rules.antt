@@ -1,12 +1,21 @@
 -- Only a text that is no TOML document has the fault that says so.
-use Rattle.std.proofs.Common.{◌≡◌, ◌↔◌, ℕ, ℤ, pos, negsuc, Bool, true, false, codes, List, [], ◌∷◌, ◌++◌, length, Option, Some, None, Result, Ok, Err, refl, nat_le, ◌&&◌}
+use Rattle.std.proofs.Common.{◌≡◌, ◌↔◌, ℕ, ◌^◌, ℤ, pos, negsuc, Bool, true, false, codes, List, [], ◌∷◌, ◌++◌, length, Option, Some, None, Result, Ok, Err, refl, nat_le, ◌&&◌}
 use Rattle.std.specs.Prelude.{if◌then◌else◌}
-use Rattle.toml.specs.Data.{Data, Members, get_member, as_integer, as_str, as_array, as_table}
+use Rattle.std.specs.Str.{bytes_eq}
+use Rattle.toml.specs.Data.{Data, Members, no_members, get_member, as_integer, as_str, as_array, as_table}
 use Rattle.toml.specs.Parse.{parse_document}
+use Rattle.tail_settings.specs.Batch.{is_max_size, batch_of}
 use Rattle.tail_settings.specs.Fault.{FaultData, not_toml, missing_key, wrong_kind, out_of_range, double_tenant, too_many, ◌>>=◌}
-use Rattle.tail_settings.specs.Keys.{required, of_kind, in_range, number_or, number_at, text_at, allowed, table_or, table_at, are_tables, tables_in, tables_at, not_empty, at_most, each}
-use Rattle.tail_settings.specs.Section.{policy_of_type, policy_of, policies_of, section_of}
-use Rattle.tail_settings.specs.Settings.{TenantData, is_name, name_of, tenant_of, tenants_of, shards_of, settings_of_table, settings_from, settings_of}
+use Rattle.tail_settings.specs.Global.{global_of}
+use Rattle.tail_settings.specs.Keys.{required, of_kind, allowed, in_range, number_or, number_at, integer_at, required_number_at, text_or, text_or_at, text_at, table_or, table_at, are_all, all_of, array_at, tables_at, texts_at, not_empty, some_tables_at, some_texts_at, at_most, each}
+use Rattle.tail_settings.specs.Policy as status
+use Rattle.tail_settings.specs.Policy.{unset, error, always_sample, latency, status_code, string_attribute, numeric_attribute, PolicyData, leaf, and, latency_of, status_of, status_code_of, values_of, string_attribute_of, numeric_attribute_of, leaf_of_type, leaf_of, and_of, policy_of, leaves_of, few_leaves, policies_of}
+use Rattle.tail_settings.specs.RetryOnFailure.{retry_of}
+use Rattle.tail_settings.specs.Section.{section_of}
+use Rattle.tail_settings.specs.SendingQueue.{sending_queue_of}
+use Rattle.tail_settings.specs.Settings.{TenantData, name_of, tenant_of, tenants_of, spans_of, few_spans, settings_of_table, settings_from, settings_of}
+use Rattle.tail_settings.specs.TailSampling.{tail_sampling_of}
+use Rattle.tail_settings.specs.Texts.{is_name, is_address, is_header, is_attribute_key, address_at, header_at, attribute_key_at}
 
 abbrev pub IsToml : {A : Type 0} → Result A FaultData → Type 0
 IsToml r = r ≡ Err not_toml → ⊥
@@ -45,6 +54,25 @@ number_at-toml : (key : List ℕ) (low high default : ℕ) (table : Members) →
 unfolding number_at
 number_at-toml key low high default table = number_or-toml key low high default (get_member key table)
 
+number : {B : Type 0} (key : List ℕ) (low high default : ℕ) (table : Members) {k : ℕ → Result B FaultData} → ((n : ℕ) → IsToml (k n)) → IsToml (number_at key low high default table >>= k)
+number key low high default table {k} h = bind (number_at key low high default table) k (number_at-toml key low high default table) h
+
+integer_at-toml : (key : List ℕ) (table : Members) → IsToml (integer_at key table)
+unfolding integer_at
+integer_at-toml key table = bind (required key (get_member key table)) (λ d. of_kind key (as_integer d)) (required-toml key (get_member key table)) (λ d. of_kind-toml key (as_integer d))
+
+required_number_at-toml : (key : List ℕ) (low high : ℕ) (table : Members) → IsToml (required_number_at key low high table)
+unfolding required_number_at
+required_number_at-toml key low high table = bind (integer_at key table) (in_range key low high) (integer_at-toml key table) (in_range-toml key low high)
+
+text_or-toml : (key default : List ℕ) (o : Option Data) → IsToml (text_or key default o)
+text_or-toml key default None = ok default
+text_or-toml key default (Some d) = of_kind-toml key (as_str d)
+
+text_or_at-toml : (key default : List ℕ) (table : Members) → IsToml (text_or_at key default table)
+unfolding text_or_at
+text_or_at-toml key default table = text_or-toml key default (get_member key table)
+
 text_at-toml : (key : List ℕ) (table : Members) → IsToml (text_at key table)
 unfolding text_at
 text_at-toml key table = bind (required key (get_member key table)) (λ d. of_kind key (as_str d)) (required-toml key (get_member key table)) (λ d. of_kind-toml key (as_str d))
@@ -60,38 +88,163 @@ table_at-toml : (key : List ℕ) (table : Members) → IsToml (table_at key tabl
 unfolding table_at
 table_at-toml key table = table_or-toml key (get_member key table)
 
-tables_at-toml : (key : List ℕ) (table : Members) → IsToml (tables_at key table)
-unfolding tables_at
-tables_at-toml key table =
+array_at-toml : {A : Type 0} (kind : Data → Option A) (other : A) (key : List ℕ) (table : Members) → IsToml (array_at kind other key table)
+array_at-toml kind other key table =
     bind (required key (get_member key table)) _ (required-toml key (get_member key table)) (λ d.
     bind (of_kind key (as_array d)) _ (of_kind-toml key (as_array d)) (λ items.
-    choice (are_tables items) (Ok (tables_in items)) (Err (wrong_kind key)) (ok (tables_in items)) (λ h. cc)))
+    choice (are_all kind items) (Ok (all_of kind other items)) (Err (wrong_kind key)) (ok (all_of kind other items)) (λ h. cc)))
 
-each-toml : {A : Type 0} (read : List A → Members → Result A FaultData) → ((before : List A) (table : Members) → IsToml (read before table)) → (before : List A) (tables : List Members) → IsToml (each read before tables)
-each-toml read h before [] = ok before
-each-toml read h before (t ∷ ts) = bind (read before t) (λ x. each read (before ++ x ∷ []) ts) (h before t) (λ x. each-toml read h (before ++ x ∷ []) ts)
+tables_at-toml : (key : List ℕ) (table : Members) → IsToml (tables_at key table)
+unfolding tables_at
+tables_at-toml key table = array_at-toml as_table no_members key table
 
-policy_of-toml : (table : Members) → IsToml (policy_of table)
-unfolding policy_of
-policy_of-toml table = bind (text_at (codes "type") table) policy_of_type (text_at-toml (codes "type") table) (λ name. choice _ _ _ (ok _) (out (codes "type")))
+texts_at-toml : (key : List ℕ) (table : Members) → IsToml (texts_at key table)
+unfolding texts_at
+texts_at-toml key table = array_at-toml as_str [] key table
 
 not_empty-toml : {A : Type 0} (fault : FaultData) (xs : List A) → (fault ≡ not_toml → ⊥) → IsToml (not_empty fault xs)
 not_empty-toml fault [] h = λ e. h cc
 not_empty-toml fault (x ∷ xs) h = ok (x ∷ xs)
 
+some_tables_at-toml : (key : List ℕ) (table : Members) → IsToml (some_tables_at key table)
+unfolding some_tables_at
+some_tables_at-toml key table = bind (tables_at key table) _ (tables_at-toml key table) (λ found. not_empty-toml (out_of_range key) found (λ h. cc))
+
+some_texts_at-toml : (key : List ℕ) (table : Members) → IsToml (some_texts_at key table)
+unfolding some_texts_at
+some_texts_at-toml key table = bind (texts_at key table) _ (texts_at-toml key table) (λ found. not_empty-toml (out_of_range key) found (λ h. cc))
+
+each-toml : {A B : Type 0} (read : List B → A → Result B FaultData) → ((before : List B) (x : A) → IsToml (read before x)) → (before : List B) (xs : List A) → IsToml (each read before xs)
+each-toml read h before [] = ok before
+each-toml read h before (x ∷ xs) = bind (read before x) (λ y. each read (before ++ y ∷ []) xs) (h before x) (λ y. each-toml read h (before ++ y ∷ []) xs)
+
+address_at-toml : (key default : List ℕ) (table : Members) → IsToml (address_at key default table)
+unfolding address_at
+address_at-toml key default table = bind (text_or_at key default table) _ (text_or_at-toml key default table) (allowed-toml key is_address)
+
+header_at-toml : (key default : List ℕ) (table : Members) → IsToml (header_at key default table)
+unfolding header_at
+header_at-toml key default table = bind (text_or_at key default table) _ (text_or_at-toml key default table) (allowed-toml key is_header)
+
+attribute_key_at-toml : (key : List ℕ) (table : Members) → IsToml (attribute_key_at key table)
+unfolding attribute_key_at
+attribute_key_at-toml key table = bind (text_at key table) _ (text_at-toml key table) (allowed-toml key is_attribute_key)
+
+latency_of-toml : (table : Members) → IsToml (latency_of table)
+latency_of-toml table = bind (required_number_at (codes "threshold_ms") 0 (2 ^ 40) table) _ (required_number_at-toml (codes "threshold_ms") 0 (2 ^ 40) table) (λ threshold. ok (latency threshold))
+
+status_of-toml : (name : List ℕ) → IsToml (status_of name)
+status_of-toml name =
+    choice (bytes_eq name (codes "UNSET")) _ _ (ok unset)
+    (choice (bytes_eq name (codes "OK")) _ _ (ok status.ok)
+    (choice (bytes_eq name (codes "ERROR")) _ _ (ok error)
+    (out (codes "status_codes"))))
+
+status_code_of-toml : (table : Members) → IsToml (status_code_of table)
+unfolding status_code_of
+status_code_of-toml table =
+    bind (some_texts_at (codes "status_codes") table) _ (some_texts_at-toml (codes "status_codes") table) (λ names.
+    bind (each (λ _. status_of) [] names) _ (each-toml (λ _. status_of) (λ _. status_of-toml) [] names) (λ statuses. ok (status_code statuses)))
+
+values_of-toml : (table : Members) → IsToml (values_of table)
+unfolding values_of
+values_of-toml table =
+    bind (some_texts_at (codes "values") table) _ (some_texts_at-toml (codes "values") table) (λ values.
+    choice (nat_le (length values) 64) (Ok values) (Err (out_of_range (codes "values"))) (ok values) (out (codes "values")))
+
+string_attribute_of-toml : (table : Members) → IsToml (string_attribute_of table)
+unfolding string_attribute_of
+string_attribute_of-toml table =
+    bind (attribute_key_at (codes "key") table) _ (attribute_key_at-toml (codes "key") table) (λ key.
+    bind (values_of table) _ (values_of-toml table) (λ values. ok (string_attribute key values)))
+
+numeric_attribute_of-toml : (table : Members) → IsToml (numeric_attribute_of table)
+unfolding numeric_attribute_of
+numeric_attribute_of-toml table =
+    bind (attribute_key_at (codes "key") table) _ (attribute_key_at-toml (codes "key") table) (λ key.
+    bind (integer_at (codes "min_value") table) _ (integer_at-toml (codes "min_value") table) (λ low.
+    bind (integer_at (codes "max_value") table) _ (integer_at-toml (codes "max_value") table) (λ high. ok (numeric_attribute key low high))))
+
+leaf_of_type-toml : (type : List ℕ) (table : Members) → IsToml (leaf_of_type type table)
+unfolding leaf_of_type
+leaf_of_type-toml type table =
+    choice (bytes_eq type (codes "always_sample")) _ _ (ok always_sample)
+    (choice (bytes_eq type (codes "latency")) _ _ (latency_of-toml table)
+    (choice (bytes_eq type (codes "status_code")) _ _ (status_code_of-toml table)
+    (choice (bytes_eq type (codes "string_attribute")) _ _ (string_attribute_of-toml table)
+    (choice (bytes_eq type (codes "numeric_attribute")) _ _ (numeric_attribute_of-toml table)
+    (out (codes "type"))))))
+
+leaf_of-toml : (table : Members) → IsToml (leaf_of table)
+unfolding leaf_of
+leaf_of-toml table = bind (text_at (codes "type") table) _ (text_at-toml (codes "type") table) (λ type. leaf_of_type-toml type table)
+
+and_of-toml : (table : Members) → IsToml (and_of table)
+unfolding and_of
+and_of-toml table =
+    bind (some_tables_at (codes "and_sub_policy") table) _ (some_tables_at-toml (codes "and_sub_policy") table) (λ tables.
+    bind (each (λ _. leaf_of) [] tables) _ (each-toml (λ _. leaf_of) (λ _. leaf_of-toml) [] tables) (λ chosen. ok (and chosen)))
+
+policy_of-toml : (table : Members) → IsToml (policy_of table)
+unfolding policy_of
+policy_of-toml table =
+    bind (text_at (codes "type") table) _ (text_at-toml (codes "type") table) (λ type.
+    choice (bytes_eq type (codes "and")) _ _ (and_of-toml table)
+    (bind (leaf_of_type type table) _ (leaf_of_type-toml type table) (λ l. ok (leaf l))))
+
+few_leaves-toml : (ps : List PolicyData) → IsToml (few_leaves ps)
+few_leaves-toml ps = choice (nat_le (leaves_of ps) 64) (Ok ps) (Err too_many) (ok ps) (λ h. cc)
+
 policies_of-toml : (sampling : Members) → IsToml (policies_of sampling)
 unfolding policies_of
 policies_of-toml sampling =
-    bind (tables_at (codes "policy") sampling) _ (tables_at-toml (codes "policy") sampling) (λ found.
-    bind (not_empty (out_of_range (codes "policy")) found) _ (not_empty-toml (out_of_range (codes "policy")) found (λ h. cc)) (λ tables.
-    each-toml (λ _. policy_of) (λ _ table. policy_of-toml table) [] tables))
+    bind (some_tables_at (codes "policy") sampling) _ (some_tables_at-toml (codes "policy") sampling) (λ tables.
+    bind (each (λ _. policy_of) [] tables) _ (each-toml (λ _. policy_of) (λ _. policy_of-toml) [] tables) few_leaves-toml)
+
+tail_sampling_of-toml : (tenant : Members) → IsToml (tail_sampling_of tenant)
+unfolding tail_sampling_of
+tail_sampling_of-toml tenant =
+    bind (table_at (codes "tail_sampling") tenant) _ (table_at-toml (codes "tail_sampling") tenant) (λ sampling.
+    number (codes "decision_wait_ms") 1 86400000 30000 sampling (λ decision_wait.
+    number (codes "num_traces") 1 1000000 50000 sampling (λ num_traces.
+    bind (policies_of sampling) _ (policies_of-toml sampling) (λ policies. ok _))))
+
+batch_of-toml : (tenant : Members) → IsToml (batch_of tenant)
+unfolding batch_of
+batch_of-toml tenant =
+    bind (table_at (codes "batch") tenant) _ (table_at-toml (codes "batch") tenant) (λ batch.
+    number (codes "send_batch_size") 1 1000000 8192 batch (λ size.
+    number (codes "timeout_ms") 0 86400000 200 batch (λ timeout.
+    number (codes "send_batch_max_size") 0 1000000 0 batch (λ found.
+    bind (allowed (codes "send_batch_max_size") (is_max_size size) found) _ (allowed-toml (codes "send_batch_max_size") (is_max_size size) found) (λ max_size. ok _)))))
+
+sending_queue_of-toml : (tenant : Members) → IsToml (sending_queue_of tenant)
+unfolding sending_queue_of
+sending_queue_of-toml tenant =
+    bind (table_at (codes "sending_queue") tenant) _ (table_at-toml (codes "sending_queue") tenant) (λ queue.
+    number (codes "queue_size") 1 100000 1000 queue (λ queue_size.
+    number (codes "num_consumers") 1 1000 10 queue (λ num_consumers. ok _)))
+
+retry_of-toml : (tenant : Members) → IsToml (retry_of tenant)
+unfolding retry_of
+retry_of-toml tenant =
+    bind (table_at (codes "retry_on_failure") tenant) _ (table_at-toml (codes "retry_on_failure") tenant) (λ retry.
+    number (codes "initial_interval_ms") 1 86400000 5000 retry (λ initial_interval.
+    number (codes "max_interval_ms") 1 86400000 30000 retry (λ max_interval.
+    number (codes "max_elapsed_time_ms") 0 (2 ^ 40) 300000 retry (λ max_elapsed_time.
+    number (codes "multiplier") 1000 100000 1500 retry (λ multiplier.
+    number (codes "randomization_factor") 0 1000 500 retry (λ randomization_factor. ok _))))))
 
 section_of-toml : (tenant : Members) → IsToml (section_of tenant)
 unfolding section_of
 section_of-toml tenant =
-    bind (table_at (codes "tail_sampling") tenant) _ (table_at-toml (codes "tail_sampling") tenant) (λ sampling.
-    bind (number_at (codes "decision_wait_ms") 1 86400000 30000 sampling) _ (number_at-toml (codes "decision_wait_ms") 1 86400000 30000 sampling) (λ wait.
-    bind (policies_of sampling) _ (policies_of-toml sampling) (λ chosen. ok _)))
+    bind (address_at (codes "endpoint") (codes "127.0.0.1:4319") tenant) _ (address_at-toml (codes "endpoint") (codes "127.0.0.1:4319") tenant) (λ endpoint.
+    number (codes "max_spans") 1 (2 ^ 31) 100000 tenant (λ max_spans.
+    number (codes "seed") 0 (2 ^ 62) 0 tenant (λ seed.
+    bind (tail_sampling_of tenant) _ (tail_sampling_of-toml tenant) (λ tail_sampling.
+    bind (batch_of tenant) _ (batch_of-toml tenant) (λ batch.
+    bind (sending_queue_of tenant) _ (sending_queue_of-toml tenant) (λ sending_queue.
+    bind (retry_of tenant) _ (retry_of-toml tenant) (λ retry_on_failure. ok _)))))))
 
 name_of-toml : (before : List TenantData) (table : Members) → IsToml (name_of before table)
 unfolding name_of
@@ -114,17 +267,27 @@ tenants_of-toml document =
     bind (at_most 1000 too_many some) _ (choice (nat_le (length some) 1000) (Ok some) (Err too_many) (ok some) (λ h. cc)) (λ tables.
     each-toml tenant_of tenant_of-toml [] tables)))
 
-shards_of-toml : (document : Members) → IsToml (shards_of document)
-unfolding shards_of
-shards_of-toml document =
+few_spans-toml : (tenants : List TenantData) → IsToml (few_spans tenants)
+few_spans-toml tenants = choice (nat_le (spans_of tenants) (2 ^ 31)) (Ok tenants) (Err too_many) (ok tenants) (λ h. cc)
+
+global_of-toml : (document : Members) → IsToml (global_of document)
+unfolding global_of
+global_of-toml document =
     bind (table_at (codes "global") document) _ (table_at-toml (codes "global") document) (λ global.
-    number_at-toml (codes "shards") 1 64 1 global)
+    number (codes "shards") 1 64 1 global (λ shards.
+    number (codes "parts") 1 16 2 global (λ parts.
+    number (codes "receivers") 1 64 4 global (λ receivers.
+    number (codes "senders") 1 64 4 global (λ senders.
+    number (codes "lane_size") 1 4096 64 global (λ lane_size.
+    bind (address_at (codes "listen") (codes "127.0.0.1:4318") global) _ (address_at-toml (codes "listen") (codes "127.0.0.1:4318") global) (λ listen.
+    bind (header_at (codes "tenant_header") (codes "x-scope-orgid") global) _ (header_at-toml (codes "tenant_header") (codes "x-scope-orgid") global) (λ tenant_header. ok _))))))))
 
 settings_of_table-toml : (document : Members) → IsToml (settings_of_table document)
 unfolding settings_of_table
 settings_of_table-toml document =
-    bind (shards_of document) _ (shards_of-toml document) (λ shards.
-    bind (tenants_of document) _ (tenants_of-toml document) (λ tenants. ok _))
+    bind (global_of document) _ (global_of-toml document) (λ global.
+    bind (tenants_of document) _ (tenants_of-toml document) (λ found.
+    bind (few_spans found) _ (few_spans-toml found) (λ tenants. ok _)))
 
 settings_from-not_toml : (o : Option Members) → (settings_from o ≡ Err not_toml) ↔ (o ≡ None)
 settings_from-not_toml None = (λ _. refl, λ _. refl)

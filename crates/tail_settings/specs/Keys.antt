@@ -1,5 +1,5 @@
 -- The keys of a table: kinds, ranges and defaults, the same for all settings.
-use Rattle.std.specs.Prelude.{String, ℕ, ℤ, pos, negsuc, Bool, true, ◌&&◌, List, [], ◌∷◌, ◌++◌, length, Option, Some, None, Result, Ok, Err, is_some, unwrap_or, nat_le, if◌then◌else◌}
+use Rattle.std.specs.Prelude.{String, ℕ, ◌≤◌, ℤ, pos, negsuc, Bool, true, ◌&&◌, List, [], ◌∷◌, ◌++◌, length, Option, Some, None, Result, Ok, Err, is_some, unwrap_or, nat_le, if◌then◌else◌}
 use Rattle.std.specs.Borrow.{Bor}
 use Rattle.std.specs.BTreeMap.{BTreeMap}
 use Rattle.std.specs.declared.alloc.Global.{Global}
@@ -23,6 +23,14 @@ abbrev pub of_kind : {A : Type 0} → List ℕ → Option A → Result A FaultDa
 of_kind key None = Err (wrong_kind key)
 of_kind key (Some x) = Ok x
 
+-- a value that passes the key's test
+abbrev pub allowed : {A : Type 0} → List ℕ → (A → Bool) → A → Result A FaultData
+allowed key test x = if test x then Ok x else Err (out_of_range key)
+
+-- a number from low to high
+abbrev pub IsFrom : ℕ → ℕ → ℕ → Type 0
+IsFrom low high n = (low ≤ n) × (n ≤ high)
+
 -- a whole number from low to high
 abbrev pub in_range : List ℕ → ℕ → ℕ → ℤ → Result ℕ FaultData
 in_range key low high (pos n) = if nat_le low n && nat_le n high then Ok n else Err (out_of_range key)
@@ -36,15 +44,31 @@ number_or key low high default (Some d) = of_kind key (as_integer d) >>= λ z. i
 unfoldable pub number_at : List ℕ → ℕ → ℕ → ℕ → Members → Result ℕ FaultData
 number_at key low high default table = number_or key low high default (get_member key table)
 
+-- the whole number at a key that has to be there, of either sign
+unfoldable pub integer_at : List ℕ → Members → Result ℤ FaultData
+integer_at key table = do
+  d ← required key (get_member key table)
+  of_kind key (as_integer d)
+
+-- the whole number at a key that has to be there, from low to high
+unfoldable pub required_number_at : List ℕ → ℕ → ℕ → Members → Result ℕ FaultData
+required_number_at key low high table = do
+  z ← integer_at key table
+  in_range key low high z
+
+abbrev pub text_or : List ℕ → List ℕ → Option Data → Result (List ℕ) FaultData
+text_or key default None = Ok default
+text_or key default (Some d) = of_kind key (as_str d)
+
+-- the text at a key, or the default
+unfoldable pub text_or_at : List ℕ → List ℕ → Members → Result (List ℕ) FaultData
+text_or_at key default table = text_or key default (get_member key table)
+
 -- the text at a key that has to be there
 unfoldable pub text_at : List ℕ → Members → Result (List ℕ) FaultData
 text_at key table = do
   d ← required key (get_member key table)
   of_kind key (as_str d)
-
--- a value that passes the key's test
-abbrev pub allowed : {A : Type 0} → List ℕ → (A → Bool) → A → Result A FaultData
-allowed key test x = if test x then Ok x else Err (out_of_range key)
 
 abbrev pub table_or : List ℕ → Option Data → Result Members FaultData
 table_or key None = Ok no_members
@@ -54,32 +78,59 @@ table_or key (Some d) = of_kind key (as_table d)
 unfoldable pub table_at : List ℕ → Members → Result Members FaultData
 table_at key table = table_or key (get_member key table)
 
-abbrev pub are_tables : Items → Bool
-are_tables no_items = true
-are_tables (item d ds) = is_some (as_table d) && are_tables ds
+-- whether all members of an array are of one kind
+abbrev pub are_all : {A : Type 0} → (Data → Option A) → Items → Bool
+are_all kind no_items = true
+are_all kind (item d ds) = is_some (kind d) && are_all kind ds
 
--- the tables of an array that holds nothing else
+-- the members of an array that holds nothing but values of one kind
+abbrev pub all_of : {A : Type 0} → (Data → Option A) → A → Items → List A
+all_of kind other no_items = []
+all_of kind other (item d ds) = unwrap_or (kind d) other ∷ all_of kind other ds
+
+-- the array of one kind at a key that has to be there; a member of another kind is a value of another kind
+abbrev pub array_at : {A : Type 0} → (Data → Option A) → A → List ℕ → Members → Result (List A) FaultData
+array_at kind other key table = do
+  d ← required key (get_member key table)
+  items ← of_kind key (as_array d)
+  if are_all kind items then Ok (all_of kind other items) else Err (wrong_kind key)
+
 abbrev pub tables_in : Items → List Members
-tables_in no_items = []
-tables_in (item d ds) = unwrap_or (as_table d) no_members ∷ tables_in ds
+tables_in = all_of as_table no_members
+
+abbrev pub texts_in : Items → List (List ℕ)
+texts_in = all_of as_str []
 
 -- the array of tables at a key that has to be there
 unfoldable pub tables_at : List ℕ → Members → Result (List Members) FaultData
-tables_at key table = do
-  d ← required key (get_member key table)
-  items ← of_kind key (as_array d)
-  if are_tables items then Ok (tables_in items) else Err (wrong_kind key)
+tables_at = array_at as_table no_members
+
+-- the array of texts at a key that has to be there
+unfoldable pub texts_at : List ℕ → Members → Result (List (List ℕ)) FaultData
+texts_at = array_at as_str []
 
 -- a list that isn't empty
 abbrev pub not_empty : {A : Type 0} → FaultData → List A → Result (List A) FaultData
 not_empty fault [] = Err fault
 not_empty fault (x ∷ xs) = Ok (x ∷ xs)
 
+-- an array of tables, one or more
+unfoldable pub some_tables_at : List ℕ → Members → Result (List Members) FaultData
+some_tables_at key table = do
+  found ← tables_at key table
+  not_empty (out_of_range key) found
+
+-- an array of texts, one or more
+unfoldable pub some_texts_at : List ℕ → Members → Result (List (List ℕ)) FaultData
+some_texts_at key table = do
+  found ← texts_at key table
+  not_empty (out_of_range key) found
+
 -- a list that isn't longer than this
 abbrev pub at_most : {A : Type 0} → ℕ → FaultData → List A → Result (List A) FaultData
 at_most limit fault xs = if nat_le (length xs) limit then Ok xs else Err fault
 
--- the tables one by one, each read in view of what was read before it
-abbrev pub each : {A : Type 0} → (List A → Members → Result A FaultData) → List A → List Members → Result (List A) FaultData
+-- the members one by one, each read in view of what was read before it
+abbrev pub each : {A B : Type 0} → (List B → A → Result B FaultData) → List B → List A → Result (List B) FaultData
 each read before [] = Ok before
-each read before (table ∷ tables) = read before table >>= λ x. each read (before ++ x ∷ []) tables
+each read before (x ∷ xs) = read before x >>= λ y. each read (before ++ y ∷ []) xs

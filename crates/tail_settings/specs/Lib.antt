@@ -1,5 +1,12 @@
+pub mod Batch
 pub mod Fault
+pub mod Global
 pub mod Keys
+pub mod Policy
+pub mod RetryOnFailure
 pub mod Section
+pub mod SendingQueue
 pub mod Settings
 pub mod Sound
+pub mod TailSampling
+pub mod Texts

@@ -1,45 +1,51 @@
 -- One tenant's settings, and how they are read from its table: keys in this order, the first fault being the answer.
-use Rattle.std.specs.Prelude.{codes, ℕ, List, [], map, Result, Ok, Err, if◌then◌else◌}
-use Rattle.std.specs.Str.{bytes_eq}
+use Rattle.std.specs.Prelude.{codes, ℕ, ◌^◌, List, Result, Ok, string_bytes}
 use Rattle.toml.specs.Data.{Members}
-use Rattle.tail_settings.specs.declared.section.PolicySpec.{PolicySpec}
-use Rattle.tail_settings.specs.declared.section.PolicySpec.TheVariants as policies
 use Rattle.tail_settings.specs.declared.section.Section.{Section}
-use Rattle.tail_settings.specs.Fault.{FaultData, out_of_range, ◌>>=◌}
-use Rattle.tail_settings.specs.Keys.{number_at, text_at, table_at, tables_at, not_empty, each}
+use Rattle.tail_settings.specs.Fault.{FaultData, ◌>>=◌}
+use Rattle.tail_settings.specs.Keys.{number_at}
+use Rattle.tail_settings.specs.Texts.{address_at}
+use Rattle.tail_settings.specs.TailSampling.{TailSamplingData, tail_sampling_view, tail_sampling_of}
+use Rattle.tail_settings.specs.Batch.{BatchData, batch_view, batch_of}
+use Rattle.tail_settings.specs.SendingQueue.{SendingQueueData, sending_queue_view, sending_queue_of}
+use Rattle.tail_settings.specs.RetryOnFailure.{RetryData, retry_view, retry_of}
 
-pub data PolicyData : Type 0 where
-  always_sample : PolicyData
-
--- how long a trace waits for its decision, in milliseconds, and the policies of which one has to be met
+-- where the tenant's batches go, how many spans it may hold, the seed of its random words, and its tables
 pub record SectionData : Type 0 where
-  pub decision_wait : ℕ
-  pub policies : List PolicyData
-
-abbrev pub policy_view : PolicySpec → PolicyData
-policy_view policies.AlwaysSample = always_sample
+  pub endpoint : List ℕ
+  pub max_spans : ℕ
+  pub seed : ℕ
+  pub tail_sampling : TailSamplingData
+  pub batch : BatchData
+  pub sending_queue : SendingQueueData
+  pub retry_on_failure : RetryData
 
 abbrev pub section_view : Section → SectionData
-section_view s = record { decision_wait = s.decision_wait; policies = map policy_view s.policies.items }
-
--- a policy of this type
-abbrev pub policy_of_type : List ℕ → Result PolicyData FaultData
-policy_of_type name = if bytes_eq name (codes "always_sample") then Ok always_sample else Err (out_of_range (codes "type"))
-
-unfoldable pub policy_of : Members → Result PolicyData FaultData
-policy_of table = do
-  name ← text_at (codes "type") table
-  policy_of_type name
-
-unfoldable pub policies_of : Members → Result (List PolicyData) FaultData
-policies_of sampling = do
-  found ← tables_at (codes "policy") sampling
-  tables ← not_empty (out_of_range (codes "policy")) found
-  each (λ _. policy_of) [] tables
+section_view s = record {
+  endpoint = string_bytes s.endpoint;
+  max_spans = s.max_spans;
+  seed = s.seed;
+  tail_sampling = tail_sampling_view s.tail_sampling;
+  batch = batch_view s.batch;
+  sending_queue = sending_queue_view s.sending_queue;
+  retry_on_failure = retry_view s.retry_on_failure;
+}
 
 unfoldable pub section_of : Members → Result SectionData FaultData
 section_of tenant = do
-  sampling ← table_at (codes "tail_sampling") tenant
-  wait ← number_at (codes "decision_wait_ms") 1 86400000 30000 sampling
-  chosen ← policies_of sampling
-  Ok (record { decision_wait = wait; policies = chosen })
+  endpoint ← address_at (codes "endpoint") (codes "127.0.0.1:4319") tenant
+  max_spans ← number_at (codes "max_spans") 1 (2 ^ 31) 100000 tenant
+  seed ← number_at (codes "seed") 0 (2 ^ 62) 0 tenant
+  tail_sampling ← tail_sampling_of tenant
+  batch ← batch_of tenant
+  sending_queue ← sending_queue_of tenant
+  retry_on_failure ← retry_of tenant
+  Ok (record {
+    endpoint = endpoint;
+    max_spans = max_spans;
+    seed = seed;
+    tail_sampling = tail_sampling;
+    batch = batch;
+    sending_queue = sending_queue;
+    retry_on_failure = retry_on_failure;
+  })

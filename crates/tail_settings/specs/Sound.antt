@@ -1,12 +1,68 @@
 -- What holds of all settings that a document means.
-use Rattle.std.specs.Prelude.{◌<◌, ◌≤◌, ◌≢◌, List, length, All, AllPairs, IsTrue}
+use Rattle.std.specs.Prelude.{◌<◌, ◌≤◌, ◌≢◌, ◌^◌, List, length, All, AllPairs, IsTrue}
+use Rattle.tail_settings.specs.Global.{GlobalData}
+use Rattle.tail_settings.specs.Keys.{IsFrom}
+use Rattle.tail_settings.specs.Policy.{LeafData, always_sample, latency, status_code, string_attribute, numeric_attribute, PolicyData, leaf, and, leaves_of}
+use Rattle.tail_settings.specs.TailSampling.{TailSamplingData}
+use Rattle.tail_settings.specs.Batch.{BatchData}
+use Rattle.tail_settings.specs.SendingQueue.{SendingQueueData}
+use Rattle.tail_settings.specs.RetryOnFailure.{RetryData}
 use Rattle.tail_settings.specs.Section.{SectionData}
-use Rattle.tail_settings.specs.Settings.{TenantData, SettingsData, is_name}
+use Rattle.tail_settings.specs.Settings.{TenantData, SettingsData, spans_of}
+use Rattle.tail_settings.specs.Texts.{is_name, is_address, is_header, is_attribute_key}
+
+pub record IsSoundGlobal (g : GlobalData) : Type 0 where
+  pub shards : IsFrom 1 64 g.shards
+  pub parts : IsFrom 1 16 g.parts
+  pub receivers : IsFrom 1 64 g.receivers
+  pub senders : IsFrom 1 64 g.senders
+  pub lane_size : IsFrom 1 4096 g.lane_size
+  pub listen : IsTrue (is_address g.listen)
+  pub tenant_header : IsTrue (is_header g.tenant_header)
+
+abbrev pub IsSoundLeaf : LeafData → Type 0
+IsSoundLeaf always_sample = Unit {0}
+IsSoundLeaf (latency threshold) = threshold ≤ 2 ^ 40
+IsSoundLeaf (status_code codes) = 0 < length codes
+IsSoundLeaf (string_attribute key values) = IsTrue (is_attribute_key key) × IsFrom 1 64 (length values)
+IsSoundLeaf (numeric_attribute key low high) = IsTrue (is_attribute_key key)
+
+abbrev pub IsSoundPolicy : PolicyData → Type 0
+IsSoundPolicy (leaf l) = IsSoundLeaf l
+IsSoundPolicy (and ls) = (0 < length ls) × All IsSoundLeaf ls
+
+pub record IsSoundTailSampling (s : TailSamplingData) : Type 0 where
+  pub decision_wait : IsFrom 1 86400000 s.decision_wait
+  pub num_traces : IsFrom 1 1000000 s.num_traces
+  pub some_policy : 0 < length s.policies
+  pub few_leaves : leaves_of s.policies ≤ 64
+  pub policies : All IsSoundPolicy s.policies
+
+pub record IsSoundBatch (b : BatchData) : Type 0 where
+  pub send_batch_size : IsFrom 1 1000000 b.send_batch_size
+  pub timeout : b.timeout ≤ 86400000
+  pub send_batch_max_size : b.send_batch_max_size ≤ 1000000
+  pub none_or_more : 0 < b.send_batch_max_size → b.send_batch_size ≤ b.send_batch_max_size
+
+pub record IsSoundSendingQueue (q : SendingQueueData) : Type 0 where
+  pub queue_size : IsFrom 1 100000 q.queue_size
+  pub num_consumers : IsFrom 1 1000 q.num_consumers
+
+pub record IsSoundRetry (r : RetryData) : Type 0 where
+  pub initial_interval : IsFrom 1 86400000 r.initial_interval
+  pub max_interval : IsFrom 1 86400000 r.max_interval
+  pub max_elapsed_time : r.max_elapsed_time ≤ 2 ^ 40
+  pub multiplier : IsFrom 1000 100000 r.multiplier
+  pub randomization_factor : r.randomization_factor ≤ 1000
 
 pub record IsSoundSection (s : SectionData) : Type 0 where
-  pub some_wait : 1 ≤ s.decision_wait
-  pub within_a_day : s.decision_wait ≤ 86400000
-  pub some_policy : 0 < length s.policies
+  pub endpoint : IsTrue (is_address s.endpoint)
+  pub max_spans : IsFrom 1 (2 ^ 31) s.max_spans
+  pub seed : s.seed ≤ 2 ^ 62
+  pub tail_sampling : IsSoundTailSampling s.tail_sampling
+  pub batch : IsSoundBatch s.batch
+  pub sending_queue : IsSoundSendingQueue s.sending_queue
+  pub retry_on_failure : IsSoundRetry s.retry_on_failure
 
 -- each tenant has a name that no other has
 pub record AreSoundTenants (tenants : List TenantData) : Type 0 where
@@ -15,8 +71,8 @@ pub record AreSoundTenants (tenants : List TenantData) : Type 0 where
   pub sections : All (λ t. IsSoundSection t.section) tenants
 
 pub record IsSound (s : SettingsData) : Type 0 where
-  pub some_shard : 1 ≤ s.shards
-  pub few_shards : s.shards ≤ 64
+  pub global : IsSoundGlobal s.global
   pub some_tenant : 0 < length s.tenants
   pub few_tenants : length s.tenants ≤ 1000
+  pub few_spans : spans_of s.tenants ≤ 2 ^ 31
   pub tenants : AreSoundTenants s.tenants

@@ -1,20 +1,20 @@
 //! Reading a document, key by key.
 
-ghost use Rattle.std.specs.Prelude.{◌≡◌, ◌+◌, ◌≤◌, ◌<◌, ◌∷◌, ◌++◌, [], IfOk, OnOk, IfErr, IfSome, ◌↔◌, None, string_bytes, map, vec_len, Ok, Err};
-ghost use Rattle.std.specs.List.{list_all};
+ghost use Rattle.std.specs.Prelude.{◌≡◌, ◌+◌, ◌≤◌, ◌<◌, ◌∷◌, ◌++◌, [], IfOk, OnOk, IfErr, IfSome, ◌↔◌, None, string_bytes, map, sum_by, Ok, Err};
 ghost use Rattle.indexmap.specs.IndexMap.{index_map_len, get_by_text};
 ghost use Rattle.toml.specs.Parse.{parse_document};
 ghost use Rattle.toml.specs.View.{table_view};
 ghost use Rattle.tail_settings.specs.Fault.{Tells, fault_view, not_toml};
 ghost use Rattle.tail_settings.specs.Keys.{keys_of};
-ghost use Rattle.tail_settings.specs.Section.{policy_view, policy_of, policies_of, section_view, section_of};
-ghost use Rattle.tail_settings.specs.Settings.{is_name_byte, is_name, name_of, with_tenant, tenants_of, shards_of, tenant_view, settings_view, settings_of};
+ghost use Rattle.tail_settings.specs.Section.{section_view, section_of};
+ghost use Rattle.tail_settings.specs.Settings.{name_of, with_tenant, tenants_of, tenant_view, spans_of, settings_view, settings_of};
 ghost use Rattle.tail_settings.specs.Sound.{IsSound};
 
 use crate::fault::SettingsFault;
-use crate::keys;
-use crate::section::{PolicySpec, Section};
-use crate::settings::{GlobalSettings, Settings};
+use crate::global::GlobalSettings;
+use crate::section::Section;
+use crate::settings::Settings;
+use crate::{keys, texts};
 use indexmap::IndexMap;
 use std::alloc::Global;
 use toml::Table;
@@ -22,68 +22,8 @@ use toml::Table;
 /// A document has no more tenants.
 const MAX_TENANTS: usize = 1000;
 
-/// A policy's table.
-#[tactic(auto, using(crate::proofs::Told::tells_more), unfolding(crate::specs::Section::policy_of))]
-fn policy(table: Option<&Table>) -> Result<PolicySpec, SettingsFault>
-    ensures { Tells policy_view result (policy_of (keys_of table.entry)) }
-{
-    match keys::text(table, "type")? {
-        "always_sample" => Ok(PolicySpec::AlwaysSample),
-        _ => Err(SettingsFault::OutOfRange("type")),
-    }
-}
-
-/// The policies of a table `tail_sampling`.
-#[tactic(auto, using(crate::proofs::Told::tells_more), unfolding(crate::specs::Section::policies_of))]
-fn policies(alloc: Global, sampling: Option<&Table>) -> Result<Vec<PolicySpec>, SettingsFault>
-    ensures meaning { Tells (λ v. map policy_view v.items) result (policies_of (keys_of sampling.entry)) }
-    ensures some { IfOk result (λ v. 0 < vec_len v) }
-{
-    let tables = keys::tables(sampling, "policy")?;
-    if tables.is_empty() {
-        return Err(SettingsFault::OutOfRange("policy"));
-    }
-    let mut policies = Vec::new(alloc);
-    for value in tables {
-        policies.push(policy(value.as_table())?)?;
-    }
-    Ok(policies)
-}
-
-/// What a tenant's table says beside its name.
-#[tactic(auto, using(crate::proofs::Told::tells_more), unfolding(crate::specs::Section::section_of))]
-fn section(alloc: Global, tenant: Option<&Table>) -> Result<Section, SettingsFault>
-    ensures { Tells section_view result (section_of (keys_of tenant.entry)) }
-{
-    let sampling = keys::table(tenant, "tail_sampling")?;
-    let decision_wait = keys::number(sampling, "decision_wait_ms", 1, 86_400_000, 30_000)?;
-    let policies = policies(alloc, sampling)?;
-    Ok(Section {
-        decision_wait,
-        policies,
-    })
-}
-
-/// Whether a name may hold this byte.
-fn is_name_byte(byte: u8) -> bool
-    ensures { result ≡ is_name_byte byte }
-{
-    matches!(byte, b'A'..=b'Z' | b'a'..=b'z' | b'0'..=b'9' | b'_' | b'-' | b'.')
-}
-
-/// Whether a name may hold all these bytes.
-fn are_name_bytes(bytes: &[u8]) -> bool
-    ensures { result ≡ list_all is_name_byte bytes.now }
-{
-    bytes.iter().all(|byte| is_name_byte(*byte))
-}
-
-/// Whether a tenant may have this name.
-fn is_name(name: &str) -> bool
-    ensures { result ≡ is_name name.now }
-{
-    1 <= name.len() && name.len() <= 64 && are_name_bytes(name.as_bytes())
-}
+/// All tenants together may hold no more spans.
+const MAX_SPANS: u64 = 1 << 31;
 
 /// A tenant's name, which no tenant before it has.
 #[tactic(auto, using(crate::proofs::Told::tells_more), unfolding(crate::specs::Settings::name_of))]
@@ -96,7 +36,7 @@ fn name(
     ensures new { IfOk result (λ name. get_by_text before.now (string_bytes name) ≡ None) }
 {
     let name = keys::text(tenant, "name")?;
-    if !is_name(name) {
+    if !texts::is_name(name) {
         return Err(SettingsFault::OutOfRange("name"));
     }
     let owned = String::from_str(alloc, name)?;
@@ -117,7 +57,7 @@ fn add_tenant(
     ensures len { OnOk result (index_map_len tenants.new ≡ index_map_len tenants.old + 1) }
 {
     let name = name(alloc, tenants, tenant)?;
-    let section = section(alloc, tenant)?;
+    let section = Section::read(alloc, tenant)?;
     tenants.insert(name, section)?;
     Ok(())
 }
@@ -143,16 +83,16 @@ fn tenants(alloc: Global, document: &Table) -> Result<IndexMap<String, Section>,
     Ok(tenants)
 }
 
-/// What a document says of all tenants.
-#[tactic(auto, using(crate::proofs::Told::tells_more), unfolding(crate::specs::Settings::shards_of))]
-fn global(document: &Table) -> Result<GlobalSettings, SettingsFault>
-    ensures { Tells (λ g. g.shards) result (shards_of (table_view document.now)) }
+/// How many spans all tenants together may hold.
+fn spans(tenants: &IndexMap<String, Section>) -> u64
+    requires { index_map_len tenants.now ≤ 1000 }
+    ensures meaning { result ≡ spans_of (map tenant_view tenants.now.entries) }
+    ensures entries { result ≡ sum_by (λ entry. entry.1.max_spans) tenants.now.entries }
 {
-    let global = keys::table(Some(document), "global")?;
-    let shards = keys::number(global, "shards", 1, 64, 1)?;
-    Ok(GlobalSettings {
-        shards: shards as u32,
-    })
+    tenants
+        .values()
+        .map(|section| u64::from(section.max_spans))
+        .sum()
 }
 
 /// The settings that a TOML document means, or the first fault in the order in which its keys are read.
@@ -173,7 +113,10 @@ pub fn load(alloc: Global, text: &str) -> Result<Settings, SettingsFault>
         Err(error) if error.is_memory() => return Err(SettingsFault::OutOfMemory),
         Err(_) => return Err(SettingsFault::NotToml),
     };
-    let global = global(&document)?;
+    let global = GlobalSettings::read(alloc, &document)?;
     let tenants = tenants(alloc, &document)?;
+    if spans(&tenants) > MAX_SPANS {
+        return Err(SettingsFault::TooMany);
+    }
     Ok(Settings { global, tenants })
 }

@@ -24,7 +24,7 @@ pub enum SettingsFault {
     /// A second tenant of this name.
     #[error("settings fault 14 {0}")]
     DoubleTenant(String),
-    /// More than 1,000 tenants.
+    /// More than 1,000 tenants, more than 64 policies of one tenant that hold no other, or a sum of `max_spans` above 2,147,483,648.
     #[error("settings fault 15")]
     TooMany,
     /// Memory was refused, which says nothing of the document.

@@ -1,10 +1,11 @@
 //! The keys of a table that may be missing: kinds, ranges and defaults.
 
-ghost use Rattle.std.specs.Prelude.{◌≡◌, ◌≤◌, option_map, IfOk};
+ghost use Rattle.std.specs.Prelude.{◌≡◌, ◌<◌, ◌≤◌, option_map, IfOk, length};
 ghost use Rattle.toml.specs.Data.{get_member};
 ghost use Rattle.toml.specs.View.{view, items_view};
+ghost use Rattle.toml.specs.Data.{as_table, as_str};
 ghost use Rattle.tail_settings.specs.Fault.{Tells};
-ghost use Rattle.tail_settings.specs.Keys.{keys_of, required, number_at, text_at, table_at, tables_at, are_tables, tables_in};
+ghost use Rattle.tail_settings.specs.Keys.{keys_of, required, IsFrom, in_range, number_at, integer_at, required_number_at, text_at, text_or_at, table_at, are_all, tables_at, tables_in, texts_at, texts_in, some_tables_at, some_texts_at};
 
 use crate::fault::SettingsFault;
 use toml::{Table, Value};
@@ -29,6 +30,17 @@ fn value<'a>(table: Option<&'a Table>, key: &'static str) -> Result<&'a Value, S
     }
 }
 
+/// A key's number, which has to lie from `low` to `high`.
+fn in_range(key: &'static str, low: u64, high: u64, number: i64) -> Result<u64, SettingsFault>
+    ensures meaning { Tells (λ n. n) result (in_range key.now low high number) }
+    ensures range { IfOk result (λ n. IsFrom low high n) }
+{
+    match u64::try_from(number) {
+        Ok(number) if low <= number && number <= high => Ok(number),
+        _ => Err(SettingsFault::OutOfRange(key)),
+    }
+}
+
 /// The whole number at a key, from `low` to `high`, or the default.
 #[tactic(auto, unfolding(crate::specs::Keys::number_at))]
 pub fn number(
@@ -38,22 +50,42 @@ pub fn number(
     high: u64,
     default: u64,
 ) -> Result<u64, SettingsFault>
-    requires from_low { low ≤ default }
-    requires to_high { default ≤ high }
+    requires { IsFrom low high default }
     ensures meaning { Tells (λ n. n) result (number_at key.now low high default (keys_of table.entry)) }
-    ensures from_low { IfOk result (λ n. low ≤ n) }
-    ensures to_high { IfOk result (λ n. n ≤ high) }
+    ensures range { IfOk result (λ n. IsFrom low high n) }
 {
     let Some(value) = get(table, key) else {
         return Ok(default);
     };
-    let Some(number) = value.as_integer() else {
-        return Err(SettingsFault::WrongKind(key));
-    };
-    match u64::try_from(number) {
-        Ok(number) if low <= number && number <= high => Ok(number),
-        _ => Err(SettingsFault::OutOfRange(key)),
+    match value.as_integer() {
+        Some(number) => in_range(key, low, high, number),
+        None => Err(SettingsFault::WrongKind(key)),
     }
+}
+
+/// The whole number at a key that has to be there, of either sign.
+#[tactic(auto, using(crate::proofs::Told::tells_more), unfolding(crate::specs::Keys::integer_at))]
+pub fn integer(table: Option<&Table>, key: &'static str) -> Result<i64, SettingsFault>
+    ensures { Tells (λ z. z) result (integer_at key.now (keys_of table.entry)) }
+{
+    match value(table, key)?.as_integer() {
+        Some(number) => Ok(number),
+        None => Err(SettingsFault::WrongKind(key)),
+    }
+}
+
+/// The whole number at a key that has to be there, from `low` to `high`.
+#[tactic(auto, using(crate::proofs::Told::tells_more), unfolding(crate::specs::Keys::required_number_at))]
+pub fn required_number(
+    table: Option<&Table>,
+    key: &'static str,
+    low: u64,
+    high: u64,
+) -> Result<u64, SettingsFault>
+    ensures { Tells (λ n. n) result (required_number_at key.now low high (keys_of table.entry)) }
+{
+    let number = integer(table, key)?;
+    in_range(key, low, high, number)
 }
 
 /// The text at a key that has to be there.
@@ -62,6 +94,24 @@ pub fn text<'a>(table: Option<&'a Table>, key: &'static str) -> Result<&'a str, 
     ensures { Tells (λ s. s.now) result (text_at key.now (keys_of table.entry)) }
 {
     match value(table, key)?.as_str() {
+        Some(text) => Ok(text),
+        None => Err(SettingsFault::WrongKind(key)),
+    }
+}
+
+/// The text at a key, or the default.
+#[tactic(auto, unfolding(crate::specs::Keys::text_or_at))]
+pub fn text_or<'a>(
+    table: Option<&'a Table>,
+    key: &'static str,
+    default: &'a str,
+) -> Result<&'a str, SettingsFault>
+    ensures { Tells (λ s. s.now) result (text_or_at key.now default.now (keys_of table.entry)) }
+{
+    let Some(value) = get(table, key) else {
+        return Ok(default);
+    };
+    match value.as_str() {
         Some(text) => Ok(text),
         None => Err(SettingsFault::WrongKind(key)),
     }
@@ -86,7 +136,7 @@ pub fn table<'a>(
 
 /// Whether all members of an array are tables.
 fn are_all_tables(values: &[Value]) -> bool
-    ensures { result ≡ are_tables (items_view values.now) }
+    ensures { result ≡ are_all as_table (items_view values.now) }
 {
     for value in values {
         if value.as_table().is_none() {
@@ -105,4 +155,59 @@ pub fn tables<'a>(table: Option<&'a Table>, key: &'static str) -> Result<&'a [Va
         Some(values) if are_all_tables(values) => Ok(values.as_slice()),
         _ => Err(SettingsFault::WrongKind(key)),
     }
+}
+
+/// Whether all members of an array are texts.
+fn are_all_texts(values: &[Value]) -> bool
+    ensures { result ≡ are_all as_str (items_view values.now) }
+{
+    for value in values {
+        if value.as_str().is_none() {
+            return false;
+        }
+    }
+    true
+}
+
+/// The array of texts at a key that has to be there.
+#[tactic(auto, using(crate::proofs::Told::tells_more), unfolding(crate::specs::Keys::texts_at))]
+pub fn texts<'a>(table: Option<&'a Table>, key: &'static str) -> Result<&'a [Value], SettingsFault>
+    ensures { Tells (λ v. texts_in (items_view v.now)) result (texts_at key.now (keys_of table.entry)) }
+{
+    match value(table, key)?.as_array() {
+        Some(values) if are_all_texts(values) => Ok(values.as_slice()),
+        _ => Err(SettingsFault::WrongKind(key)),
+    }
+}
+
+/// The tables of an array that has to be there and isn't empty.
+#[tactic(auto, using(crate::proofs::Told::tells_more), unfolding(crate::specs::Keys::some_tables_at))]
+pub fn some_tables<'a>(
+    table: Option<&'a Table>,
+    key: &'static str,
+) -> Result<&'a [Value], SettingsFault>
+    ensures meaning { Tells (λ v. tables_in (items_view v.now)) result (some_tables_at key.now (keys_of table.entry)) }
+    ensures some { IfOk result (λ v. 0 < length v.now) }
+{
+    let values = tables(table, key)?;
+    if values.is_empty() {
+        return Err(SettingsFault::OutOfRange(key));
+    }
+    Ok(values)
+}
+
+/// The texts of an array that has to be there and isn't empty.
+#[tactic(auto, using(crate::proofs::Told::tells_more), unfolding(crate::specs::Keys::some_texts_at))]
+pub fn some_texts<'a>(
+    table: Option<&'a Table>,
+    key: &'static str,
+) -> Result<&'a [Value], SettingsFault>
+    ensures meaning { Tells (λ v. texts_in (items_view v.now)) result (some_texts_at key.now (keys_of table.entry)) }
+    ensures some { IfOk result (λ v. 0 < length v.now) }
+{
+    let values = texts(table, key)?;
+    if values.is_empty() {
+        return Err(SettingsFault::OutOfRange(key));
+    }
+    Ok(values)
 }

@@ -1,19 +1,43 @@
 //! The settings of a collector that many tenants share, read from a TOML document.
 //!
 //! [`load`] gives the document's settings, or the first fault in the order in which keys are read: the table `global`, then each
-//! `[[tenant]]` with its `name`, its `[tenant.tail_sampling]` and the policies in it. Keys that no setting has are ignored.
+//! `[[tenant]]` with its `name`, its own keys and its tables `tail_sampling`, `batch`, `sending_queue` and `retry_on_failure`. Keys
+//! that no setting has are ignored. The names are those of the OpenTelemetry Collector's `tail_sampling` and `batch` processors and
+//! of its `exporterhelper`; durations are whole milliseconds.
 #![tactic(auto)]
 
+mod batch;
 mod document;
 mod fault;
+mod global;
 mod keys;
+mod policy;
+mod policy_table;
+mod retry_on_failure;
 mod section;
+mod sending_queue;
 mod settings;
+mod tail_sampling;
+mod texts;
 
+pub use batch::Batch;
 pub use document::load;
 pub use fault::SettingsFault;
-pub use section::{PolicySpec, Section};
-pub use settings::{GlobalSettings, Settings};
+pub use global::GlobalSettings;
+pub use policy::{
+    LeafPolicy, PolicySpec, StatusCode, copied_policies, equal_policies, same_policies,
+};
+pub use retry_on_failure::RetryOnFailure;
+pub use section::Section;
+pub use sending_queue::SendingQueue;
+pub use settings::Settings;
+pub use tail_sampling::TailSampling;
 
+#[cfg(test)]
+mod example_tests;
+#[cfg(test)]
+mod key_tests;
+#[cfg(test)]
+mod policy_tests;
 #[cfg(test)]
 mod tests;

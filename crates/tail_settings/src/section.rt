@@ -1,21 +1,61 @@
 //! One tenant's settings.
 
-ghost use Rattle.std.specs.Prelude.{◌≤◌, ◌<◌, vec_len};
+ghost use Rattle.std.specs.Prelude.{◌≤◌, ◌^◌, IsTrue, string_bytes};
+ghost use Rattle.tail_settings.specs.Keys.{IsFrom};
+ghost use Rattle.tail_settings.specs.Texts.{is_address};
 
-/// How a tenant chooses the traces that it keeps.
-#[derive(Clone, Copy, Debug, PartialEq, Eq)]
-pub enum PolicySpec {
-    AlwaysSample,
-}
+use crate::batch::Batch;
+use crate::fault::SettingsFault;
+use crate::retry_on_failure::RetryOnFailure;
+use crate::sending_queue::SendingQueue;
+use crate::tail_sampling::TailSampling;
+use crate::{keys, texts};
+use std::alloc::Global;
+use toml::Table;
 
-/// What a tenant's table says.
+/// What a tenant's table says beside its name.
 #[derive(Debug, Drop)]
 pub struct Section {
-    /// How long a trace waits for its decision, in milliseconds.
-    pub decision_wait: u64,
-    /// A trace is kept where one of them says so.
-    pub policies: Vec<PolicySpec>,
-    pub ghost some_wait: { 1 ≤ decision_wait },
-    pub ghost within_a_day: { decision_wait ≤ 86400000 },
-    pub ghost some_policy: { 0 < vec_len policies },
+    /// Where the tenant's batches are sent: a host and a port, as `127.0.0.1:4319`. 1 to 255 printable bytes of ASCII without the space.
+    pub endpoint: String,
+    /// How many spans may wait for decisions and batches, 1 to 2,147,483,648.
+    pub max_spans: u32,
+    /// The seed of the words by which the delays of retries vary, 0 to 2^62.
+    pub seed: u64,
+    pub tail_sampling: TailSampling,
+    pub batch: Batch,
+    pub sending_queue: SendingQueue,
+    pub retry_on_failure: RetryOnFailure,
+    pub ghost endpoint_bytes: { IsTrue (is_address (string_bytes endpoint)) },
+    pub ghost max_spans_range: { IsFrom 1 (2 ^ 31) max_spans },
+    pub ghost seed_range: { seed ≤ 2 ^ 62 },
+}
+
+impl Section {
+    ghost use Rattle.tail_settings.specs.Fault.{Tells};
+    ghost use Rattle.tail_settings.specs.Keys.{keys_of};
+    ghost use Rattle.tail_settings.specs.Section.{section_view, section_of};
+
+    /// What a tenant's table says beside its name.
+    #[tactic(auto, using(crate::proofs::Told::tells_more), unfolding(crate::specs::Section::section_of))]
+    pub(crate) fn read(alloc: Global, tenant: Option<&Table>) -> Result<Section, SettingsFault>
+        ensures { Tells section_view result (section_of (keys_of tenant.entry)) }
+    {
+        let endpoint = texts::address(alloc, tenant, "endpoint", "127.0.0.1:4319")?;
+        let max_spans = keys::number(tenant, "max_spans", 1, 1 << 31, 100_000)?;
+        let seed = keys::number(tenant, "seed", 0, 1 << 62, 0)?;
+        let tail_sampling = TailSampling::read(alloc, tenant)?;
+        let batch = Batch::read(tenant)?;
+        let sending_queue = SendingQueue::read(tenant)?;
+        let retry_on_failure = RetryOnFailure::read(tenant)?;
+        Ok(Section {
+            endpoint,
+            max_spans: max_spans as u32,
+            seed,
+            tail_sampling,
+            batch,
+            sending_queue,
+            retry_on_failure,
+        })
+    }
 }

@@ -1,19 +1,11 @@
 //! All settings, with the tenants by name and by number.
 
-ghost use Rattle.std.specs.Prelude.{◌≤◌, ◌<◌};
+ghost use Rattle.std.specs.Prelude.{◌≤◌, ◌<◌, ◌^◌, sum_by};
 ghost use Rattle.indexmap.specs.IndexMap.{index_map_len};
 
+use crate::global::GlobalSettings;
 use crate::section::Section;
 use indexmap::IndexMap;
-
-/// What holds for all tenants.
-#[derive(Clone, Copy, Debug)]
-pub struct GlobalSettings {
-    /// How many shards the tenants are spread over.
-    pub shards: u32,
-    pub ghost some_shard: { 1 ≤ shards },
-    pub ghost few_shards: { shards ≤ 64 },
-}
 
 /// What a document says.
 #[derive(Drop)]
@@ -23,6 +15,7 @@ pub struct Settings {
     pub tenants: IndexMap<String, Section>,
     pub ghost some_tenant: { 0 < index_map_len tenants },
     pub ghost few_tenants: { index_map_len tenants ≤ 1000 },
+    pub ghost few_spans: { sum_by (λ entry. entry.1.max_spans) tenants.entries ≤ 2 ^ 31 },
 }
 
 impl Settings {

@@ -45,28 +45,20 @@ fn base(rt: HostRuntime) -> Result<(), Fail> {
     assert!(rt; settings.name(2).is_none());
     assert!(rt; settings.section(2).is_none());
     let b = settings.section(1).ok_or("no second tenant")?;
-    assert_eq!(rt; b.decision_wait, 1000);
-    assert_eq!(rt;
-        b.policies.as_slice(),
-        [PolicySpec::AlwaysSample].as_slice()
+    assert_eq!(rt; b.max_spans, 100);
+    assert_eq!(rt; b.tail_sampling.decision_wait, 1000);
+    assert_eq!(rt; b.tail_sampling.num_traces, 10);
+    assert!(rt;
+        b.tail_sampling.policies.as_slice()
+            == [PolicySpec::Leaf(LeafPolicy::AlwaysSample)].as_slice()
     );
-    Ok(())
-}
-
-#[test]
-fn defaults(rt: HostRuntime) -> Result<(), Fail> {
-    let text =
-        "tenant = [{ name = \"Az09_-.\", tail_sampling = { policy = [{ type = \"always_sample\" }] } }]";
-    let settings = load(rt.alloc(), text)?;
-    assert_eq!(rt; settings.global.shards, 1);
-    assert!(rt; settings.name(0) == Some("Az09_-."));
-    let section = settings.section(0).ok_or("no tenant")?;
-    assert_eq!(rt; section.decision_wait, 30_000);
+    assert_eq!(rt; b.batch.timeout, 0);
+    assert_eq!(rt; b.sending_queue.num_consumers, 1);
     Ok(())
 }
 
 /// What `load` prints of a document: the fault's text, or `settings`.
-fn told(alloc: Global, text: &str) -> Result<String, Fail> {
+pub fn told(alloc: Global, text: &str) -> Result<String, Fail> {
     match load(alloc, text) {
         Ok(_) => Ok(String::from_str(alloc, "settings")?),
         Err(fault) => Ok(format!(in alloc; "{fault}")?),
@@ -82,10 +74,6 @@ fn faults_of_the_document(rt: HostRuntime) -> Result<(), Fail> {
         ("", "settings fault 11 tenant"),
         ("tenant = []", "settings fault 11 tenant"),
         ("global = 1", "settings fault 12 global"),
-        ("global.shards = \"1\"", "settings fault 12 shards"),
-        ("global.shards = 0", "settings fault 13 shards"),
-        ("global.shards = 65", "settings fault 13 shards"),
-        ("global.shards = -1", "settings fault 13 shards"),
         ("global.shards = 64", "settings fault 11 tenant"),
         ("[tenant]", "settings fault 12 tenant"),
         ("tenant = [{}, 1]", "settings fault 12 tenant"),
@@ -128,49 +116,6 @@ fn faults_of_a_tenant(rt: HostRuntime) -> Result<(), Fail> {
 }
 
 #[test]
-fn faults_of_sampling(rt: HostRuntime) -> Result<(), Fail> {
-    let alloc = rt.alloc();
-    for (sampling, want) in [
-        ("decision_wait_ms = 0", "settings fault 13 decision_wait_ms"),
-        (
-            "decision_wait_ms = 86400001",
-            "settings fault 13 decision_wait_ms",
-        ),
-        (
-            "decision_wait_ms = 1.0",
-            "settings fault 12 decision_wait_ms",
-        ),
-        ("decision_wait_ms = 86400000", "settings fault 11 policy"),
-        (
-            "decision_wait_ms = 1\npolicy = 1",
-            "settings fault 12 policy",
-        ),
-        ("policy = [{}, 1]", "settings fault 12 policy"),
-        ("policy = []", "settings fault 13 policy"),
-        (
-            "policy = [{ type = \"always_sample\" }, {}]",
-            "settings fault 11 type",
-        ),
-        ("policy = [{ type = 1 }]", "settings fault 12 type"),
-        ("policy = [{ type = \"always\" }]", "settings fault 13 type"),
-        (
-            "policy = [{ type = \"always_sample\", threshold_ms = 0 }]",
-            "settings",
-        ),
-    ] {
-        let text = format!(in alloc;
-            "[[tenant]]\nname = \"a\"\n[tenant.tail_sampling]\n{sampling}\n"
-        )?;
-        assert_eq!(rt;
-            told(alloc, text.as_str())?.as_str(),
-            want,
-            "at {sampling:?}"
-        );
-    }
-    Ok(())
-}
-
-#[test]
 fn two_of_a_name(rt: HostRuntime) -> Result<(), Fail> {
     let alloc = rt.alloc();
     let mut text = String::new(alloc);
@@ -183,11 +128,13 @@ fn two_of_a_name(rt: HostRuntime) -> Result<(), Fail> {
     Ok(())
 }
 
-/// A document with so many tenants.
-fn many(alloc: Global, tenants: u32) -> Result<String, Fail> {
+/// A document with so many tenants, each of which may hold so many spans.
+fn many(alloc: Global, tenants: u32, max_spans: u32) -> Result<String, Fail> {
     let mut text = String::new(alloc);
     for number in 0..tenants {
-        let name = format!(in alloc; "[[tenant]]\nname = \"t{number}\"\n")?;
+        let name = format!(in alloc;
+            "[[tenant]]\nname = \"t{number}\"\nmax_spans = {max_spans}\n"
+        )?;
         text.push_str(name.as_str())?;
         text.push_str("tail_sampling.policy = [{ type = \"always_sample\" }]\n")?;
     }
@@ -197,12 +144,33 @@ fn many(alloc: Global, tenants: u32) -> Result<String, Fail> {
 #[test]
 fn a_thousand_and_one(rt: HostRuntime) -> Result<(), Fail> {
     let alloc = rt.alloc();
-    let settings = load(alloc, many(alloc, 1000)?.as_str())?;
+    let settings = load(alloc, many(alloc, 1000, 1)?.as_str())?;
     assert_eq!(rt; settings.number("t999"), Some(999));
     assert_eq!(rt;
-        told(alloc, many(alloc, 1001)?.as_str())?.as_str(),
+        told(alloc, many(alloc, 1001, 1)?.as_str())?.as_str(),
         "settings fault 15"
     );
+    Ok(())
+}
+
+#[test]
+fn spans_of_all_tenants(rt: HostRuntime) -> Result<(), Fail> {
+    let alloc = rt.alloc();
+    for (tenants, max_spans, want) in [
+        (1, 2_147_483_648, "settings"),
+        (2, 1_073_741_824, "settings"),
+        (2, 1_073_741_825, "settings fault 15"),
+        (1000, 2_147_483, "settings"),
+        (1000, 2_147_484, "settings fault 15"),
+        (2, 2_147_483_648, "settings fault 15"),
+    ] {
+        let text = many(alloc, tenants, max_spans)?;
+        assert_eq!(rt;
+            told(alloc, text.as_str())?.as_str(),
+            want,
+            "at {tenants} of {max_spans}"
+        );
+    }
     Ok(())
 }
 

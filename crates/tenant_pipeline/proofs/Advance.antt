@@ -19,7 +19,7 @@ kept_rows_later w d e N [] le = refl
 kept_rows_later w d e N (r ∷ R) le = grind (arith, nat_tests, kept_rows_later w d e N R le, cleared-append)
 
 -- nothing fires of rows that are decided already
-fired_none : (w : SectionData) (d e m : ℕ) (N : List Seated) (R : List Opened) → m + w.decision_wait ≤ d → OpenedBy m R → fired d e (kept_rows w d N R) ≡ []
+fired_none : (w : SectionData) (d e m : ℕ) (N : List Seated) (R : List Opened) → m + w.tail_sampling.decision_wait ≤ d → OpenedBy m R → fired d e (kept_rows w d N R) ≡ []
 fired_none w d e m N [] le by = refl
 fired_none w d e m N (r ∷ R) le by = let le' : r.moment ≤ m = by.0 in grind (arith, nat_tests, fired_none w d e r.moment N R (omega (arith, by.0)) by.1, fired-append)
 
@@ -27,7 +27,7 @@ fired_none w d e m N (r ∷ R) le by = let le' : r.moment ≤ m = by.0 in grind 
 pub decided_later : (w : SectionData) (d e m : ℕ) (N : List Seated) (R : List Opened) → d ≤ e → OpenedBy m R → decided w e N R ≡ decided w d N R ++ fired d e (kept_rows w d N R)
 decided_later w d e m N [] le by = refl
 decided_later w d e m N (r ∷ R) le by =
-    let none : r.moment + w.decision_wait ≤ d → fired d e (kept_rows w d N R) ≡ [] = λ due. fired_none w d e r.moment N R due by.1 in
+    let none : r.moment + w.tail_sampling.decision_wait ≤ d → fired d e (kept_rows w d N R) ≡ [] = λ due. fired_none w d e r.moment N R due by.1 in
     grind (arith, nat_tests, decided_later w d e r.moment N R le by.1, none, fired-append, append_assoc, append-nil)
 
 -- a group or none
@@ -37,10 +37,10 @@ AllUpTo_one m g false e = tt
 
 pub AllUpTo-decided : (w : SectionData) (e : ℕ) (N : List Seated) (R : List Opened) → AllUpTo e (decided w e N R)
 AllUpTo-decided w e N [] = tt
-AllUpTo-decided w e N (r ∷ R) = AllUpTo-append e (decided w e N R) _ (AllUpTo-decided w e N R) (AllUpTo_one e (record { moment = r.moment + w.decision_wait; spans = on_time w (length R + 1) N }) (leb (r.moment + w.decision_wait) e) refl)
+AllUpTo-decided w e N (r ∷ R) = AllUpTo-append e (decided w e N R) _ (AllUpTo-decided w e N R) (AllUpTo_one e (record { moment = r.moment + w.tail_sampling.decision_wait; spans = on_time w (length R + 1) N }) (leb (r.moment + w.tail_sampling.decision_wait) e) refl)
 
-AllUpTo_late : (w : SectionData) (e : ℕ) (x : Seated) → x.moment ≤ e → AllUpTo e (if ltb x.moment (x.opening + w.decision_wait) then [] else record { moment = x.moment; spans = x.arrival ∷ [] } ∷ [])
-AllUpTo_late w e x le = elim (ltb x.moment (x.opening + w.decision_wait)) as (λ b. AllUpTo e (cond b [] (record { moment = x.moment; spans = x.arrival ∷ [] } ∷ []))) [ true ↦ tt | false ↦ (le, tt) ]
+AllUpTo_late : (w : SectionData) (e : ℕ) (x : Seated) → x.moment ≤ e → AllUpTo e (if ltb x.moment (x.opening + w.tail_sampling.decision_wait) then [] else record { moment = x.moment; spans = x.arrival ∷ [] } ∷ [])
+AllUpTo_late w e x le = elim (ltb x.moment (x.opening + w.tail_sampling.decision_wait)) as (λ b. AllUpTo e (cond b [] (record { moment = x.moment; spans = x.arrival ∷ [] } ∷ []))) [ true ↦ tt | false ↦ (le, tt) ]
 
 pub AllUpTo-late : (w : SectionData) (e : ℕ) (A : List Taken) → Reached e A → AllUpTo e (late w (seated A))
 AllUpTo-late w e [] r = tt
@@ -59,12 +59,12 @@ AllUpTo_fired : (d e m : ℕ) (row : RowData) → row.due ≤ m → AllUpTo m (f
 AllUpTo_fired d e m row le = elim (ltb d row.due && leb row.due e) as (λ b. AllUpTo m (cond b (record { moment = row.due; spans = row.spans } ∷ []) [])) [ true ↦ (le, tt) | false ↦ tt ]
 
 abbrev one_kept : SectionData → ℕ → List Seated → Opened → ℕ → RowData
-one_kept w d N r n = record { trace = r.trace; due = r.moment + w.decision_wait; spans = if leb (r.moment + w.decision_wait) d then [] else on_time w (n + 1) N }
+one_kept w d N r n = record { trace = r.trace; due = r.moment + w.tail_sampling.decision_wait; spans = if leb (r.moment + w.tail_sampling.decision_wait) d then [] else on_time w (n + 1) N }
 
-pub AllUpTo-fired : (w : SectionData) (d e m : ℕ) (N : List Seated) (R : List Opened) → OpenedBy m R → AllUpTo (m + w.decision_wait) (fired d e (kept_rows w d N R))
+pub AllUpTo-fired : (w : SectionData) (d e m : ℕ) (N : List Seated) (R : List Opened) → OpenedBy m R → AllUpTo (m + w.tail_sampling.decision_wait) (fired d e (kept_rows w d N R))
 AllUpTo-fired w d e m N [] by = tt
 AllUpTo-fired w d e m N (r ∷ R) by =
-    rw fired-append (AllUpTo-append (m + w.decision_wait) (fired d e (kept_rows w d N R)) _ (AllUpTo_more (r.moment + w.decision_wait) (m + w.decision_wait) _ (omega (arith, by.0)) (AllUpTo-fired w d e r.moment N R by.1)) (AllUpTo_fired d e (m + w.decision_wait) (one_kept w d N r (length R)) (omega (arith, by.0))))
+    rw fired-append (AllUpTo-append (m + w.tail_sampling.decision_wait) (fired d e (kept_rows w d N R)) _ (AllUpTo_more (r.moment + w.tail_sampling.decision_wait) (m + w.tail_sampling.decision_wait) _ (omega (arith, by.0)) (AllUpTo-fired w d e r.moment N R by.1)) (AllUpTo_fired d e (m + w.tail_sampling.decision_wait) (one_kept w d N r (length R)) (omega (arith, by.0))))
 
 Ascending_fired : (d e : ℕ) (row : RowData) (gs : List GroupData) → Ascending gs → AllUpTo row.due gs → Ascending (gs ++ fired d e (row ∷ []))
 Ascending_fired d e row gs a up = elim (ltb d row.due && leb row.due e) as (λ b. Ascending (gs ++ cond b (record { moment = row.due; spans = row.spans } ∷ []) [])) [ true ↦ Ascending-push gs _ a up | false ↦ rw append-nil a ]
@@ -90,5 +90,5 @@ state_at_later w d e n A le r within =
     let rows = kept_rows_later w d e N R le in
     let count = decided_later_count w d e N R le in
     let queue : drop n (groups w e A) ≡ drop n (groups w d A) ++ fired d e (kept_rows w d N R) = rw (groups_later w d e A le r) (drop-append-le n (groups w d A) (fired d e (kept_rows w d N R)) within) in
-    let start : state_at w A e n ≡ record { wait = w.decision_wait; clock = e; rows = cleared d e (kept_rows w d N R); decided = decided_count w d R + length (fired d e (kept_rows w d N R)); queue = drop n (groups w d A) ++ fired d e (kept_rows w d N R); tickets = n } = cc (rows, count, queue) in
+    let start : state_at w A e n ≡ record { wait = w.tail_sampling.decision_wait; clock = e; rows = cleared d e (kept_rows w d N R); decided = decided_count w d R + length (fired d e (kept_rows w d N R)); queue = drop n (groups w d A) ++ fired d e (kept_rows w d N R); tickets = n } = cc (rows, count, queue) in
     start ∙ sym (ran_kept w d e n N R (drop n (groups w d A)) (OpenedBy-opened d A r))

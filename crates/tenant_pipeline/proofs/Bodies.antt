@@ -1,6 +1,5 @@
--- The spans of a body, its policies, and its refusal.
-use Rattle.std.proofs.Common.{◌≡◌, List, [], ◌∷◌, ◌++◌, map, refl, sym, ap, ◌∙◌, Ok, append_assoc, append-nil, length, arith}
-use Rattle.std.specs.List.{AllZip}
+-- The spans of a body, and its refusal.
+use Rattle.std.proofs.Common.{◌≡◌, List, [], ◌∷◌, ◌++◌, refl, sym, ap, ◌∙◌, Ok, append_assoc, append-nil, length, arith}
 use Rattle.otlp_trace.specs.Data.{RequestData}
 use Rattle.otlp_read.specs.Fault.{Fails}
 use Rattle.otlp_read.specs.declared.fault.ReadFault.{ReadFault}
@@ -26,10 +25,3 @@ only_memory OutOfMemory v is = refl
 pub none_left : {A B : Type 0} → (f : List A → List B) (before whole : List B) (rest : List A) → f [] ≡ [] → length rest ≡ 0 → before ++ f rest ≡ whole → before ≡ whole
 none_left f before whole [] none empty all = sym (append-nil before) ∙ (ap (λ xs. before ++ xs) (sym none) ∙ all)
 none_left f before whole (a ∷ rest) none empty all = absurd (omega arith)
-
--- what clones are is the same where what each of them is is
-pub same_clones : {A B : Type 0} → (view : A → B) (R : A → A → Type 0) → ((a b : A) → R a b → view b ≡ view a) → (xs ys : List A) → AllZip R xs ys → map view ys ≡ map view xs
-same_clones view R each [] [] all = refl
-same_clones view R each [] (y ∷ ys) all = absurd all
-same_clones view R each (x ∷ xs) [] all = absurd all
-same_clones view R each (x ∷ xs) (y ∷ ys) all = λ i. each x y all.0 i ∷ same_clones view R each xs ys all.1 i

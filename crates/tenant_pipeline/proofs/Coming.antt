@@ -27,11 +27,11 @@ has-kept_rows : (t : List ℕ) (w : SectionData) (e : ℕ) (N : List Seated) (R 
 has-kept_rows t w e N [] = refl
 has-kept_rows t w e N (r ∷ R) = grind (arith, nat_tests, has-append, has-kept_rows t w e N R)
 
-rows_with-there : (w : SectionData) (e : ℕ) (x : Arrival) (xs ys : List RowData) → has (trace_of x) xs ≡ true → rows_with w.decision_wait e x (xs ++ ys) ≡ rows_with w.decision_wait e x xs ++ ys
+rows_with-there : (w : SectionData) (e : ℕ) (x : Arrival) (xs ys : List RowData) → has (trace_of x) xs ≡ true → rows_with w.tail_sampling.decision_wait e x (xs ++ ys) ≡ rows_with w.tail_sampling.decision_wait e x xs ++ ys
 rows_with-there w e x [] ys h = absurd (cc)
 rows_with-there w e x (r ∷ xs) ys h = grind (arith, nat_tests, rows_with-there w e x xs ys)
 
-rows_with-not_there : (w : SectionData) (e : ℕ) (x : Arrival) (xs ys : List RowData) → has (trace_of x) xs ≡ false → rows_with w.decision_wait e x (xs ++ ys) ≡ xs ++ rows_with w.decision_wait e x ys
+rows_with-not_there : (w : SectionData) (e : ℕ) (x : Arrival) (xs ys : List RowData) → has (trace_of x) xs ≡ false → rows_with w.tail_sampling.decision_wait e x (xs ++ ys) ≡ xs ++ rows_with w.tail_sampling.decision_wait e x ys
 rows_with-not_there w e x [] ys h = refl
 rows_with-not_there w e x (r ∷ xs) ys h = grind (arith, nat_tests, rows_with-not_there w e x xs ys)
 
@@ -58,18 +58,18 @@ decided_other w e n N [] lt = refl
 decided_other w e n N (r ∷ R) lt = grind (arith, nat_tests, decided_other w e n N R (omega arith))
 
 -- a late span changes no row and no decision
-decided_late : (w : SectionData) (e : ℕ) (n : Seated) (N : List Seated) (R : List Opened) → n.opening + w.decision_wait ≤ n.moment → decided w e (n ∷ N) R ≡ decided w e N R
+decided_late : (w : SectionData) (e : ℕ) (n : Seated) (N : List Seated) (R : List Opened) → n.opening + w.tail_sampling.decision_wait ≤ n.moment → decided w e (n ∷ N) R ≡ decided w e N R
 decided_late w e n N [] le = refl
 decided_late w e n N (r ∷ R) le = grind (arith, nat_tests, decided_late w e n N R le)
 
 -- a span on time in its trace's row
-decided_on_time : (w : SectionData) (e : ℕ) (t : List ℕ) (n : Seated) (N : List Seated) (R : List Opened) → latest t R ≡ Some (record { row = n.row; opening = n.opening }) → e < n.opening + w.decision_wait → decided w e (n ∷ N) R ≡ decided w e N R
+decided_on_time : (w : SectionData) (e : ℕ) (t : List ℕ) (n : Seated) (N : List Seated) (R : List Opened) → latest t R ≡ Some (record { row = n.row; opening = n.opening }) → e < n.opening + w.tail_sampling.decision_wait → decided w e (n ∷ N) R ≡ decided w e N R
 decided_on_time w e t n N [] l lt = refl
 decided_on_time w e t n N (r ∷ R) l lt =
     let within : latest t R ≡ Some (record { row = n.row; opening = n.opening }) → n.row ≤ length R = latest_row t R _ in
     grind (arith, nat_tests, decided_on_time w e t n N R, decided_other w e n N R, within)
 
-kept_there : (w : SectionData) (e : ℕ) (n : Seated) (N : List Seated) (R : List Opened) → Apart R → n.moment ≡ e → latest (trace_of n.arrival) R ≡ Some (record { row = n.row; opening = n.opening }) → kept_rows w e (n ∷ N) R ≡ rows_with w.decision_wait e n.arrival (kept_rows w e N R)
+kept_there : (w : SectionData) (e : ℕ) (n : Seated) (N : List Seated) (R : List Opened) → Apart R → n.moment ≡ e → latest (trace_of n.arrival) R ≡ Some (record { row = n.row; opening = n.opening }) → kept_rows w e (n ∷ N) R ≡ rows_with w.tail_sampling.decision_wait e n.arrival (kept_rows w e N R)
 kept_there w e n N [] a m l = absurd (cc)
 kept_there w e n N (r ∷ R) a m l =
     let within : latest (trace_of n.arrival) R ≡ Some (record { row = n.row; opening = n.opening }) → n.row ≤ length R = latest_row (trace_of n.arrival) R _ in
@@ -77,7 +77,7 @@ kept_there w e n N (r ∷ R) a m l =
     let there = has-kept_rows (trace_of n.arrival) w e N R in
     grind (arith, nat_tests, apart, kept_there w e n N R a.1 m, kept_other w e n N R, within, there, rows_with-there, rows_with-not_there)
 
-late_there : (w : SectionData) (e : ℕ) (n : Seated) (N : List Seated) (R : List Opened) → Apart R → latest (trace_of n.arrival) R ≡ Some (record { row = n.row; opening = n.opening }) → late_with e n.arrival (kept_rows w e N R) ≡ (if ltb e (n.opening + w.decision_wait) then [] else record { moment = e; spans = n.arrival ∷ [] } ∷ [])
+late_there : (w : SectionData) (e : ℕ) (n : Seated) (N : List Seated) (R : List Opened) → Apart R → latest (trace_of n.arrival) R ≡ Some (record { row = n.row; opening = n.opening }) → late_with e n.arrival (kept_rows w e N R) ≡ (if ltb e (n.opening + w.tail_sampling.decision_wait) then [] else record { moment = e; spans = n.arrival ∷ [] } ∷ [])
 late_there w e n N [] a l = absurd (cc)
 late_there w e n N (r ∷ R) a l =
     let apart : is_same (trace_of n.arrival) r.trace ≡ true → is_some (latest (trace_of n.arrival) R) ≡ false = λ same. rw (same_is (trace_of n.arrival) r.trace same) a.0 in
@@ -88,7 +88,7 @@ late_there w e n N (r ∷ R) a l =
 abbrev seat_new : Taken → List Opened → Seated
 seat_new x R = record { row = length R + 1; opening = x.moment; moment = x.moment; arrival = x.arrival }
 
-kept_new : (w : SectionData) (x : Taken) (N : List Seated) (R : List Opened) → 0 < w.decision_wait → SeatedUpTo (length R) N → latest (trace_of x.arrival) R ≡ None → kept_rows w x.moment (seat_new x R ∷ N) (record { trace = trace_of x.arrival; moment = x.moment } ∷ R) ≡ rows_with w.decision_wait x.moment x.arrival (kept_rows w x.moment N R)
+kept_new : (w : SectionData) (x : Taken) (N : List Seated) (R : List Opened) → 0 < w.tail_sampling.decision_wait → SeatedUpTo (length R) N → latest (trace_of x.arrival) R ≡ None → kept_rows w x.moment (seat_new x R ∷ N) (record { trace = trace_of x.arrival; moment = x.moment } ∷ R) ≡ rows_with w.tail_sampling.decision_wait x.moment x.arrival (kept_rows w x.moment N R)
 kept_new w x N R pos s l =
     let there = has-kept_rows (trace_of x.arrival) w x.moment N R in
     let none = on_time_none w (length R + 1) (length R) N s (omega arith) in
@@ -101,27 +101,27 @@ groups_late : (b : Bool) (g : GroupData) (D L : List GroupData) → AllUpTo g.mo
 groups_late true g D L up up' = rw append-nil (rw append-nil refl)
 groups_late false g D L up up' = rw (← append_assoc) (by_moment-push (D ++ L) g (AllUpTo-append g.moment D L up up'))
 
-rows_placed : (w : SectionData) (e : ℕ) (x : Arrival) (A : List Taken) (o : Option Seat) → latest (trace_of x) (opened A) ≡ o → 0 < w.decision_wait → Reached e A →
-    kept_rows w e (seated (record { moment = e; arrival = x } ∷ A)) (opened (record { moment = e; arrival = x } ∷ A)) ≡ rows_with w.decision_wait e x (kept_rows w e (seated A) (opened A))
+rows_placed : (w : SectionData) (e : ℕ) (x : Arrival) (A : List Taken) (o : Option Seat) → latest (trace_of x) (opened A) ≡ o → 0 < w.tail_sampling.decision_wait → Reached e A →
+    kept_rows w e (seated (record { moment = e; arrival = x } ∷ A)) (opened (record { moment = e; arrival = x } ∷ A)) ≡ rows_with w.tail_sampling.decision_wait e x (kept_rows w e (seated A) (opened A))
 rows_placed w e x A None l pos r = rw l (kept_new w (record { moment = e; arrival = x }) (seated A) (opened A) pos (SeatedUpTo-seated A) l)
 rows_placed w e x A (Some s) l pos r = rw l (kept_there w e (record { row = s.row; opening = s.opening; moment = e; arrival = x }) (seated A) (opened A) (Apart-opened A) refl l)
 
 decided_there : (w : SectionData) (e : ℕ) (x : Arrival) (s : Seat) (N : List Seated) (R : List Opened) → latest (trace_of x) R ≡ Some s →
     decided w e (record { row = s.row; opening = s.opening; moment = e; arrival = x } ∷ N) R ≡ decided w e N R
 decided_there w e x s N R l =
-    let early : e < s.opening + w.decision_wait → decided w e (record { row = s.row; opening = s.opening; moment = e; arrival = x } ∷ N) R ≡ decided w e N R = decided_on_time w e (trace_of x) (record { row = s.row; opening = s.opening; moment = e; arrival = x }) N R l in
-    let late' : s.opening + w.decision_wait ≤ e → decided w e (record { row = s.row; opening = s.opening; moment = e; arrival = x } ∷ N) R ≡ decided w e N R = decided_late w e (record { row = s.row; opening = s.opening; moment = e; arrival = x }) N R in
+    let early : e < s.opening + w.tail_sampling.decision_wait → decided w e (record { row = s.row; opening = s.opening; moment = e; arrival = x } ∷ N) R ≡ decided w e N R = decided_on_time w e (trace_of x) (record { row = s.row; opening = s.opening; moment = e; arrival = x }) N R l in
+    let late' : s.opening + w.tail_sampling.decision_wait ≤ e → decided w e (record { row = s.row; opening = s.opening; moment = e; arrival = x } ∷ N) R ≡ decided w e N R = decided_late w e (record { row = s.row; opening = s.opening; moment = e; arrival = x }) N R in
     grind (arith, early, late')
 
-groups_new : (w : SectionData) (x : Taken) (N : List Seated) (R : List Opened) → 0 < w.decision_wait →
+groups_new : (w : SectionData) (x : Taken) (N : List Seated) (R : List Opened) → 0 < w.tail_sampling.decision_wait →
     by_moment (decided w x.moment (seat_new x R ∷ N) (record { trace = trace_of x.arrival; moment = x.moment } ∷ R) ++ late w (seat_new x R ∷ N)) ≡ by_moment (decided w x.moment N R ++ late w N)
 groups_new w x N R pos =
     let e = x.moment in
-    let not_due : leb (e + w.decision_wait) e ≡ false = grind (arith, nat_tests) in
-    let early : ltb e (e + w.decision_wait) ≡ true = grind (arith, nat_tests) in
+    let not_due : leb (e + w.tail_sampling.decision_wait) e ≡ false = grind (arith, nat_tests) in
+    let early : ltb e (e + w.tail_sampling.decision_wait) ≡ true = grind (arith, nat_tests) in
     rw not_due (rw early (rw (decided_other w e (seat_new x R) N R (omega arith)) (rw append-nil (rw append-nil refl))))
 
-groups_placed : (w : SectionData) (e : ℕ) (x : Arrival) (A : List Taken) (o : Option Seat) → latest (trace_of x) (opened A) ≡ o → 0 < w.decision_wait → Reached e A →
+groups_placed : (w : SectionData) (e : ℕ) (x : Arrival) (A : List Taken) (o : Option Seat) → latest (trace_of x) (opened A) ≡ o → 0 < w.tail_sampling.decision_wait → Reached e A →
     groups w e (record { moment = e; arrival = x } ∷ A) ≡ groups w e A ++ late_with e x (kept_rows w e (seated A) (opened A))
 unfolding groups
 groups_placed w e x A None l pos r =
@@ -136,15 +136,15 @@ groups_placed w e x A (Some s) l pos r =
     let g : GroupData = record { moment = e; spans = x ∷ [] } in
     let n : Seated = record { row = s.row; opening = s.opening; moment = e; arrival = x } in
     let made = late_there w e n N R (Apart-opened A) l in
-    rw l (rw (decided_there w e x s N R l) (rw made (groups_late (ltb e (s.opening + w.decision_wait)) g (decided w e N R) (late w N) (AllUpTo-decided w e N R) (AllUpTo-late w e A r))))
+    rw l (rw (decided_there w e x s N R l) (rw made (groups_late (ltb e (s.opening + w.tail_sampling.decision_wait)) g (decided w e N R) (late w N) (AllUpTo-decided w e N R) (AllUpTo-late w e A r))))
 
 -- a span that opens a row decides none
-count_by : (w : SectionData) (e : ℕ) (b : Bool) (trace : List ℕ) (R : List Opened) → 0 < w.decision_wait → decided_count w e (cond b R (record { trace = trace; moment = e } ∷ R)) ≡ decided_count w e R
+count_by : (w : SectionData) (e : ℕ) (b : Bool) (trace : List ℕ) (R : List Opened) → 0 < w.tail_sampling.decision_wait → decided_count w e (cond b R (record { trace = trace; moment = e } ∷ R)) ≡ decided_count w e R
 count_by w e true trace R pos = refl
-count_by w e false trace R pos = let not_due : leb (e + w.decision_wait) e ≡ false = grind (arith, nat_tests) in rw not_due (omega arith)
+count_by w e false trace R pos = let not_due : leb (e + w.tail_sampling.decision_wait) e ≡ false = grind (arith, nat_tests) in rw not_due (omega arith)
 
 -- the whole state after a span comes
-pub state_at_placed : (w : SectionData) (e n : ℕ) (x : Arrival) (A : List Taken) → 0 < w.decision_wait → Reached e A → n ≤ length (groups w e A) →
+pub state_at_placed : (w : SectionData) (e n : ℕ) (x : Arrival) (A : List Taken) → 0 < w.tail_sampling.decision_wait → Reached e A → n ≤ length (groups w e A) →
     state_at w (record { moment = e; arrival = x } ∷ A) e n ≡ placed e x (state_at w A e n)
 state_at_placed w e n x A pos r within =
     let rows = rows_placed w e x A (latest (trace_of x) (opened A)) refl pos r in
@@ -153,5 +153,5 @@ state_at_placed w e n x A pos r within =
     rw (groups_placed w e x A (latest (trace_of x) (opened A)) refl pos r) (drop-append-le n (groups w e A) _ within) in
     cc (rows, count, queue)
 
-pub length_groups_placed : (w : SectionData) (e : ℕ) (x : Arrival) (A : List Taken) → 0 < w.decision_wait → Reached e A → length (groups w e A) ≤ length (groups w e (record { moment = e; arrival = x } ∷ A))
+pub length_groups_placed : (w : SectionData) (e : ℕ) (x : Arrival) (A : List Taken) → 0 < w.tail_sampling.decision_wait → Reached e A → length (groups w e A) ≤ length (groups w e (record { moment = e; arrival = x } ∷ A))
 length_groups_placed w e x A pos r = rw (groups_placed w e x A (latest (trace_of x) (opened A)) refl pos r) (simp length-append (omega arith))

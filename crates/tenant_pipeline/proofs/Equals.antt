@@ -1,34 +1,62 @@
 -- Bodies are equal where what they are is.
-use Rattle.std.proofs.Common.{◌≡◌, ℕ, List, [], ◌∷◌, map, refl, sym, ◌∙◌, Bool, true, false, eqb, arith}
+use Rattle.std.proofs.Common.{◌≡◌, ℕ, ℤ, pos, negsuc, List, [], ◌∷◌, map, refl, ap, ◌∙◌, Bool, true, eqb, arith}
 use Rattle.std.proofs.lemmas.Bool.Decides.{nat_tests}
-use Rattle.std.specs.Prelude.{◌&&◌}
-use Rattle.std.specs.Cmp.Lexicographic.{pointwise}
-use Rattle.tail_settings.specs.contracts.section.PolicySpecPartialEq.TheImpl.{eq-value}
-use Rattle.tail_settings.specs.declared.section.PolicySpec.{PolicySpec}
-use Rattle.tail_settings.specs.declared.section.PolicySpec.TheVariants as policies
-use Rattle.tail_settings.specs.Section.{policy_view}
-use Rattle.tenant_pipeline.specs.Equal.{policy_eq}
+use Rattle.std.specs.Bool.{one_answer}
+use Rattle.std.specs.Prelude.{◌&&◌, Decides}
+use Rattle.std.specs.Cmp.Lexicographic.{pointwise, pointwise_decides, bytes_decides}
+use Rattle.tail_settings.specs.Policy.{StatusData, unset, ok, error, LeafData, always_sample, latency, status_code, string_attribute, numeric_attribute, PolicyData, leaf, and, policy_view}
+use Rattle.tail_settings.specs.declared.policy.PolicySpec.{PolicySpec}
+use Rattle.tenant_pipeline.specs.Equal.{status_number, signed, leaf_parts, policy_parts, policy_eq}
 
-pub same_policy : (a b : PolicySpec) → eq-value.it a b ≡ policy_eq (policy_view a) (policy_view b)
-same_policy policies.AlwaysSample policies.AlwaysSample = refl
+-- lists that a function takes to one list are one where it takes no two members to one
+one_list : {A B : Type 0} → (f : A → B) → ((a b : A) → f a ≡ f b → a ≡ b) → (xs ys : List A) → map f xs ≡ map f ys → xs ≡ ys
+one_list f one [] [] same = refl
+one_list f one [] (y ∷ ys) same = cc
+one_list f one (x ∷ xs) [] same = cc
+one_list f one (x ∷ xs) (y ∷ ys) same =
+    let first = one x y cc in
+    let rest = one_list f one xs ys cc in
+    cc
 
--- lists are equal where what their members are is
-pub same_views : {A B : Type 0} → (view : A → B) (E : A → A → Bool) (F : B → B → Bool) → ((a b : A) → E a b ≡ F (view a) (view b))
-    → (xs ys : List A) → pointwise E xs ys ≡ pointwise F (map view xs) (map view ys)
-same_views view E F each [] [] = refl
-same_views view E F each [] (y ∷ ys) = refl
-same_views view E F each (x ∷ xs) [] = refl
-same_views view E F each (x ∷ xs) (y ∷ ys) = λ i. each x y i && same_views view E F each xs ys i
+one_status : (a b : StatusData) → status_number a ≡ status_number b → a ≡ b
+one_status unset unset same = refl
+one_status ok ok same = refl
+one_status error error same = refl
+one_status _ _ same = cc
 
--- the second of two tests decides where the first holds, and else the first
+one_number : (m n : ℤ) → signed m ≡ signed n → m ≡ n
+one_number (pos m) (pos n) same = cc
+one_number (negsuc m) (negsuc n) same = cc
+one_number _ _ same = cc
+
+one_leaf : (a b : LeafData) → leaf_parts a ≡ leaf_parts b → a ≡ b
+one_leaf always_sample always_sample same = refl
+one_leaf (latency m) (latency n) same = cc
+one_leaf (status_code xs) (status_code ys) same = let codes = one_list status_number one_status xs ys cc in cc
+one_leaf (string_attribute k xs) (string_attribute l ys) same = cc
+one_leaf (numeric_attribute k m n) (numeric_attribute l u v) same =
+    let low = one_number m u cc in
+    let high = one_number n v cc in
+    cc
+one_leaf _ _ same = cc
+
+one_policy : (a b : PolicyData) → policy_parts a ≡ policy_parts b → a ≡ b
+one_policy (leaf a) (leaf b) same = let leaves = one_leaf a b cc in cc
+one_policy (and xs) (and ys) same = let leaves = one_list leaf_parts one_leaf xs ys cc in cc
+one_policy _ _ same = cc
+
+policy_decides : (a b : PolicyData) → Decides (policy_eq a b) (a ≡ b)
+policy_decides a b =
+    let parts = pointwise_decides (pointwise_decides bytes_decides) (policy_parts a) (policy_parts b) in
+    (λ h. one_policy a b (parts.0 h), λ h. parts.1 (ap policy_parts h))
+
+-- a test of whether slices of policies say the same is that of the policies
+pub same_policy_lists : (xs ys left right : List PolicySpec) (r : Bool) → left ≡ xs → right ≡ ys → Decides r (map policy_view left ≡ map policy_view right)
+    → r ≡ pointwise policy_eq (map policy_view xs) (map policy_view ys)
+same_policy_lists xs ys left right r one other decides =
+    one_answer r _ decides (pointwise_decides policy_decides (map policy_view left) (map policy_view right))
+    ∙ λ i. pointwise policy_eq (map policy_view (one i)) (map policy_view (other i))
+
+-- the second of two tests decides where the first holds
 pub after_equal : (x y : ℕ) (more value : Bool) → x ≡ y → value ≡ more → value ≡ (eqb x y && more)
 after_equal x y more value same is = let test : eqb x y ≡ true = grind (arith, nat_tests) in rw (test, is)
-
-pub after_unequal : (x y : ℕ) (more value : Bool) → (x ≡ y → ⊥) → value ≡ eqb x y → value ≡ (eqb x y && more)
-after_unequal x y more value differ is = let test : eqb x y ≡ false = grind (arith, nat_tests) in rw (is, test)
-
-pub and_true : (a b value : Bool) → value ≡ a → value ≡ true → b ≡ (a && b)
-and_true a b value is holds = rw (sym is ∙ holds)
-
-pub and_false : (a b value : Bool) → value ≡ a → value ≡ false → value ≡ (a && b)
-and_false a b value is fails = rw (fails, sym is ∙ fails)

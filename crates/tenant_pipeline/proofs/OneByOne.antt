@@ -116,11 +116,11 @@ Rising-push : (rows : List RowData) (r : RowData) → Rising rows → AllDueBy r
 Rising-push [] r rising by = (tt, tt)
 Rising-push (x ∷ rows) r rising by = (AllDueFrom-push x.due rows r rising.0 by.0, Rising-push rows r rising.1 by.1)
 
-AllDueBy-kept : (w : SectionData) (d m : ℕ) (N : List Seated) (R : List Opened) → OpenedBy m R → AllDueBy (m + w.decision_wait) (kept_rows w d N R)
+AllDueBy-kept : (w : SectionData) (d m : ℕ) (N : List Seated) (R : List Opened) → OpenedBy m R → AllDueBy (m + w.tail_sampling.decision_wait) (kept_rows w d N R)
 AllDueBy-kept w d m N [] by = tt
 AllDueBy-kept w d m N (r ∷ R) by =
     let le : r.moment ≤ m = by.0 in
-    AllDueBy-push (m + w.decision_wait) (kept_rows w d N R) _ (AllDueBy_more (r.moment + w.decision_wait) (m + w.decision_wait) (kept_rows w d N R) (omega arith) (AllDueBy-kept w d r.moment N R by.1)) (omega arith)
+    AllDueBy-push (m + w.tail_sampling.decision_wait) (kept_rows w d N R) _ (AllDueBy_more (r.moment + w.tail_sampling.decision_wait) (m + w.tail_sampling.decision_wait) (kept_rows w d N R) (omega arith) (AllDueBy-kept w d r.moment N R by.1)) (omega arith)
 
 pub Rising-kept : (w : SectionData) (d m : ℕ) (N : List Seated) (R : List Opened) → OpenedBy m R → Rising (kept_rows w d N R)
 Rising-kept w d m N [] by = tt
@@ -279,8 +279,8 @@ ran_all wait tickets clock d e (suc n) done (r ∷ rest) queue from rising fits 
 
 -- all timers of the rows that are kept at a moment
 pub ran_kept : (w : SectionData) (d e n : ℕ) (N : List Seated) (R : List Opened) (queue : List GroupData) → OpenedBy d R →
-    set_to e (ran (length (kept_rows w d N R)) e (record { wait = w.decision_wait; clock = d; rows = kept_rows w d N R; decided = decided_count w d R; queue = queue; tickets = n }))
-    ≡ record { wait = w.decision_wait; clock = e; rows = cleared d e (kept_rows w d N R); decided = decided_count w d R + length (fired d e (kept_rows w d N R)); queue = queue ++ fired d e (kept_rows w d N R); tickets = n }
+    set_to e (ran (length (kept_rows w d N R)) e (record { wait = w.tail_sampling.decision_wait; clock = d; rows = kept_rows w d N R; decided = decided_count w d R; queue = queue; tickets = n }))
+    ≡ record { wait = w.tail_sampling.decision_wait; clock = e; rows = cleared d e (kept_rows w d N R); decided = decided_count w d R + length (fired d e (kept_rows w d N R)); queue = queue ++ fired d e (kept_rows w d N R); tickets = n }
 ran_kept w d e n N R queue by =
     let rows = kept_rows w d N R in
     let rising = Rising-kept w d d N R by in
@@ -288,12 +288,12 @@ ran_kept w d e n N R queue by =
     let rest = waiting d rows in
     let parts : rows ≡ done ++ rest = split d rows rising in
     let count : decided_count w d R ≡ length done = decided_is w d N R in
-    let start : record { wait = w.decision_wait; clock = d; rows = kept_rows w d N R; decided = decided_count w d R; queue = queue; tickets = n } ≡ with_rows w.decision_wait n d done rest queue = cc (parts, count) in
+    let start : record { wait = w.tail_sampling.decision_wait; clock = d; rows = kept_rows w d N R; decided = decided_count w d R; queue = queue; tickets = n } ≡ with_rows w.tail_sampling.decision_wait n d done rest queue = cc (parts, count) in
     let fits : length rest ≤ length rows = omega (arith, ap length parts, length-append done rest) in
-    let run = ran_all w.decision_wait n d d e (length rows) done rest queue (AllDueFrom-waiting d rows) (Rising-waiting d rows rising) fits in
+    let run = ran_all w.tail_sampling.decision_wait n d d e (length rows) done rest queue (AllDueFrom-waiting d rows) (Rising-waiting d rows rising) fits in
     let same : done ++ cleared d e rest ≡ cleared d e rows = sym (ap (cleared d e) parts ∙ (cleared-append d e done rest ∙ ap (λ xs. xs ++ cleared d e rest) (cleared-finished d e rows))) in
     let fires : fired d e rest ≡ fired d e rows = sym (ap (fired d e) parts ∙ (fired-append d e done rest ∙ ap (λ xs. xs ++ fired d e rest) (fired-finished d e rows))) in
-    let finish : after_all w.decision_wait n d e done rest queue ≡ record { wait = w.decision_wait; clock = e; rows = cleared d e (kept_rows w d N R); decided = decided_count w d R + length (fired d e (kept_rows w d N R)); queue = queue ++ fired d e (kept_rows w d N R); tickets = n } = cc (same, fires, count) in
+    let finish : after_all w.tail_sampling.decision_wait n d e done rest queue ≡ record { wait = w.tail_sampling.decision_wait; clock = e; rows = cleared d e (kept_rows w d N R); decided = decided_count w d R + length (fired d e (kept_rows w d N R)); queue = queue ++ fired d e (kept_rows w d N R); tickets = n } = cc (same, fires, count) in
     ap (λ s. set_to e (ran (length rows) e s)) start ∙ (run ∙ finish)
 
 -- of rows by due moment the first undecided one is the least

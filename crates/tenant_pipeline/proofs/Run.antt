@@ -20,7 +20,7 @@ use Rattle.tenant_pipeline.proofs.Coming.{state_at_placed, length_groups_placed}
 length_groups_later : (w : SectionData) (d e : ℕ) (A : List Taken) → d ≤ e → Reached d A → length (groups w d A) ≤ length (groups w e A)
 length_groups_later w d e A le r = rw (groups_later w d e A le r) (simp length-append (omega arith))
 
-length_groups_taken : (w : SectionData) (e : ℕ) (xs : List Arrival) (A : List Taken) → 0 < w.decision_wait → Reached e A → length (groups w e A) ≤ length (groups w e (taken_after e xs A))
+length_groups_taken : (w : SectionData) (e : ℕ) (xs : List Arrival) (A : List Taken) → 0 < w.tail_sampling.decision_wait → Reached e A → length (groups w e A) ≤ length (groups w e (taken_after e xs A))
 length_groups_taken w e [] A pos r = omega arith
 length_groups_taken w e (x ∷ xs) A pos r =
     omega (arith, length_groups_placed w e x A pos r, length_groups_taken w e xs (record { moment = e; arrival = x } ∷ A) pos (omega arith, r))
@@ -34,7 +34,7 @@ tickets_after_within n gs le = by_rest (drop n gs) refl
         let more : n + 1 ≤ length gs = omega (arith, length-drop n gs, ap length e) in
         grind (arith, nat_tests)
 
-pub tickets_within : (w : SectionData) (past : List Own) → 0 < w.decision_wait → tickets w past ≤ length (groups w (clock past) (taken past))
+pub tickets_within : (w : SectionData) (past : List Own) → 0 < w.tail_sampling.decision_wait → tickets w past ≤ length (groups w (clock past) (taken past))
 tickets_within w [] pos = zero-le
 tickets_within w (Post now xs ∷ past) pos =
     let d = clock past in
@@ -48,12 +48,12 @@ tickets_within w (Turn now ∷ past) pos =
     tickets_after_within (tickets w past) (groups w e (taken past)) (omega (arith, tickets_within w past pos, length_groups_later w d e (taken past) le (Reached-taken past)))
 
 -- the state at a step's moment
-at_step : (w : SectionData) (past : List Own) (e : ℕ) → 0 < w.decision_wait → clock past ≤ e → state_at w (taken past) e (tickets w past) ≡ advanced e (state w past)
+at_step : (w : SectionData) (past : List Own) (e : ℕ) → 0 < w.tail_sampling.decision_wait → clock past ≤ e → state_at w (taken past) e (tickets w past) ≡ advanced e (state w past)
 unfolding state
 at_step w past e pos le = state_at_later w (clock past) e (tickets w past) (taken past) le (Reached-taken past) (tickets_within w past pos)
 
 -- the state after a post's spans
-state_at_taken : (w : SectionData) (e n : ℕ) (xs : List Arrival) (A : List Taken) → 0 < w.decision_wait → Reached e A → n ≤ length (groups w e A) → state_at w (taken_after e xs A) e n ≡ all_placed e xs (state_at w A e n)
+state_at_taken : (w : SectionData) (e n : ℕ) (xs : List Arrival) (A : List Taken) → 0 < w.tail_sampling.decision_wait → Reached e A → n ≤ length (groups w e A) → state_at w (taken_after e xs A) e n ≡ all_placed e xs (state_at w A e n)
 state_at_taken w e n [] A pos r within = refl
 state_at_taken w e n (x ∷ xs) A pos r within =
     state_at_taken w e n xs (record { moment = e; arrival = x } ∷ A) pos (omega arith, r) (omega (arith, within, length_groups_placed w e x A pos r)) ∙ ap (all_placed e xs) (state_at_placed w e n x A pos r within)
@@ -67,7 +67,7 @@ left_drop n gs = by_rest (drop n gs) refl
         let tail : drop (n + 1) gs ≡ rest = sym (drop-drop 1 n gs) ∙ ap (drop 1) e in
         grind (arith, nat_tests)
 
-pub state_goes_on : (w : SectionData) (past : List Own) (step : Own) → 0 < w.decision_wait → state w (step ∷ past) ≡ next step (state w past)
+pub state_goes_on : (w : SectionData) (past : List Own) (step : Own) → 0 < w.tail_sampling.decision_wait → state w (step ∷ past) ≡ next step (state w past)
 unfolding state next
 state_goes_on w past (Post now xs) pos =
     let d = clock past in
@@ -77,9 +77,9 @@ state_goes_on w past (Post now xs) pos =
 state_goes_on w past (Turn now) pos =
     let e = clock (Turn now ∷ past) in
     let groups_left = left_drop (tickets w past) (groups w e (taken past)) in
-    ap (λ queue. record { wait = w.decision_wait; clock = e; rows = kept_rows w e (seated (taken past)) (opened (taken past)); decided = decided_count w e (opened (taken past)); queue = queue; tickets = tickets_after (tickets w past) (drop (tickets w past) (groups w e (taken past))) }) (sym groups_left) ∙ ap handed_out (at_step w past e pos (omega arith))
+    ap (λ queue. record { wait = w.tail_sampling.decision_wait; clock = e; rows = kept_rows w e (seated (taken past)) (opened (taken past)); decided = decided_count w e (opened (taken past)); queue = queue; tickets = tickets_after (tickets w past) (drop (tickets w past) (groups w e (taken past))) }) (sym groups_left) ∙ ap handed_out (at_step w past e pos (omega arith))
 
-pub answer_goes_on : (w : SectionData) (past : List Own) (step : Own) → 0 < w.decision_wait → answer w past step ≡ told step (state w past)
+pub answer_goes_on : (w : SectionData) (past : List Own) (step : Own) → 0 < w.tail_sampling.decision_wait → answer w past step ≡ told step (state w past)
 unfolding state answer told
 answer_goes_on w past (Post now xs) pos = refl
 answer_goes_on w past (Turn now) pos = ap (λ (s : State). handed s.tickets s.queue) (at_step w past (clock (Turn now ∷ past)) pos (omega arith))
@@ -88,8 +88,8 @@ answer_goes_on w past (Turn now) pos = ap (λ (s : State). handed s.tickets s.qu
 pub answers_by : (step : Own) (old new : State) (said : Told) → 0 < old.wait → said ≡ told step old → new ≡ next step old → Answers step old said new
 unfolding state
 answers_by step old new said pos by_told by_next = λ section past stands.
-    let same_wait : old.wait ≡ section.decision_wait = ap (λ (s : State). s.wait) stands in
-    let pos' : 0 < section.decision_wait = omega arith in
+    let same_wait : old.wait ≡ section.tail_sampling.decision_wait = ap (λ (s : State). s.wait) stands in
+    let pos' : 0 < section.tail_sampling.decision_wait = omega arith in
     (by_told ∙ (ap (told step) stands ∙ sym (answer_goes_on section past step pos')), by_next ∙ (ap (next step) stands ∙ sym (state_goes_on section past step pos')))
 
 -- the spans of a post, by the fields

@@ -1,10 +1,9 @@
 -- When bodies that were read are equal.
-use Rattle.std.specs.Prelude.{◌≡◌, Bool, true, nat_eq}
-use mathlib.Core.Path.{refl}
+use Rattle.std.specs.Prelude.{ℕ, ℤ, pos, negsuc, Bool, List, [], ◌∷◌, map, nat_eq}
 use Rattle.std.specs.Cmp.{IsPartialEquivalence, partial_equiv_from_equiv, on_per, and_per, nat_eq_equiv}
 use Rattle.std.specs.Cmp.Lexicographic.{pointwise, nat_list_eq_equiv, lists_per, options_equiv}
 use Rattle.std.specs.Ordering.{on, eq_of_both}
-use Rattle.tail_settings.specs.Section.{PolicyData, always_sample}
+use Rattle.tail_settings.specs.Policy.{StatusData, unset, ok, error, LeafData, always_sample, latency, status_code, string_attribute, numeric_attribute, PolicyData, leaf, and}
 use Rattle.tenant_pipeline.specs.Arrivals.{Origin, Arrival}
 use Rattle.tenant_pipeline.specs.ExportText.{same_bytes, same_text}
 use Rattle.tenant_pipeline.specs.Prepared.{PreparedData}
@@ -19,9 +18,32 @@ abbrev pub arrival_eq : Arrival → Arrival → Bool
 arrival_eq =
     eq_of_both (eq_of_both (eq_of_both (on (λ a. a.trace_id) same_bytes) (on (λ a. a.span_id) same_bytes)) (on (λ a. a.text) same_bytes)) (on (λ a. a.origin) origin_eq)
 
--- the same kind
+abbrev pub status_number : StatusData → ℕ
+status_number unset = 0
+status_number ok = 1
+status_number error = 2
+
+-- a whole number: whether it is negative, and how far it is from 0 or -1
+abbrev pub signed : ℤ → List ℕ
+signed (pos n) = 0 ∷ n ∷ []
+signed (negsuc n) = 1 ∷ n ∷ []
+
+-- the kind of a policy that holds no other, and then what it says, so that policies that differ have parts that differ
+abbrev pub leaf_parts : LeafData → List (List ℕ)
+leaf_parts always_sample = (0 ∷ []) ∷ []
+leaf_parts (latency threshold) = (1 ∷ []) ∷ (threshold ∷ []) ∷ []
+leaf_parts (status_code codes) = (2 ∷ []) ∷ map status_number codes ∷ []
+leaf_parts (string_attribute key values) = (3 ∷ []) ∷ key ∷ values
+leaf_parts (numeric_attribute key low high) = (4 ∷ []) ∷ key ∷ signed low ∷ signed high ∷ []
+
+-- whether a policy holds others, and then the parts of those that hold none
+abbrev pub policy_parts : PolicyData → List (List (List ℕ))
+policy_parts (leaf l) = [] ∷ leaf_parts l ∷ []
+policy_parts (and ls) = ([] ∷ []) ∷ map leaf_parts ls
+
+-- the same parts
 abbrev pub policy_eq : PolicyData → PolicyData → Bool
-policy_eq always_sample always_sample = true
+policy_eq = on policy_parts (pointwise (pointwise same_bytes))
 
 -- the same tenant, the same policies in the same order, and the same spans in the same order
 abbrev pub prepared_eq : PreparedData → PreparedData → Bool
@@ -43,13 +65,7 @@ arrival_laws =
     and_per (and_per (and_per (on_per (λ a. a.trace_id) bytes_laws) (on_per (λ a. a.span_id) bytes_laws)) (on_per (λ a. a.text) bytes_laws)) (on_per (λ a. a.origin) origin_laws)
 
 policy_laws : IsPartialEquivalence policy_eq
-policy_laws = record { symm = symm; trans = trans }
-  where
-    symm : (x y : PolicyData) → policy_eq x y ≡ policy_eq y x
-    symm always_sample always_sample = refl
-
-    trans : (x y z : PolicyData) → policy_eq x y ≡ true → policy_eq y z ≡ true → policy_eq x z ≡ true
-    trans always_sample always_sample always_sample same again = again
+policy_laws = on_per policy_parts (lists_per (lists_per bytes_laws))
 
 pub prepared_laws : IsPartialEquivalence prepared_eq
 prepared_laws =

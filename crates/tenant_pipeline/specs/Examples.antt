@@ -1,6 +1,7 @@
 -- What the definitions give on small inputs, for the tests.
 use Rattle.std.specs.Prelude.{◌≡◌, ℕ, List, [], ◌∷◌, ◌++◌, replicate, Option, Some, None}
-use Rattle.tail_settings.specs.Section.{SectionData, always_sample}
+use Rattle.tail_settings.specs.Policy.{always_sample, leaf}
+use Rattle.tail_settings.specs.Section.{SectionData}
 use Rattle.tenant_pipeline.specs.declared.told.Told.TheVariants as tell
 use Rattle.tenant_pipeline.specs.Arrivals.{Arrival}
 use Rattle.tenant_pipeline.specs.ExportText.{export_text}
@@ -8,8 +9,17 @@ use Rattle.tenant_pipeline.specs.Own.{Own, Post, Turn}
 use Rattle.tenant_pipeline.specs.State.{state, answer}
 use Rattle.tenant_pipeline.specs.Ready.{ready}
 
+-- a wait of a second, and else the defaults
 abbrev pub one_second : SectionData
-one_second = record { decision_wait = 1000; policies = always_sample ∷ [] }
+one_second = record {
+  endpoint = [];
+  max_spans = 100000;
+  seed = 0;
+  tail_sampling = record { decision_wait = 1000; num_traces = 50000; policies = leaf always_sample ∷ [] };
+  batch = record { send_batch_size = 8192; timeout = 200; send_batch_max_size = 0 };
+  sending_queue = record { queue_size = 1000; num_consumers = 10 };
+  retry_on_failure = record { initial_interval = 5000; max_interval = 30000; max_elapsed_time = 300000; multiplier = 1500; randomization_factor = 500 };
+}
 
 -- the 28 bytes of a span whose trace id and span id are one byte again and again
 abbrev pub text : ℕ → ℕ → List ℕ

@@ -11,7 +11,7 @@ pub record GroupData : Type 0 where
 
 -- when a row that opened at this moment is decided
 abbrev pub due_of : SectionData → ℕ → ℕ
-due_of section opening = opening + section.decision_wait
+due_of section opening = opening + section.tail_sampling.decision_wait
 
 -- a row's spans that came before its decision, in order of arrival
 abbrev pub on_time : SectionData → ℕ → List Seated → List Arrival

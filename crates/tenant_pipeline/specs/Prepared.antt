@@ -4,7 +4,8 @@ use Rattle.otlp_trace.specs.Data.{RequestData}
 use Rattle.otlp_read.specs.Value.{IsValue}
 use Rattle.otlp_read.specs.declared.fault.ReadFault.{ReadFault}
 use Rattle.otlp_read.specs.declared.fault.ReadFault.TheVariants as faults
-use Rattle.tail_settings.specs.Section.{PolicyData, SectionData}
+use Rattle.tail_settings.specs.Policy.{PolicyData}
+use Rattle.tail_settings.specs.Section.{SectionData}
 use Rattle.tenant_pipeline.specs.declared.body.Refusal.{Refusal}
 use Rattle.tenant_pipeline.specs.declared.body.Refusal.TheVariants as refusal
 use Rattle.tenant_pipeline.specs.Arrivals.{Arrival, arrivals_of}
@@ -15,7 +16,7 @@ pub record PreparedData : Type 0 where
   pub arrivals : List Arrival
 
 abbrev pub prepared_of : ℕ → SectionData → RequestData → PreparedData
-prepared_of tenant section request = record { tenant = tenant; policies = section.policies; arrivals = arrivals_of request }
+prepared_of tenant section request = record { tenant = tenant; policies = section.tail_sampling.policies; arrivals = arrivals_of request }
 
 -- the tenant, the section's policies and the spans of the body's value
 abbrev pub IsPrepared : ℕ → SectionData → List ℕ → PreparedData → Type 0

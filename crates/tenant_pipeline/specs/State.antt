@@ -58,7 +58,7 @@ decided_count section reached (row ∷ rows) = decided_count section reached row
 -- the state from the spans taken, the moment reached and the tickets handed out
 abbrev pub state_at : SectionData → List Taken → ℕ → ℕ → State
 state_at section spans reached handed_out = record {
-  wait = section.decision_wait;
+  wait = section.tail_sampling.decision_wait;
   clock = reached;
   rows = kept_rows section reached (seated spans) (opened spans);
   decided = decided_count section reached (opened spans);

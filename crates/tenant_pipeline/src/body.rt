@@ -20,7 +20,7 @@ use otlp_trace::{
 };
 use std::alloc::{AllocError, Global};
 use std::marker::Model;
-use tail_settings::{PolicySpec, Section};
+use tail_settings::{PolicySpec, Section, copied_policies, same_policies};
 use thiserror::Error;
 
 /// A body's spans, ready to be posted to a tenant, with the policies that the tenant had then.
@@ -33,7 +33,7 @@ pub struct Prepared {
 
 impl Model for Prepared {
     ghost use Rattle.std.specs.Prelude.{map};
-    ghost use Rattle.tail_settings.specs.Section.{policy_view};
+    ghost use Rattle.tail_settings.specs.Policy.{policy_view};
     ghost use Rattle.tenant_pipeline.specs.Prepared.{PreparedData};
 
     ghost Value = { PreparedData };
@@ -53,7 +53,7 @@ impl PartialEq for Prepared {
     ghost laws = { prepared_laws };
 
     fn eq(&self, other: &Self) -> bool {
-        self.tenant == other.tenant && self.policies == other.policies && self.spans == other.spans
+        self.is_for_same(other) && self.spans == other.spans
     }
 }
 
@@ -88,11 +88,23 @@ impl From<ReadFault> for Refusal {
 }
 
 impl Prepared {
+    ghost use Rattle.std.specs.Prelude.{nat_eq, ◌&&◌};
+    ghost use Rattle.std.specs.Cmp.Lexicographic.{pointwise};
+    ghost use Rattle.tenant_pipeline.specs.Equal.{policy_eq};
+
     /// The number of the tenant.
     pub fn tenant(&self) -> u32
         ensures { result ≡ self.now.tenant }
     {
         self.tenant
+    }
+
+    /// Whether both are for one tenant with the same policies.
+    fn is_for_same(&self, other: &Prepared) -> bool
+        ensures { result ≡ (nat_eq self.now.tenant other.now.tenant && pointwise policy_eq self.now.policies other.now.policies) }
+    {
+        self.tenant == other.tenant
+            && same_policies(self.policies.as_slice(), other.policies.as_slice())
     }
 
     pub(crate) fn spans(&self) -> &[StoredSpan]
@@ -121,7 +133,7 @@ pub fn prepare(
 {
     let request = read_request(alloc, body)?;
     let spans = spans_of(alloc, request)?;
-    let policies = section.policies.clone()?;
+    let policies = copied_policies(alloc, section.tail_sampling.policies.as_slice())?;
     Ok(Prepared {
         tenant,
         policies,

@@ -66,7 +66,7 @@ impl Pipeline {
     {
         Pipeline {
             alloc,
-            wait: section.decision_wait,
+            wait: section.tail_sampling.decision_wait,
             clock: 0,
             rows: IndexMap::new(alloc),
             decided: 0,

@@ -291,7 +291,7 @@ fn seated(alloc: Global, spans: &[TakenSpan]) -> Result<Vec<SeatedSpan>, AllocEr
 fn due_of(section: &Section, opening: u64) -> u128
     ensures { result ≡ due_of (section_view section.now) opening }
 {
-    opening as u128 + section.decision_wait as u128
+    opening as u128 + section.tail_sampling.decision_wait as u128
 }
 
 /// Appends a span's copy.

@@ -5,7 +5,7 @@ use bytes::Bytes;
 use otlp_read::ReadFault;
 use std::alloc::Global;
 use std::test::Fail;
-use tail_settings::{PolicySpec, Section};
+use tail_settings::{Section, load};
 
 /// A post of one span: trace id 11.. and span id 21...
 pub const BODY: [u8; 34] =
@@ -23,19 +23,26 @@ pub const BOTH: [u8; 64] =
 pub const OTHER: [u8; 34] =
     *b"\x0a\x20\x12\x1e\x12\x1c\x0a\x10\x12\x12\x12\x12\x12\x12\x12\x12\x12\x12\x12\x12\x12\x12\x12\x12\x12\x08\x23\x23\x23\x23\x23\x23\x23\x23";
 
-pub fn section(alloc: Global) -> Result<Section, Fail> {
-    Ok(Section {
-        decision_wait: 1000,
-        policies: vec![in alloc; PolicySpec::AlwaysSample]?,
-    })
+/// The section of the first tenant that this document has.
+fn first_section(alloc: Global, document: &str) -> Result<Section, Fail> {
+    let settings = load(alloc, document)?;
+    let (_name, section) = settings.tenants.into_iter().next().ok_or("no such tenant")?;
+    Ok(section)
 }
 
-/// A section with other policies.
+pub fn section(alloc: Global) -> Result<Section, Fail> {
+    first_section(
+        alloc,
+        "tenant = [{ name = \"a\", tail_sampling = { decision_wait_ms = 1000, policy = [{ type = \"always_sample\" }] } }]",
+    )
+}
+
+/// A section with another policy.
 fn other_section(alloc: Global) -> Result<Section, Fail> {
-    Ok(Section {
-        decision_wait: 1000,
-        policies: vec![in alloc; PolicySpec::AlwaysSample, PolicySpec::AlwaysSample]?,
-    })
+    first_section(
+        alloc,
+        "tenant = [{ name = \"a\", tail_sampling = { decision_wait_ms = 1000, policy = [{ type = \"latency\", threshold_ms = 5 }] } }]",
+    )
 }
 
 fn post(alloc: Global, pipeline: &mut Pipeline, now: u64, body: &[u8]) -> Result<bool, Fail> {

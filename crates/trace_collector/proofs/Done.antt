@@ -30,25 +30,25 @@ pub done_posts : (old new : Shards) (tenant : ℕ) (section : SectionData) (mome
     → settings_view new.settings ≡ settings_view old.settings
     → position (λ t. bytes_eq name t.name) (settings_view old.settings).tenants ≡ Some tenant
     → section_at (settings_view old.settings) tenant ≡ Some section → IsPrepared tenant section body prepared
-    → IsDone (settings_view old.settings) (tenant % (settings_view old.settings).shards) (steps.Post moment prepared) old.shards.items new.shards.items before behind
+    → IsDone (settings_view old.settings) (tenant % (settings_view old.settings).global.shards) (steps.Post moment prepared) old.shards.items new.shards.items before behind
     → (line : List ℕ) × (behind ≡ before ++ line) × Answers old (Post name moment body) (Some line) new
 done_posts old new tenant section moment name body prepared before behind same found kept value done =
     let settings = settings_view old.settings in
-    let shard = tenant % (settings_view old.settings).shards in (
+    let shard = tenant % (settings_view old.settings).global.shards in (
       outcome_text settings shard done.outcome,
       done.text,
       record {
         same = same;
         answers = λ pasts all.
             let next = stands_after settings pasts old.shards.items new.shards.items shard (steps.Post moment prepared) before behind all done in
-            let stepped = subst (λ p. IsStepped (settings_view old.settings) pasts (tenant % (settings_view old.settings).shards) (steps.Post moment p)
-            (Some (outcome_text (settings_view old.settings) (tenant % (settings_view old.settings).shards) done.outcome)) next.0) value.2 next.1 in
+            let stepped = subst (λ p. IsStepped (settings_view old.settings) pasts (tenant % (settings_view old.settings).global.shards) (steps.Post moment p)
+            (Some (outcome_text (settings_view old.settings) (tenant % (settings_view old.settings).global.shards) done.outcome)) next.0) value.2 next.1 in
             (next.0, posted_to settings pasts next.0 tenant _ name moment body _ found (inl (section, value.0, kept, value.1, stepped)), next.2);
       },
     )
 
 pub done_turns : (old new : Shards) (shard moment : ℕ) (before behind : List ℕ) → settings_view new.settings ≡ settings_view old.settings
-    → nat_lt shard (settings_view old.settings).shards ≡ true
+    → nat_lt shard (settings_view old.settings).global.shards ≡ true
     → IsDone (settings_view old.settings) shard (steps.Turn moment) old.shards.items new.shards.items before behind
     → (line : List ℕ) × (behind ≡ before ++ line) × Answers old (Turn shard moment) (Some line) new
 done_turns old new shard moment before behind same below done =

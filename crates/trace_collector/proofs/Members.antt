@@ -29,13 +29,13 @@ within settings tenant leaves = elim (cases_lt tenant (length settings.tenants))
   | inr past ↦ past_all (nat_lt tenant (length settings.tenants)) leaves (section_at settings tenant) (ap (option_map (λ t. t.section)) (slice_get_past settings.tenants tenant past))
 ]
 
-section_is : (settings : SettingsData) (shard : ℕ) (members : List ℕ) → AreMembers (length settings.tenants) settings.shards shard members
+section_is : (settings : SettingsData) (shard : ℕ) (members : List ℕ) → AreMembers (length settings.tenants) settings.global.shards shard members
     → (tenant : ℕ) → section_of settings members tenant ≡ section_in settings shard tenant
 section_is settings shard members are tenant =
-    ap (λ b. cond b (section_at settings tenant) None) (are tenant) ∙ within settings tenant (tenant % settings.shards == shard)
+    ap (λ b. cond b (section_at settings tenant) None) (are tenant) ∙ within settings tenant (tenant % settings.global.shards == shard)
 
 -- a shard that was opened for its tenants stands for no steps of theirs
-pub opened_stands : (settings : SettingsData) (shard : ℕ) (members : List ℕ) (kept : List View) → AreMembers (length settings.tenants) settings.shards shard members
+pub opened_stands : (settings : SettingsData) (shard : ℕ) (members : List ℕ) (kept : List View) → AreMembers (length settings.tenants) settings.global.shards shard members
     → ShardStands (opened settings members) kept → ShardStands (lists_of settings no_steps shard) kept
 opened_stands settings shard members kept are stands tenant =
     subst (λ s. MemberStands s [] true (kept_of tenant kept)) (section_is settings shard members are tenant) (stands tenant)

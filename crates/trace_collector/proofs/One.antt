@@ -135,8 +135,8 @@ module _ (one_value : (body : List ℕ) (v v' : RequestData) → IsValue body v 
       let kept = one_section (section_at settings tenant) h.0 k.0 h.2 k.2 in
       let value = one_value body h.1 k.1 h.3 k.3 in
       let same : prepared_of tenant h.0 h.1 ≡ prepared_of tenant k.0 k.1 = λ i. prepared_of tenant (kept i) (value i) in
-      stepped_one settings pasts later later' (tenant % settings.shards) (steps.Post moment (prepared_of tenant k.0 k.1)) line line'
-      (subst (λ p. IsStepped settings pasts (tenant % settings.shards) (steps.Post moment p) line later) same h.4) k.4
+      stepped_one settings pasts later later' (tenant % settings.global.shards) (steps.Post moment (prepared_of tenant k.0 k.1)) line line'
+      (subst (λ p. IsStepped settings pasts (tenant % settings.global.shards) (steps.Post moment p) line later) same h.4) k.4
   posted_one settings pasts later later' tenant name moment body line line' (inl h) (inr k) = absurd (k.0 h.1 h.3)
   posted_one settings pasts later later' tenant name moment body line line' (inr h) (inl k) = absurd (h.0 k.1 k.3)
   posted_one settings pasts later later' tenant name moment body line line' (inr h) (inr k) = (h.1 ∙ sym k.1, h.2 ∙ sym k.2)
@@ -157,7 +157,7 @@ module _ (one_value : (body : List ℕ) (v v' : RequestData) → IsValue body v 
   script_answered_one settings pasts later later' (Post name moment body) line line' h k =
       posted_to_one settings pasts later later' (position (λ t. bytes_eq name t.name) settings.tenants) name moment body line line' h k
   script_answered_one settings pasts later later' (Turn shard moment) line line' h k =
-      turn_one settings pasts later later' shard moment (nat_lt shard settings.shards) line line' h k
+      turn_one settings pasts later later' shard moment (nat_lt shard settings.global.shards) line line' h k
 
 pub same_value : ((body : List ℕ) (v : RequestData) → (value_of body ≡ Ok v) ↔ IsValue body v) → (body : List ℕ) (v v' : RequestData) → IsValue body v → IsValue body v' → v ≡ v'
 same_value exact body v v' h k =

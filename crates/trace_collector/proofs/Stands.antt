@@ -49,7 +49,7 @@ others_stand : (settings : SettingsData) (pasts : ℕ → List Own) (shard other
     → ShardStands (lists_of settings pasts other) kept → ShardStands (lists_of settings (after step outcome (lists_of settings pasts shard)).pasts other) kept
 others_stand settings pasts shard other step outcome kept apart stands tenant =
     other_stands (section_in settings other tenant) (pasts tenant) _ (kept_of tenant kept)
-    (other_past tenant settings.shards shard other (section_at settings tenant) (is_own tenant step outcome) (own_step step) (pasts tenant) apart)
+    (other_past tenant settings.global.shards shard other (section_at settings tenant) (is_own tenant step outcome) (own_step step) (pasts tenant) apart)
     (stands tenant)
 
 same_kept : (a b : Option (List View)) (kept left : List View) → a ≡ Some left → a ≡ Some kept → left ≡ kept

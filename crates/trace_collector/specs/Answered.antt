@@ -19,7 +19,7 @@ use Rattle.trace_collector.specs.Outcomes.{outcome_text, bad_protobuf}
 
 -- a shard's members are the tenants whose number, divided by the count of shards, leaves the shard's
 abbrev pub section_in : SettingsData → ℕ → ℕ → Option SectionData
-section_in settings shard tenant = if tenant % settings.shards == shard then section_at settings tenant else None
+section_in settings shard tenant = if tenant % settings.global.shards == shard then section_at settings tenant else None
 
 abbrev pub lists_of : SettingsData → (ℕ → List Own) → ℕ → Lists
 lists_of settings pasts shard = record { sections = section_in settings shard; pasts = pasts; known = λ tenant. true }
@@ -37,7 +37,7 @@ HasNoValue body = (v : RequestData) → IsValue body v → ⊥
 abbrev pub IsPosted : SettingsData → (ℕ → List Own) → ℕ → List ℕ → ℕ → List ℕ → Option (List ℕ) → (ℕ → List Own) → Type 0
 IsPosted settings pasts tenant name moment body line new =
     ((section : SectionData) × (v : RequestData) × (section_at settings tenant ≡ Some section) × IsValue body v
-    × IsStepped settings pasts (tenant % settings.shards) (steps.Post moment (prepared_of tenant section v)) line new)
+    × IsStepped settings pasts (tenant % settings.global.shards) (steps.Post moment (prepared_of tenant section v)) line new)
     ⊎ (HasNoValue body × (line ≡ Some (reply_text name 400 bad_protobuf)) × (new ≡ pasts))
 
 abbrev pub IsPostedTo : SettingsData → (ℕ → List Own) → Option ℕ → List ℕ → ℕ → List ℕ → Option (List ℕ) → (ℕ → List Own) → Type 0
@@ -49,4 +49,4 @@ abbrev pub IsAnswered : SettingsData → (ℕ → List Own) → CommandData → 
 IsAnswered settings pasts (Post name moment body) line new =
     IsPostedTo settings pasts (position (λ t. bytes_eq name t.name) settings.tenants) name moment body line new
 IsAnswered settings pasts (Turn shard moment) line new =
-    MatchBool (nat_lt shard settings.shards) (IsStepped settings pasts shard (steps.Turn moment) line new) ((line ≡ None) × (new ≡ pasts))
+    MatchBool (nat_lt shard settings.global.shards) (IsStepped settings pasts shard (steps.Turn moment) line new) ((line ≡ None) × (new ≡ pasts))

@@ -14,7 +14,7 @@ use Rattle.trace_collector.specs.Answered.{lists_of, IsAnswered}
 
 -- there are as many shards as the settings have, each standing for the own steps of its members
 pub record AllStand (settings : SettingsData) (shards : List (List View)) (pasts : ℕ → List Own) : Type 0 where
-  pub count : length shards ≡ settings.shards
+  pub count : length shards ≡ settings.global.shards
   pub each : (shard : ℕ) (kept : List View) → slice_get shards shard ≡ Some kept → ShardStands (lists_of settings pasts shard) kept
 
 -- whatever own steps the shards stand for, the command is answered by them, and the shards stand for those afterwards

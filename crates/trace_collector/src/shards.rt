@@ -200,7 +200,7 @@ fn name_of(settings: &Settings, tenant: u32) -> &str
 
 /// The numbers of a shard's tenants.
 fn members_of(alloc: Global, settings: &Settings, shard: u32) -> Result<Vec<u32>, AllocError>
-    ensures { IfOk result (λ members. AreMembers (length (settings_view settings.now).tenants) (settings_view settings.now).shards shard members.items) }
+    ensures { IfOk result (λ members. AreMembers (length (settings_view settings.now).tenants) (settings_view settings.now).global.shards shard members.items) }
 {
     let mut members = Vec::new(alloc);
     for tenant in 0..settings.tenants_len() {

@@ -1,4 +1,6 @@
-use Rattle.tail_settings.specs.Settings.{settings_of, settings_of_table}
+use Rattle.std.proofs.Common.{◌≤◌, ◌^◌, arith, map}
+use Rattle.std.proofs.lemmas.Bool.{le-leb}
+use Rattle.tail_settings.specs.Settings.{tenant_view, spans_of, settings_of, settings_of_table}
 use Rattle.tail_settings.proofs.Rules.{settings_of-not_toml}
 use Rattle.tail_settings.proofs.Sound.{settings_of-sound}
 use Rattle.tail_settings.proofs.document.load.Goals as goal
@@ -14,4 +16,7 @@ returns-in_err-tenants-clause-not_toml c = settings_of-not_toml c.args.text.now
 
 pub returns-clause-sound : goal.returns-clause-sound
 unfolding settings_of settings_of_table
-returns-clause-sound c = settings_of-sound c.args.text.now _ (rw (c.in-Ok.ensures.ok, c.in_ok-global.ensures, c.in_ok-tenants.ensures.meaning))
+returns-clause-sound c =
+    let total = spans_of (map tenant_view c.in_ok-tenants.tenants.entries) in
+    let few : total ≤ 2 ^ 31 = omega (arith, c.spans.ensures.meaning) in
+    settings_of-sound c.args.text.now _ (rw (c.in-Ok.ensures.ok, c.in_ok-global.ensures, c.in_ok-tenants.ensures.meaning, le-leb total (2 ^ 31) few))

@@ -1,7 +1,8 @@
 use Rattle.std.proofs.Common.{◌≡◌, drop}
+use Rattle.toml.specs.Data.{as_table}
 use Rattle.toml.specs.View.{items_view}
-use Rattle.tail_settings.specs.Keys.{are_tables}
+use Rattle.tail_settings.specs.Keys.{are_all}
 use Rattle.tail_settings.proofs.keys.are_all_tables.Given as goal
 
 abbrev pub invariant-loop-value : goal.invariant-loop-value
-invariant-loop-value l = are_tables (items_view (drop l.value-index l.values)) ≡ are_tables (items_view l.values)
+invariant-loop-value l = are_all as_table (items_view (drop l.value-index l.values)) ≡ are_all as_table (items_view l.values)

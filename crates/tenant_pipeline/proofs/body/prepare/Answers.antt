@@ -1,10 +1,10 @@
-use Rattle.std.proofs.Common.{rules, ◌≡◌, Ok, List, Result, ap, ◌∙◌}
+use Rattle.std.proofs.Common.{rules, ◌≡◌, Ok, List, Result, map, ap, ◌∙◌}
+use Rattle.tail_settings.specs.Policy.{policy_view}
 use Rattle.otlp_trace.specs.Data.{RequestData}
 use Rattle.otlp_trace.specs.View.{request_view}
 use Rattle.tenant_pipeline.specs.Arrivals.{Arrival, arrivals_of}
-use Rattle.tail_settings.specs.Section.{policy_view}
 use Rattle.otlp_read.specs.declared.fault.ReadFault.{ReadFault}
-use Rattle.tenant_pipeline.proofs.Bodies.{only_memory, same_clones}
+use Rattle.tenant_pipeline.proofs.Bodies.{only_memory}
 use Rattle.tenant_pipeline.proofs.body.prepare.Goals as goal
 
 pub returns-in_err-request-clause-only : goal.returns-in_err-request-clause-only
@@ -16,6 +16,6 @@ pub returns-clause-only : goal.returns-clause-only
 returns-clause-only c = λ v is.
     let only : Path (Result RequestData ReadFault) (Ok v) (Ok (request_view c.in_ok-request.request)) = c.in_ok-request.ensures.only v is in
     let same : request_view c.in_ok-request.request ≡ v = cc in
-    let policies = same_clones policy_view _ (λ a b same. ap policy_view same) c.args.section.now.policies.items _ c.in_ok-policies.ensures.cases.0 in
+    let policies = c.in_ok-policies.ensures ∙ ap (map policy_view) c.as_slice.ensures.value in
     let arrivals : c.in_ok-spans.spans.items ≡ arrivals_of v = c.in_ok-spans.ensures ∙ ap arrivals_of same in
     λ i. record { tenant = c.args.tenant; policies = policies i; arrivals = arrivals i }

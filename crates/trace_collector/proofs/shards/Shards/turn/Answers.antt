@@ -6,5 +6,5 @@ use Rattle.trace_collector.proofs.shards.Shards.turn.Goals as goal
 
 pub returns-clause-ok : goal.returns-clause-ok
 returns-clause-ok c =
-    let below : nat_lt c.args.shard (settings_view c.args.self.now.settings).shards ≡ true = grind (arith, nat_tests) in
+    let below : nat_lt c.args.shard (settings_view c.args.self.now.settings).global.shards ≡ true = grind (arith, nat_tests) in
     done_turns c.args.self.now c.step.new.self c.args.shard c.args.moment _ _ (ap settings_view c.in_ok-step.ensures.settings) below c.in_ok-step.ensures.ok

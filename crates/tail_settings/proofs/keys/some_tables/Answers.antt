@@ -1,0 +1,13 @@
+use Rattle.std.proofs.Common.{◌<◌, length, arith}
+use Rattle.std.proofs.lemmas.Bool.Decides.{nat_tests}
+use Rattle.toml.specs.Data.{no_members, as_table}
+use Rattle.tail_settings.specs.Fault.{out_of_range}
+use Rattle.tail_settings.specs.Keys.{some_tables_at}
+use Rattle.tail_settings.proofs.Arrays.{not_empty-some}
+use Rattle.tail_settings.proofs.keys.some_tables.Goals as goal
+
+pub returns-clause-meaning : goal.returns-clause-meaning
+unfolding some_tables_at
+returns-clause-meaning c =
+    let some : 0 < length c.in_ok-values.values.now = grind (arith, nat_tests, c.if-is_empty.ensures) in
+    rw c.in_ok-values.ensures (not_empty-some as_table no_members (out_of_range c.args.key.now) c.in_ok-values.values.now some)

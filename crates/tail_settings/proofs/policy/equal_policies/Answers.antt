@@ -1,0 +1,10 @@
+use Rattle.tail_settings.proofs.Policies.{leaves_equal, policies_equal, leaves_copied, policies_copied}
+use Rattle.tail_settings.proofs.policy.equal_policies.Goals as goal
+
+pub returns : goal.returns
+returns c = record {
+  leaf = leaves_equal;
+  policy = policies_equal;
+  leaf_copy = leaves_copied;
+  policy_copy = policies_copied;
+}

@@ -1,0 +1,28 @@
+-- The table `tail_sampling`: how a tenant chooses the traces that it keeps.
+use Rattle.std.specs.Prelude.{codes, ℕ, List, map, Result, Ok}
+use Rattle.toml.specs.Data.{Members}
+use Rattle.tail_settings.specs.declared.tail_sampling.TailSampling.{TailSampling}
+use Rattle.tail_settings.specs.Fault.{FaultData, ◌>>=◌}
+use Rattle.tail_settings.specs.Keys.{number_at, table_at}
+use Rattle.tail_settings.specs.Policy.{PolicyData, policy_view, policies_of}
+
+-- how long a trace waits for its decision, in milliseconds, how many traces are held, and the policies of which one has to be met
+pub record TailSamplingData : Type 0 where
+  pub decision_wait : ℕ
+  pub num_traces : ℕ
+  pub policies : List PolicyData
+
+abbrev pub tail_sampling_view : TailSampling → TailSamplingData
+tail_sampling_view s = record {
+  decision_wait = s.decision_wait;
+  num_traces = s.num_traces;
+  policies = map policy_view s.policies.items;
+}
+
+unfoldable pub tail_sampling_of : Members → Result TailSamplingData FaultData
+tail_sampling_of tenant = do
+  sampling ← table_at (codes "tail_sampling") tenant
+  decision_wait ← number_at (codes "decision_wait_ms") 1 86400000 30000 sampling
+  num_traces ← number_at (codes "num_traces") 1 1000000 50000 sampling
+  policies ← policies_of sampling
+  Ok (record { decision_wait = decision_wait; num_traces = num_traces; policies = policies })
