@@ -42,12 +42,12 @@ many_told text (x ∷ xs) = ap (λ bs. text x ∷ bs) (many_told text xs)
 
 -- ---- what is kept isn't read
 
-span_bytes : (m : ℕ) (v : Datum) → NotInSpan m v → (has 1 types.Bytes (numbered m v) ≡ false) × (has 9 types.Bytes (numbered m v) ≡ false) × (has 15 types.Bytes (numbered m v) ≡ false)
-span_bytes m (Bytes bs) h = (not_number m 1 h.0, not_number m 9 h.1, not_number m 15 h.2)
-span_bytes m (Varint x) h = (not_kind (m == 1), not_kind (m == 9), not_kind (m == 15))
-span_bytes m (Eight bs) h = (not_kind (m == 1), not_kind (m == 9), not_kind (m == 15))
-span_bytes m (Four bs) h = (not_kind (m == 1), not_kind (m == 9), not_kind (m == 15))
-span_bytes m (Group bs) h = (not_kind (m == 1), not_kind (m == 9), not_kind (m == 15))
+span_bytes : (m : ℕ) (v : Datum) → NotInSpan m v → (has 1 types.Bytes (numbered m v) ≡ false) × (has 2 types.Bytes (numbered m v) ≡ false) × (has 9 types.Bytes (numbered m v) ≡ false) × (has 15 types.Bytes (numbered m v) ≡ false)
+span_bytes m (Bytes bs) h = (not_number m 1 h.0, not_number m 2 h.1, not_number m 9 h.2, not_number m 15 h.3)
+span_bytes m (Varint x) h = (not_kind (m == 1), not_kind (m == 2), not_kind (m == 9), not_kind (m == 15))
+span_bytes m (Eight bs) h = (not_kind (m == 1), not_kind (m == 2), not_kind (m == 9), not_kind (m == 15))
+span_bytes m (Four bs) h = (not_kind (m == 1), not_kind (m == 2), not_kind (m == 9), not_kind (m == 15))
+span_bytes m (Group bs) h = (not_kind (m == 1), not_kind (m == 2), not_kind (m == 9), not_kind (m == 15))
 
 span_eights : (m : ℕ) (v : Datum) → NotInSpan m v → (has 7 types.Eight (numbered m v) ≡ false) × (has 8 types.Eight (numbered m v) ≡ false)
 span_eights m (Eight bs) h = (not_number m 7 h.0, not_number m 8 h.1)
@@ -170,9 +170,9 @@ status_told : (o : Option StatusData) → IfSome o SoundStatus → length (embed
 status_told None sound short = ap (λ es. cast_signed w32 (first_varint (held 3 types.Varint es) % 2 ^ 32)) (fields_step [])
 status_told (Some s) sound short = code_told s sound (omega (arith, short, bytes_within 15 (status_text s)))
 
-facts_are : {t u : List ℕ} {a b c d : ℕ} {x y : ℤ} {l m : List AttributeFact} → t ≡ u → a ≡ b → c ≡ d → x ≡ y → l ≡ m
-    → ◌≡◌ {A = SpanFacts} (record { trace_id = t; start_time_unix_nano = a; end_time_unix_nano = c; status = x; attributes = l }) (record { trace_id = u; start_time_unix_nano = b; end_time_unix_nano = d; status = y; attributes = m })
-facts_are ids starts ends codes attributes = rw (ids, starts, ends, codes, attributes) refl
+facts_are : {t u p q : List ℕ} {a b c d : ℕ} {x y : ℤ} {l m : List AttributeFact} → t ≡ u → p ≡ q → a ≡ b → c ≡ d → x ≡ y → l ≡ m
+    → ◌≡◌ {A = SpanFacts} (record { trace_id = t; span_id = p; start_time_unix_nano = a; end_time_unix_nano = c; status = x; attributes = l }) (record { trace_id = u; span_id = q; start_time_unix_nano = b; end_time_unix_nano = d; status = y; attributes = m })
+facts_are ids own_ids starts ends codes attributes = rw (ids, own_ids, starts, ends, codes, attributes) refl
 
 pub span_told : (text resource : List ℕ) (s : SpanData) (r : Option ResourceData) → IsSpanText text s → IsResourceText resource r → facts_of text resource ≡ facts s r
 span_told text resource s r is its =
@@ -183,13 +183,14 @@ span_told text resource s r is its =
     let bytes_at : (n : ℕ) → ((m : ℕ) (v : Datum) → NotInSpan m v → has n types.Bytes (numbered m v) ≡ false) → held n types.Bytes (fields_of text) ≡ parts_held n types.Bytes ps [] = λ n unread. ap (λ t. held n types.Bytes (fields_of t)) same ∙ canonical_held ps (span_are s is.sound) NotInSpan s.unknown is.sound.unknown short n types.Bytes unread in
     let eight_at : (n : ℕ) → ((m : ℕ) (v : Datum) → NotInSpan m v → has n types.Eight (numbered m v) ≡ false) → held n types.Eight (fields_of text) ≡ parts_held n types.Eight ps [] = λ n unread. ap (λ t. held n types.Eight (fields_of t)) same ∙ canonical_held ps (span_are s is.sound) NotInSpan s.unknown is.sound.unknown short n types.Eight unread in
     let own : attributes_in 9 text ≡ map key_value_fact s.attributes =
-    ap (λ ds. map attribute_in (all_bytes ds)) (bytes_at 9 (λ m v h. (span_bytes m v h).1)) ∙ ap (map attribute_in) (many_told key_value_text s.attributes)
+    ap (λ ds. map attribute_in (all_bytes ds)) (bytes_at 9 (λ m v h. (span_bytes m v h).2)) ∙ ap (map attribute_in) (many_told key_value_text s.attributes)
     ∙ key_values_told 9 s.attributes is.sound.attributes each.1.1.1.1.1.1.1.1.0 in
     facts_are
     (ap first_bytes (bytes_at 1 (λ m v h. (span_bytes m v h).0)) ∙ some_bytes_told 1 s.trace_id)
+    (ap first_bytes (bytes_at 2 (λ m v h. (span_bytes m v h).1)) ∙ some_bytes_told 2 s.span_id)
     (ap first_eight (eight_at 7 (λ m v h. (span_eights m v h).0)) ∙ some_eight_told 7 s.start_time_unix_nano is.sound.start_time_unix_nano)
     (ap first_eight (eight_at 8 (λ m v h. (span_eights m v h).1)) ∙ some_eight_told 8 s.end_time_unix_nano is.sound.end_time_unix_nano)
-    (ap (λ ds. code_in (first_bytes ds)) (bytes_at 15 (λ m v h. (span_bytes m v h).2)) ∙ status_told s.status is.sound.status each.1.1.1.1.1.1.1.1.1.1.1.1.1.1.0)
+    (ap (λ ds. code_in (first_bytes ds)) (bytes_at 15 (λ m v h. (span_bytes m v h).3)) ∙ status_told s.status is.sound.status each.1.1.1.1.1.1.1.1.1.1.1.1.1.1.0)
     (ap (λ l. l ++ attributes_in 1 resource) own ∙ ap (λ l. map key_value_fact s.attributes ++ l) (resource_told resource r its))
 
 -- ---- what is text is UTF-8

@@ -12,7 +12,7 @@ use Rattle.otlp_trace.specs.Text.{resource_text, span_text}
 -- ---- what a view doesn't read in a message, by number and wire type
 
 abbrev pub NotInSpan : ℕ → Datum → Type 0
-NotInSpan n (Bytes bs) = (n ≢ 1) × (n ≢ 9) × (n ≢ 15)
+NotInSpan n (Bytes bs) = (n ≢ 1) × (n ≢ 2) × (n ≢ 9) × (n ≢ 15)
 NotInSpan n (Eight bs) = (n ≢ 7) × (n ≢ 8)
 NotInSpan n _ = Unit {0}
 

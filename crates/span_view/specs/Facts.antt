@@ -22,6 +22,7 @@ pub record AttributeFact : Type 0 where
 
 pub record SpanFacts : Type 0 where
   pub trace_id : List ℕ
+  pub span_id : List ℕ
   pub start_time_unix_nano : ℕ
   pub end_time_unix_nano : ℕ
   pub status : ℤ
@@ -61,6 +62,7 @@ resource_attributes (Some resource) = resource.attributes
 abbrev pub facts : SpanData → Option ResourceData → SpanFacts
 facts s r = record {
   trace_id = s.trace_id;
+  span_id = s.span_id;
   start_time_unix_nano = s.start_time_unix_nano;
   end_time_unix_nano = s.end_time_unix_nano;
   status = status_fact s.status;

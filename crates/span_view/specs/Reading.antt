@@ -110,6 +110,7 @@ code_in text = cast_signed w32 (first_varint (held 3 types.Varint (fields_of tex
 abbrev pub facts_of : List ℕ → List ℕ → SpanFacts
 facts_of span resource = record {
   trace_id = first_bytes (held 1 types.Bytes (fields_of span));
+  span_id = first_bytes (held 2 types.Bytes (fields_of span));
   start_time_unix_nano = first_eight (held 7 types.Eight (fields_of span));
   end_time_unix_nano = first_eight (held 8 types.Eight (fields_of span));
   status = code_in (first_bytes (held 15 types.Bytes (fields_of span)));

@@ -1,9 +1,9 @@
 //! Views of spans for sampling policies, borrowed from canonical text.
 //!
 //! A [`SpanRef`] stands on two texts: a span's and its resource's, which is empty where there is no resource. It tells the
-//! span's trace id, times and status, and the attributes of the span and then of the resource, an attribute as a key and
-//! a [`ValueRef`]. It takes no memory and copies nothing. Each call walks a text at most once, and no further than to the
-//! field that it looks for; the iterator over the attributes walks each text once over its whole life.
+//! span's trace id, span id, times and status, and the attributes of the span and then of the resource, an attribute as a
+//! key and a [`ValueRef`]. It takes no memory and copies nothing. Each call walks a text at most once, and no further than
+//! to the field that it looks for; the iterator over the attributes walks each text once over its whole life.
 //!
 //! Over canonical text a view tells exactly what the span and the resource are ([`canonical_text_is_viewed`]); fields that
 //! they have kept without knowing them are skipped. Over other bytes it tells what stands first: of several fields of a

@@ -43,6 +43,13 @@ impl<'a> SpanRef<'a> {
         bytes(self.span, 1)
     }
 
+    /// The bytes of the span id, whatever their number.
+    pub fn span_id(&self) -> &'a [u8]
+        ensures { result.now ≡ self.now.span_id }
+    {
+        bytes(self.span, 2)
+    }
+
     /// Nanoseconds since 1970.
     pub fn start(&self) -> u64
         ensures { result ≡ self.now.start_time_unix_nano }

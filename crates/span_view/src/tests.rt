@@ -36,6 +36,8 @@ fn a_span_is_viewed(rt: HostRuntime) {
     let view = checked(&rt, SPAN, RESOURCE);
     let id: &[u8] = b"\x01\x02\x03\x04\x05\x06\x07\x08\x09\x0a\x0b\x0c\x0d\x0e\x0f\x10";
     assert_eq!(rt; view.trace_id(), id);
+    let span_id: &[u8] = b"\x01\x02\x03\x04\x05\x06\x07\x08";
+    assert_eq!(rt; view.span_id(), span_id);
     assert_eq!(rt; view.start(), 261);
     assert_eq!(rt; view.end(), 518);
     assert_eq!(rt; view.status(), 2);
@@ -58,6 +60,7 @@ fn what_is_missing_has_its_default(rt: HostRuntime) {
     let none: &[u8] = b"";
     let view = checked(&rt, none, none);
     assert_eq!(rt; view.trace_id(), none);
+    assert_eq!(rt; view.span_id(), none);
     assert_eq!(rt; view.start(), 0);
     assert_eq!(rt; view.end(), 0);
     assert_eq!(rt; view.status(), 0);
