@@ -1,6 +1,6 @@
 //! Single fields. Those with `some` in their name are left out at their proto3 default.
 
-ghost use Rattle.std.specs.Prelude.{◌≡◌, ◌^◌, ◌<◌, ◌≤◌, ◌++◌, length, take, drop, OnOk};
+ghost use Rattle.std.specs.Prelude.{◌≡◌, ◌^◌, ◌+◌, ◌<◌, ◌≤◌, ◌++◌, length, take, drop, OnOk};
 ghost use Rattle.otlp_trace.specs.Text.{number_field, bytes_field, eight_field, some_bytes, some_number, some_signed, some_eight, some_four};
 
 use pb_wire::{WireType, put_bytes, put_tag, put_varint};
@@ -100,7 +100,23 @@ pub fn wrap(out: &mut Vec<u8>, start: usize, number: u32) -> Result<(), AllocErr
     let end = out.len();
     put_tag(out, number, WireType::Bytes)?;
     put_varint(out, (end - start) as u64)?;
-    let added = out.len() - end;
-    out[start..].rotate_right(added);
+    move_forward(out, start, end);
     Ok(())
+}
+
+/// The most bytes that a tag and a length have.
+const LONGEST_HEADER: usize = 20;
+
+/// Moves the bytes from `end` on, a field's tag and length, before those from `start` to `end`.
+fn move_forward(out: &mut [u8], start: usize, end: usize)
+    requires order { start ≤ end }
+    requires within { end ≤ length out.old }
+    requires few { length out.old ≤ end + 20 }
+    ensures { out.new ≡ take start out.old ++ (drop end out.old ++ drop start (take end out.old)) }
+{
+    let added = out.len() - end;
+    let mut header = [0; LONGEST_HEADER];
+    header[..added].copy_from_slice(&out[end..]);
+    out.copy_within(start..end, start + added);
+    out[start..start + added].copy_from_slice(&header[..added]);
 }
