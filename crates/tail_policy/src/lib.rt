@@ -1,0 +1,33 @@
+//! What sampling policies keep.
+//!
+//! A trace is kept where one of its tenant's policies keeps it (`specs/Meaning`, after the documents of the OpenTelemetry
+//! Collector's `tail_sampling` processor). Each policy looks at all spans of the trace, each with its resource.
+#![tactic(auto)]
+
+mod attribute;
+mod policy;
+mod status;
+mod time;
+
+ghost use Rattle.std.specs.Prelude.{◌≡◌, ◌<◌, length, map};
+ghost use Rattle.tail_settings.specs.Policy.{policy_view};
+ghost use Rattle.tail_policy.specs.Meaning.{keeps};
+
+use policy::policy_keeps;
+use span_view::SpanRef;
+use tail_settings::PolicySpec;
+
+/// Whether one of the policies keeps the trace that has these spans.
+///
+/// It takes no memory. Its time grows no faster than the number of policies that hold no other, times the number of codes
+/// or texts that one of them has, times the size of the texts of the spans and their resources.
+#[tactic(auto, unfolding(crate::specs::Meaning::keeps))]
+pub fn keeps(policies: &[PolicySpec], spans: &[SpanRef<'_>]) -> bool
+    requires some { 0 < length spans.now }
+    ensures { result ≡ keeps (map policy_view policies.now) spans.now }
+{
+    policies.iter().any(|policy| policy_keeps(policy, spans))
+}
+
+#[cfg(test)]
+mod tests;

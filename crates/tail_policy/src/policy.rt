@@ -1,0 +1,38 @@
+//! One policy.
+
+ghost use Rattle.std.specs.Prelude.{◌≡◌};
+ghost use Rattle.tail_settings.specs.Policy.{leaf_view, policy_view};
+ghost use Rattle.tail_policy.specs.Meaning.{leaf_keeps, policy_keeps};
+
+use crate::attribute::{any_has_number, any_has_text};
+use crate::status::any_has_status;
+use crate::time::duration;
+use span_view::SpanRef;
+use tail_settings::{LeafPolicy, PolicySpec};
+
+/// Whether a policy that holds no other keeps the trace.
+fn leaf_keeps(leaf: &LeafPolicy, spans: &[SpanRef<'_>]) -> bool
+    ensures { result ≡ leaf_keeps (leaf_view leaf.now) spans.now }
+{
+    match leaf {
+        LeafPolicy::AlwaysSample => true,
+        LeafPolicy::Latency { threshold_ms } => *threshold_ms <= duration(spans),
+        LeafPolicy::StatusCode { status_codes } => any_has_status(status_codes, spans),
+        LeafPolicy::StringAttribute { key, values } => any_has_text(key, values, spans),
+        LeafPolicy::NumericAttribute {
+            key,
+            min_value,
+            max_value,
+        } => any_has_number(key, *min_value, *max_value, spans),
+    }
+}
+
+/// Whether a policy keeps the trace. Policies that are joined by `and` may each be met by another span.
+pub fn policy_keeps(policy: &PolicySpec, spans: &[SpanRef<'_>]) -> bool
+    ensures { result ≡ policy_keeps (policy_view policy.now) spans.now }
+{
+    match policy {
+        PolicySpec::Leaf(leaf) => leaf_keeps(leaf, spans),
+        PolicySpec::And(leaves) => leaves.iter().all(|leaf| leaf_keeps(leaf, spans)),
+    }
+}

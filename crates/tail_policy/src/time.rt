@@ -1,0 +1,25 @@
+//! How long a trace lasts.
+
+ghost use Rattle.std.specs.Prelude.{◌≡◌};
+ghost use Rattle.tail_policy.specs.Meaning.{duration};
+
+use span_view::SpanRef;
+
+/// How many nanoseconds a millisecond has.
+const NANOSECONDS: u64 = 1_000_000;
+
+/// From the earliest start to the latest end in whole milliseconds, rounded down; 0 where that end is before that start.
+pub fn duration(spans: &[SpanRef<'_>]) -> u64
+    ensures { result ≡ duration spans.now }
+{
+    let Some((first, others)) = spans.split_first() else {
+        return 0;
+    };
+    let mut start = first.start();
+    let mut end = first.end();
+    for span in others {
+        start = start.min(span.start());
+        end = end.max(span.end());
+    }
+    end.saturating_sub(start) / NANOSECONDS
+}
