@@ -1,0 +1,5 @@
+pub mod Numbers
+pub mod Stored
+pub mod Named
+pub mod Equal
+pub mod Read
