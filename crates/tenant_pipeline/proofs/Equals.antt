@@ -1,12 +1,16 @@
 -- Bodies are equal where what they are is.
-use Rattle.std.proofs.Common.{◌≡◌, ℕ, ℤ, pos, negsuc, List, [], ◌∷◌, map, refl, ap, ◌∙◌, Bool, true, eqb, arith}
+use Rattle.std.proofs.Common.{◌≡◌, ℕ, ℤ, pos, negsuc, List, [], ◌∷◌, map, refl, ap, ◌∙◌, Bool, true, false, eqb, arith}
 use Rattle.std.proofs.lemmas.Bool.Decides.{nat_tests}
 use Rattle.std.specs.Bool.{one_answer}
 use Rattle.std.specs.Prelude.{◌&&◌, Decides}
 use Rattle.std.specs.Cmp.Lexicographic.{pointwise, pointwise_decides, bytes_decides}
 use Rattle.tail_settings.specs.Policy.{StatusData, unset, ok, error, LeafData, always_sample, latency, status_code, string_attribute, numeric_attribute, PolicyData, leaf, and, policy_view}
 use Rattle.tail_settings.specs.declared.policy.PolicySpec.{PolicySpec}
-use Rattle.tenant_pipeline.specs.Equal.{status_number, signed, leaf_parts, policy_parts, policy_eq}
+use Rattle.span_pool.specs.Stored.{StoredData, same_bytes}
+use Rattle.span_pool.specs.Equal.{origin_eq, stored_eq}
+use Rattle.tenant_pipeline.specs.Arrivals.{arrival_in, arrivals_in}
+use Rattle.tenant_pipeline.specs.Equal.{arrival_eq, status_number, signed, leaf_parts, policy_parts, policy_eq, same_policies}
+use Rattle.tenant_pipeline.specs.Texts.{AreOwned}
 
 -- lists that a function takes to one list are one where it takes no two members to one
 one_list : {A B : Type 0} → (f : A → B) → ((a b : A) → f a ≡ f b → a ≡ b) → (xs ys : List A) → map f xs ≡ map f ys → xs ≡ ys
@@ -50,13 +54,41 @@ policy_decides a b =
     let parts = pointwise_decides (pointwise_decides bytes_decides) (policy_parts a) (policy_parts b) in
     (λ h. one_policy a b (parts.0 h), λ h. parts.1 (ap policy_parts h))
 
+pub same_policies_decides : (a b : List PolicyData) → Decides (same_policies a b) (a ≡ b)
+same_policies_decides = pointwise_decides policy_decides
+
 -- a test of whether slices of policies say the same is that of the policies
-pub same_policy_lists : (xs ys left right : List PolicySpec) (r : Bool) → left ≡ xs → right ≡ ys → Decides r (map policy_view left ≡ map policy_view right)
-    → r ≡ pointwise policy_eq (map policy_view xs) (map policy_view ys)
-same_policy_lists xs ys left right r one other decides =
-    one_answer r _ decides (pointwise_decides policy_decides (map policy_view left) (map policy_view right))
-    ∙ λ i. pointwise policy_eq (map policy_view (one i)) (map policy_view (other i))
+pub same_policy_lists : (xs ys left : List PolicySpec) (r : Bool) → left ≡ xs → Decides r (map policy_view left ≡ map policy_view ys) → r ≡ same_policies (map policy_view xs) (map policy_view ys)
+same_policy_lists xs ys left r one decides =
+    one_answer r _ decides (same_policies_decides (map policy_view left) (map policy_view ys)) ∙ ap (λ (zs : List PolicySpec). same_policies (map policy_view zs) (map policy_view ys)) one
 
 -- the second of two tests decides where the first holds
 pub after_equal : (x y : ℕ) (more value : Bool) → x ≡ y → value ≡ more → value ≡ (eqb x y && more)
 after_equal x y more value same is = let test : eqb x y ≡ true = grind (arith, nat_tests) in rw (test, is)
+
+-- the same where the first test holds
+pub after_true : (first more value : Bool) → first ≡ true → value ≡ more → value ≡ (first && more)
+after_true true more value holds is = is
+after_true false more value holds is = absurd (cc)
+
+-- spans of one owner are the same where they arrived the same
+swapped : (owner origin text : Bool) → owner ≡ true → ((owner && origin) && text) ≡ (text && origin)
+swapped true true true is = refl
+swapped true true false is = refl
+swapped true false true is = refl
+swapped true false false is = refl
+swapped false origin text is = absurd (cc)
+
+same_span : (m n : ℕ) (x y : StoredData) → x.owner ≡ m → y.owner ≡ n → m ≡ n → stored_eq x y ≡ arrival_eq (arrival_in x) (arrival_in y)
+same_span m n x y one other same =
+    let test : eqb x.owner y.owner ≡ true = grind (arith, nat_tests) in
+    swapped (eqb x.owner y.owner) (origin_eq x.origin y.origin) (same_bytes x.text y.text) test
+
+pub same_spans : (m n : ℕ) (xs ys : List StoredData) → AreOwned m xs → AreOwned n ys → m ≡ n → pointwise stored_eq xs ys ≡ pointwise arrival_eq (arrivals_in xs) (arrivals_in ys)
+same_spans m n [] [] one other same = refl
+same_spans m n [] (y ∷ ys) one other same = refl
+same_spans m n (x ∷ xs) [] one other same = refl
+same_spans m n (x ∷ xs) (y ∷ ys) one other same =
+    let first = same_span m n x y one.0 other.0 same in
+    let rest = same_spans m n xs ys one.1 other.1 same in
+    ap (λ b. b && pointwise stored_eq xs ys) first ∙ ap (λ b. arrival_eq (arrival_in x) (arrival_in y) && b) rest

@@ -9,4 +9,7 @@ mod Entries
 mod Run
 mod Bodies
 mod Runs
+mod Fields
 mod Equals
+mod Numbered
+mod Names

@@ -77,7 +77,7 @@ state_goes_on w past (Post now xs) pos =
 state_goes_on w past (Turn now) pos =
     let e = clock (Turn now ∷ past) in
     let groups_left = left_drop (tickets w past) (groups w e (taken past)) in
-    ap (λ queue. record { wait = w.tail_sampling.decision_wait; clock = e; rows = kept_rows w e (seated (taken past)) (opened (taken past)); decided = decided_count w e (opened (taken past)); queue = queue; tickets = tickets_after (tickets w past) (drop (tickets w past) (groups w e (taken past))) }) (sym groups_left) ∙ ap handed_out (at_step w past e pos (omega arith))
+    ap (λ queue. record { wait = w.tail_sampling.decision_wait; policies = w.tail_sampling.policies; clock = e; rows = kept_rows w e (seated (taken past)) (opened (taken past)); decided = decided_count w e (opened (taken past)); queue = queue; tickets = tickets_after (tickets w past) (drop (tickets w past) (groups w e (taken past))) }) (sym groups_left) ∙ ap handed_out (at_step w past e pos (omega arith))
 
 pub answer_goes_on : (w : SectionData) (past : List Own) (step : Own) → 0 < w.tail_sampling.decision_wait → answer w past step ≡ told step (state w past)
 unfolding state answer told
@@ -94,16 +94,16 @@ answers_by step old new said pos by_told by_next = λ section past stands.
 
 -- the spans of a post, by the fields
 all_placed_is : (e : ℕ) (xs : List Arrival) (s : State) →
-    all_placed e xs s ≡ record { wait = s.wait; clock = s.clock; rows = rows_with_all s.wait e xs s.rows; decided = s.decided; queue = s.queue ++ late_with_all s.wait e xs s.rows; tickets = s.tickets }
-all_placed_is e [] s = ap (λ queue. record { wait = s.wait; clock = s.clock; rows = s.rows; decided = s.decided; queue = queue; tickets = s.tickets }) (sym (append-nil s.queue))
+    all_placed e xs s ≡ record { wait = s.wait; policies = s.policies; clock = s.clock; rows = rows_with_all s.wait e xs s.rows; decided = s.decided; queue = s.queue ++ late_with_all s.wait e xs s.rows; tickets = s.tickets }
+all_placed_is e [] s = ap (λ queue. record { wait = s.wait; policies = s.policies; clock = s.clock; rows = s.rows; decided = s.decided; queue = queue; tickets = s.tickets }) (sym (append-nil s.queue))
 all_placed_is e (x ∷ xs) s =
-    all_placed_is e xs (placed e x s) ∙ ap (λ queue. record { wait = s.wait; clock = s.clock; rows = rows_with_all s.wait e (x ∷ xs) s.rows; decided = s.decided; queue = queue; tickets = s.tickets }) (append_assoc s.queue (late_with e x s.rows) (late_with_all s.wait e xs (rows_with s.wait e x s.rows)))
+    all_placed_is e xs (placed e x s) ∙ ap (λ queue. record { wait = s.wait; policies = s.policies; clock = s.clock; rows = rows_with_all s.wait e (x ∷ xs) s.rows; decided = s.decided; queue = queue; tickets = s.tickets }) (append_assoc s.queue (late_with e x s.rows) (late_with_all s.wait e xs (rows_with s.wait e x s.rows)))
 
 -- the state after a post, from its parts
 pub post_by : (e : ℕ) (xs : List Arrival) (s now : State) (rows : List RowData) (queue : List GroupData) → s ≡ now → rows ≡ rows_with_all s.wait e xs s.rows → queue ≡ s.queue ++ late_with_all s.wait e xs s.rows →
-    record { wait = s.wait; clock = e; rows = rows; decided = s.decided; queue = queue; tickets = s.tickets } ≡ all_placed e xs (set_to e now)
+    record { wait = s.wait; policies = s.policies; clock = e; rows = rows; decided = s.decided; queue = queue; tickets = s.tickets } ≡ all_placed e xs (set_to e now)
 post_by e xs s now rows queue same r q =
-    let parts : record { wait = s.wait; clock = e; rows = rows; decided = s.decided; queue = queue; tickets = s.tickets } ≡ record { wait = s.wait; clock = e; rows = rows_with_all s.wait e xs s.rows; decided = s.decided; queue = s.queue ++ late_with_all s.wait e xs s.rows; tickets = s.tickets } = cc (r, q) in
+    let parts : record { wait = s.wait; policies = s.policies; clock = e; rows = rows; decided = s.decided; queue = queue; tickets = s.tickets } ≡ record { wait = s.wait; policies = s.policies; clock = e; rows = rows_with_all s.wait e xs s.rows; decided = s.decided; queue = s.queue ++ late_with_all s.wait e xs s.rows; tickets = s.tickets } = cc (r, q) in
     parts ∙ (sym (all_placed_is e xs (set_to e s)) ∙ ap (λ t. all_placed e xs (set_to e t)) same)
 
 pub first_is_least : FirstIsLeast

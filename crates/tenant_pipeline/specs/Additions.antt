@@ -1,16 +1,20 @@
 -- How what a span's coming added is taken back.
-use Rattle.std.specs.Prelude.{ℕ, zero, suc, ◌-◌, List, [], ◌∷◌, length, take}
+use Rattle.std.specs.Prelude.{ℕ, zero, suc, ◌-◌, Bool, List, [], ◌∷◌, length, take, nat_lt, if◌then◌else◌}
 use Rattle.tenant_pipeline.specs.declared.place.Addition.{Addition}
-use Rattle.tenant_pipeline.specs.declared.place.Addition.TheVariants.{Opened, Joined, Late}
+use Rattle.tenant_pipeline.specs.declared.place.Addition.TheVariants.{Opened, Joined, Late, NotSampled}
 use Rattle.tenant_pipeline.specs.Groups.{GroupData}
 use Rattle.tenant_pipeline.specs.State.{RowData}
+
+-- what a span adds that comes at a moment to the row at a place, by when that row is due and whether it is kept
+abbrev pub addition_to : ℕ → ℕ → ℕ → Bool → Addition
+addition_to place moment due kept = if nat_lt moment due then Joined place else if kept then Late else NotSampled
 
 -- all but the last
 abbrev pub but_last : {A : Type 0} → List A → List A
 but_last xs = take (length xs - 1) xs
 
 abbrev pub without_last : RowData → RowData
-without_last row = record { trace = row.trace; due = row.due; spans = but_last row.spans }
+without_last row = record { trace = row.trace; due = row.due; spans = but_last row.spans; kept = row.kept }
 
 -- the row at a place loses its last span
 abbrev pub shortened : ℕ → List RowData → List RowData
@@ -22,11 +26,13 @@ abbrev pub rows_before : Addition → List RowData → List RowData
 rows_before Opened rows = but_last rows
 rows_before (Joined place) rows = shortened place rows
 rows_before Late rows = rows
+rows_before NotSampled rows = rows
 
 abbrev pub queue_before : Addition → List GroupData → List GroupData
 queue_before Opened queue = queue
 queue_before (Joined place) queue = queue
 queue_before Late queue = but_last queue
+queue_before NotSampled queue = queue
 
 -- without all these additions, the last one being taken back first
 abbrev pub rows_without : List Addition → List RowData → List RowData

@@ -2,22 +2,23 @@
 -- trace data model of OpenTelemetry).
 use Rattle.std.specs.Prelude.{ℕ, Bool, List, Option, map, option_map, filter, flat_map, length, not, ◌==◌, ◌&&◌}
 use Rattle.std.specs.List.{list_all}
-use Rattle.otlp_trace.specs.Data.{SpanData, ScopeSpansData, ResourceSpansData, RequestData}
+use Rattle.otlp_trace.specs.Data.{SpanData, ResourceData, ScopeSpansData, ResourceSpansData, RequestData}
 use Rattle.otlp_trace.specs.Text.{span_text, scope_text, resource_text}
+use Rattle.span_view.specs.Facts.{SpanFacts, facts}
+use Rattle.span_pool.specs.Stored.{Origin, StoredData, stored_facts}
 
--- the resource and the scope of a span, where it has any, and their schemas
-pub record Origin : Type 0 where
-  pub resource : Option (List ℕ)
-  pub resource_schema_url : List ℕ
-  pub scope : Option (List ℕ)
-  pub scope_schema_url : List ℕ
-
--- one span of a body
+-- one span of a body: its ids and what policies ask, its text, and the texts of its resource and its scope
 pub record Arrival : Type 0 where
-  pub trace_id : List ℕ
-  pub span_id : List ℕ
+  pub facts : SpanFacts
   pub text : List ℕ
   pub origin : Origin
+
+-- what arrived of a span that is kept
+abbrev pub arrival_in : StoredData → Arrival
+arrival_in s = record { facts = stored_facts s; text = s.text; origin = s.origin }
+
+abbrev pub arrivals_in : List StoredData → List Arrival
+arrivals_in spans = map arrival_in spans
 
 -- of a scope's spans, in a resource of this text and this schema
 abbrev pub origin_with : Option (List ℕ) → List ℕ → ScopeSpansData → Origin
@@ -31,11 +32,11 @@ origin_with resource schema_url scope = record {
 abbrev pub origin_of : ResourceSpansData → ScopeSpansData → Origin
 origin_of resource scope = origin_with (option_map resource_text resource.resource) resource.schema_url scope
 
-abbrev pub arrival_of : Origin → SpanData → Arrival
-arrival_of origin span = record { trace_id = span.trace_id; span_id = span.span_id; text = span_text span; origin = origin }
+abbrev pub arrival_of : Origin → Option ResourceData → SpanData → Arrival
+arrival_of origin resource span = record { facts = facts span resource; text = span_text span; origin = origin }
 
 abbrev pub arrivals_of_scope : ResourceSpansData → ScopeSpansData → List Arrival
-arrivals_of_scope resource scope = map (arrival_of (origin_of resource scope)) scope.spans
+arrivals_of_scope resource scope = map (arrival_of (origin_of resource scope) resource.resource) scope.spans
 
 abbrev pub arrivals_of_resource : ResourceSpansData → List Arrival
 arrivals_of_resource resource = flat_map (arrivals_of_scope resource) resource.scope_spans
@@ -50,7 +51,7 @@ is_id size bytes = length bytes == size && not (list_all (λ byte. byte == 0) by
 
 -- a trace id has 16 bytes, a span id 8
 abbrev pub is_valid : Arrival → Bool
-is_valid arrival = is_id 16 arrival.trace_id && is_id 8 arrival.span_id
+is_valid arrival = is_id 16 arrival.facts.trace_id && is_id 8 arrival.facts.span_id
 
 -- what is left where the invalid ones are left out
 abbrev pub valid : List Arrival → List Arrival

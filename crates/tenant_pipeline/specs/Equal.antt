@@ -1,22 +1,17 @@
 -- When bodies that were read are equal.
 use Rattle.std.specs.Prelude.{ℕ, ℤ, pos, negsuc, Bool, List, [], ◌∷◌, map, nat_eq}
 use Rattle.std.specs.Cmp.{IsPartialEquivalence, partial_equiv_from_equiv, on_per, and_per, nat_eq_equiv}
-use Rattle.std.specs.Cmp.Lexicographic.{pointwise, nat_list_eq_equiv, lists_per, options_equiv}
+use Rattle.std.specs.Cmp.Lexicographic.{pointwise, nat_list_eq_equiv, lists_per}
 use Rattle.std.specs.Ordering.{on, eq_of_both}
 use Rattle.tail_settings.specs.Policy.{StatusData, unset, ok, error, LeafData, always_sample, latency, status_code, string_attribute, numeric_attribute, PolicyData, leaf, and}
-use Rattle.tenant_pipeline.specs.Arrivals.{Origin, Arrival}
-use Rattle.tenant_pipeline.specs.ExportText.{same_bytes, same_text}
+use Rattle.span_pool.specs.Stored.{same_bytes}
+use Rattle.span_pool.specs.Equal.{origin_eq, origin_laws}
+use Rattle.tenant_pipeline.specs.Arrivals.{Arrival}
 use Rattle.tenant_pipeline.specs.Prepared.{PreparedData}
 
--- the same resource and scope with the same schemas
-abbrev pub origin_eq : Origin → Origin → Bool
-origin_eq =
-    eq_of_both (eq_of_both (on (λ o. o.resource) same_text) (on (λ o. o.resource_schema_url) same_bytes)) (eq_of_both (on (λ o. o.scope) same_text) (on (λ o. o.scope_schema_url) same_bytes))
-
--- the same ids, the same text and the same origin
+-- the same text and the same origin
 abbrev pub arrival_eq : Arrival → Arrival → Bool
-arrival_eq =
-    eq_of_both (eq_of_both (eq_of_both (on (λ a. a.trace_id) same_bytes) (on (λ a. a.span_id) same_bytes)) (on (λ a. a.text) same_bytes)) (on (λ a. a.origin) origin_eq)
+arrival_eq = eq_of_both (on (λ a. a.text) same_bytes) (on (λ a. a.origin) origin_eq)
 
 abbrev pub status_number : StatusData → ℕ
 status_number unset = 0
@@ -45,24 +40,20 @@ policy_parts (and ls) = ([] ∷ []) ∷ map leaf_parts ls
 abbrev pub policy_eq : PolicyData → PolicyData → Bool
 policy_eq = on policy_parts (pointwise (pointwise same_bytes))
 
+-- the same policies in the same order
+abbrev pub same_policies : List PolicyData → List PolicyData → Bool
+same_policies = pointwise policy_eq
+
 -- the same tenant, the same policies in the same order, and the same spans in the same order
 abbrev pub prepared_eq : PreparedData → PreparedData → Bool
 prepared_eq =
-    eq_of_both (eq_of_both (on (λ p. p.tenant) nat_eq) (on (λ p. p.policies) (pointwise policy_eq))) (on (λ p. p.arrivals) (pointwise arrival_eq))
+    eq_of_both (eq_of_both (on (λ p. p.tenant) nat_eq) (on (λ p. p.policies) same_policies)) (on (λ p. p.arrivals) (pointwise arrival_eq))
 
 bytes_laws : IsPartialEquivalence same_bytes
 bytes_laws = partial_equiv_from_equiv nat_list_eq_equiv
 
-text_laws : IsPartialEquivalence same_text
-text_laws = partial_equiv_from_equiv (options_equiv nat_list_eq_equiv)
-
-pub origin_laws : IsPartialEquivalence origin_eq
-origin_laws =
-    and_per (and_per (on_per (λ o. o.resource) text_laws) (on_per (λ o. o.resource_schema_url) bytes_laws)) (and_per (on_per (λ o. o.scope) text_laws) (on_per (λ o. o.scope_schema_url) bytes_laws))
-
 pub arrival_laws : IsPartialEquivalence arrival_eq
-arrival_laws =
-    and_per (and_per (and_per (on_per (λ a. a.trace_id) bytes_laws) (on_per (λ a. a.span_id) bytes_laws)) (on_per (λ a. a.text) bytes_laws)) (on_per (λ a. a.origin) origin_laws)
+arrival_laws = and_per (on_per (λ a. a.text) bytes_laws) (on_per (λ a. a.origin) origin_laws)
 
 policy_laws : IsPartialEquivalence policy_eq
 policy_laws = on_per policy_parts (lists_per (lists_per bytes_laws))

@@ -1,5 +1,5 @@
 -- What the definitions give on small inputs, for the tests.
-use Rattle.std.specs.Prelude.{◌≡◌, ℕ, List, [], ◌∷◌, ◌++◌, replicate, Option, Some, None}
+use Rattle.std.specs.Prelude.{◌≡◌, ℕ, pos, List, [], ◌∷◌, ◌++◌, replicate, Option, Some, None}
 use Rattle.tail_settings.specs.Policy.{always_sample, leaf}
 use Rattle.tail_settings.specs.Section.{SectionData}
 use Rattle.tenant_pipeline.specs.declared.told.Told.TheVariants as tell
@@ -28,8 +28,14 @@ text trace id = 10 ∷ 16 ∷ (replicate 16 trace ++ (18 ∷ 8 ∷ replicate 8 i
 -- that span, of this resource
 abbrev pub span_of : Option (List ℕ) → ℕ → ℕ → Arrival
 span_of resource trace id = record {
-  trace_id = replicate 16 trace;
-  span_id = replicate 8 id;
+  facts = record {
+    trace_id = replicate 16 trace;
+    span_id = replicate 8 id;
+    start_time_unix_nano = 0;
+    end_time_unix_nano = 0;
+    status = pos 0;
+    attributes = [];
+  };
   text = text trace id;
   origin = record { resource = resource; resource_schema_url = []; scope = None; scope_schema_url = [] };
 }

@@ -1,9 +1,8 @@
 -- What a batch of spans is sent as: neighbours of one resource and one schema of it share a resource spans, and in it
 -- neighbours of one scope and one schema of it share a scope spans. Each group is one batch.
-use Rattle.std.specs.Prelude.{ℕ, Bool, List, [], ◌∷◌, Option, flat_map, nat_eq, ◌&&◌, if◌then◌else◌}
-use Rattle.std.specs.Option.{option_eq}
-use Rattle.std.specs.Cmp.Lexicographic.{pointwise}
+use Rattle.std.specs.Prelude.{ℕ, Bool, List, [], ◌∷◌, flat_map, if◌then◌else◌}
 use Rattle.otlp_trace.specs.Text.{bytes_field, repeated, scope_spans_of, resource_spans_of}
+use Rattle.span_pool.specs.Stored as pool
 use Rattle.tenant_pipeline.specs.Arrivals.{Arrival}
 
 -- one more before the runs of the others
@@ -17,18 +16,11 @@ abbrev pub runs : {A : Type 0} → (A → A → Bool) → List A → List (List 
 runs same [] = []
 runs same (x ∷ xs) = joined_to same x (runs same xs)
 
-abbrev pub same_bytes : List ℕ → List ℕ → Bool
-same_bytes one other = pointwise nat_eq one other
-
--- both are missing, or both are there with the same bytes
-abbrev pub same_text : Option (List ℕ) → Option (List ℕ) → Bool
-same_text one other = option_eq same_bytes one other
-
 abbrev pub same_resource : Arrival → Arrival → Bool
-same_resource a b = same_text a.origin.resource b.origin.resource && same_bytes a.origin.resource_schema_url b.origin.resource_schema_url
+same_resource a b = pool.same_resource a.origin b.origin
 
 abbrev pub same_scope : Arrival → Arrival → Bool
-same_scope a b = same_text a.origin.scope b.origin.scope && same_bytes a.origin.scope_schema_url b.origin.scope_schema_url
+same_scope a b = pool.same_scope a.origin b.origin
 
 -- a scope spans with these spans, which have one scope
 abbrev pub scope_spans_field : List Arrival → List ℕ

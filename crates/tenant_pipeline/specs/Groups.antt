@@ -1,6 +1,9 @@
--- The groups that leave by a moment, oldest first. A row is decided when the tenant's wait is over, and each decided row is kept.
-use Rattle.std.specs.Prelude.{ℕ, ◌+◌, List, [], ◌∷◌, ◌++◌, length, if◌then◌else◌, ◌==◌, ◌&&◌, nat_lt, nat_le}
+-- The groups that leave by a moment, oldest first. A row is decided when the tenant's wait is over: where the policies keep
+-- its spans, they leave, and so do those that come late.
+use Rattle.std.specs.Prelude.{ℕ, ◌+◌, Bool, false, map, List, [], ◌∷◌, ◌++◌, length, if◌then◌else◌, ◌==◌, ◌&&◌, nat_lt, nat_le}
+use Rattle.tail_settings.specs.Policy.{PolicyData}
 use Rattle.tail_settings.specs.Section.{SectionData}
+use Rattle.tail_policy.specs.Meaning.{keeps}
 use Rattle.tenant_pipeline.specs.Arrivals.{Arrival}
 use Rattle.tenant_pipeline.specs.Rows.{Taken, Opened, Seated, opened, seated}
 
@@ -19,17 +22,26 @@ on_time section row [] = []
 on_time section row (x ∷ before) =
     if x.row == row && nat_lt x.moment (due_of section x.opening) then on_time section row before ++ x.arrival ∷ [] else on_time section row before
 
--- the groups of the rows that are decided by the moment, by row number
+-- whether policies keep a row with these spans; every row has some
+abbrev pub are_kept : List PolicyData → List Arrival → Bool
+are_kept policies [] = false
+are_kept policies (x ∷ xs) = keeps policies (map (λ a. a.facts) (x ∷ xs))
+
+-- whether the row of this number is kept: what counts is its spans that came before its decision
+abbrev pub is_kept : SectionData → ℕ → List Seated → Bool
+is_kept section row spans = are_kept section.tail_sampling.policies (on_time section row spans)
+
+-- the groups of the kept rows that are decided by the moment, by row number
 abbrev pub decided : SectionData → ℕ → List Seated → List Opened → List GroupData
 decided section reached spans [] = []
 decided section reached spans (row ∷ rows) =
-    decided section reached spans rows ++ (if nat_le (due_of section row.moment) reached then record { moment = due_of section row.moment; spans = on_time section (length rows + 1) spans } ∷ [] else [])
+    decided section reached spans rows ++ (if nat_le (due_of section row.moment) reached && is_kept section (length rows + 1) spans then record { moment = due_of section row.moment; spans = on_time section (length rows + 1) spans } ∷ [] else [])
 
--- each late span alone, in order of arrival
+-- each late span of a kept row alone, in order of arrival. All spans that were in time came before a late one
 abbrev pub late : SectionData → List Seated → List GroupData
 late section [] = []
 late section (x ∷ before) =
-    late section before ++ (if nat_lt x.moment (due_of section x.opening) then [] else record { moment = x.moment; spans = x.arrival ∷ [] } ∷ [])
+    late section before ++ (if nat_le (due_of section x.opening) x.moment && is_kept section x.row before then record { moment = x.moment; spans = x.arrival ∷ [] } ∷ [] else [])
 
 -- a group before the first one of its moment or of a later one
 abbrev pub put : GroupData → List GroupData → List GroupData

@@ -10,7 +10,9 @@ pub mod Machine
 pub mod Additions
 pub mod Law
 pub mod View
+pub mod Numbered
 pub mod Prepared
+pub mod Texts
 pub mod Bounds
 pub mod Examples
 pub mod Equal

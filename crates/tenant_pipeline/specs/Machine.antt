@@ -1,24 +1,25 @@
 -- How the state goes on: what the steps of the code do to its fields.
-use Rattle.std.specs.Prelude.{ℕ, ◌+◌, List, [], ◌∷◌, ◌++◌, ◌≡◌, Some, length, set, slice_get, if◌then◌else◌, nat_lt}
+use Rattle.std.specs.Prelude.{ℕ, ◌+◌, false, List, [], ◌∷◌, ◌++◌, ◌≡◌, Some, length, set, slice_get, if◌then◌else◌, nat_lt}
+use Rattle.tail_settings.specs.Policy.{PolicyData}
 use Rattle.tenant_pipeline.specs.declared.told.Told.{Told}
 use Rattle.tenant_pipeline.specs.Arrivals.{Arrival, valid}
 use Rattle.tenant_pipeline.specs.Own.{Own, Post, Turn}
 use Rattle.tenant_pipeline.specs.Rows.{trace_of, is_same}
 use Rattle.tenant_pipeline.specs.Groups.{GroupData}
 use Rattle.tenant_pipeline.specs.State.{State, RowData, handed, tickets_after, last_ticket, accepted}
-use Rattle.tenant_pipeline.specs.Timers.{ran, effective, without_spans, group_of}
+use Rattle.tenant_pipeline.specs.Timers.{ran, effective, settled, groups_of}
 
 -- a span joins its trace's row where that is undecided
 abbrev pub joined : ℕ → Arrival → RowData → RowData
-joined moment x row = if nat_lt moment row.due then record { trace = row.trace; due = row.due; spans = row.spans ++ x ∷ [] } else row
+joined moment x row = if nat_lt moment row.due then record { trace = row.trace; due = row.due; spans = row.spans ++ x ∷ []; kept = row.kept } else row
 
--- and makes a group where it is late
+-- and makes a group where it is late and the row is kept
 abbrev pub late_of : ℕ → Arrival → RowData → List GroupData
-late_of moment x row = if nat_lt moment row.due then [] else record { moment = moment; spans = x ∷ [] } ∷ []
+late_of moment x row = if nat_lt moment row.due then [] else if row.kept then record { moment = moment; spans = x ∷ [] } ∷ [] else []
 
 -- the rows after a span came: it goes to its trace's row, or opens one
 abbrev pub rows_with : ℕ → ℕ → Arrival → List RowData → List RowData
-rows_with wait moment x [] = record { trace = trace_of x; due = moment + wait; spans = x ∷ [] } ∷ []
+rows_with wait moment x [] = record { trace = trace_of x; due = moment + wait; spans = x ∷ []; kept = false } ∷ []
 rows_with wait moment x (row ∷ rows) = if is_same (trace_of x) row.trace then joined moment x row ∷ rows else row ∷ rows_with wait moment x rows
 
 -- the group that a span makes
@@ -30,6 +31,7 @@ late_with moment x (row ∷ rows) = if is_same (trace_of x) row.trace then late_
 abbrev pub placed : ℕ → Arrival → State → State
 placed moment x s = record {
   wait = s.wait;
+  policies = s.policies;
   clock = s.clock;
   rows = rows_with s.wait moment x s.rows;
   decided = s.decided;
@@ -41,17 +43,17 @@ abbrev pub all_placed : ℕ → List Arrival → State → State
 all_placed moment [] s = s
 all_placed moment (x ∷ xs) s = all_placed moment xs (placed moment x s)
 
--- the row at a place is decided
-pub record IsDecided (place due : ℕ) (rows : List RowData) (queue : List GroupData) (new_rows : List RowData) (new_queue : List GroupData) : Type 0 where
+-- the row at a place is decided by the policies
+pub record IsDecided (policies : List PolicyData) (place due : ℕ) (rows : List RowData) (queue : List GroupData) (new_rows : List RowData) (new_queue : List GroupData) : Type 0 where
   pub row : RowData
   pub is_there : slice_get rows place ≡ Some row
   pub is_due : row.due ≡ due
-  pub rows_are : new_rows ≡ set rows place (without_spans row)
-  pub queue_is : new_queue ≡ queue ++ group_of row ∷ []
+  pub rows_are : new_rows ≡ set rows place (settled policies row)
+  pub queue_is : new_queue ≡ queue ++ groups_of policies row
 
 -- the clock stands at the moment
 abbrev pub set_to : ℕ → State → State
-set_to moment s = record { wait = s.wait; clock = moment; rows = s.rows; decided = s.decided; queue = s.queue; tickets = s.tickets }
+set_to moment s = record { wait = s.wait; policies = s.policies; clock = moment; rows = s.rows; decided = s.decided; queue = s.queue; tickets = s.tickets }
 
 -- time goes on to a moment: all timers that are due by then run
 abbrev pub advanced : ℕ → State → State
@@ -63,7 +65,7 @@ left tickets [] = []
 left tickets (group ∷ rest) = if nat_lt tickets last_ticket then rest else group ∷ rest
 
 abbrev pub handed_out : State → State
-handed_out s = record { wait = s.wait; clock = s.clock; rows = s.rows; decided = s.decided; queue = left s.tickets s.queue; tickets = tickets_after s.tickets s.queue }
+handed_out s = record { wait = s.wait; policies = s.policies; clock = s.clock; rows = s.rows; decided = s.decided; queue = left s.tickets s.queue; tickets = tickets_after s.tickets s.queue }
 
 -- the state after a step
 unfoldable pub next : Own → State → State

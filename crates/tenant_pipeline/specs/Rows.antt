@@ -27,7 +27,7 @@ pub record Seated : Type 0 where
   pub arrival : Arrival
 
 abbrev pub trace_of : Arrival → List ℕ
-trace_of arrival = arrival.trace_id
+trace_of arrival = arrival.facts.trace_id
 
 -- whether two trace ids are the same, byte for byte
 abbrev pub is_same : List ℕ → List ℕ → Bool

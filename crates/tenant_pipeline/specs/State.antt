@@ -1,23 +1,26 @@
 -- What a tenant is after its own steps, and what it is told of the next.
-use Rattle.std.specs.Prelude.{◌≡◌, ℕ, ◌+◌, ◌^◌, List, [], ◌∷◌, ◌++◌, length, drop, if◌then◌else◌, nat_lt, nat_le}
+use Rattle.std.specs.Prelude.{◌≡◌, ℕ, ◌+◌, ◌^◌, Bool, ◌&&◌, List, [], ◌∷◌, ◌++◌, length, drop, if◌then◌else◌, nat_lt, nat_le}
+use Rattle.tail_settings.specs.Policy.{PolicyData}
 use Rattle.tail_settings.specs.Section.{SectionData}
 use Rattle.tenant_pipeline.specs.declared.told.Told.{Told}
 use Rattle.tenant_pipeline.specs.declared.told.Told.TheVariants as tell
 use Rattle.tenant_pipeline.specs.Arrivals.{Arrival}
 use Rattle.tenant_pipeline.specs.Own.{Own, Post, Turn, clock}
 use Rattle.tenant_pipeline.specs.Rows.{Taken, Opened, Seated, opened, seated, taken}
-use Rattle.tenant_pipeline.specs.Groups.{GroupData, due_of, groups, on_time}
+use Rattle.tenant_pipeline.specs.Groups.{GroupData, due_of, groups, on_time, is_kept}
 use Rattle.tenant_pipeline.specs.ExportText.{export_text}
 
--- a trace's row: it is decided when it is due, and its spans wait until then
+-- a trace's row: it is decided when it is due, and its spans wait until then. Afterwards it is known whether it is kept
 pub record RowData : Type 0 where
   pub trace : List ℕ
   pub due : ℕ
   pub spans : List Arrival
+  pub kept : Bool
 
 -- what is kept of a tenant
 pub record State : Type 0 where
   pub wait : ℕ  -- from the opening of a row to its decision, in milliseconds
+  pub policies : List PolicyData
   pub clock : ℕ
   pub rows : List RowData  -- by number, with spans only where undecided
   pub decided : ℕ  -- how many rows were decided: they are the first
@@ -48,7 +51,12 @@ tickets section (Turn now ∷ past) = tickets_after (tickets section past) (drop
 abbrev pub kept_rows : SectionData → ℕ → List Seated → List Opened → List RowData
 kept_rows section reached spans [] = []
 kept_rows section reached spans (row ∷ rows) =
-    kept_rows section reached spans rows ++ record { trace = row.trace; due = due_of section row.moment; spans = if nat_le (due_of section row.moment) reached then [] else on_time section (length rows + 1) spans } ∷ []
+    kept_rows section reached spans rows ++ record {
+      trace = row.trace;
+      due = due_of section row.moment;
+      spans = if nat_le (due_of section row.moment) reached then [] else on_time section (length rows + 1) spans;
+      kept = nat_le (due_of section row.moment) reached && is_kept section (length rows + 1) spans;
+    } ∷ []
 
 -- how many rows are decided by the moment
 abbrev pub decided_count : SectionData → ℕ → List Opened → ℕ
@@ -59,6 +67,7 @@ decided_count section reached (row ∷ rows) = decided_count section reached row
 abbrev pub state_at : SectionData → List Taken → ℕ → ℕ → State
 state_at section spans reached handed_out = record {
   wait = section.tail_sampling.decision_wait;
+  policies = section.tail_sampling.policies;
   clock = reached;
   rows = kept_rows section reached (seated spans) (opened spans);
   decided = decided_count section reached (opened spans);

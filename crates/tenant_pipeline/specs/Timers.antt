@@ -1,7 +1,8 @@
 -- A tenant's due timers, which run one at a time. A timer is the decision of a row at its due moment, by row number.
-use Rattle.std.specs.Prelude.{◌≡◌, ℕ, zero, suc, ◌+◌, Bool, false, max, [], ◌∷◌, ◌++◌, Option, Some, None, option_map, slice_get, set, if◌then◌else◌, nat_le}
+use Rattle.std.specs.Prelude.{◌≡◌, ℕ, zero, suc, ◌+◌, Bool, false, max, List, [], ◌∷◌, ◌++◌, Option, Some, None, option_map, slice_get, set, if◌then◌else◌, nat_le}
 use Rattle.tenant_pipeline.specs.Own.{Own, moment_of}
-use Rattle.tenant_pipeline.specs.Groups.{GroupData}
+use Rattle.tail_settings.specs.Policy.{PolicyData}
+use Rattle.tenant_pipeline.specs.Groups.{GroupData, are_kept}
 use Rattle.tenant_pipeline.specs.State.{State, RowData}
 
 abbrev pub due_row : RowData → ℕ
@@ -11,21 +12,24 @@ due_row row = row.due
 abbrev pub next_timer : State → Option ℕ
 next_timer s = option_map due_row (slice_get s.rows s.decided)
 
-abbrev pub without_spans : RowData → RowData
-without_spans row = record { trace = row.trace; due = row.due; spans = [] }
+-- a row once it is decided
+abbrev pub settled : List PolicyData → RowData → RowData
+settled policies row = record { trace = row.trace; due = row.due; spans = []; kept = are_kept policies row.spans }
 
-abbrev pub group_of : RowData → GroupData
-group_of row = record { moment = row.due; spans = row.spans }
+-- the group that it makes, where it is kept
+abbrev pub groups_of : List PolicyData → RowData → List GroupData
+groups_of policies row = if are_kept policies row.spans then record { moment = row.due; spans = row.spans } ∷ [] else []
 
--- this row is decided at its due moment, and its spans become a group
+-- this row is decided at its due moment
 abbrev pub decide : Option RowData → State → State
 decide None s = s
 decide (Some row) s = record {
   wait = s.wait;
+  policies = s.policies;
   clock = row.due;
-  rows = set s.rows s.decided (without_spans row);
+  rows = set s.rows s.decided (settled s.policies row);
   decided = s.decided + 1;
-  queue = s.queue ++ group_of row ∷ [];
+  queue = s.queue ++ groups_of s.policies row;
   tickets = s.tickets;
 }
 

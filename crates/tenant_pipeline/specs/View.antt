@@ -2,18 +2,19 @@
 use Rattle.std.specs.Prelude.{ℕ, List, map}
 use Rattle.tenant_pipeline.specs.declared.rows.Row.{Row}
 use Rattle.tenant_pipeline.specs.declared.rows.Group.{Group}
+use Rattle.tenant_pipeline.specs.Arrivals.{arrivals_in}
 use Rattle.tenant_pipeline.specs.Groups.{GroupData}
 use Rattle.tenant_pipeline.specs.State.{RowData}
 
 -- an entry of the rows, named by its trace
 abbrev pub row_view : List ℕ × Row → RowData
-row_view entry = record { trace = entry.0; due = entry.1.due; spans = entry.1.spans.items }
+row_view entry = record { trace = entry.0; due = entry.1.due; spans = arrivals_in entry.1.spans.items; kept = entry.1.kept }
 
 abbrev pub row_views : List (List ℕ × Row) → List RowData
 row_views entries = map row_view entries
 
 abbrev pub group_view : Group → GroupData
-group_view group = record { moment = group.moment; spans = group.spans.items }
+group_view group = record { moment = group.moment; spans = arrivals_in group.spans.items }
 
 abbrev pub group_views : List Group → List GroupData
 group_views groups = map group_view groups

@@ -2,12 +2,15 @@
 
 ghost use Rattle.std.specs.Prelude.{◌≡◌, ◌^◌, ◌<◌, ◌≤◌, ◌++◌, ◌∷◌, ℕ, Bool, List, length, take, drop, flat_map, IfOk, OnOk};
 ghost use Rattle.otlp_trace.specs.Text.{bytes_field, some_bytes, embedded, repeated};
-ghost use Rattle.tenant_pipeline.specs.Arrivals.{Arrival};
-ghost use Rattle.tenant_pipeline.specs.ExportText.{runs, same_resource, same_scope, scope_spans_field, resource_spans_field, export_text};
+ghost use Rattle.span_pool.specs.Stored.{StoredData, same_resource, same_scope};
+ghost use Rattle.span_pool.specs.Named.{AreAlike};
+ghost use Rattle.tenant_pipeline.specs.Arrivals.{arrivals_in};
+ghost use Rattle.tenant_pipeline.specs.Numbered.{AreNumbered};
+ghost use Rattle.tenant_pipeline.specs.ExportText.{runs, scope_spans_field, resource_spans_field, export_text};
 
-use crate::stored::StoredSpan;
 use bytes::Bytes;
 use pb_wire::{WireType, put_bytes, put_tag, put_varint};
+use span_pool::StoredSpan;
 use std::alloc::{AllocError, Global};
 
 /// The number of `resource` in a `ResourceSpans`, of `scope` in a `ScopeSpans`, and of `resource_spans` in a request.
@@ -66,24 +69,26 @@ fn wrap(out: &mut Vec<u8>, start: usize, number: u32) -> Result<(), AllocError>
 
 /// Appends the spans, each as a field of a `ScopeSpans`.
 pub fn put_spans(out: &mut Vec<u8>, spans: &[StoredSpan]) -> Result<(), AllocError>
-    ensures { OnOk result (out.new.items ≡ out.old.items ++ repeated 2 (λ a. a.text) spans.now) }
+    ensures { OnOk result (out.new.items ≡ out.old.items ++ repeated 2 (λ a. a.text) (arrivals_in spans.now)) }
 {
     for span in spans {
-        put_field(out, INNER, span.text.as_slice())?;
+        put_field(out, INNER, span.text().as_slice())?;
     }
     Ok(())
 }
 
 /// What neighbours share, and what is written of those that share it.
 pub trait Level {
-    ghost same: { Arrival → Arrival → Bool };
+    ghost same: { StoredData → StoredData → Bool };
 
-    ghost field: { List Arrival → List ℕ };
+    ghost field: { List StoredData → List ℕ };
 
     fn is_same(one: &StoredSpan, other: &StoredSpan) -> bool
+        requires { AreAlike one.now other.now }
         ensures { result ≡ same one.now other.now };
 
     fn put(out: &mut Vec<u8>, spans: &[StoredSpan]) -> Result<(), AllocError>
+        requires { (last : ℕ) × AreNumbered last spans.now }
         ensures { OnOk result (out.new.items ≡ out.old.items ++ field spans.now) };
 }
 
@@ -91,12 +96,12 @@ pub trait Level {
 pub struct ScopeLevel;
 
 impl Level for ScopeLevel {
-    ghost same = { same_scope };
+    ghost same = { λ one other. same_scope one.origin other.origin };
 
-    ghost field = { scope_spans_field };
+    ghost field = { λ spans. scope_spans_field (arrivals_in spans) };
 
     fn is_same(one: &StoredSpan, other: &StoredSpan) -> bool {
-        one.origin.is_same_scope(&other.origin)
+        one.is_same_scope(other)
     }
 
     fn put(out: &mut Vec<u8>, spans: &[StoredSpan]) -> Result<(), AllocError> {
@@ -104,9 +109,9 @@ impl Level for ScopeLevel {
             return Ok(());
         };
         let start = out.len();
-        put_embedded(out, &first.origin.scope)?;
+        put_embedded(out, first.scope())?;
         put_spans(out, spans)?;
-        put_schema_url(out, &first.origin.scope_schema_url)?;
+        put_schema_url(out, first.scope_schema_url())?;
         wrap(out, start, INNER)
     }
 }
@@ -115,12 +120,12 @@ impl Level for ScopeLevel {
 pub struct ResourceLevel;
 
 impl Level for ResourceLevel {
-    ghost same = { same_resource };
+    ghost same = { λ one other. same_resource one.origin other.origin };
 
-    ghost field = { resource_spans_field };
+    ghost field = { λ spans. resource_spans_field (arrivals_in spans) };
 
     fn is_same(one: &StoredSpan, other: &StoredSpan) -> bool {
-        one.origin.is_same_resource(&other.origin)
+        one.is_same_resource(other)
     }
 
     fn put(out: &mut Vec<u8>, spans: &[StoredSpan]) -> Result<(), AllocError> {
@@ -128,16 +133,17 @@ impl Level for ResourceLevel {
             return Ok(());
         };
         let start = out.len();
-        put_embedded(out, &first.origin.resource)?;
+        put_embedded(out, first.resource())?;
         put_runs::<ScopeLevel>(out, spans)?;
-        put_schema_url(out, &first.origin.resource_schema_url)?;
+        put_schema_url(out, first.resource_schema_url())?;
         wrap(out, start, FIRST)
     }
 }
 
 /// How many spans the first run has.
 fn leading<L: Level>(spans: &[StoredSpan]) -> usize
-    requires { 0 < length spans.now }
+    requires some { 0 < length spans.now }
+    requires numbered { (last : ℕ) × AreNumbered last spans.now }
     ensures some { 0 < result }
     ensures within { result ≤ length spans.now }
     ensures first { runs L.same spans.now ≡ take result spans.now ∷ runs L.same (drop result spans.now) }
@@ -151,6 +157,7 @@ fn leading<L: Level>(spans: &[StoredSpan]) -> usize
 
 /// Appends the spans run by run.
 fn put_runs<L: Level>(out: &mut Vec<u8>, spans: &[StoredSpan]) -> Result<(), AllocError>
+    requires { (last : ℕ) × AreNumbered last spans.now }
     ensures { OnOk result (out.new.items ≡ out.old.items ++ flat_map L.field (runs L.same spans.now)) }
 {
     let mut left = spans;
@@ -165,7 +172,8 @@ fn put_runs<L: Level>(out: &mut Vec<u8>, spans: &[StoredSpan]) -> Result<(), All
 /// What is sent for these spans.
 #[tactic(auto, unfolding(crate::specs::ExportText::export_text))]
 pub fn export(alloc: Global, spans: &[StoredSpan]) -> Result<Bytes, AllocError>
-    ensures { IfOk result (λ payload. payload ≡ export_text spans.now) }
+    requires { (last : ℕ) × AreNumbered last spans.now }
+    ensures { IfOk result (λ payload. payload ≡ export_text (arrivals_in spans.now)) }
 {
     let mut text = Vec::new(alloc);
     put_runs::<ResourceLevel>(&mut text, spans)?;

@@ -1,8 +1,9 @@
 //! One tenant's pipeline.
 //!
 //! The spans of a body wait in their trace's row, each as its canonical text with its resource and its scope. A row is
-//! decided when the tenant's wait is over: its spans then form a group, in order of arrival. A span that comes after its
-//! row's decision forms a group alone. Each group is one batch, and a worker's turn hands out the oldest batch, with the
+//! decided when the tenant's wait is over: where the tenant's policies keep its spans, they form a group, in order of
+//! arrival, and else they are dropped. A span that comes after its row's decision forms a group alone where the row is
+//! kept, and else it is dropped. Each group is one batch, and a worker's turn hands out the oldest batch, with the
 //! tenant's next ticket and its text in OTLP, in which neighbours of one resource, and of one scope, share it.
 //!
 //! What a tenant is told depends on its settings and its own steps alone: `specs/State` says what it is after any list
@@ -13,6 +14,9 @@
 //! and nothing else has changed.
 #![tactic(auto)]
 
+ghost use Rattle.std.specs.Prelude.{◌≡◌, ◌↔◌, true, List};
+ghost use Rattle.tail_settings.specs.Policy.{PolicyData};
+ghost use Rattle.tenant_pipeline.specs.Equal.{same_policies};
 ghost use Rattle.tenant_pipeline.specs.Law.{GoesOn};
 ghost use Rattle.tenant_pipeline.specs.Ready.{FirstIsLeast};
 
@@ -21,7 +25,6 @@ mod export;
 mod pipeline;
 mod place;
 mod rows;
-mod stored;
 mod told;
 
 pub use body::{Prepared, Refusal, prepare};
@@ -37,6 +40,11 @@ pub fn goes_on()
 /// The row that is decided first is the first undecided one: a law over the definitions.
 pub fn first_is_least()
     ensures { FirstIsLeast }
+{}
+
+/// Lists of policies are taken for the same exactly where they are equal: a law over the definitions.
+pub fn same_policies_are_equal()
+    ensures { (a b : List PolicyData) → (same_policies a b ≡ true) ↔ (a ≡ b) }
 {}
 
 #[cfg(test)]

@@ -2,6 +2,7 @@
 
 ghost use Rattle.std.specs.Prelude.{◌≡◌, ◌^◌, ◌≤◌, ◌<◌, [], length, true, false, max, min, IfOk, OnOk, OnErr, Option};
 ghost use Rattle.tail_settings.specs.Section.{section_view};
+ghost use Rattle.tenant_pipeline.specs.Equal.{same_policies};
 ghost use Rattle.tenant_pipeline.specs.Own.{Post, Turn, latest_moment};
 ghost use Rattle.tenant_pipeline.specs.State.{StandsFor, Answers, handed};
 ghost use Rattle.tenant_pipeline.specs.Timers.{next_timer, one_run, is_due, ran, IsFront, effective};
@@ -20,7 +21,7 @@ use otlp_trace::Octets;
 use std::alloc::{AllocError, Global};
 use std::collections::VecDeque;
 use std::marker::Model;
-use tail_settings::Section;
+use tail_settings::{PolicySpec, Section, copied_policies};
 
 /// A later moment is taken as this one.
 const LATEST_MOMENT: u64 = 1 << 62;
@@ -28,27 +29,34 @@ const LATEST_MOMENT: u64 = 1 << 62;
 /// No more tickets than these are handed out.
 const LAST_TICKET: u64 = 1 << 62;
 
-/// What is kept of one tenant: the rows that its traces opened, the batches that wait, its clock and its tickets.
+/// What is kept of one tenant: the rows that its traces opened, the batches that wait, its clock and its tickets. Numbers
+/// up to `last_number` tell which of the spans have one resource, or one scope.
 #[derive(Drop)]
 pub struct Pipeline {
     alloc: Global,
     wait: u64,
+    policies: Vec<PolicySpec>,
     clock: u64,
     rows: Rows,
     decided: usize,
     queue: VecDeque<Group>,
     tickets: u64,
+    last_number: u64,
 }
 
 impl Model for Pipeline {
+    ghost use Rattle.std.specs.Prelude.{map};
+    ghost use Rattle.tail_settings.specs.Policy.{policy_view};
     ghost use Rattle.tenant_pipeline.specs.State.{State};
     ghost use Rattle.tenant_pipeline.specs.Bounds.{IsBounded};
     ghost use Rattle.tenant_pipeline.specs.View.{row_views, group_views};
+    ghost use Rattle.tenant_pipeline.specs.Numbered.{AreAllNumbered};
 
     ghost Value = { State };
 
     ghost view = { λ p. record {
       wait = p.wait;
+      policies = map policy_view p.policies.items;
       clock = p.clock;
       rows = row_views p.rows.entries;
       decided = p.decided;
@@ -56,40 +64,54 @@ impl Model for Pipeline {
       tickets = p.tickets;
     } };
 
-    ghost invariant = { λ p. IsBounded p.wait p.clock p.tickets };
+    ghost invariant = { λ p. IsBounded p.wait p.clock p.tickets × AreAllNumbered p.last_number p.rows.entries p.queue.items };
 }
 
 impl Pipeline {
     /// A tenant with no steps so far.
-    pub fn new(alloc: Global, section: &Section) -> Self
-        ensures { StandsFor (section_view section.now) [] result }
+    pub fn new(alloc: Global, section: &Section) -> Result<Self, AllocError>
+        ensures { IfOk result (StandsFor (section_view section.now) []) }
     {
-        Pipeline {
+        Ok(Pipeline {
             alloc,
             wait: section.tail_sampling.decision_wait,
+            policies: copied_policies(alloc, section.tail_sampling.policies.as_slice())?,
             clock: 0,
             rows: IndexMap::new(alloc),
             decided: 0,
             queue: VecDeque::new(alloc),
             tickets: 0,
-        }
+            last_number: 0,
+        })
     }
 
-    /// A body's spans come, at a moment in milliseconds. Where memory is refused, decisions that were due may have been
-    /// made, and no span has come.
+    /// Whether a body was prepared for this tenant's policies. `post` takes any body, so that its caller asks this first.
+    pub fn is_for(&self, prepared: &Prepared) -> bool
+        ensures { result ≡ same_policies prepared.now.policies self.now.policies }
+    {
+        prepared.has_policies(self.policies.as_slice())
+    }
+
+    /// A body's spans come, at a moment in milliseconds, with numbers that are higher than those before. Where memory is
+    /// refused, decisions that were due may have been made, and no span has come.
     pub fn post(&mut self, now: u64, prepared: &Prepared) -> Result<Reply, AllocError>
         ensures ok { IfOk result (λ reply. Answers (Post now prepared.now.arrivals) self.old (tell.Reply reply) self.new) }
         ensures refused { OnErr result (IsFront (effective (Post now prepared.now.arrivals) self.old) self.old self.new) }
+        ensures policies { self.new.policies ≡ self.old.policies }
     {
         let moment = self.effective(now);
         self.run_due(moment)?;
+        let base = self.last_number;
+        let (spans, last_number) = prepared.spans();
+        self.last_number = base.saturating_add(last_number);
         place_all(
             self.alloc,
             &mut self.rows,
             &mut self.queue,
             self.wait,
             moment,
-            prepared.spans(),
+            base,
+            spans,
         )?;
         self.clock = moment;
         Ok(Reply {
@@ -103,6 +125,7 @@ impl Pipeline {
     pub fn turn(&mut self, now: u64) -> Result<Told, AllocError>
         ensures ok { IfOk result (λ told. Answers (Turn now) self.old told self.new) }
         ensures refused { OnErr result (IsFront (effective (Turn now) self.old) self.old self.new) }
+        ensures policies { self.new.policies ≡ self.old.policies }
     {
         let moment = self.effective(now);
         self.run_due(moment)?;
@@ -156,7 +179,13 @@ impl Pipeline {
         ensures refused { OnErr result (self.new ≡ self.old) }
     {
         if self.decided < self.rows.len() {
-            self.clock = decide_at(self.alloc, &mut self.rows, self.decided, &mut self.queue)?;
+            self.clock = decide_at(
+                self.alloc,
+                self.policies.as_slice(),
+                &mut self.rows,
+                self.decided,
+                &mut self.queue,
+            )?;
             self.decided += 1;
         }
         Ok(())
@@ -166,6 +195,7 @@ impl Pipeline {
     fn run_due(&mut self, moment: u64) -> Result<(), AllocError>
         requires { moment ≤ 2 ^ 62 }
         ensures front { IsFront moment self.old self.new }
+        ensures policies { self.new.policies ≡ self.old.policies }
         ensures ok { OnOk result (self.new ≡ ran (length self.old.rows) moment self.old) }
     {
         while self.is_due(moment) {

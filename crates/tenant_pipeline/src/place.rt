@@ -1,15 +1,17 @@
 //! Spans go to their rows, all of a post or none.
 
-ghost use Rattle.std.specs.Prelude.{◌≡◌, ◌+◌, ◌^◌, ◌<◌, ◌≤◌, ◌++◌, ◌==◌, [], ◌∷◌, nat_lt, if◌then◌else◌, length, map, IfOk, OnOk, OnErr, IsTrue};
+ghost use Rattle.std.specs.Prelude.{◌≡◌, ℕ, ◌^◌, ◌≤◌, ◌++◌, ◌==◌, [], ◌∷◌, nat_lt, if◌then◌else◌, length, map, IfOk, OnOk, OnErr};
 ghost use Rattle.std.specs.List.{list_all};
-ghost use Rattle.indexmap.specs.IndexMap.{index_map_len};
-ghost use Rattle.tenant_pipeline.specs.Arrivals.{is_id, is_valid, valid};
+ghost use Rattle.span_pool.specs.Stored.{stored_facts};
+ghost use Rattle.span_pool.specs.Named.{Names, IsNamed, AreNamed, renumbered};
+ghost use Rattle.tenant_pipeline.specs.Arrivals.{arrival_in, arrivals_in, is_id, is_valid, valid};
 ghost use Rattle.tenant_pipeline.specs.View.{row_views, group_views};
+ghost use Rattle.tenant_pipeline.specs.Numbered.{AreGroupsNamed, AreAllNamed};
 ghost use Rattle.tenant_pipeline.specs.Machine.{rows_with, late_with, rows_with_all, late_with_all};
-ghost use Rattle.tenant_pipeline.specs.Additions.{rows_before, queue_before, rows_without, queue_without};
+ghost use Rattle.tenant_pipeline.specs.Additions.{addition_to, rows_before, queue_before, rows_without, queue_without};
 
 use crate::rows::{Group, Row, Rows};
-use crate::stored::StoredSpan;
+use span_pool::StoredSpan;
 use std::alloc::{AllocError, Global};
 use std::collections::VecDeque;
 
@@ -22,6 +24,8 @@ pub enum Addition {
     Joined(usize),
     /// A group with this span alone, behind the others.
     Late,
+    /// Nothing: the span is late, and its row isn't kept.
+    NotSampled,
 }
 
 /// Whether all bytes are zero.
@@ -45,18 +49,19 @@ fn is_id(bytes: &[u8], size: usize) -> bool
 
 /// Whether trace and span id are as they have to be.
 fn is_valid(span: &StoredSpan) -> bool
-    ensures { result ≡ is_valid span.now }
+    ensures { result ≡ is_valid (arrival_in span.now) }
 {
-    is_id(span.trace_id.as_slice(), 16) && is_id(span.span_id.as_slice(), 8)
+    let view = span.view();
+    is_id(view.trace_id(), 16) && is_id(view.span_id(), 8)
 }
 
 /// A row's name.
 fn trace_key(span: &StoredSpan) -> [u8; 16]
-    requires { length span.now.trace_id ≡ 16 }
-    ensures { result ≡ span.now.trace_id }
+    requires { length (stored_facts span.now).trace_id ≡ 16 }
+    ensures { result ≡ (stored_facts span.now).trace_id }
 {
     let mut key = [0; 16];
-    key.copy_from_slice(span.trace_id.as_slice());
+    key.copy_from_slice(span.view().trace_id());
     key
 }
 
@@ -69,28 +74,35 @@ fn one(alloc: Global, span: StoredSpan) -> Result<Vec<StoredSpan>, AllocError>
     Ok(spans)
 }
 
-/// The span joins the row at this place, or is late and leaves alone.
+/// The span joins the row, which is at this place. Where it is late, it leaves alone if the row is kept. Where memory is
+/// refused, nothing changes.
 fn join(
     alloc: Global,
     row: &mut Row,
+    place: usize,
     queue: &mut VecDeque<Group>,
     moment: u64,
     span: StoredSpan,
-) -> Result<bool, AllocError>
+) -> Result<Addition, AllocError>
     ensures due { row.new.due ≡ row.old.due }
-    ensures joined { IfOk result (λ joined. joined ≡ nat_lt moment row.old.due) }
-    ensures row { IfOk result (λ joined. row.new.spans.items ≡ (if joined then row.old.spans.items ++ span ∷ [] else row.old.spans.items)) }
-    ensures queue { IfOk result (λ joined. group_views queue.new.items ≡ group_views queue.old.items ++ (if joined then [] else record { moment = moment; spans = span ∷ [] } ∷ [])) }
+    ensures kept { row.new.kept ≡ row.old.kept }
+    ensures addition { IfOk result (λ addition. addition ≡ addition_to place moment row.old.due row.old.kept) }
+    ensures row { OnOk result (row.new.spans.items ≡ (if nat_lt moment row.old.due then row.old.spans.items ++ span ∷ [] else row.old.spans.items)) }
+    ensures queue { OnOk result (group_views queue.new.items ≡ group_views queue.old.items ++ (if nat_lt moment row.old.due then [] else if row.old.kept then record { moment = moment; spans = arrival_in span ∷ [] } ∷ [] else [])) }
     ensures refused_row { OnErr result (row.new.spans.items ≡ row.old.spans.items) }
     ensures refused_queue { OnErr result (queue.new.items ≡ queue.old.items) }
+    ensures named { (names : Names) (last : ℕ) → AreNamed names last row.old.spans.items → AreGroupsNamed names last queue.old.items → IsNamed names last span → AreNamed names last row.new.spans.items × AreGroupsNamed names last queue.new.items }
 {
     if moment < row.due {
         row.spans.push(span)?;
-        return Ok(true);
+        return Ok(Addition::Joined(place));
+    }
+    if !row.kept {
+        return Ok(Addition::NotSampled);
     }
     let spans = one(alloc, span)?;
     queue.push_back(Group { moment, spans })?;
-    Ok(false)
+    Ok(Addition::Late)
 }
 
 /// The span goes to its trace's row, or opens one. Where memory is refused, nothing changes.
@@ -104,55 +116,56 @@ fn place(
 ) -> Result<Addition, AllocError>
     requires wait { wait ≤ 2 ^ 32 }
     requires moment { moment ≤ 2 ^ 62 }
-    requires id { length span.trace_id ≡ 16 }
-    ensures rows { OnOk result (row_views rows.new.entries ≡ rows_with wait moment span (row_views rows.old.entries)) }
-    ensures queue { OnOk result (group_views queue.new.items ≡ group_views queue.old.items ++ late_with moment span (row_views rows.old.entries)) }
+    requires id { length (stored_facts span).trace_id ≡ 16 }
+    ensures rows { OnOk result (row_views rows.new.entries ≡ rows_with wait moment (arrival_in span) (row_views rows.old.entries)) }
+    ensures queue { OnOk result (group_views queue.new.items ≡ group_views queue.old.items ++ late_with moment (arrival_in span) (row_views rows.old.entries)) }
     ensures rows_back { IfOk result (λ addition. rows_before addition (row_views rows.new.entries) ≡ row_views rows.old.entries) }
     ensures queue_back { IfOk result (λ addition. queue_before addition (group_views queue.new.items) ≡ group_views queue.old.items) }
     ensures refused_rows { OnErr result (row_views rows.new.entries ≡ row_views rows.old.entries) }
     ensures refused_queue { OnErr result (queue.new.items ≡ queue.old.items) }
+    ensures named { (names : Names) (last : ℕ) → AreAllNamed names last rows.old.entries queue.old.items → IsNamed names last span → AreAllNamed names last rows.new.entries queue.new.items }
 {
     let key = trace_key(&span);
     match rows.get_index_of(&key) {
-        Some(place) => {
-            let joined = join(alloc, &mut rows[place], queue, moment, span)?;
-            Ok(if joined {
-                Addition::Joined(place)
-            } else {
-                Addition::Late
-            })
-        }
+        Some(place) => join(alloc, &mut rows[place], place, queue, moment, span),
         None => {
             let spans = one(alloc, span)?;
             let due = moment + wait;
-            rows.insert(key, Row { due, spans })?;
+            let row = Row {
+                due,
+                spans,
+                kept: false,
+            };
+            rows.insert(key, row)?;
             Ok(Addition::Opened)
         }
     }
 }
 
-/// The span goes to its trace's row where it is valid. What it added is noted.
+/// The span goes to its trace's row where it is valid, with numbers that are `base` higher. What it added is noted.
 fn add(
     alloc: Global,
     rows: &mut Rows,
     queue: &mut VecDeque<Group>,
     wait: u64,
     moment: u64,
+    base: u64,
     span: &StoredSpan,
     additions: &mut Vec<Addition>,
 ) -> Result<(), AllocError>
     requires wait { wait ≤ 2 ^ 32 }
     requires moment { moment ≤ 2 ^ 62 }
-    ensures rows { OnOk result (row_views rows.new.entries ≡ rows_with_all wait moment (valid (span.now ∷ [])) (row_views rows.old.entries)) }
-    ensures queue { OnOk result (group_views queue.new.items ≡ group_views queue.old.items ++ late_with_all wait moment (valid (span.now ∷ [])) (row_views rows.old.entries)) }
+    ensures rows { OnOk result (row_views rows.new.entries ≡ rows_with_all wait moment (valid (arrival_in span.now ∷ [])) (row_views rows.old.entries)) }
+    ensures queue { OnOk result (group_views queue.new.items ≡ group_views queue.old.items ++ late_with_all wait moment (valid (arrival_in span.now ∷ [])) (row_views rows.old.entries)) }
     ensures rows_back { rows_without additions.new.items (row_views rows.new.entries) ≡ rows_without additions.old.items (row_views rows.old.entries) }
     ensures queue_back { queue_without additions.new.items (group_views queue.new.items) ≡ queue_without additions.old.items (group_views queue.old.items) }
+    ensures named { (names : Names) (last : ℕ) → AreAllNamed names last rows.old.entries queue.old.items → IsNamed names last (renumbered base span.now) → AreAllNamed names last rows.new.entries queue.new.items }
 {
     if !is_valid(span) {
         return Ok(());
     }
     additions.reserve(1)?;
-    let span = span.clone()?;
+    let span = span.renumbered(base)?;
     let addition = place(alloc, rows, queue, wait, moment, span)?;
     additions.push_reserved(addition);
     Ok(())
@@ -162,6 +175,7 @@ fn add(
 fn take_back(rows: &mut Rows, queue: &mut VecDeque<Group>, addition: Addition)
     ensures rows { row_views rows.new.entries ≡ rows_before addition (row_views rows.old.entries) }
     ensures queue { group_views queue.new.items ≡ queue_before addition (group_views queue.old.items) }
+    ensures named { (names : Names) (last : ℕ) → AreAllNamed names last rows.old.entries queue.old.items → AreAllNamed names last rows.new.entries queue.new.items }
 {
     match addition {
         Addition::Opened => {
@@ -175,6 +189,7 @@ fn take_back(rows: &mut Rows, queue: &mut VecDeque<Group>, addition: Addition)
         Addition::Late => {
             queue.pop_back();
         }
+        Addition::NotSampled => {}
     }
 }
 
@@ -182,31 +197,34 @@ fn take_back(rows: &mut Rows, queue: &mut VecDeque<Group>, addition: Addition)
 fn take_all_back(rows: &mut Rows, queue: &mut VecDeque<Group>, additions: &mut Vec<Addition>)
     ensures rows { row_views rows.new.entries ≡ rows_without additions.old.items (row_views rows.old.entries) }
     ensures queue { group_views queue.new.items ≡ queue_without additions.old.items (group_views queue.old.items) }
+    ensures named { (names : Names) (last : ℕ) → AreAllNamed names last rows.old.entries queue.old.items → AreAllNamed names last rows.new.entries queue.new.items }
 {
     while let Some(addition) = additions.pop() {
         take_back(rows, queue, addition);
     }
 }
 
-/// The valid ones of these spans come one after the other, all of them or none.
+/// The valid ones of these spans come one after the other, all of them or none, with numbers that are `base` higher.
 pub fn place_all(
     alloc: Global,
     rows: &mut Rows,
     queue: &mut VecDeque<Group>,
     wait: u64,
     moment: u64,
+    base: u64,
     spans: &[StoredSpan],
 ) -> Result<(), AllocError>
     requires wait { wait ≤ 2 ^ 32 }
     requires moment { moment ≤ 2 ^ 62 }
-    ensures rows { OnOk result (row_views rows.new.entries ≡ rows_with_all wait moment (valid spans.now) (row_views rows.old.entries)) }
-    ensures queue { OnOk result (group_views queue.new.items ≡ group_views queue.old.items ++ late_with_all wait moment (valid spans.now) (row_views rows.old.entries)) }
+    ensures rows { OnOk result (row_views rows.new.entries ≡ rows_with_all wait moment (valid (arrivals_in spans.now)) (row_views rows.old.entries)) }
+    ensures queue { OnOk result (group_views queue.new.items ≡ group_views queue.old.items ++ late_with_all wait moment (valid (arrivals_in spans.now)) (row_views rows.old.entries)) }
     ensures refused_rows { OnErr result (row_views rows.new.entries ≡ row_views rows.old.entries) }
     ensures refused_queue { OnErr result (group_views queue.new.items ≡ group_views queue.old.items) }
+    ensures named { (names : Names) (last : ℕ) → AreAllNamed names last rows.old.entries queue.old.items → AreNamed names last (map (renumbered base) spans.now) → AreAllNamed names last rows.new.entries queue.new.items }
 {
     let mut additions = Vec::new(alloc);
     for span in spans {
-        if let Err(error) = add(alloc, rows, queue, wait, moment, span, &mut additions) {
+        if let Err(error) = add(alloc, rows, queue, wait, moment, base, span, &mut additions) {
             take_all_back(rows, queue, &mut additions);
             return Err(error);
         }

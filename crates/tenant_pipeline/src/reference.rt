@@ -1,24 +1,26 @@
 //! The definitions, computed over a tenant's whole past. Each function here is one of them as it stands: slow, and for
 //! tests alone. Lists of steps, spans and rows have the newest first, as there.
 
-ghost use Rattle.std.specs.Prelude.{◌≡◌, ◌++◌, ◌≤◌, ◌==◌, ◌∷◌, [], drop, length, is_some, if◌then◌else◌, flat_map, true, Bool, List, IfOk, OnOk};
+ghost use Rattle.std.specs.Prelude.{◌≡◌, ◌++◌, ◌≤◌, ◌==◌, ◌∷◌, [], drop, length, map, is_some, if◌then◌else◌, flat_map, true, Bool, List, IfOk, OnOk};
 ghost use Rattle.std.specs.List.{insert, list_all};
 ghost use Rattle.tail_settings.specs.Section.{section_view};
-ghost use Rattle.tenant_pipeline.specs.Arrivals.{Arrival, is_id, is_valid, valid};
+ghost use Rattle.tenant_pipeline.specs.Arrivals.{Arrival, arrival_in, arrivals_in, is_id, is_valid, valid};
 ghost use Rattle.tenant_pipeline.specs.Own.{moment_of, clock};
 ghost use Rattle.tenant_pipeline.specs.Rows.{trace_of, taken_after, taken, latest, opened, seat, seated};
-ghost use Rattle.tenant_pipeline.specs.Groups.{GroupData, due_of, on_time, decided, late, put, by_moment, groups};
+ghost use Rattle.tenant_pipeline.specs.Groups.{GroupData, due_of, on_time, are_kept, is_kept, decided, late, put, by_moment, groups};
 ghost use Rattle.tenant_pipeline.specs.ExportText.{joined_to, runs, same_resource, same_scope, scope_spans_field, resource_spans_field, export_text};
 ghost use Rattle.tenant_pipeline.specs.State.{handed, tickets_after, tickets, answer};
 
 use crate::export::{put_embedded, put_field, put_schema_url, put_spans};
-use crate::stored::StoredSpan;
 use crate::told::{Reply, Told};
 use bytes::Bytes;
 use otlp_trace::Octets;
+use span_pool::StoredSpan;
+use span_view::SpanRef;
 use std::alloc::{AllocError, Global};
 use std::collections::VecDeque;
 use std::marker::Model;
+use tail_policy::keeps;
 use tail_settings::Section;
 
 /// A later moment is taken as this one.
@@ -36,11 +38,12 @@ pub struct OwnStep {
 
 impl Model for OwnStep {
     ghost use Rattle.std.specs.Prelude.{Some, None};
+    ghost use Rattle.tenant_pipeline.specs.Arrivals.{arrivals_in};
     ghost use Rattle.tenant_pipeline.specs.Own.{Own, Post, Turn};
 
     ghost Value = { Own };
 
-    ghost view = { λ s. elim s.spans [ Some spans ↦ Post s.at spans.items | None ↦ Turn s.at ] };
+    ghost view = { λ s. elim s.spans [ Some spans ↦ Post s.at (arrivals_in spans.items) | None ↦ Turn s.at ] };
 }
 
 /// A span that was taken, with the effective moment of its post.
@@ -51,11 +54,12 @@ struct TakenSpan {
 }
 
 impl Model for TakenSpan {
+    ghost use Rattle.tenant_pipeline.specs.Arrivals.{arrival_in};
     ghost use Rattle.tenant_pipeline.specs.Rows.{Taken};
 
     ghost Value = { Taken };
 
-    ghost view = { λ t. record { moment = t.moment; arrival = t.span } };
+    ghost view = { λ t. record { moment = t.moment; arrival = arrival_in t.span } };
 }
 
 /// A row that was opened by a span of this trace.
@@ -98,11 +102,12 @@ struct SeatedSpan {
 }
 
 impl Model for SeatedSpan {
+    ghost use Rattle.tenant_pipeline.specs.Arrivals.{arrival_in};
     ghost use Rattle.tenant_pipeline.specs.Rows.{Seated};
 
     ghost Value = { Seated };
 
-    ghost view = { λ s. record { row = s.row; opening = s.opening; moment = s.moment; arrival = s.span } };
+    ghost view = { λ s. record { row = s.row; opening = s.opening; moment = s.moment; arrival = arrival_in s.span } };
 }
 
 /// Spans that leave together, with the moment at which the group formed. No sum of a moment and a wait is too great.
@@ -113,11 +118,12 @@ struct Batch {
 }
 
 impl Model for Batch {
+    ghost use Rattle.tenant_pipeline.specs.Arrivals.{arrivals_in};
     ghost use Rattle.tenant_pipeline.specs.Groups.{GroupData};
 
     ghost Value = { GroupData };
 
-    ghost view = { λ b. record { moment = b.moment; spans = b.spans.items } };
+    ghost view = { λ b. record { moment = b.moment; spans = arrivals_in b.spans.items } };
 }
 
 fn moment_of(step: &OwnStep) -> u64
@@ -159,9 +165,16 @@ fn is_id(size: usize, bytes: &[u8]) -> bool
 }
 
 fn is_valid(span: &StoredSpan) -> bool
-    ensures { result ≡ is_valid span.now }
+    ensures { result ≡ is_valid (arrival_in span.now) }
 {
-    is_id(16, span.trace_id.as_slice()) && is_id(8, span.span_id.as_slice())
+    let view = span.view();
+    is_id(16, view.trace_id()) && is_id(8, view.span_id())
+}
+
+fn trace_of(span: &StoredSpan) -> &[u8]
+    ensures { result.now ≡ trace_of (arrival_in span.now) }
+{
+    span.view().trace_id()
 }
 
 /// The newest one comes before the others.
@@ -174,7 +187,7 @@ fn put_first<T: Drop>(list: &mut Vec<T>, newest: T) -> Result<(), AllocError>
 
 /// One span is taken.
 fn take_one(moment: u64, span: &StoredSpan, spans: &mut Vec<TakenSpan>) -> Result<(), AllocError>
-    ensures { OnOk result (spans.new.items ≡ record { moment = moment; arrival = span.now } ∷ spans.old.items) }
+    ensures { OnOk result (spans.new.items ≡ record { moment = moment; arrival = arrival_in span.now } ∷ spans.old.items) }
 {
     let span = span.clone()?;
     put_first(spans, TakenSpan { moment, span })
@@ -186,7 +199,7 @@ fn taken_after(
     arrivals: &[StoredSpan],
     spans: &mut Vec<TakenSpan>,
 ) -> Result<(), AllocError>
-    ensures { OnOk result (spans.new.items ≡ taken_after moment (valid arrivals.now) spans.old.items) }
+    ensures { OnOk result (spans.new.items ≡ taken_after moment (valid (arrivals_in arrivals.now)) spans.old.items) }
 {
     match arrivals.split_first() {
         Some((span, others)) => {
@@ -212,11 +225,11 @@ fn taken(alloc: Global, past: &[OwnStep]) -> Result<Vec<TakenSpan>, AllocError>
     Ok(spans)
 }
 
-fn latest(trace: &Bytes, rows: &[OpenedRow]) -> Option<RowSeat>
+fn latest(trace: &[u8], rows: &[OpenedRow]) -> Option<RowSeat>
     ensures { result ≡ latest trace.now rows.now }
 {
     let (row, before) = rows.split_first()?;
-    if *trace == row.trace {
+    if trace == row.trace.as_slice() {
         Some(RowSeat {
             row: before.len() as u128 + 1,
             opening: row.moment,
@@ -227,13 +240,14 @@ fn latest(trace: &Bytes, rows: &[OpenedRow]) -> Option<RowSeat>
 }
 
 /// A span opens a row where its trace has none.
-fn open(x: &TakenSpan, rows: &mut Vec<OpenedRow>) -> Result<(), AllocError>
+fn open(alloc: Global, x: &TakenSpan, rows: &mut Vec<OpenedRow>) -> Result<(), AllocError>
     ensures { OnOk result (rows.new.items ≡ (if is_some (latest (trace_of x.now.arrival) rows.old.items) then rows.old.items else record { trace = trace_of x.now.arrival; moment = x.now.moment } ∷ rows.old.items)) }
 {
-    if latest(&x.span.trace_id, rows.as_slice()).is_some() {
+    let trace = trace_of(&x.span);
+    if latest(trace, rows.as_slice()).is_some() {
         return Ok(());
     }
-    let trace = x.span.trace_id.clone()?;
+    let trace = Bytes::copy_from_slice(alloc, trace)?;
     let moment = x.moment;
     put_first(rows, OpenedRow { trace, moment })
 }
@@ -245,14 +259,14 @@ fn opened(alloc: Global, spans: &[TakenSpan]) -> Result<Vec<OpenedRow>, AllocErr
         return Ok(Vec::new(alloc));
     };
     let mut rows = opened(alloc, before)?;
-    open(x, &mut rows)?;
+    open(alloc, x, &mut rows)?;
     Ok(rows)
 }
 
 fn seat(x: &TakenSpan, rows: &[OpenedRow]) -> RowSeat
     ensures { result ≡ seat x.now rows.now }
 {
-    match latest(&x.span.trace_id, rows) {
+    match latest(trace_of(&x.span), rows) {
         Some(seat) => seat,
         None => RowSeat {
             row: rows.len() as u128 + 1,
@@ -296,7 +310,7 @@ fn due_of(section: &Section, opening: u64) -> u128
 
 /// Appends a span's copy.
 fn keep(span: &StoredSpan, spans: &mut Vec<StoredSpan>) -> Result<(), AllocError>
-    ensures { OnOk result (spans.new.items ≡ spans.old.items ++ span.now ∷ []) }
+    ensures { OnOk result (arrivals_in spans.new.items ≡ arrivals_in spans.old.items ++ arrival_in span.now ∷ []) }
 {
     let span = span.clone()?;
     spans.push(span)?;
@@ -309,7 +323,7 @@ fn on_time(
     row: u128,
     seats: &[SeatedSpan],
 ) -> Result<Vec<StoredSpan>, AllocError>
-    ensures { IfOk result (λ spans. spans.items ≡ on_time (section_view section.now) row seats.now) }
+    ensures { IfOk result (λ spans. arrivals_in spans.items ≡ on_time (section_view section.now) row seats.now) }
 {
     let Some((x, before)) = seats.split_first() else {
         return Ok(Vec::new(alloc));
@@ -319,6 +333,41 @@ fn on_time(
         keep(&x.span, &mut spans)?;
     }
     Ok(spans)
+}
+
+/// What the policies ask of each span.
+fn facts_of<'a>(alloc: Global, spans: &'a [StoredSpan]) -> Result<Vec<SpanRef<'a>>, AllocError>
+    ensures { IfOk result (λ facts. facts.items ≡ map (λ a. a.facts) (arrivals_in spans.now)) }
+{
+    let Some((span, others)) = spans.split_first() else {
+        return Ok(Vec::new(alloc));
+    };
+    let mut facts = facts_of(alloc, others)?;
+    put_first(&mut facts, span.view())?;
+    Ok(facts)
+}
+
+fn are_kept(alloc: Global, section: &Section, spans: &[StoredSpan]) -> Result<bool, AllocError>
+    ensures { IfOk result (λ kept. kept ≡ are_kept (section_view section.now).tail_sampling.policies (arrivals_in spans.now)) }
+{
+    if spans.is_empty() {
+        return Ok(false);
+    }
+    let facts = facts_of(alloc, spans)?;
+    let policies = section.tail_sampling.policies.as_slice();
+    Ok(keeps(policies, facts.as_slice()))
+}
+
+fn is_kept(
+    alloc: Global,
+    section: &Section,
+    row: u128,
+    seats: &[SeatedSpan],
+) -> Result<bool, AllocError>
+    ensures { IfOk result (λ kept. kept ≡ is_kept (section_view section.now) row seats.now) }
+{
+    let spans = on_time(alloc, section, row, seats)?;
+    are_kept(alloc, section, spans.as_slice())
 }
 
 fn decided(
@@ -337,7 +386,9 @@ fn decided(
     let moment = due_of(section, row.moment);
     if moment <= reached as u128 {
         let spans = on_time(alloc, section, before.len() as u128 + 1, seats)?;
-        all.push(Batch { moment, spans })?;
+        if are_kept(alloc, section, spans.as_slice())? {
+            all.push(Batch { moment, spans })?;
+        }
     }
     Ok(all)
 }
@@ -361,7 +412,7 @@ fn late(alloc: Global, section: &Section, seats: &[SeatedSpan]) -> Result<Vec<Ba
         return Ok(Vec::new(alloc));
     };
     let mut all = late(alloc, section, before)?;
-    if x.moment as u128 >= due_of(section, x.opening) {
+    if x.moment as u128 >= due_of(section, x.opening) && is_kept(alloc, section, x.row, before)? {
         let group = alone(alloc, x)?;
         all.push(group)?;
     }
@@ -489,7 +540,7 @@ trait Compared {
     ghost same: { Arrival → Arrival → Bool };
 
     fn is_same(a: &StoredSpan, b: &StoredSpan) -> bool
-        ensures { result ≡ same a.now b.now };
+        ensures { result ≡ same (arrival_in a.now) (arrival_in b.now) };
 }
 
 /// Their resources and the resources' schemas.
@@ -499,8 +550,7 @@ impl Compared for ByResource {
     ghost same = { same_resource };
 
     fn is_same(a: &StoredSpan, b: &StoredSpan) -> bool {
-        a.origin.resource == b.origin.resource
-            && a.origin.resource_schema_url == b.origin.resource_schema_url
+        a.resource() == b.resource() && a.resource_schema_url() == b.resource_schema_url()
     }
 }
 
@@ -511,7 +561,7 @@ impl Compared for ByScope {
     ghost same = { same_scope };
 
     fn is_same(a: &StoredSpan, b: &StoredSpan) -> bool {
-        a.origin.scope == b.origin.scope && a.origin.scope_schema_url == b.origin.scope_schema_url
+        a.scope() == b.scope() && a.scope_schema_url() == b.scope_schema_url()
     }
 }
 
@@ -523,17 +573,17 @@ struct Run {
 
 impl Model for Run {
     ghost use Rattle.std.specs.Prelude.{List};
-    ghost use Rattle.tenant_pipeline.specs.Arrivals.{Arrival};
+    ghost use Rattle.tenant_pipeline.specs.Arrivals.{Arrival, arrivals_in};
 
     ghost Value = { List Arrival };
 
-    ghost view = { λ r. r.spans.items };
+    ghost view = { λ r. arrivals_in r.spans.items };
 }
 
 /// Whether a span before this run is of it.
 fn is_of<C: Compared>(x: &StoredSpan, run: &[StoredSpan]) -> bool
-    ensures none { length run.now ≡ 0 → result ≡ true }
-    ensures some { (y : Arrival) (ys : List Arrival) → run.now ≡ y ∷ ys → result ≡ C.same x.now y }
+    ensures none { arrivals_in run.now ≡ [] → result ≡ true }
+    ensures some { (y : Arrival) (ys : List Arrival) → arrivals_in run.now ≡ y ∷ ys → result ≡ C.same (arrival_in x.now) y }
 {
     match run.split_first() {
         Some((y, _)) => C::is_same(x, y),
@@ -543,7 +593,7 @@ fn is_of<C: Compared>(x: &StoredSpan, run: &[StoredSpan]) -> bool
 
 /// One more before the runs of the others.
 fn join<C: Compared>(alloc: Global, x: &StoredSpan, runs: &mut Vec<Run>) -> Result<(), AllocError>
-    ensures { OnOk result (runs.new.items ≡ joined_to C.same x.now runs.old.items) }
+    ensures { OnOk result (runs.new.items ≡ joined_to C.same (arrival_in x.now) runs.old.items) }
 {
     let x = x.clone()?;
     if !runs.is_empty() && is_of::<C>(&x, runs[0].spans.as_slice()) {
@@ -554,7 +604,7 @@ fn join<C: Compared>(alloc: Global, x: &StoredSpan, runs: &mut Vec<Run>) -> Resu
 }
 
 fn runs<C: Compared>(alloc: Global, spans: &[StoredSpan]) -> Result<Vec<Run>, AllocError>
-    ensures { IfOk result (λ all. all.items ≡ runs C.same spans.now) }
+    ensures { IfOk result (λ all. all.items ≡ runs C.same (arrivals_in spans.now)) }
 {
     let Some((x, others)) = spans.split_first() else {
         return Ok(Vec::new(alloc));
@@ -565,16 +615,16 @@ fn runs<C: Compared>(alloc: Global, spans: &[StoredSpan]) -> Result<Vec<Run>, Al
 }
 
 fn scope_spans_field(alloc: Global, spans: &[StoredSpan]) -> Result<Vec<u8>, AllocError>
-    ensures { IfOk result (λ text. text.items ≡ scope_spans_field spans.now) }
+    ensures { IfOk result (λ text. text.items ≡ scope_spans_field (arrivals_in spans.now)) }
 {
     let mut text = Vec::new(alloc);
     let Some((x, _)) = spans.split_first() else {
         return Ok(text);
     };
     let mut content = Vec::new(alloc);
-    put_embedded(&mut content, &x.origin.scope)?;
+    put_embedded(&mut content, x.scope())?;
     put_spans(&mut content, spans)?;
-    put_schema_url(&mut content, &x.origin.scope_schema_url)?;
+    put_schema_url(&mut content, x.scope_schema_url())?;
     put_field(&mut text, 2, content.as_slice())?;
     Ok(text)
 }
@@ -593,7 +643,7 @@ fn scope_fields(alloc: Global, runs: &[Run]) -> Result<Vec<u8>, AllocError>
 }
 
 fn resource_spans_field(alloc: Global, spans: &[StoredSpan]) -> Result<Vec<u8>, AllocError>
-    ensures { IfOk result (λ text. text.items ≡ resource_spans_field spans.now) }
+    ensures { IfOk result (λ text. text.items ≡ resource_spans_field (arrivals_in spans.now)) }
 {
     let mut text = Vec::new(alloc);
     let Some((x, _)) = spans.split_first() else {
@@ -602,9 +652,9 @@ fn resource_spans_field(alloc: Global, spans: &[StoredSpan]) -> Result<Vec<u8>, 
     let scopes = runs::<ByScope>(alloc, spans)?;
     let mut fields = scope_fields(alloc, scopes.as_slice())?;
     let mut content = Vec::new(alloc);
-    put_embedded(&mut content, &x.origin.resource)?;
+    put_embedded(&mut content, x.resource())?;
     content.append(&mut fields)?;
-    put_schema_url(&mut content, &x.origin.resource_schema_url)?;
+    put_schema_url(&mut content, x.resource_schema_url())?;
     put_field(&mut text, 1, content.as_slice())?;
     Ok(text)
 }
@@ -624,7 +674,7 @@ fn resource_fields(alloc: Global, runs: &[Run]) -> Result<Vec<u8>, AllocError>
 
 #[tactic(auto, unfolding(crate::specs::ExportText::export_text))]
 fn export_text(alloc: Global, spans: &[StoredSpan]) -> Result<Bytes, AllocError>
-    ensures { IfOk result (λ payload. payload ≡ export_text spans.now) }
+    ensures { IfOk result (λ payload. payload ≡ export_text (arrivals_in spans.now)) }
 {
     let resources = runs::<ByResource>(alloc, spans)?;
     let text = resource_fields(alloc, resources.as_slice())?;

@@ -1,15 +1,24 @@
 //! Rows and groups.
 
-ghost use Rattle.std.specs.Prelude.{◌≡◌, ◌<◌, ◌++◌, [], ◌∷◌, IfOk, OnOk, OnErr};
+ghost use Rattle.std.specs.Prelude.{◌≡◌, ℕ, ◌<◌, ◌++◌, [], ◌∷◌, map, if◌then◌else◌, IfOk, OnOk, OnErr};
 ghost use Rattle.indexmap.specs.IndexMap.{index_map_len};
-ghost use Rattle.tenant_pipeline.specs.View.{row_views, group_views};
+ghost use Rattle.tail_settings.specs.Policy.{policy_view};
+ghost use Rattle.span_pool.specs.Stored.{stored_facts};
+ghost use Rattle.span_pool.specs.Named.{Names, AreNamed};
+ghost use Rattle.tenant_pipeline.specs.Arrivals.{arrivals_in};
+ghost use Rattle.tenant_pipeline.specs.Groups.{are_kept};
 ghost use Rattle.tenant_pipeline.specs.Machine.{IsDecided};
+ghost use Rattle.tenant_pipeline.specs.View.{row_views, group_views};
+ghost use Rattle.tenant_pipeline.specs.Numbered.{AreGroupsNamed, AreAllNamed};
 
-use crate::stored::StoredSpan;
 use indexmap::IndexMap;
+use span_pool::StoredSpan;
+use span_view::SpanRef;
 use std::alloc::{AllocError, Global};
 use std::collections::VecDeque;
 use std::mem;
+use tail_policy::keeps;
+use tail_settings::PolicySpec;
 
 /// A trace's row by the trace's id, in the order in which rows opened.
 pub type Rows = IndexMap<[u8; 16], Row>;
@@ -19,6 +28,8 @@ pub type Rows = IndexMap<[u8; 16], Row>;
 pub struct Row {
     pub due: u64,
     pub spans: Vec<StoredSpan>,
+    /// Whether the policies keep the trace, once it is decided. Until then `false`.
+    pub kept: bool,
 }
 
 /// Spans that leave together, with the moment at which the group formed.
@@ -28,36 +39,72 @@ pub struct Group {
     pub spans: Vec<StoredSpan>,
 }
 
-/// Decides a row: its spans become a group.
-fn decide(alloc: Global, row: &mut Row, queue: &mut VecDeque<Group>) -> Result<(), AllocError>
+/// What the policies ask of each span.
+fn views_of<'a>(alloc: Global, spans: &'a [StoredSpan]) -> Result<Vec<SpanRef<'a>>, AllocError>
+    ensures { IfOk result (λ views. views.items ≡ map stored_facts spans.now) }
+{
+    spans.iter().map(|span| span.view()).collect(alloc)
+}
+
+/// Whether the policies keep a row with these spans. One without spans isn't kept.
+fn are_kept(
+    alloc: Global,
+    policies: &[PolicySpec],
+    spans: &[StoredSpan],
+) -> Result<bool, AllocError>
+    ensures { IfOk result (λ kept. kept ≡ are_kept (map policy_view policies.now) (arrivals_in spans.now)) }
+{
+    if spans.is_empty() {
+        return Ok(false);
+    }
+    let views = views_of(alloc, spans)?;
+    Ok(keeps(policies, views.as_slice()))
+}
+
+/// Decides a row: its spans become a group where the policies keep them, and else they are dropped.
+fn decide(
+    alloc: Global,
+    policies: &[PolicySpec],
+    row: &mut Row,
+    queue: &mut VecDeque<Group>,
+) -> Result<(), AllocError>
     ensures due { row.new.due ≡ row.old.due }
     ensures spans { OnOk result (row.new.spans.items ≡ []) }
-    ensures queue { OnOk result (group_views queue.new.items ≡ group_views queue.old.items ++ record { moment = row.old.due; spans = row.old.spans.items } ∷ []) }
+    ensures kept { OnOk result (row.new.kept ≡ are_kept (map policy_view policies.now) (arrivals_in row.old.spans.items)) }
+    ensures queue { OnOk result (group_views queue.new.items ≡ group_views queue.old.items ++ (if are_kept (map policy_view policies.now) (arrivals_in row.old.spans.items) then record { moment = row.old.due; spans = arrivals_in row.old.spans.items } ∷ [] else [])) }
     ensures refused_row { OnErr result (row.new.spans.items ≡ row.old.spans.items) }
+    ensures refused_kept { OnErr result (row.new.kept ≡ row.old.kept) }
     ensures refused_queue { OnErr result (queue.new.items ≡ queue.old.items) }
+    ensures named { (names : Names) (last : ℕ) → AreNamed names last row.old.spans.items → AreGroupsNamed names last queue.old.items → AreNamed names last row.new.spans.items × AreGroupsNamed names last queue.new.items }
 {
+    let kept = are_kept(alloc, policies, row.spans.as_slice())?;
     queue.try_reserve(1)?;
     let spans = mem::replace(&mut row.spans, Vec::new(alloc));
-    queue.push_back_reserved(Group {
-        moment: row.due,
-        spans,
-    });
+    row.kept = kept;
+    if kept {
+        queue.push_back_reserved(Group {
+            moment: row.due,
+            spans,
+        });
+    }
     Ok(())
 }
 
 /// Decides the row at a place, and tells when it was due.
 pub fn decide_at(
     alloc: Global,
+    policies: &[PolicySpec],
     rows: &mut Rows,
     place: usize,
     queue: &mut VecDeque<Group>,
 ) -> Result<u64, AllocError>
     requires { place < index_map_len rows.old }
-    ensures ok { IfOk result (λ due. IsDecided place due (row_views rows.old.entries) (group_views queue.old.items) (row_views rows.new.entries) (group_views queue.new.items)) }
+    ensures ok { IfOk result (λ due. IsDecided (map policy_view policies.now) place due (row_views rows.old.entries) (group_views queue.old.items) (row_views rows.new.entries) (group_views queue.new.items)) }
     ensures refused_rows { OnErr result (row_views rows.new.entries ≡ row_views rows.old.entries) }
     ensures refused_queue { OnErr result (group_views queue.new.items ≡ group_views queue.old.items) }
+    ensures named { (names : Names) (last : ℕ) → AreAllNamed names last rows.old.entries queue.old.items → AreAllNamed names last rows.new.entries queue.new.items }
 {
     let row = &mut rows[place];
-    decide(alloc, row, queue)?;
+    decide(alloc, policies, row, queue)?;
     Ok(row.due)
 }

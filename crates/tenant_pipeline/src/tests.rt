@@ -45,8 +45,27 @@ fn other_section(alloc: Global) -> Result<Section, Fail> {
     )
 }
 
+/// A section with one policy, which keeps traces with an error.
+fn errors_section(alloc: Global) -> Result<Section, Fail> {
+    first_section(
+        alloc,
+        "tenant = [{ name = \"a\", tail_sampling = { decision_wait_ms = 1000, policy = [{ type = \"status_code\", status_codes = [\"ERROR\"] }] } }]",
+    )
+}
+
 fn post(alloc: Global, pipeline: &mut Pipeline, now: u64, body: &[u8]) -> Result<bool, Fail> {
-    let prepared = prepare(alloc, 7, &section(alloc)?, body)?;
+    post_of(alloc, pipeline, &section(alloc)?, now, body)
+}
+
+/// A post of a body that was prepared for this section.
+fn post_of(
+    alloc: Global,
+    pipeline: &mut Pipeline,
+    section: &Section,
+    now: u64,
+    body: &[u8],
+) -> Result<bool, Fail> {
+    let prepared = prepare(alloc, 7, section, body)?;
     let reply = pipeline.post(now, &prepared)?;
     Ok(prepared.tenant() == 7 && reply.status == 200 && reply.body.as_slice().is_empty())
 }
@@ -61,7 +80,7 @@ fn is_job(told: &Told, wanted: u64, body: &[u8]) -> bool {
 #[test]
 fn one_post(rt: HostRuntime) -> Result<(), Fail> {
     let alloc = rt.alloc();
-    let mut pipeline = Pipeline::new(alloc, &section(alloc)?);
+    let mut pipeline = Pipeline::new(alloc, &section(alloc)?)?;
     assert!(rt; pipeline.ready() == None);
     assert!(rt; post(alloc, &mut pipeline, 0, &BODY)?);
     assert!(rt; pipeline.ready() == Some(1000));
@@ -75,7 +94,7 @@ fn one_post(rt: HostRuntime) -> Result<(), Fail> {
 #[test]
 fn late_spans_leave_alone(rt: HostRuntime) -> Result<(), Fail> {
     let alloc = rt.alloc();
-    let mut pipeline = Pipeline::new(alloc, &section(alloc)?);
+    let mut pipeline = Pipeline::new(alloc, &section(alloc)?)?;
     assert!(rt; post(alloc, &mut pipeline, 0, &BODY)?);
     assert!(rt; post(alloc, &mut pipeline, 999, &SECOND)?);
     // Its row was decided a moment before, and this post found that out.
@@ -103,7 +122,7 @@ fn late_spans_leave_alone(rt: HostRuntime) -> Result<(), Fail> {
 #[test]
 fn invalid_spans_are_left_out(rt: HostRuntime) -> Result<(), Fail> {
     let alloc = rt.alloc();
-    let mut pipeline = Pipeline::new(alloc, &section(alloc)?);
+    let mut pipeline = Pipeline::new(alloc, &section(alloc)?)?;
     // A trace id of 15 bytes, one of zeros, a span id of zeros and none, each beside other spans.
     let short =
         b"\x0a\x3d\x12\x3b\x12\x1b\x0a\x0f\x11\x11\x11\x11\x11\x11\x11\x11\x11\x11\x11\x11\x11\x11\x11\x12\x08\x22\x22\x22\x22\x22\x22\x22\x22\x12\x1c\x0a\x10\x11\x11\x11\x11\x11\x11\x11\x11\x11\x11\x11\x11\x11\x11\x11\x11\x12\x08\x21\x21\x21\x21\x21\x21\x21\x21";
@@ -119,13 +138,13 @@ fn invalid_spans_are_left_out(rt: HostRuntime) -> Result<(), Fail> {
 
 /// A body that is posted alone leaves as this payload, a second later.
 fn leaves_as(alloc: Global, body: &[u8], payload: &[u8]) -> Result<bool, Fail> {
-    let mut pipeline = Pipeline::new(alloc, &section(alloc)?);
+    let mut pipeline = Pipeline::new(alloc, &section(alloc)?)?;
     Ok(post(alloc, &mut pipeline, 0, body)? && is_job(&pipeline.turn(1000)?, 1, payload))
 }
 
 /// Bodies that are posted at one moment leave as this payload, a second later.
 fn leave_as(alloc: Global, bodies: &[&[u8]], payload: &[u8]) -> Result<bool, Fail> {
-    let mut pipeline = Pipeline::new(alloc, &section(alloc)?);
+    let mut pipeline = Pipeline::new(alloc, &section(alloc)?)?;
     let mut taken = true;
     for body in bodies {
         taken &= post(alloc, &mut pipeline, 0, body)?;
@@ -214,6 +233,24 @@ fn neighbours_of_one_resource_share_it(rt: HostRuntime) -> Result<(), Fail> {
 }
 
 #[test]
+fn resources_of_two_posts_differ(rt: HostRuntime) -> Result<(), Fail> {
+    let alloc = rt.alloc();
+    // Each is the first resource of its post.
+    let other =
+        b"\x0a\x24\x0a\x02\x10\x06\x12\x1e\x12\x1c\x0a\x10\x11\x11\x11\x11\x11\x11\x11\x11\x11\x11\x11\x11\x11\x11\x11\x11\x12\x08\x22\x22\x22\x22\x22\x22\x22\x22";
+    let both =
+        b"\x0a\x24\x0a\x02\x10\x05\x12\x1e\x12\x1c\x0a\x10\x11\x11\x11\x11\x11\x11\x11\x11\x11\x11\x11\x11\x11\x11\x11\x11\x12\x08\x21\x21\x21\x21\x21\x21\x21\x21\x0a\x24\x0a\x02\x10\x06\x12\x1e\x12\x1c\x0a\x10\x11\x11\x11\x11\x11\x11\x11\x11\x11\x11\x11\x11\x11\x11\x11\x11\x12\x08\x22\x22\x22\x22\x22\x22\x22\x22";
+    assert!(rt; leave_as(alloc, &[OF_RESOURCE.as_slice(), other], both)?);
+    // One resource twice in a post.
+    let twice =
+        b"\x0a\x24\x0a\x02\x10\x05\x12\x1e\x12\x1c\x0a\x10\x11\x11\x11\x11\x11\x11\x11\x11\x11\x11\x11\x11\x11\x11\x11\x11\x12\x08\x21\x21\x21\x21\x21\x21\x21\x21\x0a\x24\x0a\x02\x10\x05\x12\x1e\x12\x1c\x0a\x10\x11\x11\x11\x11\x11\x11\x11\x11\x11\x11\x11\x11\x11\x11\x11\x11\x12\x08\x22\x22\x22\x22\x22\x22\x22\x22";
+    let once =
+        b"\x0a\x42\x0a\x02\x10\x05\x12\x3c\x12\x1c\x0a\x10\x11\x11\x11\x11\x11\x11\x11\x11\x11\x11\x11\x11\x11\x11\x11\x11\x12\x08\x21\x21\x21\x21\x21\x21\x21\x21\x12\x1c\x0a\x10\x11\x11\x11\x11\x11\x11\x11\x11\x11\x11\x11\x11\x11\x11\x11\x11\x12\x08\x22\x22\x22\x22\x22\x22\x22\x22";
+    assert!(rt; leaves_as(alloc, twice, once)?);
+    Ok(())
+}
+
+#[test]
 fn neighbours_of_one_scope_share_it(rt: HostRuntime) -> Result<(), Fail> {
     let alloc = rt.alloc();
     let first =
@@ -229,6 +266,57 @@ fn neighbours_of_one_scope_share_it(rt: HostRuntime) -> Result<(), Fail> {
     Ok(())
 }
 
+/// A post of one span with an error: trace id 11.. and span id 21...
+pub const FAILED: [u8; 38] =
+    *b"\x0a\x24\x12\x22\x12\x20\x0a\x10\x11\x11\x11\x11\x11\x11\x11\x11\x11\x11\x11\x11\x11\x11\x11\x11\x12\x08\x21\x21\x21\x21\x21\x21\x21\x21\x7a\x02\x18\x02";
+
+/// The same, and the second span of its trace.
+pub const FAILED_AND_SECOND: [u8; 68] =
+    *b"\x0a\x42\x12\x40\x12\x20\x0a\x10\x11\x11\x11\x11\x11\x11\x11\x11\x11\x11\x11\x11\x11\x11\x11\x11\x12\x08\x21\x21\x21\x21\x21\x21\x21\x21\x7a\x02\x18\x02\x12\x1c\x0a\x10\x11\x11\x11\x11\x11\x11\x11\x11\x11\x11\x11\x11\x11\x11\x11\x11\x12\x08\x22\x22\x22\x22\x22\x22\x22\x22";
+
+#[test]
+fn only_kept_traces_leave(rt: HostRuntime) -> Result<(), Fail> {
+    let alloc = rt.alloc();
+    let section = errors_section(alloc)?;
+    let mut pipeline = Pipeline::new(alloc, &section)?;
+    assert!(rt; post_of(alloc, &mut pipeline, &section, 0, &OTHER)?);
+    assert!(rt; post_of(alloc, &mut pipeline, &section, 0, &FAILED)?);
+    assert!(rt; post_of(alloc, &mut pipeline, &section, 1, &SECOND)?);
+    // A span of the trace without an error comes late, and then one of the other trace.
+    assert!(rt; post_of(alloc, &mut pipeline, &section, 1000, &OTHER)?);
+    assert!(rt; post_of(alloc, &mut pipeline, &section, 1000, &SECOND)?);
+    assert!(rt; is_job(&pipeline.turn(1000)?, 1, &FAILED_AND_SECOND));
+    assert!(rt; is_job(&pipeline.turn(1000)?, 2, &SECOND));
+    assert!(rt; pipeline.turn(1000)? == Told::Worked);
+    Ok(())
+}
+
+/// A span from 1 to 2 ms and one from 5 to 6 ms, of one trace.
+pub const EARLIER: [u8; 52] =
+    *b"\x0a\x32\x12\x30\x12\x2e\x0a\x10\x11\x11\x11\x11\x11\x11\x11\x11\x11\x11\x11\x11\x11\x11\x11\x11\x12\x08\x21\x21\x21\x21\x21\x21\x21\x21\x39\x40\x42\x0f\x00\x00\x00\x00\x00\x41\x80\x84\x1e\x00\x00\x00\x00\x00";
+
+pub const LATER: [u8; 52] =
+    *b"\x0a\x32\x12\x30\x12\x2e\x0a\x10\x11\x11\x11\x11\x11\x11\x11\x11\x11\x11\x11\x11\x11\x11\x11\x11\x12\x08\x22\x22\x22\x22\x22\x22\x22\x22\x39\x40\x4b\x4c\x00\x00\x00\x00\x00\x41\x80\x8d\x5b\x00\x00\x00\x00\x00";
+
+/// Both in one request.
+pub const EARLIER_AND_LATER: [u8; 100] =
+    *b"\x0a\x62\x12\x60\x12\x2e\x0a\x10\x11\x11\x11\x11\x11\x11\x11\x11\x11\x11\x11\x11\x11\x11\x11\x11\x12\x08\x21\x21\x21\x21\x21\x21\x21\x21\x39\x40\x42\x0f\x00\x00\x00\x00\x00\x41\x80\x84\x1e\x00\x00\x00\x00\x00\x12\x2e\x0a\x10\x11\x11\x11\x11\x11\x11\x11\x11\x11\x11\x11\x11\x11\x11\x11\x11\x12\x08\x22\x22\x22\x22\x22\x22\x22\x22\x39\x40\x4b\x4c\x00\x00\x00\x00\x00\x41\x80\x8d\x5b\x00\x00\x00\x00\x00";
+
+#[test]
+fn a_trace_lasts_from_its_first_start_to_its_last_end(rt: HostRuntime) -> Result<(), Fail> {
+    let alloc = rt.alloc();
+    let section = other_section(alloc)?;
+    let mut pipeline = Pipeline::new(alloc, &section)?;
+    assert!(rt; post_of(alloc, &mut pipeline, &section, 0, &EARLIER)?);
+    assert!(rt; post_of(alloc, &mut pipeline, &section, 1, &LATER)?);
+    assert!(rt; is_job(&pipeline.turn(1000)?, 1, &EARLIER_AND_LATER));
+    // One of them alone lasts 1 ms.
+    let mut pipeline = Pipeline::new(alloc, &section)?;
+    assert!(rt; post_of(alloc, &mut pipeline, &section, 0, &EARLIER)?);
+    assert!(rt; pipeline.turn(1000)? == Told::Worked);
+    Ok(())
+}
+
 #[test]
 fn a_body_names_its_tenant_and_its_policies(rt: HostRuntime) -> Result<(), Fail> {
     let alloc = rt.alloc();
@@ -237,6 +325,8 @@ fn a_body_names_its_tenant_and_its_policies(rt: HostRuntime) -> Result<(), Fail>
     assert!(rt; prepared != prepare(alloc, 8, &section(alloc)?, &BODY)?);
     assert!(rt; prepared != prepare(alloc, 7, &other_section(alloc)?, &BODY)?);
     assert!(rt; prepared != prepare(alloc, 7, &section(alloc)?, &SECOND)?);
+    assert!(rt; Pipeline::new(alloc, &section(alloc)?)?.is_for(&prepared));
+    assert!(rt; !Pipeline::new(alloc, &other_section(alloc)?)?.is_for(&prepared));
     Ok(())
 }
 

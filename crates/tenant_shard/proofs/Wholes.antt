@@ -1,18 +1,18 @@
 -- Whole runs.
 use Rattle.std.proofs.Common.{◌≡◌, ℕ, ◌<◌, List, [], ◌∷◌, ◌++◌, length, take, get_or, refl, sym, ap, ◌∙◌, arith, Bool, true, false, eqb, Option, Some, None, map}
 use Rattle.std.proofs.lemmas.Bool.Decides.{nat_tests}
+use Rattle.std.specs.Prelude.{if◌then◌else◌}
 use Rattle.std.proofs.lemmas.Option.{slice_get_read}
 use Rattle.tail_settings.specs.Section.{SectionData}
 use Rattle.tenant_pipeline.specs.Own.{Own}
-use Rattle.tenant_pipeline.specs.Own as own
 use Rattle.tenant_pipeline.specs.State.{answer}
 use Rattle.tenant_shard.specs.declared.step.Step.{Step}
 use Rattle.tenant_shard.specs.declared.step.Step.TheVariants.{Post, Turn}
 use Rattle.tenant_shard.specs.declared.step.Outcome.{Outcome}
 use Rattle.tenant_shard.specs.View.{View}
 use Rattle.tenant_shard.specs.Lists.{Lists, ShardStands}
-use Rattle.tenant_shard.specs.Outcomes.{named, told_whom, is_tenant, is_own, own_step}
-use Rattle.tenant_shard.specs.Run.{IsAnswered, IsTurned, IsOutcome, AllKnown, OthersStay, after, after_all, Run, RunFrom, ShardSteps, ShardRuns}
+use Rattle.tenant_shard.specs.Outcomes.{OwnStep, Turned, own_step, piped, is_taken, other_policies, Answer, Answered, NotTaken, named, told_whom, is_tenant, is_own}
+use Rattle.tenant_shard.specs.Run.{IsTakenOrNot, IsAnswered, recorded, IsTurned, IsOutcome, AllKnown, OthersStay, after, after_all, Run, RunFrom, ShardSteps, ShardRuns}
 use Rattle.tenant_shard.specs.Alone.{alone, own_steps, told_to, EachAlone, OwnStepsDecide}
 use Rattle.tenant_shard.specs.Refusal.{ShardRefuses}
 use Rattle.tenant_shard.specs.Stop.{IsStopped}
@@ -55,30 +55,55 @@ ShardRuns-push ss os s o old middle new runs steps = done (ss ++ s ∷ []) old (
         (RunFrom-push ss os s o lists old middle new before.0 next.0 steps.others, rw (after_all-push ss os s o lists old middle before.0) next.1)
 
 -- an outcome names the tenant whose step it answers
-whom_answered : (t : ℕ) (section : Option SectionData) (past : List Own) (known : Bool) (step : Own) (o : Outcome) → IsAnswered t section past known step o → told_whom o ≡ Some t
+whom_taken : (t : ℕ) (taken : Bool) (section : SectionData) (past : List Own) (known : Bool) (step : Own) (o : Outcome) → IsTakenOrNot taken t section past known step o → told_whom o ≡ Some t
+whom_taken t true section past true step o is = ap told_whom is ∙ told_whom-named t (Answered (answer section past step))
+whom_taken t true section past false step o is = ap told_whom is.1 ∙ told_whom-named t (Answered is.0)
+whom_taken t false section past known step o is = ap told_whom is
+
+whom_answered : (t : ℕ) (section : Option SectionData) (past : List Own) (known : Bool) (step : OwnStep) (o : Outcome) → IsAnswered t section past known step o → told_whom o ≡ Some t
 whom_answered t None past known step o is = ap told_whom is
-whom_answered t (Some section) past true step o is = ap told_whom is ∙ told_whom-named t (answer section past step)
-whom_answered t (Some section) past false step o is = ap told_whom is.1 ∙ told_whom-named t is.0
+whom_answered t (Some section) past known step o is = whom_taken t (is_taken section step) section past known (piped step) o is
 
 names_own : (t : ℕ) (lists : Lists) (views : List View) (s : Step) (o : Outcome) → IsOutcome lists views s o → is_tenant t (told_whom o) ≡ is_own t s o
 names_own t lists views (Post now p) o is = rw (whom_answered p.tenant (lists.sections p.tenant) (lists.pasts p.tenant) (lists.known p.tenant) (own_step (Post now p)) o is) refl
 names_own t lists views (Turn now) o is = refl
 
 -- and is what the tenant is told alone
-answered_known : (t : ℕ) (section : SectionData) (found : Option SectionData) (past : List Own) (known : Bool) (step : Own) (o : Outcome) → found ≡ Some section → known ≡ true → IsAnswered t found past known step o → o ≡ named t (answer section past step)
-answered_known t section found past known step o member sure is = let is' : IsAnswered t (Some section) past true step o = rw (member, sure) at is in is'
+next_alone : SectionData → List Own → OwnStep → Answer
+next_alone section past step = if is_taken section step then Answered (answer section past (piped step)) else NotTaken other_policies
+
+taken_known : (t : ℕ) (taken : Bool) (section : SectionData) (past : List Own) (step : Own) (o : Outcome) → IsTakenOrNot taken t section past true step o →
+    o ≡ named t (if taken then Answered (answer section past step) else NotTaken other_policies)
+taken_known t true section past step o is = is
+taken_known t false section past step o is = is
+
+answered_known : (t : ℕ) (section : SectionData) (found : Option SectionData) (past : List Own) (known : Bool) (step : OwnStep) (o : Outcome) → found ≡ Some section → known ≡ true → IsAnswered t found past known step o → o ≡ named t (next_alone section past step)
+unfolding next_alone
+answered_known t section found past known step o member sure is =
+    let is' : IsAnswered t (Some section) past true step o = rw (member, sure) at is in
+    taken_known t (is_taken section step) section past (piped step) o is'
+
+alone-step : (section : SectionData) (past : List Own) (step : OwnStep) (steps : List OwnStep) → alone section past (step ∷ steps) ≡ next_alone section past step ∷ alone section (recorded (Some section) step past) steps
+unfolding next_alone
+alone-step section past step steps = by_test (is_taken section step)
+  where
+    by_test : (b : Bool) →
+        ◌≡◌ {A = List Answer} (if b then Answered (answer section past (piped step)) ∷ alone section (piped step ∷ past) steps else NotTaken other_policies ∷ alone section past steps)
+        ((if b then Answered (answer section past (piped step)) else NotTaken other_policies) ∷ alone section (if b then piped step ∷ past else past) steps)
+    by_test true = refl
+    by_test false = refl
 
 turn_tells : (t : ℕ) (section : SectionData) (lists : Lists) (now : ℕ) (picked : Option ℕ) (o : Outcome) → lists.sections t ≡ Some section → lists.known t ≡ true → IsTurned lists now picked o → is_tenant t (told_whom o) ≡ true →
-    o ≡ named t (answer section (lists.pasts t) (own.Turn now))
+    o ≡ named t (next_alone section (lists.pasts t) (Turned now))
 turn_tells t section lists now None o member sure is holds = let never : is_tenant t (told_whom o) ≡ false = rw is refl in absurd (cc)
 turn_tells t section lists now (Some u) o member sure is holds =
-    let whom = whom_answered u (lists.sections u) (lists.pasts u) (lists.known u) (own.Turn now) o is in
+    let whom = whom_answered u (lists.sections u) (lists.pasts u) (lists.known u) (Turned now) o is in
     let test : eqb u t ≡ true = rw whom at holds in
     let same : u ≡ t = grind (arith, nat_tests) in
-    answered_known t section (lists.sections t) (lists.pasts t) (lists.known t) (own.Turn now) o member sure (rw same at is)
+    answered_known t section (lists.sections t) (lists.pasts t) (lists.known t) (Turned now) o member sure (rw same at is)
 
 tells_own : (t : ℕ) (section : SectionData) (lists : Lists) (views : List View) (s : Step) (o : Outcome) → lists.sections t ≡ Some section → lists.known t ≡ true → IsOutcome lists views s o → is_own t s o ≡ true →
-    o ≡ named t (answer section (lists.pasts t) (own_step s))
+    o ≡ named t (next_alone section (lists.pasts t) (own_step s))
 tells_own t section lists views (Post now p) o member sure is holds =
     let same : p.tenant ≡ t = grind (arith, nat_tests) in
     let is' : IsAnswered t (lists.sections t) (lists.pasts t) (lists.known t) (own_step (Post now p)) o = rw same at is in
@@ -97,11 +122,11 @@ Run-alone (s ∷ ss) (o ∷ os) lists old new t section run member sure = by_own
     by_own true e rest =
         let names : is_tenant t (told_whom o) ≡ true = names_own t lists old s o run.0 ∙ e in
         let first = tells_own t section lists old s o member sure run.0 e in
-        let rest' : told_to t os ≡ map (named t) (alone section (own_step s ∷ lists.pasts t) (own_steps t ss os)) = rw (e, member) at rest in
-        rw (names, e) (ap (λ x. x ∷ told_to t os) first ∙ ap (λ xs. named t (answer section (lists.pasts t) (own_step s)) ∷ xs) rest')
+        let rest' : told_to t os ≡ map (named t) (alone section (recorded (Some section) (own_step s) (lists.pasts t)) (own_steps t ss os)) = rw (e, member) at rest in
+        rw (names, e) (ap (λ x. x ∷ told_to t os) first ∙ ap (λ xs. named t (next_alone section (lists.pasts t) (own_step s)) ∷ xs) rest' ∙ ap (map (named t)) (sym (alone-step section (lists.pasts t) (own_step s) (own_steps t ss os))))
     by_own false e rest =
         let names : is_tenant t (told_whom o) ≡ false = names_own t lists old s o run.0 ∙ e in
-        let rest' : told_to t os ≡ map (named t) (alone section (lists.pasts t) (own_steps t ss os)) = rw (e, member) at rest in
+        let rest' : told_to t os ≡ map (named t) (alone section (lists.pasts t) (own_steps t ss os)) = rw e at rest in
         rw (names, e) rest'
 
 pub each_alone : (steps : List Step) (old : List View) (outcomes : List Outcome) (new : List View) → ShardRuns steps old outcomes new → EachAlone steps old outcomes

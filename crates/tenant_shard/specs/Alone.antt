@@ -1,23 +1,25 @@
 -- What each tenant is told in a run, in which no other tenant occurs.
 use Rattle.std.specs.Prelude.{◌≡◌, ℕ, true, List, [], ◌∷◌, Some, filter, map, if◌then◌else◌}
 use Rattle.tail_settings.specs.Section.{SectionData}
-use Rattle.tenant_pipeline.specs.declared.told.Told.{Told}
 use Rattle.tenant_pipeline.specs.Own.{Own}
 use Rattle.tenant_pipeline.specs.State.{answer}
 use Rattle.tenant_shard.specs.declared.step.Step.{Step}
 use Rattle.tenant_shard.specs.declared.step.Outcome.{Outcome}
 use Rattle.tenant_shard.specs.View.{View}
 use Rattle.tenant_shard.specs.Lists.{Lists, ShardStands}
-use Rattle.tenant_shard.specs.Outcomes.{named, own_step, told_whom, is_tenant, is_own}
+use Rattle.tenant_shard.specs.Outcomes.{OwnStep, own_step, piped, is_taken, other_policies, Answer, Answered, NotTaken, named, told_whom, is_tenant, is_own}
 use Rattle.tenant_shard.specs.Run.{RunFrom}
 
--- what a pipeline alone answers to these steps, after its past
-abbrev pub alone : SectionData → List Own → List Own → List Told
+-- what a pipeline alone answers to these steps, after its past. A body that was prepared for other policies is refused, and
+-- the pipeline's past is as if it had not come
+abbrev pub alone : SectionData → List Own → List OwnStep → List Answer
 alone section past [] = []
-alone section past (step ∷ steps) = answer section past step ∷ alone section (step ∷ past) steps
+alone section past (step ∷ steps) =
+    if is_taken section step then Answered (answer section past (piped step)) ∷ alone section (piped step ∷ past) steps
+    else NotTaken other_policies ∷ alone section past steps
 
 -- the tenant's own steps in a list
-abbrev pub own_steps : ℕ → List Step → List Outcome → List Own
+abbrev pub own_steps : ℕ → List Step → List Outcome → List OwnStep
 own_steps tenant [] outcomes = []
 own_steps tenant (step ∷ steps) [] = []
 own_steps tenant (step ∷ steps) (outcome ∷ outcomes) =
@@ -35,7 +37,7 @@ EachAlone steps old outcomes = (lists : Lists) → ShardStands lists old →
     told_to tenant outcomes ≡ map (named tenant) (alone section (lists.pasts tenant) (own_steps tenant steps outcomes))
 
 -- in some run the tenant has this section, these own steps before and these in the run, and these outcomes
-pub record IsToldIn (tenant : ℕ) (section : SectionData) (past steps : List Own) (told : List Outcome) : Type 0 where
+pub record IsToldIn (tenant : ℕ) (section : SectionData) (past : List Own) (steps : List OwnStep) (told : List Outcome) : Type 0 where
   pub lists : Lists
   pub old : List View
   pub all_steps : List Step
@@ -50,5 +52,5 @@ pub record IsToldIn (tenant : ℕ) (section : SectionData) (past steps : List Ow
 
 -- two runs in which tenants have equal sections and equal own steps tell them the same, each by its number
 abbrev pub OwnStepsDecide : Type 0
-OwnStepsDecide = (section : SectionData) (past steps : List Own) → (answers : List Told)
+OwnStepsDecide = (section : SectionData) (past : List Own) (steps : List OwnStep) → (answers : List Answer)
     × ((tenant : ℕ) (told : List Outcome) → IsToldIn tenant section past steps told → told ≡ map (named tenant) answers)

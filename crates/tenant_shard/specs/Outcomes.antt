@@ -1,5 +1,9 @@
 -- Whose a step is, and whom an outcome names.
-use Rattle.std.specs.Prelude.{ℕ, Bool, false, Option, Some, None, ◌==◌}
+use Rattle.std.specs.Prelude.{ℕ, Bool, true, false, List, Option, Some, None, ◌==◌}
+use Rattle.tail_settings.specs.Policy.{PolicyData}
+use Rattle.tail_settings.specs.Section.{SectionData}
+use Rattle.tenant_pipeline.specs.Arrivals.{Arrival}
+use Rattle.tenant_pipeline.specs.Equal.{same_policies}
 use Rattle.tenant_pipeline.specs.declared.told.Told.{Told}
 use Rattle.tenant_pipeline.specs.declared.told.Told.TheVariants as told
 use Rattle.tenant_pipeline.specs.Own.{Own}
@@ -9,16 +13,44 @@ use Rattle.tenant_shard.specs.declared.step.Step.TheVariants.{Post, Turn}
 use Rattle.tenant_shard.specs.declared.step.Outcome.{Outcome}
 use Rattle.tenant_shard.specs.declared.step.Outcome.TheVariants.{Reply, Job, Worked, Idle, Refused}
 
--- what a tenant is told, with its number
-abbrev pub named : ℕ → Told → Outcome
-named tenant (told.Reply reply) = Reply tenant reply
-named tenant (told.Job ticket payload) = Job tenant ticket payload
-named tenant told.Worked = Worked tenant
+-- a step as its tenant sees it: a body that was prepared for these policies comes, or a turn goes to the tenant
+pub data OwnStep : Type 0 where
+  Posted : ℕ → List PolicyData → List Arrival → OwnStep
+  Turned : ℕ → OwnStep
 
--- the step as its tenant sees it
-abbrev pub own_step : Step → Own
-own_step (Post now prepared) = own.Post now prepared.arrivals
-own_step (Turn now) = own.Turn now
+abbrev pub own_step : Step → OwnStep
+own_step (Post now prepared) = Posted now prepared.policies prepared.arrivals
+own_step (Turn now) = Turned now
+
+-- the same as its pipeline sees it
+abbrev pub piped : OwnStep → Own
+piped (Posted now policies arrivals) = own.Post now arrivals
+piped (Turned now) = own.Turn now
+
+-- whether it reaches the pipeline of a tenant with this section: a body that was prepared for other policies doesn't
+abbrev pub is_taken : SectionData → OwnStep → Bool
+is_taken section (Posted now policies arrivals) = same_policies policies section.tail_sampling.policies
+is_taken section (Turned now) = true
+
+-- the number of the refusal of a tenant that is no member
+abbrev pub not_member : ℕ
+not_member = 22
+
+-- the number of the refusal of a body that was prepared for other policies than the tenant's
+abbrev pub other_policies : ℕ
+other_policies = 23
+
+-- what a tenant is told of a step: what its pipeline answers, or that it was refused, by the refusal's number
+pub data Answer : Type 0 where
+  Answered : Told → Answer
+  NotTaken : ℕ → Answer
+
+-- the same with its number
+abbrev pub named : ℕ → Answer → Outcome
+named tenant (Answered (told.Reply reply)) = Reply tenant reply
+named tenant (Answered (told.Job ticket payload)) = Job tenant ticket payload
+named tenant (Answered told.Worked) = Worked tenant
+named tenant (NotTaken number) = Refused tenant number
 
 -- the tenant whom an outcome names
 abbrev pub told_whom : Outcome → Option ℕ

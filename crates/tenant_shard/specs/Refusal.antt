@@ -1,5 +1,7 @@
 -- What a shard is after a step was refused memory, and which steps take none.
-use Rattle.std.specs.Prelude.{◌≡◌, ◌≢◌, ℕ, false, List, Some, None, if◌then◌else◌, ◌==◌}
+use Rattle.std.specs.Prelude.{◌≡◌, ◌≢◌, ℕ, false, List, Option, Some, None, if◌then◌else◌, ◌==◌}
+use Rattle.tail_settings.specs.Policy.{PolicyData}
+use Rattle.tenant_pipeline.specs.Equal.{same_policies}
 use Rattle.tenant_pipeline.specs.Own as own
 use Rattle.tenant_pipeline.specs.State.{State}
 use Rattle.tenant_pipeline.specs.Timers.{IsFront, effective}
@@ -7,7 +9,7 @@ use Rattle.tenant_shard.specs.declared.step.Step.{Step}
 use Rattle.tenant_shard.specs.declared.step.Step.TheVariants.{Post, Turn}
 use Rattle.tenant_shard.specs.View.{View, kept_of}
 use Rattle.tenant_shard.specs.Lists.{Lists, ShardStands}
-use Rattle.tenant_shard.specs.Outcomes.{own_step}
+use Rattle.tenant_shard.specs.Outcomes.{own_step, piped}
 use Rattle.tenant_shard.specs.Pick.{ready_in, IsPick}
 
 -- whose step it is: the tenant's that it names, for a turn the one's whom it goes to
@@ -15,9 +17,14 @@ abbrev pub IsStepFor : ℕ → Step → List View → Type 0
 IsStepFor tenant (Post now prepared) views = prepared.tenant ≡ tenant
 IsStepFor tenant (Turn now) views = IsPick (ready_in views) (own.moment_of (own.Turn now)) (Some tenant)
 
--- no member's step: a post of a tenant that is none, or a turn where no member is ready
+-- a body that was prepared for these policies reaches no pipeline: its tenant is no member, or has other policies
+abbrev pub ReachesNone : List PolicyData → Option State → Type 0
+ReachesNone policies None = Unit
+ReachesNone policies (Some kept) = same_policies policies kept.policies ≡ false
+
+-- a step that reaches no member's pipeline: such a body, or a turn where no member is ready
 abbrev pub IsNobodys : Step → List View → Type 0
-IsNobodys (Post now prepared) views = kept_of prepared.tenant views ≡ None
+IsNobodys (Post now prepared) views = ReachesNone prepared.policies (kept_of prepared.tenant views)
 IsNobodys (Turn now) views = IsPick (ready_in views) (own.moment_of (own.Turn now)) None
 
 -- the lists without what is known of a tenant
@@ -36,7 +43,7 @@ pub record IsRefused (tenant : ℕ) (step : Step) (old new : List View) : Type 0
   pub after : State
   pub was : kept_of tenant old ≡ Some before
   pub is_now : kept_of tenant new ≡ Some after
-  pub front : IsFront (effective (own_step step) before) before after
+  pub front : IsFront (effective (piped (own_step step)) before) before after
   pub others : (other : ℕ) → other ≢ tenant → kept_of other new ≡ kept_of other old
   pub stands : (lists : Lists) → ShardStands lists old → ShardStands (without tenant lists) new
 

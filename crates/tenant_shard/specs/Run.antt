@@ -1,5 +1,5 @@
 -- What a shard answers to its steps.
-use Rattle.std.specs.Prelude.{◌≡◌, ◌≢◌, ℕ, Bool, true, false, List, [], ◌∷◌, Option, Some, None, is_some, if◌then◌else◌, ◌&&◌}
+use Rattle.std.specs.Prelude.{◌≡◌, ◌≢◌, ℕ, Bool, true, false, List, [], ◌∷◌, Option, Some, None, if◌then◌else◌}
 use Rattle.tail_settings.specs.Section.{SectionData}
 use Rattle.tenant_pipeline.specs.declared.told.Told.{Told}
 use Rattle.tenant_pipeline.specs.Own.{Own}
@@ -11,28 +11,34 @@ use Rattle.tenant_shard.specs.declared.step.Outcome.{Outcome}
 use Rattle.tenant_shard.specs.declared.step.Outcome.TheVariants.{Idle, Refused}
 use Rattle.tenant_shard.specs.View.{View, kept_of}
 use Rattle.tenant_shard.specs.Lists.{Lists, ShardStands}
-use Rattle.tenant_shard.specs.Outcomes.{named, own_step, told_whom, is_own}
+use Rattle.tenant_shard.specs.Outcomes.{OwnStep, Turned, own_step, piped, is_taken, not_member, other_policies, Answered, named, told_whom, is_own}
 use Rattle.tenant_shard.specs.Pick.{ready_at, IsPick}
 
--- the number of the refusal of a tenant that is no member
-abbrev pub not_member : ℕ
-not_member = 22
+-- the outcome of a step that reaches a tenant's pipeline is the next answer of that pipeline alone, or, where its own
+-- steps are not known, some answer
+abbrev pub IsPiped : ℕ → SectionData → List Own → Bool → Own → Outcome → Type 0
+IsPiped tenant section past true step outcome = outcome ≡ named tenant (Answered (answer section past step))
+IsPiped tenant section past false step outcome = (said : Told) × (outcome ≡ named tenant (Answered said))
 
--- the outcome of a tenant's own step is the next answer of its pipeline alone, or, where its own steps are not known,
--- some answer
-abbrev pub IsAnswered : ℕ → Option SectionData → List Own → Bool → Own → Outcome → Type 0
+-- the outcome of a step that reaches the pipeline or doesn't
+abbrev pub IsTakenOrNot : Bool → ℕ → SectionData → List Own → Bool → Own → Outcome → Type 0
+IsTakenOrNot true tenant section past known step outcome = IsPiped tenant section past known step outcome
+IsTakenOrNot false tenant section past known step outcome = outcome ≡ Refused tenant other_policies
+
+-- the outcome of a tenant's own step
+abbrev pub IsAnswered : ℕ → Option SectionData → List Own → Bool → OwnStep → Outcome → Type 0
 IsAnswered tenant None past known step outcome = outcome ≡ Refused tenant not_member
-IsAnswered tenant (Some section) past true step outcome = outcome ≡ named tenant (answer section past step)
-IsAnswered tenant (Some section) past false step outcome = (said : Told) × (outcome ≡ named tenant said)
+IsAnswered tenant (Some section) past known step outcome =
+    IsTakenOrNot (is_taken section step) tenant section past known (piped step) outcome
 
-abbrev pub IsAnswerTo : ℕ → Lists → Own → Outcome → Type 0
+abbrev pub IsAnswerTo : ℕ → Lists → OwnStep → Outcome → Type 0
 IsAnswerTo tenant lists step outcome =
     IsAnswered tenant (lists.sections tenant) (lists.pasts tenant) (lists.known tenant) step outcome
 
 -- the outcome of a turn, by whom it goes to
 abbrev pub IsTurned : Lists → ℕ → Option ℕ → Outcome → Type 0
 IsTurned lists now None outcome = outcome ≡ Idle
-IsTurned lists now (Some tenant) outcome = IsAnswerTo tenant lists (own.Turn now) outcome
+IsTurned lists now (Some tenant) outcome = IsAnswerTo tenant lists (Turned now) outcome
 
 -- the outcome of a step, by the own steps before it. Of members whose own steps are not known, what is kept tells when
 -- they are ready
@@ -43,10 +49,15 @@ IsOutcome lists views (Turn now) outcome =
     (picked : Option ℕ) × IsPick (ready_at lists views) (own.moment_of (own.Turn now)) picked
     × IsTurned lists now picked outcome
 
+-- a step joins the past of a member's pipeline where it reaches it
+abbrev pub recorded : Option SectionData → OwnStep → List Own → List Own
+recorded None step past = past
+recorded (Some section) step past = if is_taken section step then piped step ∷ past else past
+
 -- a step is recorded for the member whose own it is, and for nobody where it is no member's
 abbrev pub past_after : Step → Outcome → Lists → ℕ → List Own
 past_after step outcome lists tenant =
-    if is_some (lists.sections tenant) && is_own tenant step outcome then own_step step ∷ lists.pasts tenant
+    if is_own tenant step outcome then recorded (lists.sections tenant) (own_step step) (lists.pasts tenant)
     else lists.pasts tenant
 
 -- the lists after one step more

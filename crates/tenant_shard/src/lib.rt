@@ -5,6 +5,10 @@
 //! collector is for: whatever the other tenants' settings and steps, each member is told exactly
 //! what a pipeline of its own answers to the steps that were its own. `Shard::step` promises it one
 //! step at a time, and says what is left where memory was refused.
+//!
+//! A body is prepared before it is posted, for the policies that its tenant has then. One that was prepared for other
+//! policies than the member's is refused with the number 23, and a post of a tenant that is no member with 22: neither
+//! changes anything, and what the tenant is told afterwards is as if it had not come.
 #![tactic(auto)]
 
 ghost use Rattle.tenant_shard.specs.Alone.{OwnStepsDecide};

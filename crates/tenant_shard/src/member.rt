@@ -2,11 +2,11 @@
 
 ghost use Rattle.std.specs.Prelude.{◌≡◌, ◌≢◌, ℕ, List, [], ◌∷◌, ◌<◌, ◌≤◌, IfOk, IfErr, OnErr, Option, Some, None, length};
 ghost use Rattle.tenant_pipeline.specs.Own as own;
-ghost use Rattle.tenant_shard.specs.View.{AreInOrder};
-ghost use Rattle.tenant_shard.specs.Outcomes.{named};
+ghost use Rattle.tenant_shard.specs.View.{AreInOrder, kept_of};
+ghost use Rattle.tenant_shard.specs.Outcomes.{Answered, named};
 ghost use Rattle.tenant_shard.specs.Members.{views};
 ghost use Rattle.tenant_shard.specs.Places.{IsPlaceOf, IsGapFor};
-ghost use Rattle.tenant_shard.specs.Steps.{IsStepOf, IsLossOf};
+ghost use Rattle.tenant_shard.specs.Steps.{AreFor, IsStepOf, IsLossOf};
 
 use crate::step::Outcome;
 use std::alloc::AllocError;
@@ -20,7 +20,7 @@ pub struct Member {
 }
 
 fn named(tenant: u32, told: Told) -> Outcome
-    ensures { result ≡ named tenant told }
+    ensures { result ≡ named tenant (Answered told) }
 {
     match told {
         Told::Reply(reply) => Outcome::Reply(tenant, reply),
@@ -36,6 +36,15 @@ pub fn place_of(members: &[Member], tenant: u32) -> Result<usize, usize>
     ensures absent { IfErr result (λ i. (i ≤ length members.now) × IsGapFor tenant members.now i) }
 {
     members.binary_search_by_key(&tenant, |member| member.tenant)
+}
+
+/// Whether the body was prepared for the member's policies.
+pub fn is_for_at(members: &[Member], i: usize, prepared: &Prepared) -> bool
+    requires within { i < length members.now }
+    requires place { IsPlaceOf prepared.now.tenant members.now i }
+    ensures { AreFor prepared.now.policies (kept_of prepared.now.tenant (views members.now)) result }
+{
+    members[i].pipeline.is_for(prepared)
 }
 
 /// The member's body comes.

@@ -10,7 +10,7 @@ ghost use Rattle.tenant_shard.specs.Refusal.{ShardRefuses, IsNobodys};
 ghost use Rattle.tenant_shard.specs.Table.{opened};
 ghost use Rattle.tenant_shard.specs.declared.step.Step.TheVariants.{Post, Turn};
 
-use crate::member::{Member, place_of, post_at, turn_at};
+use crate::member::{Member, is_for_at, place_of, post_at, turn_at};
 use crate::pick::least;
 use crate::step::{Outcome, Step};
 use std::alloc::{AllocError, Global};
@@ -24,6 +24,9 @@ const LATEST_MOMENT: u64 = 1 << 62;
 
 /// The number of the refusal of a tenant that is no member.
 const NOT_MEMBER: u8 = 22;
+
+/// The number of the refusal of a body that was prepared for other policies than the tenant's.
+const OTHER_POLICIES: u8 = 23;
 
 /// The pipelines of several tenants, by number. Of each member it keeps what its pipeline keeps.
 #[derive(Drop)]
@@ -73,8 +76,8 @@ impl Shard {
     }
 
     /// Does one step. Where memory is refused, of the step's own tenant some first due timers may
-    /// have run, and all else is as before. A step that is no member's takes no memory and changes
-    /// nothing.
+    /// have run, and all else is as before. A step that reaches no member's pipeline takes no memory
+    /// and changes nothing: no timer runs, and no clock goes on.
     pub fn step(&mut self, step: &Step) -> Result<Outcome, AllocError>
         ensures ok { IfOk result (λ outcome. ShardSteps step.now self.old outcome self.new) }
         ensures refused { OnErr result (ShardRefuses step.now self.old self.new) }
@@ -112,7 +115,7 @@ impl Shard {
     }
 }
 
-/// The body goes to its tenant, where that is a member.
+/// The body goes to its tenant, where that is a member with the policies that the body was prepared for.
 fn post_to(members: &mut Vec<Member>, now: u64, prepared: &Prepared) -> Result<Outcome, AllocError>
     requires { AreInOrder (views members.old.items) }
     ensures ok { IfOk result (λ outcome. ShardSteps (Post now prepared.now)
@@ -124,13 +127,14 @@ fn post_to(members: &mut Vec<Member>, now: u64, prepared: &Prepared) -> Result<O
     ensures order { AreInOrder (views members.new.items) }
 {
     let tenant = prepared.tenant();
-    match place_of(members, tenant) {
-        Ok(i) => {
-            let outcome = post_at(members, i, now, prepared)?;
-            Ok(outcome)
-        }
-        Err(_) => Ok(Outcome::Refused(tenant, NOT_MEMBER)),
+    let Ok(i) = place_of(members, tenant) else {
+        return Ok(Outcome::Refused(tenant, NOT_MEMBER));
+    };
+    if !is_for_at(members, i, prepared) {
+        return Ok(Outcome::Refused(tenant, OTHER_POLICIES));
     }
+    let outcome = post_at(members, i, now, prepared)?;
+    Ok(outcome)
 }
 
 /// The turn goes to the member that is ready first.
@@ -173,7 +177,7 @@ fn open_member(
     let Some(section) = settings.section(tenant) else {
         return Ok(());
     };
-    let pipeline = Pipeline::new(alloc, section);
+    let pipeline = Pipeline::new(alloc, section)?;
     members.insert(at, Member { tenant, pipeline })?;
     Ok(())
 }

@@ -23,6 +23,7 @@ pub enum Outcome {
     Worked(u32),
     /// No member was ready.
     Idle,
-    /// The tenant is no member (22).
+    /// Nothing was done: the tenant is no member (22), or the body was prepared for other policies
+    /// than the tenant's (23).
     Refused(u32, u8),
 }

@@ -3,14 +3,15 @@ use bytes::Bytes;
 use otlp_trace::Octets;
 use std::alloc::Global;
 use std::test::Fail;
-use tail_settings::{Settings, load};
+use tail_settings::{Section, Settings, load};
 use tenant_pipeline::{Reply, prepare};
 
-/// Tenant 0 waits for two seconds, tenants 1 and 2 for one.
+/// Tenant 0 waits for two seconds, the others for one. Tenant 3 has other policies.
 const SETTINGS: &str = "tenant = [
   { name = \"slow\", tail_sampling = { decision_wait_ms = 2000, policy = [{ type = \"always_sample\" }] } },
   { name = \"b\", tail_sampling = { decision_wait_ms = 1000, policy = [{ type = \"always_sample\" }] } },
   { name = \"c\", tail_sampling = { decision_wait_ms = 1000, policy = [{ type = \"always_sample\" }] } },
+  { name = \"d\", tail_sampling = { decision_wait_ms = 1000, policy = [{ type = \"latency\", threshold_ms = 0 }] } },
 ]";
 
 /// A body with one span: its trace id is one byte sixteen times, its span id another one eight times.
@@ -18,6 +19,15 @@ fn body(t: u8, s: u8) -> [u8; 34] {
     [
         0x0a, 0x20, 0x12, 0x1e, 0x12, 0x1c, 0x0a, 0x10, t, t, t, t, t, t, t, t, t, t, t, t, t, t,
         t, t, 0x12, 0x08, s, s, s, s, s, s, s, s,
+    ]
+}
+
+/// Two such spans of one trace in one resource and one scope.
+fn both(t: u8, s: u8, u: u8) -> [u8; 64] {
+    [
+        0x0a, 0x3e, 0x12, 0x3c, 0x12, 0x1c, 0x0a, 0x10, t, t, t, t, t, t, t, t, t, t, t, t, t, t,
+        t, t, 0x12, 0x08, s, s, s, s, s, s, s, s, 0x12, 0x1c, 0x0a, 0x10, t, t, t, t, t, t, t, t,
+        t, t, t, t, t, t, t, t, 0x12, 0x08, u, u, u, u, u, u, u, u,
     ]
 }
 
@@ -29,6 +39,17 @@ fn post(
     body: &[u8],
 ) -> Result<Step, Fail> {
     let section = settings.section(tenant).ok_or("no such tenant")?;
+    post_with(alloc, section, tenant, now, body)
+}
+
+/// A post to the tenant of a body that was prepared with a section, which may be another's.
+fn post_with(
+    alloc: Global,
+    section: &Section,
+    tenant: u32,
+    now: u64,
+    body: &[u8],
+) -> Result<Step, Fail> {
     let prepared = prepare(alloc, tenant, section, body)?;
     Ok(Step::Post { now, prepared })
 }
@@ -140,5 +161,45 @@ fn moments_end(rt: HostRuntime) -> Result<(), Fail> {
     let late = post(alloc, &settings, 1, u64::MAX, &body(0x11, 0x21))?;
     assert!(rt; shard.step(&late)? == accepted(alloc, 1));
     assert!(rt; shard.step(&Step::Turn { now: u64::MAX })? == Outcome::Idle);
+    Ok(())
+}
+
+/// A body for other policies than the tenant's is refused, and the tenant's clock stays: a span that comes at an earlier
+/// moment afterwards isn't late.
+#[test]
+fn a_body_for_other_policies_changes_nothing(rt: HostRuntime) -> Result<(), Fail> {
+    let alloc = rt.alloc();
+    let settings = load(alloc, SETTINGS)?;
+    let others = settings.section(3).ok_or("no such tenant")?;
+    let mut shard = Shard::open(alloc, &settings, &[1])?;
+    let first = post(alloc, &settings, 1, 0, &body(0x11, 0x21))?;
+    assert!(rt; shard.step(&first)? == accepted(alloc, 1));
+    let other = post_with(alloc, others, 1, 5000, &body(0x11, 0x31))?;
+    assert!(rt; shard.step(&other)? == Outcome::Refused(1, 23));
+    let second = post(alloc, &settings, 1, 999, &body(0x11, 0x22))?;
+    assert!(rt; shard.step(&second)? == accepted(alloc, 1));
+    assert!(rt; shard.step(&Step::Turn { now: 999 })? == Outcome::Idle);
+    let payload = both(0x11, 0x21, 0x22);
+    assert!(rt; shard.step(&Step::Turn { now: 1000 })? == job(alloc, 1, 1, &payload)?);
+    assert!(rt; shard.step(&Step::Turn { now: 9000 })? == Outcome::Idle);
+    Ok(())
+}
+
+/// Equal policies of another section are the tenant's policies.
+#[test]
+fn a_body_for_equal_policies_is_taken(rt: HostRuntime) -> Result<(), Fail> {
+    let alloc = rt.alloc();
+    let settings = load(alloc, SETTINGS)?;
+    let again = load(alloc, SETTINGS)?;
+    let mut shard = Shard::open(alloc, &settings, &[1, 3])?;
+    let (of_b, of_d) = (body(0x11, 0x21), body(0x12, 0x22));
+    let slow = settings.section(0).ok_or("no such tenant")?;
+    let first = post_with(alloc, slow, 1, 0, &of_b)?;
+    assert!(rt; shard.step(&first)? == accepted(alloc, 1));
+    let second = post(alloc, &again, 3, 0, &of_d)?;
+    assert!(rt; shard.step(&second)? == accepted(alloc, 3));
+    let turn = Step::Turn { now: 1000 };
+    assert!(rt; shard.step(&turn)? == job(alloc, 1, 1, &of_b)?);
+    assert!(rt; shard.step(&turn)? == job(alloc, 3, 1, &of_d)?);
     Ok(())
 }

@@ -5,3 +5,4 @@ pub mod Through
 pub mod Done
 pub mod Replayed
 pub mod One
+pub mod Taken

@@ -11,19 +11,19 @@ use Rattle.otlp_read.specs.declared.fault.ReadFault.{ReadFault}
 use Rattle.tail_settings.specs.Section.{SectionData}
 use Rattle.tail_settings.specs.Settings.{SettingsData}
 use Rattle.tenant_pipeline.specs.Own.{Own}
-use Rattle.tenant_pipeline.specs.Own as own
 use Rattle.tenant_pipeline.specs.Prepared.{prepared_of}
 use Rattle.tenant_shard.specs.declared.step.Step.{Step}
 use Rattle.tenant_shard.specs.declared.step.Step.TheVariants as steps
 use Rattle.tenant_shard.specs.declared.step.Outcome.{Outcome}
 use Rattle.tenant_shard.specs.Pick.{IsPick, NotAfter}
-use Rattle.tenant_shard.specs.Run.{IsAnswered, IsTurned, IsNext, after}
+use Rattle.tenant_shard.specs.Outcomes.{OwnStep, Turned, own_step, piped, is_taken}
+use Rattle.tenant_shard.specs.Run.{IsTakenOrNot, IsAnswered, IsTurned, IsNext, after}
 use Rattle.tenant_shard.specs.Table.{section_at}
 use Rattle.replay_script.specs.Command.{CommandData, Post, Turn}
 use Rattle.replay_script.specs.Line.{Kind, Skipped, Says, Faulty, kind_of}
 use Rattle.replay_script.specs.Told.{Answered, Goes, Told, BeginsTold}
 use Rattle.trace_collector.specs.Outcomes.{outcome_text}
-use Rattle.trace_collector.specs.Answered.{lists_of, IsStepped, HasNoValue, IsPosted, IsPostedTo}
+use Rattle.trace_collector.specs.Answered.{section_in, lists_of, IsStepped, HasNoValue, IsPosted, IsPostedTo}
 use Rattle.trace_collector.specs.Answered as of_script
 
 module _ {H : Type 0} (answers : H → CommandData → Option (List ℕ) → H → Type 0)
@@ -100,19 +100,25 @@ pick_one ready_when now None (Some q) h k = absurd (let late = h q k.0 k.1 in le
 pick_one ready_when now (Some p) None h k = absurd (let late = k p h.0 h.1 in let due = h.2 in omega arith)
 pick_one ready_when now (Some p) (Some q) h k = ap Some (first_of_both h.0 k.0 p q (h.3 q k.0 k.1) (k.3 p h.0 h.1))
 
-answered_one : (tenant : ℕ) (section : Option SectionData) (past : List Own) (step : Own) (o o' : Outcome)
+taken_one : (tenant : ℕ) (taken : Bool) (section : SectionData) (past : List Own) (step : Own) (o o' : Outcome)
+    → IsTakenOrNot taken tenant section past true step o → IsTakenOrNot taken tenant section past true step o' → o ≡ o'
+taken_one tenant true section past step o o' h k = h ∙ sym k
+taken_one tenant false section past step o o' h k = h ∙ sym k
+
+answered_one : (tenant : ℕ) (section : Option SectionData) (past : List Own) (step : OwnStep) (o o' : Outcome)
     → IsAnswered tenant section past true step o → IsAnswered tenant section past true step o' → o ≡ o'
 answered_one tenant None past step o o' h k = h ∙ sym k
-answered_one tenant (Some section) past step o o' h k = h ∙ sym k
+answered_one tenant (Some section) past step o o' h k = taken_one tenant (is_taken section step) section past (piped step) o o' h k
 
 turned_one : (settings : SettingsData) (pasts : ℕ → List Own) (shard now : ℕ) (picked : Option ℕ) (o o' : Outcome)
     → IsTurned (lists_of settings pasts shard) now picked o → IsTurned (lists_of settings pasts shard) now picked o' → o ≡ o'
 turned_one settings pasts shard now None o o' h k = h ∙ sym k
-turned_one settings pasts shard now (Some tenant) o o' h k = answered_one tenant _ (pasts tenant) (own.Turn now) o o' h k
+turned_one settings pasts shard now (Some tenant) o o' h k = answered_one tenant (section_in settings shard tenant) (pasts tenant) (Turned now) o o' h k
 
 next_one : (settings : SettingsData) (pasts : ℕ → List Own) (shard : ℕ) (step : Step) (o o' : Outcome)
     → IsNext (lists_of settings pasts shard) step o → IsNext (lists_of settings pasts shard) step o' → o ≡ o'
-next_one settings pasts shard (steps.Post now prepared) o o' h k = answered_one prepared.tenant _ (pasts prepared.tenant) _ o o' h k
+next_one settings pasts shard (steps.Post now prepared) o o' h k =
+    answered_one prepared.tenant (section_in settings shard prepared.tenant) (pasts prepared.tenant) (own_step (steps.Post now prepared)) o o' h k
 next_one settings pasts shard (steps.Turn now) o o' h k =
     let same = pick_one _ _ h.0 k.0 h.1 k.1 in
     turned_one settings pasts shard now k.0 o o' (subst (λ p. IsTurned (lists_of settings pasts shard) now p o) same h.2) k.2

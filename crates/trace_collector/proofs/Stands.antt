@@ -1,5 +1,5 @@
 -- The shards stand for the own steps after a step of one of them.
-use Rattle.std.proofs.Common.{◌≡◌, ◌≢◌, ◌%◌, ◌==◌, ◌&&◌, ◌⊎◌, ℕ, Bool, true, cond, is_some, List, ◌∷◌, length, set, Option, Some, None, refl, ap, sym, subst, ◌∙◌, inl, inr}
+use Rattle.std.proofs.Common.{◌≡◌, ◌≢◌, ◌%◌, ◌==◌, ◌⊎◌, ℕ, Bool, true, false, cond, List, length, set, Option, Some, None, refl, ap, sym, subst, ◌∙◌, inl, inr}
 use Rattle.std.specs.List.{slice_get}
 use Rattle.std.proofs.lemmas.Bool.{ne_eqb}
 use Rattle.std.proofs.lemmas.Bool.Decides.{eqb_tells}
@@ -13,22 +13,26 @@ use Rattle.tenant_shard.specs.declared.step.Step.{Step}
 use Rattle.tenant_shard.specs.declared.step.Outcome.{Outcome}
 use Rattle.tenant_shard.specs.View.{View, kept_of}
 use Rattle.tenant_shard.specs.Lists.{MemberStands, ShardStands}
-use Rattle.tenant_shard.specs.Outcomes.{own_step, is_own}
+use Rattle.tenant_shard.specs.Outcomes.{OwnStep, own_step, is_own}
 use Rattle.tenant_shard.specs.Table.{section_at}
-use Rattle.tenant_shard.specs.Run.{ShardSteps, after}
+use Rattle.tenant_shard.specs.Run.{ShardSteps, recorded, after}
 use Rattle.trace_collector.specs.Outcomes.{outcome_text}
 use Rattle.trace_collector.specs.Answered.{section_in, lists_of, IsStepped}
 use Rattle.trace_collector.specs.Standing.{AllStand, IsDone}
 use Rattle.trace_collector.proofs.Places.{get_set_same, get_set_other}
 
 -- a tenant of another shard has no new step
-other_past : (tenant shards shard other : ℕ) (section : Option SectionData) (own : Bool) (step : Own) (past : List Own) → other ≢ shard
-    → (cond (is_some (cond (tenant % shards == shard) section None) && own) (step ∷ past) past ≡ past) ⊎ (cond (tenant % shards == other) section None ≡ None)
+same_either_way : (own : Bool) (past : List Own) → cond own past past ≡ past
+same_either_way true past = refl
+same_either_way false past = refl
+
+other_past : (tenant shards shard other : ℕ) (section : Option SectionData) (own : Bool) (step : OwnStep) (past : List Own) → other ≢ shard
+    → (cond own (recorded (cond (tenant % shards == shard) section None) step past) past ≡ past) ⊎ (cond (tenant % shards == other) section None ≡ None)
 other_past tenant shards shard other section own step past apart = elim (eqb_tells (tenant % shards) shard) [
   | inl here ↦
       let elsewhere : tenant % shards ≢ other = λ e. apart (sym e ∙ here.1) in
       inr (rw (ne_eqb (tenant % shards) other elsewhere) refl)
-  | inr there ↦ inl (rw there.0 refl)
+  | inr there ↦ inl (rw there.0 (same_either_way own past))
 ]
 
 nothing_stands : (past later : List Own) (known : Bool) (kept : Option State) → MemberStands None past known kept → MemberStands None later known kept

@@ -1,6 +1,6 @@
 //! Laws of the definitions.
 
-ghost use Rattle.trace_collector.specs.Law.{TextIsOne, BeginningsBegin};
+ghost use Rattle.trace_collector.specs.Law.{TextIsOne, BeginningsBegin, ValuesAreTaken};
 
 use otlp_read::values_or_faults;
 
@@ -11,3 +11,9 @@ pub fn text_is_one()
 {
     values_or_faults();
 }
+
+/// In a replay no body is refused: each is prepared for its own tenant's policies, so one that has a value is answered 200, and
+/// its spans are the tenant's next own step.
+pub fn values_are_taken()
+    ensures { ValuesAreTaken }
+{}

@@ -7,7 +7,7 @@ mod law;
 mod shards;
 
 pub use engine::{ReplayFault, replay};
-pub use law::text_is_one;
+pub use law::{text_is_one, values_are_taken};
 
 #[cfg(test)]
 mod tests;

@@ -25,6 +25,14 @@ name = \"b\"
 tail_sampling = { decision_wait_ms = 1000, policy = [{ type = \"always_sample\" }] }
 ";
 
+const TWO_POLICIES: &str = "[[tenant]]
+name = \"a\"
+tail_sampling = { decision_wait_ms = 1000, policy = [{ type = \"always_sample\" }] }
+[[tenant]]
+name = \"b\"
+tail_sampling = { decision_wait_ms = 1000, policy = [{ type = \"latency\", threshold_ms = 0 }] }
+";
+
 /// What a replay ends with, no text where all is done, and what it writes.
 fn check(
     rt: &impl Abort,
@@ -99,6 +107,8 @@ job b 1 0a20121e121c0a101111111111111111111111111111111112083131313131313131
     check(&rt, ONE_SHARD, script.as_bytes(), "", text, alloc)?;
     let script = format!(in alloc; "{posts}turn 0 1000\nturn 1 1000\n")?;
     check(&rt, THREE_SHARDS, script.as_bytes(), "", text, alloc)?;
+    let script = format!(in alloc; "{posts}turn 0 1000\nturn 0 1000\n")?;
+    check(&rt, TWO_POLICIES, script.as_bytes(), "", text, alloc)?;
     let idle: &[u8] = b"idle 0\nidle 1\nidle 2\n";
     check(
         &rt,

@@ -1,8 +1,8 @@
-use Rattle.std.proofs.Common.{rules, ◌≡◌, Ok, List, Result, map, ap, ◌∙◌}
+use Rattle.std.proofs.Common.{rules, ◌≡◌, Ok, Result, map, ap, ◌∙◌}
 use Rattle.tail_settings.specs.Policy.{policy_view}
 use Rattle.otlp_trace.specs.Data.{RequestData}
 use Rattle.otlp_trace.specs.View.{request_view}
-use Rattle.tenant_pipeline.specs.Arrivals.{Arrival, arrivals_of}
+use Rattle.tenant_pipeline.specs.Arrivals.{arrivals_in, arrivals_of}
 use Rattle.otlp_read.specs.declared.fault.ReadFault.{ReadFault}
 use Rattle.tenant_pipeline.proofs.Bodies.{only_memory}
 use Rattle.tenant_pipeline.proofs.body.prepare.Goals as goal
@@ -17,5 +17,5 @@ returns-clause-only c = λ v is.
     let only : Path (Result RequestData ReadFault) (Ok v) (Ok (request_view c.in_ok-request.request)) = c.in_ok-request.ensures.only v is in
     let same : request_view c.in_ok-request.request ≡ v = cc in
     let policies = c.in_ok-policies.ensures ∙ ap (map policy_view) c.as_slice.ensures.value in
-    let arrivals : c.in_ok-spans.spans.items ≡ arrivals_of v = c.in_ok-spans.ensures ∙ ap arrivals_of same in
+    let arrivals : arrivals_in c.in_ok-spans.spans.items ≡ arrivals_of v = c.in_ok-spans.ensures.arrivals ∙ ap arrivals_of same in
     λ i. record { tenant = c.args.tenant; policies = policies i; arrivals = arrivals i }

@@ -2,10 +2,11 @@ use Rattle.std.proofs.Common.{◌≡◌, ◌+◌, ◌<◌, ◌∷◌, length, ta
 use Rattle.tenant_pipeline.specs.ExportText.{runs}
 use Rattle.tenant_pipeline.proofs.Runs.{after, starts, goes_on, ends, stops}
 use Rattle.tenant_pipeline.proofs.export.leading.Goals.{then-loop-last-test+else-is_same, else-loop-last-test}
+use Rattle.tenant_pipeline.proofs.Names.{alike_at}
 use Rattle.tenant_pipeline.proofs.export.leading.Goals as goal
 
 pub loop-last-init : goal.loop-last-init
-loop-last-init g c = record { within = c.requires; first = starts g.L.Level.same c.args.spans.now c.requires }
+loop-last-init g c = record { within = c.requires.some; first = starts g.L.Level.same c.args.spans.now c.requires.some }
 
 pub loop-last-preserved : goal.loop-last-preserved
 loop-last-preserved g c =
@@ -25,3 +26,8 @@ returns-clause-first g c =
       | else-loop-last-test w ↦ ends same xs last c.loop-last.invariant.within (omega (arith, w.loop-last-test.false))
     ] in
     sym c.loop-last.invariant.first ∙ first
+
+pub is_same-requires : goal.is_same-requires
+is_same-requires g c =
+    let within : c.loop-last.last < length c.args.spans.now = c.loop-last.invariant.within in
+    alike_at c.requires.numbered.0 c.args.spans.now c.loop-last.last (c.loop-last.last + 1) c.index-spans-last.result c.index-spans-last-in-loop-last.result c.requires.numbered.1 within (omega arith) c.index-spans-last.is c.index-spans-last-in-loop-last.is

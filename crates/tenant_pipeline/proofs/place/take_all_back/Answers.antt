@@ -14,4 +14,5 @@ loop-addition-preserved c =
     record {
       rows = ap (rows_without done) c.take_back.ensures.rows ∙ (sym (rows_without-push done a rows) ∙ (ap (λ zs. rows_without zs rows) (sym was) ∙ c.loop-addition.invariant.rows));
       queue = ap (queue_without done) c.take_back.ensures.queue ∙ (sym (queue_without-push done a queue) ∙ (ap (λ zs. queue_without zs queue) (sym was) ∙ c.loop-addition.invariant.queue));
+      named = λ names last all. c.take_back.ensures.named names last (c.loop-addition.invariant.named names last all);
     }

@@ -1,4 +1,5 @@
 use Rattle.std.proofs.Common.{refl}
+use Rattle.tail_policy.specs.Meaning.{keeps}
 use Rattle.tenant_pipeline.specs.Groups.{groups}
 use Rattle.tenant_pipeline.specs.ExportText.{export_text}
 use Rattle.tenant_pipeline.specs.State.{state, answer}
@@ -7,15 +8,15 @@ use Rattle.pb_wire.specs.Text.{groups as bits}
 use Rattle.tenant_pipeline.proofs.tests.definitions_on_small_inputs.Goals as goal
 
 pub returns-clause-one : goal.returns-clause-one
-unfolding groups export_text state answer ready bits
+unfolding keeps groups export_text state answer ready bits
 returns-clause-one c = record { waits = refl; leaves = refl; ready_at = refl; none_left = refl }
 
 pub returns-clause-four : goal.returns-clause-four
-unfolding groups export_text state answer bits
+unfolding keeps groups export_text state answer bits
 returns-clause-four c = record { both = refl; late = refl; not_yet = refl; other = refl }
 
 pub returns-clause-invalid : goal.returns-clause-invalid
-unfolding groups export_text state answer bits
+unfolding keeps groups export_text state answer bits
 returns-clause-invalid c = record { valid_alone = refl }
 
 pub returns-clause-resources : goal.returns-clause-resources

@@ -22,12 +22,12 @@ returns-in_default-section-clause-stands c = λ earlier stands.
 -- it's a new one
 pub returns-clause-order : goal.returns-clause-order
 returns-clause-order c =
-    let m : Member = record { tenant = c.args.tenant; pipeline = c.new-pipeline.result } in
+    let m : Member = record { tenant = c.args.tenant; pipeline = c.in_ok-pipeline.pipeline } in
     let gap = rw c.deref.ensures.value at c.in-Err.ensures.absent in
     rw c.in_ok-insert.ensures.items (AreInOrder-insert c.args.members.now.items c.in-Err.at m gap.1 c.requires)
 
 pub returns-clause-stands : goal.returns-clause-stands
 returns-clause-stands c = λ earlier stands.
-    let m : Member = record { tenant = c.args.tenant; pipeline = c.new-pipeline.result } in
+    let m : Member = record { tenant = c.args.tenant; pipeline = c.in_ok-pipeline.pipeline } in
     let gap = rw c.deref.ensures.value at c.in-Err.ensures.absent in
-    rw c.in_ok-insert.ensures.items (opened_more (settings_view c.args.settings.now) earlier c.args.members.now.items c.in-Err.at m (section_view c.in-Some.section.now) (sym c.in-Some.ensures) c.new-pipeline.ensures gap.1 stands)
+    rw c.in_ok-insert.ensures.items (opened_more (settings_view c.args.settings.now) earlier c.args.members.now.items c.in-Err.at m (section_view c.in-Some.section.now) (sym c.in-Some.ensures) c.in_ok-pipeline.ensures gap.1 stands)

@@ -1,7 +1,13 @@
-use Rattle.tenant_pipeline.proofs.Equals.{after_equal, same_policy_lists}
+use Rattle.std.proofs.Common.{sym, ap, ◌∙◌, map}
+use Rattle.tail_settings.specs.Policy.{policy_view}
+use Rattle.tenant_pipeline.specs.Equal.{same_policies}
+use Rattle.tenant_pipeline.specs.Prepared.{PreparedData}
+use Rattle.tenant_pipeline.proofs.Equals.{after_equal}
 use Rattle.tenant_pipeline.proofs.body.Prepared.is_for_same.Goals as goal
 
 pub returns-then-self-other : goal.returns-then-self-other
 returns-then-self-other c =
-    let policies = same_policy_lists _ _ _ _ _ c.as_slice.ensures.value c.as_slice-then-self-other.ensures.value c.same_policies.ensures in
+    let theirs = map policy_view c.other.inside.policies.items in
+    let policies =
+    c.has_policies.ensures ∙ (ap (λ ps. same_policies c.args.self.now.policies (map policy_view ps)) c.as_slice.ensures.value ∙ ap (λ (p : PreparedData). same_policies p.policies theirs) (sym c.self.view_is)) in
     rw (← c.self.view_is, ← c.other.view_is) (after_equal c.self.inside.tenant c.other.inside.tenant _ _ c.if-self-other.true policies)

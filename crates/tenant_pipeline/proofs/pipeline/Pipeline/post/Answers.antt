@@ -1,7 +1,8 @@
-use Rattle.std.proofs.Common.{◌≡◌, ◌<◌, max, min, length, arith, ap, ◌∙◌, ◌++◌}
+use Rattle.std.proofs.Common.{rules, ◌≡◌, ◌<◌, ◌^◌, max, min, length, arith, ap, ◌∙◌, ◌++◌, map}
+use Rattle.tail_settings.specs.Policy.{policy_view}
 use Rattle.tenant_pipeline.specs.declared.told.Told.TheVariants as tell
 use Rattle.tenant_pipeline.specs.Own.{Post, latest_moment}
-use Rattle.tenant_pipeline.specs.Arrivals.{valid}
+use Rattle.tenant_pipeline.specs.Arrivals.{arrivals_in, valid}
 use Rattle.tenant_pipeline.specs.State.{State}
 use Rattle.tenant_pipeline.specs.Timers.{ran}
 use Rattle.tenant_pipeline.specs.Machine.{rows_with_all, late_with_all, set_to, next, told}
@@ -9,6 +10,8 @@ use Rattle.tenant_pipeline.specs.contracts.pipeline.Pipeline.{the_view}
 use Rattle.tenant_pipeline.specs.View.{row_views, group_views}
 use Rattle.tenant_pipeline.proofs.OneByOne.{ran-wait}
 use Rattle.tenant_pipeline.proofs.Run.{answers_by, post_by}
+use Rattle.tenant_pipeline.specs.Numbered.{AreAllNumbered}
+use Rattle.tenant_pipeline.proofs.Names.{posted}
 use Rattle.tenant_pipeline.proofs.pipeline.Pipeline.post.Goals as goal
 
 pub returns-clause-ok : goal.returns-clause-ok
@@ -22,14 +25,28 @@ returns-clause-ok c =
     let w = c.self.inside.wait in
     let before = row_views c.self.inside.rows.entries in
     let queued = group_views c.self.inside.queue.items in
-    let posted = c.spans.result.now in
+    let posted = c.spans-last_number.result.0.now in
     let rows : row_views c.place_all.new.rows.entries ≡ rows_with_all w e (valid c.args.prepared.now.arrivals) before =
-    c.in_ok-place_all.ensures.rows ∙ (ap (λ m. rows_with_all w m (valid posted) before) at ∙ ap (λ xs. rows_with_all w e (valid xs) before) c.spans.ensures) in
+    c.in_ok-place_all.ensures.rows ∙ (ap (λ m. rows_with_all w m (valid (arrivals_in posted)) before) at ∙ ap (λ xs. rows_with_all w e (valid xs) before) c.spans-last_number.ensures.arrivals) in
     let queue : group_views c.place_all.new.queue.items ≡ queued ++ late_with_all w e (valid c.args.prepared.now.arrivals) before =
-    c.in_ok-place_all.ensures.queue ∙ (ap (λ m. queued ++ late_with_all w m (valid posted) before) at ∙ ap (λ xs. queued ++ late_with_all w e (valid xs) before) c.spans.ensures) in
-    let kept : State = record { wait = w; clock = 0; rows = row_views c.place_all.new.rows.entries; decided = c.self.inside.decided; queue = group_views c.place_all.new.queue.items; tickets = c.self.inside.tickets } in
+    c.in_ok-place_all.ensures.queue ∙ (ap (λ m. queued ++ late_with_all w m (valid (arrivals_in posted)) before) at ∙ ap (λ xs. queued ++ late_with_all w e (valid xs) before) c.spans-last_number.ensures.arrivals) in
+    let kept : State = record { wait = w; policies = map policy_view c.self.inside.policies.items; clock = 0; rows = row_views c.place_all.new.rows.entries; decided = c.self.inside.decided; queue = group_views c.place_all.new.queue.items; tickets = c.self.inside.tickets } in
     let new = ap (λ m. set_to m kept) at ∙ post_by e (valid c.args.prepared.now.arrivals) (the_view c.self.inside) _ _ _ now rows queue in
     let said = ap (λ body. tell.Reply (record { status = 200; body = body })) c.new.ensures in
     let wait : w ≡ old.wait = ap (λ (s : State). s.wait) now ∙ ran-wait (length old.rows) e old in
-    let some : 0 < old.wait = omega (arith, c.self.invariant.some_wait) in
+    let some : 0 < old.wait = omega (arith, c.self.invariant.0.some_wait) in
     answers_by (Post c.args.now c.args.prepared.now.arrivals) old _ _ some said new
+
+pub invariant_of-self : goal.invariant_of-self
+invariant_of-self c =
+    let base = c.self.inside.last_number in
+    let fits : base < 2 ^ 64 = omega arith in
+    let are : AreAllNumbered c.saturating_add-self-inside.result c.place_all.new.rows.entries c.place_all.new.queue.items = posted base c.spans-last_number.result.1 c.saturating_add-self-inside.result c.spans-last_number.result.0.now c.self.inside.rows.entries c.place_all.new.rows.entries c.self.inside.queue.items c.place_all.new.queue.items fits c.saturating_add-self-inside.ensures c.self.invariant.1 c.spans-last_number.ensures.numbered c.place_all.ensures.named in
+    (search rules, are)
+
+pub invariant_of-self-2 : goal.invariant_of-self-2
+invariant_of-self-2 c =
+    let base = c.self.inside.last_number in
+    let fits : base < 2 ^ 64 = omega arith in
+    let are : AreAllNumbered c.saturating_add-self-inside.result c.place_all.new.rows.entries c.place_all.new.queue.items = posted base c.spans-last_number.result.1 c.saturating_add-self-inside.result c.spans-last_number.result.0.now c.self.inside.rows.entries c.place_all.new.rows.entries c.self.inside.queue.items c.place_all.new.queue.items fits c.saturating_add-self-inside.ensures c.self.invariant.1 c.spans-last_number.ensures.numbered c.place_all.ensures.named in
+    (search rules, are)

@@ -1,8 +1,18 @@
-use Rattle.std.proofs.Common.{◌≡◌, length, sym, ap, ◌∙◌, true}
-use Rattle.tenant_pipeline.specs.Timers.{is_due, next_timer, one_run, ran}
+use Rattle.std.proofs.Common.{◌≡◌, ℕ, length, sym, ap, ◌∙◌, true}
+use Rattle.tenant_pipeline.specs.Timers.{IsFront, is_due, next_timer, one_run, ran}
 use Rattle.tenant_pipeline.specs.State.{State}
-use Rattle.tenant_pipeline.proofs.OneByOne.{IsFront-push, one_run_is, ran_next}
+use Rattle.tenant_pipeline.proofs.OneByOne.{IsFront-push, one_run_is, ran_next, ran-policies}
 use Rattle.tenant_pipeline.proofs.pipeline.Pipeline.run_due.Goals as goal
+
+policies_stay : (moment : ℕ) (old new : State) → IsFront moment old new → new.policies ≡ old.policies
+policies_stay moment old new front = ap (λ (s : State). s.policies) front.1 ∙ ran-policies front.0 moment old
+
+pub returns-clause-policies : goal.returns-clause-policies
+returns-clause-policies c = policies_stay c.args.moment c.args.self.now c.loop-self.self c.loop-self.invariant.front
+
+pub returns-in_err-run_one-clause-policies : goal.returns-in_err-run_one-clause-policies
+returns-in_err-run_one-clause-policies c =
+    ap (λ (s : State). s.policies) c.in_err-run_one.ensures.refused ∙ policies_stay c.args.moment c.args.self.now c.loop-self.self c.loop-self.invariant.front
 
 pub loop-self-preserved : goal.loop-self-preserved
 loop-self-preserved c =

@@ -20,5 +20,5 @@ returns-clause-ok c =
     let new = ap (λ m. set_to m (the_view c.self.inside)) at ∙ ap (set_to e) now in
     let said = c.in_ok-told.ensures.told ∙ ap (λ (s : State). handed s.tickets s.queue) run in
     let wait : c.self.inside.wait ≡ old.wait = ap (λ (s : State). s.wait) now ∙ ran-wait (length old.rows) e old in
-    let some : 0 < old.wait = omega (arith, c.self.invariant.some_wait) in
+    let some : 0 < old.wait = omega (arith, c.self.invariant.0.some_wait) in
     answers_by (Turn c.args.now) old _ _ some said new
