@@ -2,9 +2,11 @@
 
 PROGRAM = crates/trace_collector_program
 
-# The gate: proves every crate and its tests from nothing, tries the edits that
-# must be refused, and runs the tests and the programs.
+# The gate: compares the definitions that docs/ quotes with their files, proves
+# every crate and its tests from nothing, tries the edits that must be refused,
+# and runs the tests and the programs.
 test:
+	@python3 tests/quoted_definitions.py
 	@rt ci
 
 # Proves and builds the program, and replays a script of three lines: a body is
