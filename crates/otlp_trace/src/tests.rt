@@ -1,5 +1,7 @@
 //! Messages against bytes worked out by hand from the encoding rules.
 
+ghost use Rattle.otlp_trace.specs.Examples.{ExampleTrace, Values, Messages, Replies};
+
 use super::*;
 use std::alloc::Global;
 use std::test::Fail;
@@ -355,3 +357,11 @@ fn lists(rt: HostRuntime) -> Result<(), Fail> {
 fn repeated_bytes(alloc: Global, bytes: &[u8]) -> Result<Repeated<u8>, Fail> {
     Ok(Repeated::from_vec(octets(alloc, bytes)?.into_vec()))
 }
+
+/// Canonical text, of small messages, is what was worked out by hand.
+fn definitions_on_small_inputs()
+    ensures example { ExampleTrace }
+    ensures values { Values }
+    ensures messages { Messages }
+    ensures replies { Replies }
+{}
