@@ -1,3 +1,5 @@
+ghost use Rattle.otlp_read.specs.Examples.{Meanings, Spans, Groups, Members, Faults, Relations, Conditions, Replies};
+
 use super::*;
 use crate::message::{Message, merged};
 use otlp_trace::{
@@ -395,3 +397,15 @@ fn numbers(rt: HostRuntime) {
         assert!(rt; fault.number() == number);
     }
 }
+
+/// The definitions say of small bodies what was worked out by hand.
+fn definitions_on_small_inputs()
+    ensures meanings { Meanings }
+    ensures spans { Spans }
+    ensures groups { Groups }
+    ensures members { Members }
+    ensures faults { Faults }
+    ensures relations { Relations }
+    ensures conditions { Conditions }
+    ensures replies { Replies }
+{}
