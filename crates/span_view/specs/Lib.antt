@@ -2,3 +2,4 @@ pub mod Facts
 pub mod Reading
 pub mod Shown
 pub mod Canonical
+pub mod Examples

@@ -1,5 +1,7 @@
 //! Texts spelled by hand, field by field.
 
+ghost use Rattle.span_view.specs.Examples.{Told, Members, CanonicalTexts};
+
 use super::*;
 use otlp_trace::DoubleBits;
 use std::process::Abort;
@@ -138,3 +140,10 @@ fn a_text_ends_where_no_field_begins(rt: HostRuntime) {
     assert_eq!(rt; view.start(), 5);
     assert_eq!(rt; view.end(), 0);
 }
+
+/// The definitions say of small spans and texts what was worked out by hand.
+fn definitions_on_small_inputs()
+    ensures told { Told }
+    ensures members { Members }
+    ensures canonical { CanonicalTexts }
+{}
