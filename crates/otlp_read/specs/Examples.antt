@@ -2,8 +2,9 @@
 -- guide (https://protobuf.dev/programming-guides/encoding/; "the guide", whose section "Last One Wins" says what becomes of
 -- fields that stand again) and the field numbers of opentelemetry-proto. A line that ends in → ⊥ says that the relation
 -- doesn't hold there. `pos n` is n, and `negsuc n` is minus n minus 1.
-use Rattle.std.specs.Prelude.{◌≡◌, ℕ, ◌+◌, ◌-◌, ◌^◌, ℤ, pos, negsuc, true, false, List, [], ◌∷◌, Some, None, Ok, Err, codes}
+use Rattle.std.specs.Prelude.{◌≡◌, ℕ, ◌+◌, ◌-◌, ◌^◌, ℤ, pos, negsuc, true, false, List, [], ◌∷◌, ◌++◌, replicate, Some, None, Ok, Err, codes}
 use Rattle.otlp_trace.specs.Data.{any_value, KindData, unset, string, boolean, int, double, array, kvlist, bytes, array_value, no_values, a_value, key_value_list, bare_key, key_value, no_key_values, a_key_value, StatusData, SpanData, RequestData, ResponseData}
+use Rattle.otlp_trace.specs.Examples.{example_bytes, example_request}
 use Rattle.otlp_read.specs.declared.fault.ReadFault.{ReadFault}
 use Rattle.otlp_read.specs.declared.fault.ReadFault.TheVariants as faults
 use Rattle.otlp_read.specs.Numbers.{utf8, int32, uint32, int64, bool, fixed64, fixed32}
@@ -86,10 +87,12 @@ pub record Spans : Type 0 where
         links = record { trace_id = 1 ∷ 2 ∷ []; span_id = []; trace_state = []; attributes = []; dropped_attributes_count = 0; flags = 0; unknown = [] } ∷ [];
       }))
 
--- ---- resources and scopes
+-- ---- whole bodies, resources and scopes
 
 pub record Groups : Type 0 where
   pub no_body : value_of [] ≡ Ok (record { resource_spans = [] })
+  -- the example trace of opentelemetry-proto
+  pub example : value_of example_bytes ≡ Ok example_request
   -- two resource spans stay two
   pub two : value_of (0x0a ∷ 0x00 ∷ 0x0a ∷ 0x03 ∷ 0x1a ∷ 0x01 ∷ 0x75 ∷ []) ≡ Ok (record { resource_spans = no_resource_spans ∷ record no_resource_spans { schema_url = codes "u" } ∷ [] })
   -- a resource with a count of 3, and then one with the key "k": both are merged
@@ -143,6 +146,9 @@ pub record Faults : Type 0 where
   pub inside : value_of (0x0a ∷ 0x03 ∷ 0x0a ∷ 0x01 ∷ 0x0b ∷ []) ≡ Err faults.GroupMismatch
   -- five bytes are to come, and three do
   pub truncated : value_of (0x0a ∷ 0x05 ∷ 0x1a ∷ 0x01 ∷ 0x75 ∷ []) ≡ Err faults.Truncated
+  -- groups of number 1, one in another: 100 of them, which are dropped, and 101
+  pub deepest : value_of (replicate 100 0x0b ++ replicate 100 0x0c) ≡ Ok (record { resource_spans = [] })
+  pub too_deep : value_of (replicate 101 0x0b ++ replicate 101 0x0c) ≡ Err faults.TooDeep
   -- the first of two faults
   pub first : value_of (0x0a ∷ 0x01 ∷ 0x00 ∷ 0x0b ∷ []) ≡ Err faults.BadTag
 
@@ -151,6 +157,7 @@ pub record Faults : Type 0 where
 pub record Relations : Type 0 where
   pub empty : IsValue [] (record { resource_spans = [] })
   pub one : IsValue (0x0a ∷ 0x00 ∷ []) (record { resource_spans = no_resource_spans ∷ [] })
+  pub example : IsValue example_bytes example_request
   pub not_none : IsValue (0x0a ∷ 0x00 ∷ []) (record { resource_spans = [] }) → ⊥
   -- no field begins; a field can't be taken; and no field begins behind one that is taken
   pub unclosed : IsFault (0x0b ∷ []) faults.GroupMismatch

@@ -13,15 +13,17 @@ use Rattle.pb_wire.specs.Reading.{number_in, varint_at, tag_at, split_at, value_
 use Rattle.pb_wire.proofs.Steps.{ok_is}
 use Rattle.pb_wire.proofs.Whole.{fields_whole}
 use Rattle.otlp_trace.specs.Data.{ResourceSpansData, SpanData, RequestData}
+use Rattle.otlp_trace.specs.Examples.{example_bytes, example_request}
 use Rattle.otlp_read.specs.declared.fault.ReadFault.{ReadFault}
 use Rattle.otlp_read.specs.declared.fault.ReadFault.TheVariants as faults
 use Rattle.otlp_read.specs.Numbers.{utf8}
 use Rattle.otlp_read.specs.Walk.{Known, Piece, no_pieces, more_pieces, walk_in, walk, read_with}
 use Rattle.otlp_read.specs.Stands.{no_field, unsound, behind}
 use Rattle.otlp_read.specs.AnyValue.{read_any, read_array, read_list, read_key_value}
-use Rattle.otlp_read.specs.Value.{no_span, no_resource_spans, no_request, request_step, span_known, IsValue, IsFault}
+use Rattle.otlp_read.specs.Value.{no_span, no_resource_spans, no_request, request_step, span_known, value_of, IsValue, IsFault}
 use Rattle.otlp_read.specs.Nested.{Kept, IsUnknown}
-use Rattle.otlp_read.proofs.Laws.{pieces_fields, made, apart}
+use Rattle.otlp_read.proofs.Answered.{whole}
+use Rattle.otlp_read.proofs.Laws.{pieces_fields, makes, made, apart}
 use Rattle.otlp_read.proofs.tests.definitions_on_small_inputs.Goals as goal
 
 -- ---- functions
@@ -60,9 +62,13 @@ returns-clause-spans c = record {
   repeated = refl;
 }
 
+example_is_read : value_of example_bytes ≡ Ok example_request
+unfolding number_in varint_at tag_at split_at value_with end_in walk_in walk read_with utf8 is_utf8 chars encode_utf8 read_any read_array read_list read_key_value
+example_is_read = refl
+
 pub returns-clause-groups : goal.returns-clause-groups
 unfolding number_in varint_at tag_at split_at value_with end_in walk_in walk read_with utf8 is_utf8 chars encode_utf8 read_any read_array read_list read_key_value
-returns-clause-groups c = record { no_body = refl; two = refl; merged = refl; scope = refl; dropped = refl }
+returns-clause-groups c = record { no_body = refl; example = example_is_read; two = refl; merged = refl; scope = refl; dropped = refl }
 
 pub returns-clause-members : goal.returns-clause-members
 unfolding number_in varint_at tag_at split_at value_with end_in walk_in walk read_with utf8 is_utf8 chars encode_utf8 read_any read_array read_list read_key_value
@@ -91,6 +97,8 @@ returns-clause-faults c = record {
   unclosed = refl;
   inside = refl;
   truncated = refl;
+  deepest = refl;
+  too_deep = refl;
   first = refl;
 }
 
@@ -147,6 +155,7 @@ unfolding number_in varint_at tag_at split_at value_with end_in walk_in walk rea
 returns-clause-relations c = record {
   empty = record { pieces = []; are = no_pieces; made = refl };
   one = one_is;
+  example = makes (request_step 100) 0 no_request example_request example_bytes (sym (whole request_step no_request example_bytes) ∙ example_is_read);
   not_none = not_none_is;
   unclosed = unclosed_is;
   not_utf8 = unsound {text = 0x0a ∷ 0x03 ∷ 0x1a ∷ 0x01 ∷ 0xff ∷ []} [] bad_url_is refl;
