@@ -5,6 +5,7 @@ use Rattle.std.specs.Prelude.{◌≡◌, ℕ, pos, negsuc, true, List, [], ◌�
 use Rattle.pb_wire.specs.Grammar.{Varint, Bytes}
 use Rattle.otlp_trace.specs.Data.{KeyValueData, KindData, any_value, bare_key, key_value, ResourceData, SpanData}
 use Rattle.otlp_trace.specs.Data as otlp
+use Rattle.otlp_trace.specs.Examples.{plain_span, example_trace_id, example_span_id, example_span_bytes, example_resource_bytes}
 use Rattle.span_view.specs.Facts.{unset, string, boolean, int, double, array, kvlist, bytes, ValueFact, AttributeFact, SpanFacts, facts, AreText}
 use Rattle.span_view.specs.Reading.{value_in, facts_of}
 use Rattle.span_view.specs.Canonical.{NotInSpan, IsSpanText, IsResourceText}
@@ -21,27 +22,6 @@ nothing = record { trace_id = []; span_id = []; start_time_unix_nano = 0; end_ti
 -- an attribute with this member, and nothing kept
 abbrev pub with_value : List ℕ → KindData → KeyValueData
 with_value key kind = key_value key (any_value kind []) []
-
-abbrev pub plain_span : SpanData
-plain_span = record {
-  trace_id = [];
-  span_id = [];
-  trace_state = [];
-  parent_span_id = [];
-  name = [];
-  kind = pos 0;
-  start_time_unix_nano = 0;
-  end_time_unix_nano = 0;
-  attributes = [];
-  dropped_attributes_count = 0;
-  events = [];
-  dropped_events_count = 0;
-  links = [];
-  dropped_links_count = 0;
-  status = None;
-  flags = 0;
-  unknown = [];
-}
 
 -- ids of a byte or two, times 5 and 262, attributes "k" and "e", of which "e" has no value, an ERROR with the message "m",
 -- and kept 1: 9
@@ -87,7 +67,19 @@ small_facts = record {
   attributes = attribute (codes "k") (string (codes "v")) ∷ attribute (codes "e") unset ∷ attribute (codes "k") (boolean true) ∷ [];
 }
 
+-- what the example trace of opentelemetry-proto tells
+abbrev pub example_facts : SpanFacts
+example_facts = record {
+  trace_id = example_trace_id;
+  span_id = example_span_id;
+  start_time_unix_nano = 1544712660000000000;
+  end_time_unix_nano = 1544712661000000000;
+  status = pos 0;
+  attributes = attribute (codes "my.span.attr") (string (codes "some value")) ∷ attribute (codes "service.name") (string (codes "my.service")) ∷ [];
+}
+
 pub record Told : Type 0 where
+  pub of_the_example : facts_of example_span_bytes example_resource_bytes ≡ example_facts
   -- of the messages, and of their texts
   pub of_messages : facts small_span (Some small_resource) ≡ small_facts
   pub of_texts : facts_of small_span_text small_resource_text ≡ small_facts

@@ -15,6 +15,7 @@ use Rattle.span_view.proofs.tests.definitions_on_small_inputs.Goals as goal
 pub returns-clause-told : goal.returns-clause-told
 unfolding number_in varint_at tag_at split_at value_with end_in fields_in fields_of
 returns-clause-told c = record {
+  of_the_example = refl;
   of_messages = refl;
   of_texts = refl;
   of_none = refl;
