@@ -1,6 +1,7 @@
 //! Spans as texts spelled by hand, field by field.
 
 ghost use Rattle.std.specs.Prelude.{◌<◌, length};
+ghost use Rattle.tail_policy.specs.Examples.{Durations, Latencies, Statuses, Strings, Numbers, Several};
 
 use super::*;
 use span_view::is_text;
@@ -247,3 +248,13 @@ fn one_policy_of_several_keeps_a_trace(rt: HostRuntime) {
     assert!(rt; !keeps(&policies[..1], &spans));
     assert!(rt; !keeps(&policies[..0], &spans));
 }
+
+/// The definitions, on small inputs, give what was worked out by hand.
+fn definitions_on_small_inputs()
+    ensures durations { Durations }
+    ensures latencies { Latencies }
+    ensures statuses { Statuses }
+    ensures strings { Strings }
+    ensures numbers { Numbers }
+    ensures several { Several }
+{}
