@@ -34,6 +34,8 @@ pub use settings::Settings;
 pub use tail_sampling::TailSampling;
 
 #[cfg(test)]
+mod definition_tests;
+#[cfg(test)]
 mod example_tests;
 #[cfg(test)]
 mod key_tests;
