@@ -1,6 +1,8 @@
 //! Texts spelled by hand, field by field.
 
 ghost use Rattle.std.specs.Prelude.{◌≡◌};
+ghost use Rattle.span_pool.specs.Examples.{Told, SameResources, SameScopes, EqualSpans, NamedSpans, AlikeSpans};
+ghost use Rattle.span_pool.specs.Examples.{Shifts, ReadSpans, ReadResources};
 
 use super::*;
 use bytes::Bytes;
@@ -212,3 +214,16 @@ fn a_span_is_the_same_with_other_numbers(rt: HostRuntime) -> Result<(), AllocErr
     assert!(rt; none.is_same_scope(&span));
     Ok(())
 }
+
+/// The definitions, on small inputs, give what was worked out by hand.
+fn definitions_on_small_inputs()
+    ensures told { Told }
+    ensures same_resources { SameResources }
+    ensures same_scopes { SameScopes }
+    ensures equal_spans { EqualSpans }
+    ensures named_spans { NamedSpans }
+    ensures alike_spans { AlikeSpans }
+    ensures shifts { Shifts }
+    ensures read_spans { ReadSpans }
+    ensures read_resources { ReadResources }
+{}
