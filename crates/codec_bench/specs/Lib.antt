@@ -1,3 +1,4 @@
 pub mod Round
 pub mod Status
 pub mod Task
+pub mod Examples

@@ -1,5 +1,7 @@
 //! What Protocol Buffers' own libraries make of the same bodies (tests/otlp).
 
+ghost use Rattle.codec_bench.specs.Examples.{Counts, Written, Arguments, Faults};
+
 use crate::vectors::{FAULTS, RESPONSES, VECTORS};
 use otlp_read::{read_request, read_response};
 use otlp_trace::{
@@ -107,3 +109,11 @@ fn responses(rt: HostRuntime) -> Result<(), Fail> {
     assert_eq!(rt; wrong.as_str(), "");
     Ok(())
 }
+
+/// The definitions, on small inputs, give what was worked out by hand.
+fn definitions_on_small_inputs()
+    ensures counts { Counts }
+    ensures written { Written }
+    ensures arguments { Arguments }
+    ensures faults { Faults }
+{}
