@@ -1,7 +1,7 @@
 -- The value of a body, by the rules of proto3: a field that isn't repeated takes its last value, an embedded message that
 -- stands again is merged, repeated fields keep their order, and each known string and message must itself be sound.
 -- Fields that aren't known, and known ones with another wire type, are kept as they were spelled, but in a request, a
--- resource spans, a scope spans and a response, where they are dropped.
+-- resource spans, a scope spans, a response and its partial success, where they are dropped.
 use Rattle.std.specs.Prelude.{ℕ, pos, ◌==◌, if◌then◌else◌, List, [], ◌++◌, Some, None, unwrap_or, Result, Ok}
 use Rattle.pb_wire.specs.Grammar.{Varint, Eight, Bytes, Four}
 use Rattle.otlp_trace.specs.Data.{ResourceData, ScopeData, StatusData, EventData, LinkData, SpanData, ScopeSpansData, ResourceSpansData, RequestData}
