@@ -57,12 +57,14 @@ pub record Numbers : Type 0 where
   pub negative : number_at key 0 64 4 (only key (integer (negsuc 0))) ≡ Err (out_of_range key)
   pub other_kind : number_at key 1 64 4 (only key (string (codes "7"))) ≡ Err (wrong_kind key)
 
+-- without a default
 pub record RequiredNumbers : Type 0 where
   pub present : required_number_at key 0 64 (only key (whole 0)) ≡ Ok 0
   pub missing : required_number_at key 0 64 no_members ≡ Err (missing_key key)
   pub above : required_number_at key 0 64 (only key (whole 65)) ≡ Err (out_of_range key)
   pub other_kind : required_number_at key 0 64 (only key (boolean true)) ≡ Err (wrong_kind key)
 
+-- any integer of TOML 1.0
 pub record Integers : Type 0 where
   -- -5: four below -1
   pub negative : integer_at key (only key (integer (negsuc 4))) ≡ Ok (negsuc 4)
@@ -71,6 +73,7 @@ pub record Integers : Type 0 where
   pub missing : integer_at key no_members ≡ Err (missing_key key)
   pub other_kind : integer_at key (only key (string (codes "5"))) ≡ Err (wrong_kind key)
 
+-- texts and tables, with a default and without
 pub record TextsAndTables : Type 0 where
   pub text : text_at key (only key (string (codes "a"))) ≡ Ok (codes "a")
   pub no_text : text_at key no_members ≡ Err (missing_key key)
@@ -83,6 +86,7 @@ pub record TextsAndTables : Type 0 where
   pub no_table : table_at key (only (codes "a") (whole 1)) ≡ Ok no_members
   pub list_for_table : table_at key (only key (list [])) ≡ Err (wrong_kind key)
 
+-- arrays: first the kinds of all members are tested, then how many there are (docs/SETTINGS.md)
 pub record Arrays : Type 0 where
   pub texts : texts_at key (only key (list (string (codes "b") ∷ string (codes "a") ∷ []))) ≡ Ok (codes "b" ∷ codes "a" ∷ [])
   pub tables : tables_at key (only key (list (table (only key (whole 1)) ∷ table no_members ∷ []))) ≡ Ok (only key (whole 1) ∷ no_members ∷ [])
@@ -104,6 +108,7 @@ summed before n = Ok (n + sum before)
 abbrev pub small : List ℕ → ℕ → Result ℕ FaultData
 small before n = allowed (replicate n 97) (λ m. nat_le m 3) n
 
+-- members are read in order, each in view of those before it, and a list has a greatest length
 pub record Lists : Type 0 where
   -- 1, 2 + 1, 4 + 1 + 3
   pub in_view : each summed [] (1 ∷ 2 ∷ 4 ∷ []) ≡ Ok (1 ∷ 3 ∷ 8 ∷ [])
@@ -113,6 +118,7 @@ pub record Lists : Type 0 where
 
 -- ---- texts: of bytes at the ends of each range and beside them (the table of ASCII, RFC 20) those that may stand there
 
+-- a tenant's name: 1 to 64 letters, digits, `_`, `-` and `.` (docs/SETTINGS.md)
 pub record Names : Type 0 where
   pub bytes : filter is_name_byte (44 ∷ 45 ∷ 46 ∷ 47 ∷ 48 ∷ 57 ∷ 58 ∷ 64 ∷ 65 ∷ 90 ∷ 91 ∷ 94 ∷ 95 ∷ 96 ∷ 97 ∷ 122 ∷ 123 ∷ 128 ∷ []) ≡ 45 ∷ 46 ∷ 48 ∷ 57 ∷ 65 ∷ 90 ∷ 95 ∷ 97 ∷ 122 ∷ []
   pub name : is_name (codes "team-a_1.x") ≡ true
@@ -121,6 +127,7 @@ pub record Names : Type 0 where
   pub longest : is_name (replicate 64 97) ≡ true
   pub too_long : is_name (replicate 65 97) ≡ false
 
+-- a host and a port: 1 to 255 printable bytes of ASCII without the space (docs/SETTINGS.md)
 pub record Addresses : Type 0 where
   pub bytes : filter is_address_byte (10 ∷ 32 ∷ 33 ∷ 126 ∷ 127 ∷ 128 ∷ []) ≡ 33 ∷ 126 ∷ []
   -- a host of IPv6 stands in brackets (RFC 3986, 3.2.2)
@@ -133,6 +140,7 @@ pub record Addresses : Type 0 where
   pub default : address_at key (codes "a:1") no_members ≡ Ok (codes "a:1")
   pub out : address_at key (codes "a:1") (only key (string (codes "b 2"))) ≡ Err (out_of_range key)
 
+-- a header's name: 1 to 64 small letters, digits and `-` (docs/SETTINGS.md)
 pub record Headers : Type 0 where
   pub bytes : filter is_header_byte (44 ∷ 45 ∷ 46 ∷ 47 ∷ 48 ∷ 57 ∷ 58 ∷ 65 ∷ 90 ∷ 95 ∷ 96 ∷ 97 ∷ 122 ∷ 123 ∷ []) ≡ 45 ∷ 48 ∷ 57 ∷ 97 ∷ 122 ∷ []
   pub header : is_header (codes "x-scope-orgid") ≡ true
@@ -143,6 +151,7 @@ pub record Headers : Type 0 where
   pub present : header_at key (codes "x-a") (only key (string (codes "x-b"))) ≡ Ok (codes "x-b")
   pub out : header_at key (codes "x-a") (only key (string (codes "x_b"))) ≡ Err (out_of_range key)
 
+-- 1 to 256 bytes (docs/SETTINGS.md)
 pub record AttributeKeys : Type 0 where
   pub any_bytes : is_attribute_key (0 ∷ 32 ∷ 255 ∷ []) ≡ true
   pub empty : is_attribute_key [] ≡ false
@@ -187,6 +196,7 @@ default_retry = record {
 abbrev pub batch : List (List ℕ × Data) → Members
 batch entries = only (codes "batch") (table (keys entries))
 
+-- tables that are missing, tables with some keys and with all, and their first faults
 pub record Tables : Type 0 where
   pub no_global : global_of no_members ≡ Ok default_global
   pub global : global_of (only (codes "global") (table (keys ((codes "tenant_header", string (codes "x-team")) ∷ (codes "shards", whole 64) ∷ [])))) ≡ Ok (record default_global { shards = 64; tenant_header = codes "x-team" })
@@ -229,6 +239,7 @@ among = string_attribute (codes "key2") (codes "value1" ∷ codes "value2" ∷ [
 abbrev pub joined : List Data → Members
 joined policies = keys (type (codes "and") ∷ (codes "and_sub_policy", list policies) ∷ [])
 
+-- the example configuration's policies
 pub record Policies : Type 0 where
   pub always : policy_of (keys (type (codes "always_sample") ∷ [])) ≡ Ok (leaf always_sample)
   pub slow : policy_of (keys (type (codes "latency") ∷ (codes "threshold_ms", whole 5000) ∷ [])) ≡ Ok (leaf (latency 5000))
@@ -237,18 +248,21 @@ pub record Policies : Type 0 where
   pub text : policy_of key2 ≡ Ok (leaf among)
   pub both : policy_of (joined (table key1 ∷ table key2 ∷ [])) ≡ Ok (and (between ∷ among ∷ []))
 
+-- policies with a fault (docs/SETTINGS.md)
 pub record PolicyFaults : Type 0 where
   pub no_type : policy_of no_members ≡ Err (missing_key (codes "type"))
   pub unknown_type : policy_of (keys (type (codes "Latency") ∷ [])) ≡ Err (out_of_range (codes "type"))
   pub no_threshold : policy_of (keys (type (codes "latency") ∷ [])) ≡ Err (missing_key (codes "threshold_ms"))
   pub unknown_code : policy_of (keys (type (codes "status_code") ∷ (codes "status_codes", list (string (codes "error") ∷ [])) ∷ [])) ≡ Err (out_of_range (codes "status_codes"))
   pub no_codes : policy_of (keys (type (codes "status_code") ∷ (codes "status_codes", list []) ∷ [])) ≡ Err (out_of_range (codes "status_codes"))
-  pub values : values_of (only (codes "values") (list (replicate 65 (string [])))) ≡ Err (out_of_range (codes "values"))
+  -- 64 values are the most
+  pub most_values : values_of (only (codes "values") (list (replicate 64 (string [])))) ≡ Ok (replicate 64 [])
+  pub too_many_values : values_of (only (codes "values") (list (replicate 65 (string [])))) ≡ Err (out_of_range (codes "values"))
   -- nothing is joined, and an `and` within an `and` is no policy that holds no other
   pub nothing : policy_of (joined []) ≡ Err (out_of_range (codes "and_sub_policy"))
   pub deeper : policy_of (joined (table (joined (table key1 ∷ [])) ∷ [])) ≡ Err (out_of_range (codes "type"))
 
--- an `and` counts as those that it holds
+-- an `and` counts as those that it holds, and a tenant has at most 64 policies (docs/SETTINGS.md)
 pub record Leaves : Type 0 where
   pub three : leaves_of (and (between ∷ among ∷ []) ∷ leaf always_sample ∷ []) ≡ 3
   pub sixty_four : few_leaves (and (replicate 63 among) ∷ leaf between ∷ []) ≡ Ok (and (replicate 63 among) ∷ leaf between ∷ [])
@@ -289,6 +303,7 @@ named name = record { name = name; section = default_section }
 abbrev pub roomy : List ℕ → ℕ → TenantData
 roomy name max_spans = record { name = name; section = record default_section { max_spans = max_spans } }
 
+-- the example configuration, and sections with every default but one
 pub record Sections : Type 0 where
   -- decision_wait: 10s, num_traces: 100
   pub sampling : tail_sampling_of (only (codes "tail_sampling") (table (keys ((codes "decision_wait_ms", whole 10000) ∷ (codes "num_traces", whole 100) ∷ (codes "policy", list (table key1 ∷ [])) ∷ [])))) ≡ Ok (record { decision_wait = 10000; num_traces = 100; policies = leaf between ∷ [] })
@@ -304,6 +319,7 @@ pub record Sections : Type 0 where
 abbrev pub document : List Data → Members
 document tenants = only (codes "tenant") (list tenants)
 
+-- a tenant's name is tested against those before it as soon as it is read (docs/SETTINGS.md)
 pub record Tenants : Type 0 where
   pub new : tenant_of (named (codes "a") ∷ []) (tenant (codes "b")) ≡ Ok (named (codes "b"))
   -- a name that is taken, told before the other keys are read
@@ -314,9 +330,13 @@ pub record Tenants : Type 0 where
   pub empty_name : tenant_of [] (tenant []) ≡ Err (out_of_range (codes "name"))
   pub two : tenants_of (document (table (tenant (codes "b")) ∷ table (tenant (codes "a")) ∷ [])) ≡ Ok (named (codes "b") ∷ named (codes "a") ∷ [])
   pub twice : tenants_of (document (table (tenant (codes "a")) ∷ table (tenant (codes "a")) ∷ [])) ≡ Err (double_tenant (codes "a"))
+  -- 1,000 tenants are the most, and are counted before they are read
+  pub most : tenants_of (document (replicate 1000 (table no_members))) ≡ Err (missing_key (codes "name"))
+  pub one_more : tenants_of (document (replicate 1001 (table no_members))) ≡ Err too_many
   pub none : tenants_of (document []) ≡ Err (missing_key (codes "tenant"))
   pub no_array : tenants_of (only (codes "tenant") (table (tenant (codes "a")))) ≡ Err (wrong_kind (codes "tenant"))
 
+-- all tenants together hold at most 2^31 spans (docs/SETTINGS.md)
 pub record MostSpans : Type 0 where
   pub added : spans_of (roomy (codes "a") 5 ∷ roomy (codes "b") 7 ∷ []) ≡ 12
   -- 2^31 - 1 + 1, and one more
@@ -327,6 +347,7 @@ pub record MostSpans : Type 0 where
 abbrev pub smallest : SettingsData
 smallest = record { global = default_global; tenants = named (codes "a") ∷ [] }
 
+-- from a table, and from a text
 pub record Documents : Type 0 where
   pub of_table : settings_of_table (document (table (tenant (codes "a")) ∷ [])) ≡ Ok smallest
   -- the table `global` is read first
@@ -347,6 +368,7 @@ pub record FaultNumbers : Type 0 where
 
 -- ---- what is sound
 
+-- by derivation
 pub record Sound : Type 0 where
   pub smallest_is : IsSound smallest
   -- 2^40 ms, and one more

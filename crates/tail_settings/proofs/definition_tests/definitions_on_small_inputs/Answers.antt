@@ -170,7 +170,8 @@ returns-clause-policy_faults c = record {
   no_threshold = refl;
   unknown_code = refl;
   no_codes = refl;
-  values = refl;
+  most_values = refl;
+  too_many_values = refl;
   nothing = refl;
   deeper = refl;
 }
@@ -209,6 +210,8 @@ returns-clause-tenants c = record {
   empty_name = refl;
   two = refl;
   twice = refl;
+  most = refl;
+  one_more = refl;
   none = refl;
   no_array = refl;
 }
