@@ -1,6 +1,6 @@
--- What policies keep of small traces, for the tests. The policies are those of the example in the README of the
--- OpenTelemetry Collector's tailsamplingprocessor, but for thresholds and bounds that turn a corner, which say so; what each
--- keeps was worked out by hand from that README.
+-- What policies keep of small traces, for the tests. The policies of key1, key2 and status are those of the example
+-- configuration in the README of the OpenTelemetry Collector's tailsamplingprocessor; others stand at a bound. What each keeps
+-- was worked out by hand from that README.
 use Rattle.std.specs.Prelude.{◌≡◌, codes, ℕ, ℤ, pos, negsuc, true, false, List, [], ◌∷◌, ◌++◌, None}
 use Rattle.tail_settings.specs.Policy.{PolicyData, leaf, and, LeafData, always_sample, latency, status_code, string_attribute, numeric_attribute}
 use Rattle.tail_settings.specs.Policy as settings
@@ -57,7 +57,7 @@ pub record Durations : Type 0 where
   -- 999,999,999 nanoseconds are 999.999999 milliseconds, rounded down
   pub rounded_down : duration (lasting 5 1000000004 ∷ []) ≡ 999
   pub whole : duration (lasting 5 1000000005 ∷ []) ≡ 1000
-  -- from the earliest start of all spans to their latest end, whatever their order and whatever lies between
+  -- from the earliest start of all spans to their latest end, whatever their order and whatever lies between: 1.500000001 s
   pub of_all : duration (lasting 2000000000 2000000001 ∷ lasting 500000000 500000001 ∷ []) ≡ 1500
   -- the end before the start
   pub backwards : duration (lasting 1000000005 5 ∷ []) ≡ 0
@@ -79,6 +79,9 @@ pub record Statuses : Type 0 where
   pub unset : keeps (only status) (coded (pos 0) ∷ []) ≡ true
   pub ok : keeps (only status) (coded (pos 1) ∷ []) ≡ false
   pub error : keeps (only status) (coded (pos 2) ∷ []) ≡ true
+  -- under OK alone
+  pub ok_listed : keeps (only (status_code (settings.ok ∷ []))) (coded (pos 1) ∷ []) ≡ true
+  pub error_not_listed : keeps (only (status_code (settings.ok ∷ []))) (coded (pos 2) ∷ []) ≡ false
   -- a number that has no name, and its negative
   pub unknown : keeps (only status) (coded (pos 3) ∷ []) ≡ false
   pub negative : keeps (only status) (coded (negsuc 1) ∷ []) ≡ false

@@ -11,8 +11,17 @@ returns-clause-latencies c = record { below = refl; reached = refl; of_all = ref
 
 pub returns-clause-statuses : goal.returns-clause-statuses
 unfolding keeps
-returns-clause-statuses c =
-    record { missing = refl; unset = refl; ok = refl; error = refl; unknown = refl; negative = refl; some_span = refl }
+returns-clause-statuses c = record {
+  missing = refl;
+  unset = refl;
+  ok = refl;
+  error = refl;
+  ok_listed = refl;
+  error_not_listed = refl;
+  unknown = refl;
+  negative = refl;
+  some_span = refl;
+}
 
 pub returns-clause-strings : goal.returns-clause-strings
 unfolding keeps
