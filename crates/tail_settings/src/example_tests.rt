@@ -1,5 +1,5 @@
 use super::*;
-use std::alloc::Global;
+use crate::tests::{check_printed, counted};
 use std::test::Fail;
 
 /// The text of `examples/two-tenants.toml`.
@@ -124,82 +124,52 @@ multiplier = 1500
 randomization_factor = 500
 ";
 
+const SEARCH: &str =
+    "GlobalSettings { shards: 1, parts: 2, receivers: 4, senders: 4, lane_size: 64, listen: \"127.0.0.1:4318\", tenant_header: \"x-scope-orgid\" }
+Section { endpoint: \"10.0.0.12:4318\", max_spans: 20000, seed: 0, \
+tail_sampling: TailSampling { decision_wait: 30000, num_traces: 50000, policies: [Leaf(AlwaysSample)] }, \
+batch: Batch { send_batch_size: 8192, timeout: 200, send_batch_max_size: 0 }, \
+sending_queue: SendingQueue { queue_size: 1000, num_consumers: 10 }, \
+retry_on_failure: RetryOnFailure { initial_interval: 5000, max_interval: 30000, max_elapsed_time: 300000, multiplier: 1500, randomization_factor: 500 } }";
+
 #[test]
 fn two_tenants(rt: HostRuntime) -> Result<(), Fail> {
-    let settings = load(rt.alloc(), TWO_TENANTS)?;
-    assert_eq!(rt; settings.tenants_len(), 2);
-    assert_eq!(rt; settings.number("search"), Some(1));
-    let search = settings.section(1).ok_or("no second tenant")?;
-    assert_eq!(rt; search.endpoint.as_str(), "10.0.0.12:4318");
-    assert_eq!(rt; search.max_spans, 20_000);
-    assert!(rt;
-        search.tail_sampling.policies.as_slice()
-            == [PolicySpec::Leaf(LeafPolicy::AlwaysSample)].as_slice()
-    );
-    Ok(())
+    assert!(rt; counted(rt.alloc(), TWO_TENANTS, "search")? == (2, Some(1)));
+    check_printed(&rt, rt.alloc(), TWO_TENANTS, 1, SEARCH)
 }
 
-/// A text with an owner.
-fn text(alloc: Global, text: &str) -> Result<String, Fail> {
-    Ok(String::from_str(alloc, text)?)
-}
+const SHOP: &str =
+    "GlobalSettings { shards: 1, parts: 2, receivers: 4, senders: 4, lane_size: 64, listen: \"127.0.0.1:4318\", tenant_header: \"x-scope-orgid\" }
+Section { endpoint: \"tracing.internal:4318\", max_spans: 100000, seed: 0, \
+tail_sampling: TailSampling { decision_wait: 10000, num_traces: 20000, policies: [\
+Leaf(StatusCode { status_codes: [Error] }), \
+Leaf(Latency { threshold_ms: 2000 }), \
+And([StringAttribute { key: \"payment.state\", values: [\"declined\", \"timeout\"] }, \
+NumericAttribute { key: \"payment.amount\", min_value: 100, max_value: 9223372036854775807 }])] }, \
+batch: Batch { send_batch_size: 8192, timeout: 200, send_batch_max_size: 0 }, \
+sending_queue: SendingQueue { queue_size: 1000, num_consumers: 10 }, \
+retry_on_failure: RetryOnFailure { initial_interval: 5000, max_interval: 30000, max_elapsed_time: 300000, multiplier: 1500, randomization_factor: 500 } }";
 
 #[test]
 fn errors_and_slow_traces(rt: HostRuntime) -> Result<(), Fail> {
-    let alloc = rt.alloc();
-    let settings = load(alloc, ERRORS_AND_SLOW_TRACES)?;
-    let shop = settings.section(0).ok_or("no tenant")?;
-    assert_eq!(rt; shop.endpoint.as_str(), "tracing.internal:4318");
-    assert_eq!(rt; shop.tail_sampling.decision_wait, 10_000);
-    assert_eq!(rt; shop.tail_sampling.num_traces, 20_000);
-    let want = vec![in alloc;
-        PolicySpec::Leaf(LeafPolicy::StatusCode {
-            status_codes: vec![in alloc; StatusCode::Error]?
-        }),
-        PolicySpec::Leaf(LeafPolicy::Latency { threshold_ms: 2000 }),
-        PolicySpec::And(vec![in alloc;
-            LeafPolicy::StringAttribute {
-                key: text(alloc, "payment.state")?,
-                values: vec![in alloc; text(alloc, "declined")?, text(alloc, "timeout")?]?
-            },
-            LeafPolicy::NumericAttribute {
-                key: text(alloc, "payment.amount")?,
-                min_value: 100,
-                max_value: i64::MAX
-            }
-        ]?),
-    ]?;
-    assert!(rt; shop.tail_sampling.policies == want);
-    Ok(())
+    check_printed(&rt, rt.alloc(), ERRORS_AND_SLOW_TRACES, 0, SHOP)
 }
+
+const ALL_POLICIES: &str =
+    "GlobalSettings { shards: 1, parts: 2, receivers: 4, senders: 4, lane_size: 64, listen: \"127.0.0.1:4318\", tenant_header: \"x-scope-orgid\" }
+Section { endpoint: \"127.0.0.1:4319\", max_spans: 100000, seed: 0, \
+tail_sampling: TailSampling { decision_wait: 30000, num_traces: 50000, policies: [\
+Leaf(AlwaysSample), \
+Leaf(Latency { threshold_ms: 5000 }), \
+Leaf(StatusCode { status_codes: [Error, Unset, Ok] }), \
+Leaf(StringAttribute { key: \"http.route\", values: [\"/cart\", \"/checkout\"] }), \
+Leaf(NumericAttribute { key: \"http.response.status_code\", min_value: 500, max_value: 599 }), \
+And([Latency { threshold_ms: 1000 }, StatusCode { status_codes: [Error] }])] }, \
+batch: Batch { send_batch_size: 8192, timeout: 200, send_batch_max_size: 0 }, \
+sending_queue: SendingQueue { queue_size: 1000, num_consumers: 10 }, \
+retry_on_failure: RetryOnFailure { initial_interval: 5000, max_interval: 30000, max_elapsed_time: 300000, multiplier: 1500, randomization_factor: 500 } }";
 
 #[test]
 fn everything(rt: HostRuntime) -> Result<(), Fail> {
-    let alloc = rt.alloc();
-    let settings = load(alloc, EVERYTHING)?;
-    let section = settings.section(0).ok_or("no tenant")?;
-    let want = vec![in alloc;
-        PolicySpec::Leaf(LeafPolicy::AlwaysSample),
-        PolicySpec::Leaf(LeafPolicy::Latency { threshold_ms: 5000 }),
-        PolicySpec::Leaf(LeafPolicy::StatusCode {
-            status_codes: vec![in alloc; StatusCode::Error, StatusCode::Unset, StatusCode::Ok]?
-        }),
-        PolicySpec::Leaf(LeafPolicy::StringAttribute {
-            key: text(alloc, "http.route")?,
-            values: vec![in alloc; text(alloc, "/cart")?, text(alloc, "/checkout")?]?
-        }),
-        PolicySpec::Leaf(LeafPolicy::NumericAttribute {
-            key: text(alloc, "http.response.status_code")?,
-            min_value: 500,
-            max_value: 599
-        }),
-        PolicySpec::And(vec![in alloc;
-            LeafPolicy::Latency { threshold_ms: 1000 },
-            LeafPolicy::StatusCode {
-                status_codes: vec![in alloc; StatusCode::Error]?
-            }
-        ]?),
-    ]?;
-    assert!(rt; section.tail_sampling.policies == want);
-    Ok(())
+    check_printed(&rt, rt.alloc(), EVERYTHING, 0, ALL_POLICIES)
 }

@@ -1,325 +1,410 @@
 use super::*;
-use crate::tests::told;
-use std::alloc::Global;
+use crate::tests::{check_cases, check_printed, compare, repeated};
+use std::alloc::{AllocError, Global};
+use std::process::Abort;
 use std::test::Fail;
 
-/// A key of a table, its least and its greatest number.
-const NUMBERS: [(&str, &str, i64, i64); 20] = [
-    ("global", "shards", 1, 64),
-    ("global", "parts", 1, 16),
-    ("global", "receivers", 1, 64),
-    ("global", "senders", 1, 64),
-    ("global", "lane_size", 1, 4096),
-    ("tenant", "max_spans", 1, 2_147_483_648),
-    ("tenant", "seed", 0, 4_611_686_018_427_387_904),
-    ("tail_sampling", "decision_wait_ms", 1, 86_400_000),
-    ("tail_sampling", "num_traces", 1, 1_000_000),
-    ("batch", "send_batch_size", 1, 1_000_000),
-    ("batch", "timeout_ms", 0, 86_400_000),
-    ("sending_queue", "queue_size", 1, 100_000),
-    ("sending_queue", "num_consumers", 1, 1000),
-    ("retry_on_failure", "initial_interval_ms", 1, 86_400_000),
-    ("retry_on_failure", "max_interval_ms", 1, 86_400_000),
-    (
-        "retry_on_failure",
-        "max_elapsed_time_ms",
-        0,
-        1_099_511_627_776,
-    ),
-    ("retry_on_failure", "multiplier", 1000, 100_000),
-    ("retry_on_failure", "randomization_factor", 0, 1000),
-    ("policy", "threshold_ms", 0, 1_099_511_627_776),
-    ("batch", "send_batch_max_size", 0, 1_000_000),
-];
+/// A sound document. The comments are the places for a line.
+const DOCUMENT: &str = "[global]
+#global
+[[tenant]]
+name = \"a\"
+#tenant
+[tenant.tail_sampling]
+#tail_sampling
+[[tenant.tail_sampling.policy]]
+type = \"always_sample\"
+#policy
+[tenant.batch]
+#batch
+[tenant.sending_queue]
+#sending_queue
+[tenant.retry_on_failure]
+#retry_on_failure
+";
 
-/// The line, where it belongs into this table.
-fn within<'a>(table: &str, of: &str, line: &'a str) -> &'a str {
-    if table == of { line } else { "" }
+/// What stands before and behind the document's comment with this text.
+fn around(place: &str) -> (&str, &str) {
+    match DOCUMENT.split_once(place) {
+        Some(parts) => parts,
+        None => ("no such place", ""),
+    }
 }
 
-/// A document that is sound but for this line of that table.
-fn document(alloc: Global, table: &str, line: &str) -> Result<String, Fail> {
-    let global = within("global", table, line);
-    let tenant = within("tenant", table, line);
-    let sampling = within("tail_sampling", table, line);
-    let policy = match within("policy", table, line) {
-        "" => "type = \"always_sample\"",
-        line => line,
+/// A key's place, the key, its least and its greatest number, and the numbers next to them.
+const NUMBERS: &str = "#global shards 1 64 not 0 65
+#global parts 1 16 not 0 17
+#global receivers 1 64 not 0 65
+#global senders 1 64 not 0 65
+#global lane_size 1 4096 not 0 4097
+#tenant max_spans 1 2147483648 not 0 2147483649
+#tenant seed 0 4611686018427387904 not -1 4611686018427387905
+#tail_sampling decision_wait_ms 1 86400000 not 0 86400001
+#tail_sampling num_traces 1 1000000 not 0 1000001
+#batch send_batch_size 1 1000000 not 0 1000001
+#batch timeout_ms 0 86400000 not -1 86400001
+#sending_queue queue_size 1 100000 not 0 100001
+#sending_queue num_consumers 1 1000 not 0 1001
+#retry_on_failure initial_interval_ms 1 86400000 not 0 86400001
+#retry_on_failure max_interval_ms 1 86400000 not 0 86400001
+#retry_on_failure max_elapsed_time_ms 0 1099511627776 not -1 1099511627777
+#retry_on_failure multiplier 1000 100000 not 999 100001
+#retry_on_failure randomization_factor 0 1000 not -1 1001
+#policy threshold_ms 0 1099511627776 not -1 1099511627777
+#batch send_batch_max_size 0 1000000 not -1 1000001";
+
+/// The least and the greatest number of TOML.
+const FARTHEST: &str = "-9223372036854775808 9223372036854775807";
+
+const OTHER_KINDS: &str = "\"1\" 1.0 true [1] {} 2026-11-22";
+
+/// The lines that have to stand before a line with this key.
+fn lines_before(key: &str) -> &'static str {
+    match key {
+        "threshold_ms" => "[[tenant.tail_sampling.policy]]\ntype = \"latency\"\n",
+        "send_batch_max_size" => "send_batch_size = 1\n",
+        _ => "",
+    }
+}
+
+/// Adds a line where `load` prints another text than is wanted of a document with this value at a key.
+fn compare_at(
+    alloc: Global,
+    place: &str,
+    key: &str,
+    value: &str,
+    want: &str,
+    wrong: &mut String,
+) -> Result<(), AllocError> {
+    let (before, after) = around(place);
+    let lines = lines_before(key);
+    let text = format!(in alloc; "{before}{lines}{key} = {value}{after}")?;
+    compare(alloc, text.as_str(), want, wrong)
+}
+
+/// The same of each of these values. What is wanted is the key's fault of this number, or settings for 0.
+fn compare_each(
+    alloc: Global,
+    place: &str,
+    key: &str,
+    values: &str,
+    fault: u32,
+    wrong: &mut String,
+) -> Result<(), AllocError> {
+    let want = match fault {
+        0 => String::from_str(alloc, "settings")?,
+        _ => format!(in alloc; "settings fault {fault} {key}")?,
     };
-    let batch = within("batch", table, line);
-    let queue = within("sending_queue", table, line);
-    let retry = within("retry_on_failure", table, line);
-    Ok(format!(in alloc;
-        "[global]\n{global}\n[[tenant]]\nname = \"a\"\n{tenant}\n[tenant.tail_sampling]\n{sampling}\n[[tenant.tail_sampling.policy]]\n{policy}\n[tenant.batch]\n{batch}\n[tenant.sending_queue]\n{queue}\n[tenant.retry_on_failure]\n{retry}\n"
-    )?)
-}
-
-/// What `load` prints of a document with this value at a key.
-fn told_at(alloc: Global, table: &str, key: &str, value: &str) -> Result<String, Fail> {
-    let line = match table {
-        "policy" => format!(in alloc; "type = \"latency\"\n{key} = {value}")?,
-        _ => match key {
-            "send_batch_max_size" => format!(in alloc; "send_batch_size = 1\n{key} = {value}")?,
-            _ => format!(in alloc; "{key} = {value}")?,
-        },
-    };
-    let text = document(alloc, table, line.as_str())?;
-    told(alloc, text.as_str())
-}
-
-/// What `load` prints of a document with this number at a key.
-fn told_number(alloc: Global, table: &str, key: &str, number: i64) -> Result<String, Fail> {
-    let value = format!(in alloc; "{number}")?;
-    told_at(alloc, table, key, value.as_str())
-}
-
-#[test]
-fn ranges_of_numbers(rt: HostRuntime) -> Result<(), Fail> {
-    let alloc = rt.alloc();
-    for (table, key, low, high) in NUMBERS {
-        let out = format!(in alloc; "settings fault 13 {key}")?;
-        for (number, fine) in [
-            (low, true),
-            (high, true),
-            (low.saturating_sub(1), false),
-            (high.saturating_add(1), false),
-            (i64::MIN, false),
-            (i64::MAX, false),
-        ] {
-            let want = if fine { "settings" } else { out.as_str() };
-            assert_eq!(rt;
-                told_number(alloc, table, key, number)?.as_str(),
-                want,
-                "at {key} = {number}"
-            );
-        }
+    for value in values.split(' ') {
+        compare_at(alloc, place, key, value, want.as_str(), wrong)?;
     }
     Ok(())
 }
 
-#[test]
-fn kinds_of_numbers(rt: HostRuntime) -> Result<(), Fail> {
-    let alloc = rt.alloc();
-    for (table, key, _, _) in NUMBERS {
-        let want = format!(in alloc; "settings fault 12 {key}")?;
-        for value in ["\"1\"", "1.0", "true", "[1]", "{}", "2026-11-22"] {
-            assert_eq!(rt;
-                told_at(alloc, table, key, value)?.as_str(),
-                want.as_str(),
-                "at {key} = {value}"
-            );
-        }
+/// A row's first word, and the rest.
+fn word(row: &str) -> (&str, &str) {
+    match row.split_once(' ') {
+        Some(parts) => parts,
+        None => (row, ""),
     }
+}
+
+fn compare_numbers(alloc: Global, row: &str, wrong: &mut String) -> Result<(), AllocError> {
+    let (place, rest) = word(row);
+    let (key, rest) = word(rest);
+    let (fine, out) = match rest.split_once(" not ") {
+        Some(parts) => parts,
+        None => ("no number", "1"),
+    };
+    compare_each(alloc, place, key, fine, 0, wrong)?;
+    compare_each(alloc, place, key, out, 13, wrong)?;
+    compare_each(alloc, place, key, FARTHEST, 13, wrong)?;
+    compare_each(alloc, place, key, OTHER_KINDS, 12, wrong)
+}
+
+fn wrong_numbers(alloc: Global) -> Result<String, AllocError> {
+    let mut wrong = String::new(alloc);
+    for row in NUMBERS.lines() {
+        compare_numbers(alloc, row, &mut wrong)?;
+    }
+    Ok(wrong)
+}
+
+#[test]
+fn ranges_and_kinds_of_numbers(rt: HostRuntime) -> Result<(), Fail> {
+    let wrong = wrong_numbers(rt.alloc())?;
+    assert_eq!(rt; wrong.as_str(), "");
     Ok(())
+}
+
+/// `load` prints what each of these cases wants, whose lines stand at this place.
+fn check_at(rt: &impl Abort, alloc: Global, place: &str, cases: &str) -> Result<(), Fail> {
+    let (before, after) = around(place);
+    check_cases(rt, alloc, before, cases, after)
 }
 
 #[test]
 fn greatest_size_of_a_batch(rt: HostRuntime) -> Result<(), Fail> {
-    let alloc = rt.alloc();
-    for (size, max_size, fine) in [
-        (8192, 0, true),
-        (8192, 1, false),
-        (8192, 8191, false),
-        (8192, 8192, true),
-        (8192, 8193, true),
-        (1_000_000, 999_999, false),
-        (1_000_000, 1_000_000, true),
-    ] {
-        let line = format!(in alloc; "send_batch_size = {size}\nsend_batch_max_size = {max_size}")?;
-        let text = document(alloc, "batch", line.as_str())?;
-        let want = if fine {
-            "settings"
-        } else {
-            "settings fault 13 send_batch_max_size"
-        };
-        assert_eq!(rt; told(alloc, text.as_str())?.as_str(), want, "at {max_size}");
-    }
-    let text = document(alloc, "batch", "send_batch_max_size = 8191")?;
-    assert_eq!(rt;
-        told(alloc, text.as_str())?.as_str(),
-        "settings fault 13 send_batch_max_size"
-    );
-    Ok(())
+    check_at(
+        &rt,
+        rt.alloc(),
+        "#batch",
+        "settings
+send_batch_size = 8192
+send_batch_max_size = 0
+
+settings fault 13 send_batch_max_size
+send_batch_size = 8192
+send_batch_max_size = 1
+
+settings fault 13 send_batch_max_size
+send_batch_size = 8192
+send_batch_max_size = 8191
+
+settings
+send_batch_size = 8192
+send_batch_max_size = 8192
+
+settings
+send_batch_size = 8192
+send_batch_max_size = 8193
+
+settings fault 13 send_batch_max_size
+send_batch_size = 1000000
+send_batch_max_size = 999999
+
+settings
+send_batch_size = 1000000
+send_batch_max_size = 1000000
+
+settings fault 13 send_batch_max_size
+send_batch_max_size = 8191",
+    )
 }
 
-/// A text between quotes, of so many times the same byte.
-fn quoted(alloc: Global, byte: char, length: u32) -> Result<String, Fail> {
-    let mut text = String::from_str(alloc, "\"")?;
-    for _ in 0..length {
-        text.push(byte)?;
-    }
-    text.push('"')?;
-    Ok(text)
+/// Adds a line where `load` prints another text than is wanted of a document with a text of so many bytes at a key.
+fn compare_length(
+    alloc: Global,
+    place: &str,
+    key: &str,
+    byte: &str,
+    length: u32,
+    want: &str,
+    wrong: &mut String,
+) -> Result<(), AllocError> {
+    let value = repeated(alloc, "\"", byte, length, "\"")?;
+    compare_at(alloc, place, key, value.as_str(), want, wrong)
+}
+
+fn compare_lengths(
+    alloc: Global,
+    place: &str,
+    key: &str,
+    byte: &str,
+    longest: u32,
+    wrong: &mut String,
+) -> Result<(), AllocError> {
+    let out = format!(in alloc; "settings fault 13 {key}")?;
+    compare_length(alloc, place, key, byte, 1, "settings", wrong)?;
+    compare_length(alloc, place, key, byte, longest, "settings", wrong)?;
+    compare_length(alloc, place, key, byte, 0, out.as_str(), wrong)?;
+    let longer = longest.saturating_add(1);
+    compare_length(alloc, place, key, byte, longer, out.as_str(), wrong)?;
+    compare_each(alloc, place, key, "1", 12, wrong)
 }
 
 #[test]
 fn lengths_of_texts(rt: HostRuntime) -> Result<(), Fail> {
-    let alloc = rt.alloc();
-    for (table, key, byte, longest) in [
-        ("global", "listen", '~', 255u32),
-        ("global", "tenant_header", '-', 64),
-        ("tenant", "endpoint", '!', 255),
-    ] {
-        let out = format!(in alloc; "settings fault 13 {key}")?;
-        for (length, fine) in [(1, true), (longest, true), (0, false), (longest + 1, false)] {
-            let value = quoted(alloc, byte, length)?;
-            let want = if fine { "settings" } else { out.as_str() };
-            assert_eq!(rt;
-                told_at(alloc, table, key, value.as_str())?.as_str(),
-                want,
-                "at {key} of {length}"
-            );
-        }
-        let kind = format!(in alloc; "settings fault 12 {key}")?;
-        assert_eq!(rt; told_at(alloc, table, key, "1")?.as_str(), kind.as_str());
-    }
+    let mut wrong = String::new(rt.alloc());
+    compare_lengths(rt.alloc(), "#global", "listen", "~", 255, &mut wrong)?;
+    compare_lengths(rt.alloc(), "#global", "tenant_header", "-", 64, &mut wrong)?;
+    compare_lengths(rt.alloc(), "#tenant", "endpoint", "!", 255, &mut wrong)?;
+    assert_eq!(rt; wrong.as_str(), "");
     Ok(())
 }
 
 #[test]
 fn bytes_of_texts(rt: HostRuntime) -> Result<(), Fail> {
-    let alloc = rt.alloc();
-    for (table, key, value, fine) in [
-        ("global", "listen", "\"[::1]:4318\"", true),
-        ("global", "listen", "\"a b\"", false),
-        ("global", "listen", "\"a\\u007f\"", false),
-        ("global", "listen", "\"ä:1\"", false),
-        ("tenant", "endpoint", "\"no-port\"", true),
-        ("tenant", "endpoint", "\"a\\tb\"", false),
-        ("global", "tenant_header", "\"x-az09-\"", true),
-        ("global", "tenant_header", "\"X-Scope\"", false),
-        ("global", "tenant_header", "\"x_scope\"", false),
-        ("global", "tenant_header", "\"x scope\"", false),
-        ("global", "tenant_header", "\"a.b\"", false),
-    ] {
-        let out = format!(in alloc; "settings fault 13 {key}")?;
-        let want = if fine { "settings" } else { out.as_str() };
-        assert_eq!(rt;
-            told_at(alloc, table, key, value)?.as_str(),
-            want,
-            "at {key} = {value}"
-        );
-    }
-    Ok(())
+    check_at(
+        &rt,
+        rt.alloc(),
+        "#global",
+        "settings
+listen = \"[::1]:4318\"
+
+settings fault 13 listen
+listen = \"a b\"
+
+settings fault 13 listen
+listen = \"a\\u007f\"
+
+settings fault 13 listen
+listen = \"ä:1\"
+
+settings
+tenant_header = \"x-az09-\"
+
+settings fault 13 tenant_header
+tenant_header = \"X-Scope\"
+
+settings fault 13 tenant_header
+tenant_header = \"x_scope\"
+
+settings fault 13 tenant_header
+tenant_header = \"x scope\"
+
+settings fault 13 tenant_header
+tenant_header = \"a.b\"",
+    )
+}
+
+#[test]
+fn bytes_of_an_endpoint(rt: HostRuntime) -> Result<(), Fail> {
+    check_at(
+        &rt,
+        rt.alloc(),
+        "#tenant",
+        "settings
+endpoint = \"no-port\"
+
+settings fault 13 endpoint
+endpoint = \"a\\tb\"",
+    )
 }
 
 /// All keys in the order in which they are read: the head of a table before its first key, the key, and a sound line where there
 /// has to be one.
-const ORDER: [(&str, &str, &str); 24] = [
-    ("[global]", "shards", ""),
-    ("", "parts", ""),
-    ("", "receivers", ""),
-    ("", "senders", ""),
-    ("", "lane_size", ""),
-    ("", "listen", ""),
-    ("", "tenant_header", ""),
-    ("[[tenant]]", "name", "name = \"a\""),
-    ("", "endpoint", ""),
-    ("", "max_spans", ""),
-    ("", "seed", ""),
-    ("[tenant.tail_sampling]", "decision_wait_ms", ""),
-    ("", "num_traces", ""),
-    ("", "policy", "policy = [{ type = \"always_sample\" }]"),
-    ("[tenant.batch]", "send_batch_size", ""),
-    ("", "timeout_ms", ""),
-    ("", "send_batch_max_size", ""),
-    ("[tenant.sending_queue]", "queue_size", ""),
-    ("", "num_consumers", ""),
-    ("[tenant.retry_on_failure]", "initial_interval_ms", ""),
-    ("", "max_interval_ms", ""),
-    ("", "max_elapsed_time_ms", ""),
-    ("", "multiplier", ""),
-    ("", "randomization_factor", ""),
-];
+const ORDER: &str = "[global]|shards|
+|parts|
+|receivers|
+|senders|
+|lane_size|
+|listen|
+|tenant_header|
+[[tenant]]|name|name = \"a\"
+|endpoint|
+|max_spans|
+|seed|
+[tenant.tail_sampling]|decision_wait_ms|
+|num_traces|
+|policy|policy = [{ type = \"always_sample\" }]
+[tenant.batch]|send_batch_size|
+|timeout_ms|
+|send_batch_max_size|
+[tenant.sending_queue]|queue_size|
+|num_consumers|
+[tenant.retry_on_failure]|initial_interval_ms|
+|max_interval_ms|
+|max_elapsed_time_ms|
+|multiplier|
+|randomization_factor|";
+
+/// A row up to its first bar, and the rest.
+fn cell(row: &str) -> (&str, &str) {
+    match row.split_once('|') {
+        Some(parts) => parts,
+        None => (row, ""),
+    }
+}
+
+/// Adds a row's head and its line, the sound one or one of another kind.
+fn add_row(alloc: Global, row: &str, is_sound: bool, text: &mut String) -> Result<(), AllocError> {
+    let (head, rest) = cell(row);
+    let (key, line) = cell(rest);
+    let lines = if is_sound {
+        format!(in alloc; "{head}\n{line}\n")?
+    } else {
+        format!(in alloc; "{head}\n{key} = false\n")?
+    };
+    text.push_str(lines.as_str())
+}
 
 /// A document whose keys are sound up to this one, and of another kind from it on.
-fn faulty_from(alloc: Global, first: usize) -> Result<String, Fail> {
+fn faulty_from(alloc: Global, first: usize) -> Result<String, AllocError> {
     let mut text = String::new(alloc);
-    for (number, (head, key, line)) in ORDER.iter().enumerate() {
-        text.push_str(*head)?;
-        text.push('\n')?;
-        if number < first {
-            text.push_str(*line)?;
-        } else {
-            text.push_str(*key)?;
-            text.push_str(" = false")?;
-        }
-        text.push('\n')?;
+    for (number, row) in ORDER.lines().enumerate() {
+        add_row(alloc, row, number < first, &mut text)?;
     }
     Ok(text)
 }
 
+fn compare_from(
+    alloc: Global,
+    first: usize,
+    row: &str,
+    wrong: &mut String,
+) -> Result<(), AllocError> {
+    let (_head, rest) = cell(row);
+    let (key, _line) = cell(rest);
+    let text = faulty_from(alloc, first)?;
+    let want = format!(in alloc; "settings fault 12 {key}")?;
+    compare(alloc, text.as_str(), want.as_str(), wrong)
+}
+
+fn wrong_orders(alloc: Global) -> Result<String, AllocError> {
+    let mut wrong = String::new(alloc);
+    for (number, row) in ORDER.lines().enumerate() {
+        compare_from(alloc, number, row, &mut wrong)?;
+    }
+    Ok(wrong)
+}
+
 #[test]
 fn order_of_keys(rt: HostRuntime) -> Result<(), Fail> {
-    let alloc = rt.alloc();
-    for (number, (_, key, _)) in ORDER.iter().enumerate() {
-        let text = faulty_from(alloc, number)?;
-        let want = format!(in alloc; "settings fault 12 {key}")?;
-        assert_eq!(rt; told(alloc, text.as_str())?.as_str(), want.as_str());
-    }
-    let text = faulty_from(alloc, ORDER.len())?;
-    assert_eq!(rt; told(alloc, text.as_str())?.as_str(), "settings");
-    Ok(())
+    let wrong = wrong_orders(rt.alloc())?;
+    assert_eq!(rt; wrong.as_str(), "");
+    let sound = faulty_from(rt.alloc(), 24)?;
+    check_printed(&rt, rt.alloc(), sound.as_str(), 0, DEFAULTS)
 }
 
 #[test]
 fn tables_of_another_kind(rt: HostRuntime) -> Result<(), Fail> {
-    let alloc = rt.alloc();
-    for (tenant, want) in [
-        ("tail_sampling = 1", "settings fault 12 tail_sampling"),
-        ("seed = -1\ntail_sampling = 1", "settings fault 13 seed"),
-        (
-            "batch = \"\"\nsending_queue = 1",
-            "settings fault 11 policy",
-        ),
-        (
-            "tail_sampling.policy = [{ type = \"always_sample\" }]\nbatch = []\nsending_queue = 1",
-            "settings fault 12 batch",
-        ),
-        (
-            "tail_sampling.policy = [{ type = \"always_sample\" }]\nsending_queue = [{}]\nretry_on_failure = 1",
-            "settings fault 12 sending_queue",
-        ),
-        (
-            "tail_sampling.policy = [{ type = \"always_sample\" }]\nretry_on_failure = true",
-            "settings fault 12 retry_on_failure",
-        ),
-    ] {
-        let text = format!(in alloc; "[[tenant]]\nname = \"a\"\n{tenant}\n")?;
-        assert_eq!(rt; told(alloc, text.as_str())?.as_str(), want, "at {tenant:?}");
-    }
-    Ok(())
+    check_cases(
+        &rt,
+        rt.alloc(),
+        "[[tenant]]\nname = \"a\"\n",
+        "settings fault 12 tail_sampling
+tail_sampling = 1
+
+settings fault 13 seed
+seed = -1
+tail_sampling = 1
+
+settings fault 11 policy
+batch = \"\"
+sending_queue = 1
+
+settings fault 12 batch
+tail_sampling.policy = [{ type = \"always_sample\" }]
+batch = []
+sending_queue = 1
+
+settings fault 12 sending_queue
+tail_sampling.policy = [{ type = \"always_sample\" }]
+sending_queue = [{}]
+retry_on_failure = 1
+
+settings fault 12 retry_on_failure
+tail_sampling.policy = [{ type = \"always_sample\" }]
+retry_on_failure = true",
+        "\n",
+    )
 }
+
+const DEFAULTS: &str =
+    "GlobalSettings { shards: 1, parts: 2, receivers: 4, senders: 4, lane_size: 64, listen: \"127.0.0.1:4318\", tenant_header: \"x-scope-orgid\" }
+Section { endpoint: \"127.0.0.1:4319\", max_spans: 100000, seed: 0, \
+tail_sampling: TailSampling { decision_wait: 30000, num_traces: 50000, policies: [Leaf(AlwaysSample)] }, \
+batch: Batch { send_batch_size: 8192, timeout: 200, send_batch_max_size: 0 }, \
+sending_queue: SendingQueue { queue_size: 1000, num_consumers: 10 }, \
+retry_on_failure: RetryOnFailure { initial_interval: 5000, max_interval: 30000, max_elapsed_time: 300000, multiplier: 1500, randomization_factor: 500 } }";
+
+const NO_KEYS: &str =
+    "tenant = [{ name = \"Az09_-.\", tail_sampling = { policy = [{ type = \"always_sample\" }] } }]";
 
 #[test]
 fn defaults(rt: HostRuntime) -> Result<(), Fail> {
-    let text =
-        "tenant = [{ name = \"Az09_-.\", tail_sampling = { policy = [{ type = \"always_sample\" }] } }]";
-    let settings = load(rt.alloc(), text)?;
+    let settings = load(rt.alloc(), NO_KEYS)?;
     assert!(rt; settings.name(0) == Some("Az09_-."));
-    let global = &settings.global;
-    assert_eq!(rt; global.shards, 1);
-    assert_eq!(rt; global.parts, 2);
-    assert_eq!(rt; global.receivers, 4);
-    assert_eq!(rt; global.senders, 4);
-    assert_eq!(rt; global.lane_size, 64);
-    assert_eq!(rt; global.listen.as_str(), "127.0.0.1:4318");
-    assert_eq!(rt; global.tenant_header.as_str(), "x-scope-orgid");
-    let section = settings.section(0).ok_or("no tenant")?;
-    assert_eq!(rt; section.endpoint.as_str(), "127.0.0.1:4319");
-    assert_eq!(rt; section.max_spans, 100_000);
-    assert_eq!(rt; section.seed, 0);
-    assert_eq!(rt; section.tail_sampling.decision_wait, 30_000);
-    assert_eq!(rt; section.tail_sampling.num_traces, 50_000);
-    assert_eq!(rt; section.batch.send_batch_size, 8192);
-    assert_eq!(rt; section.batch.timeout, 200);
-    assert_eq!(rt; section.batch.send_batch_max_size, 0);
-    assert_eq!(rt; section.sending_queue.queue_size, 1000);
-    assert_eq!(rt; section.sending_queue.num_consumers, 10);
-    assert_eq!(rt; section.retry_on_failure.initial_interval, 5000);
-    assert_eq!(rt; section.retry_on_failure.max_interval, 30_000);
-    assert_eq!(rt; section.retry_on_failure.max_elapsed_time, 300_000);
-    assert_eq!(rt; section.retry_on_failure.multiplier, 1500);
-    assert_eq!(rt; section.retry_on_failure.randomization_factor, 500);
-    Ok(())
+    check_printed(&rt, rt.alloc(), NO_KEYS, 0, DEFAULTS)
 }
