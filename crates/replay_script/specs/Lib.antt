@@ -7,3 +7,4 @@ pub mod Told
 pub mod Input
 pub mod Output
 pub mod Step
+pub mod Examples

@@ -17,4 +17,6 @@ pub use run::run_script;
 pub use session::{AnswerFault, Session};
 
 #[cfg(test)]
+mod definition_tests;
+#[cfg(test)]
 mod tests;
