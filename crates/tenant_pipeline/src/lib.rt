@@ -48,6 +48,8 @@ pub fn same_policies_are_equal()
 {}
 
 #[cfg(test)]
+mod definition_tests;
+#[cfg(test)]
 mod reference;
 #[cfg(test)]
 mod reference_tests;
