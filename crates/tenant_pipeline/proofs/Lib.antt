@@ -13,3 +13,4 @@ mod Fields
 mod Equals
 mod Numbered
 mod Names
+pub mod OnLiterals

@@ -28,4 +28,6 @@ pub fn own_steps_decide()
 {}
 
 #[cfg(test)]
+mod definition_tests;
+#[cfg(test)]
 mod tests;
