@@ -5,3 +5,4 @@ pub mod Lines
 pub mod Long
 pub mod Ran
 pub mod Going
+pub mod OnLiterals

@@ -6,3 +6,4 @@ pub mod Standing
 pub mod Replay
 pub mod Members
 pub mod Law
+pub mod Examples

@@ -10,4 +10,6 @@ pub use engine::{ReplayFault, replay};
 pub use law::{text_is_one, values_are_taken};
 
 #[cfg(test)]
+mod definition_tests;
+#[cfg(test)]
 mod tests;

@@ -1,0 +1,15 @@
+-- What an answer unfolds to compute the lines of a script, and those that answer them, on literals.
+use Rattle.std.specs.Fmt.{digits}
+use Rattle.std.specs.Prelude.{⊤}
+use Rattle.hex.specs.Hex.{encode_with, decode_pairs}
+use Rattle.replay_script.specs.Word.{name_of, number_of, body_of}
+use Rattle.replay_script.specs.Command.{post_of, turn_of, command_of}
+use Rattle.replay_script.specs.Line.{kind_of}
+
+unfoldable pub script_on_literals : ⊤
+unfolding kind_of command_of post_of turn_of name_of number_of body_of decode_pairs
+script_on_literals = tt
+
+unfoldable pub answers_on_literals : ⊤
+unfolding digits encode_with
+answers_on_literals = tt

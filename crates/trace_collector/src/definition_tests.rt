@@ -1,0 +1,15 @@
+//! What the definitions say of shards, lines and scripts, on examples that were worked out by hand.
+
+ghost use Rattle.trace_collector.specs.Examples.{Members, Lines, Posts, Scripts};
+
+use otlp_read::values_or_faults;
+
+/// The definitions, on small settings and scripts, give what was worked out by hand.
+fn definitions_on_small_inputs()
+    ensures members { Members }
+    ensures lines { Lines }
+    ensures posts { Posts }
+    ensures scripts { Scripts }
+{
+    values_or_faults();
+}
