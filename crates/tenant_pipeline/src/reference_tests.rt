@@ -1,9 +1,7 @@
 //! `Pipeline` answers as the definitions do, step by step, and both as worked out by hand.
 
 use crate::reference::{OwnStep, answer};
-use crate::tests::{
-    BODY, BOTH, BY_SCHEMA, OF_RESOURCE, OTHER, SECOND, SECOND_OF_RESOURCE, WITH_SCHEMA, section,
-};
+use crate::tests::{ALWAYS, ERRORS, cut, named, number, section_of};
 use crate::{Pipeline, Reply, Told, prepare};
 use bytes::Bytes;
 use otlp_trace::Octets;
@@ -12,15 +10,7 @@ use span_view::is_text;
 use std::alloc::Global;
 use std::process::Abort;
 use std::test::Fail;
-use tail_settings::{Section, load};
-
-/// Trace id 11.. and span id 22.. as `SECOND` has them, with a status of code 2, which is ERROR.
-const FAILED: [u8; 38] =
-    *b"\x0a\x24\x12\x22\x12\x20\x0a\x10\x11\x11\x11\x11\x11\x11\x11\x11\x11\x11\x11\x11\x11\x11\x11\x11\x12\x08\x22\x22\x22\x22\x22\x22\x22\x22\x7a\x02\x18\x02";
-
-/// The span of `BODY` and the failed one in one request.
-const WITH_FAILED: [u8; 68] =
-    *b"\x0a\x42\x12\x40\x12\x1c\x0a\x10\x11\x11\x11\x11\x11\x11\x11\x11\x11\x11\x11\x11\x11\x11\x11\x11\x12\x08\x21\x21\x21\x21\x21\x21\x21\x21\x12\x20\x0a\x10\x11\x11\x11\x11\x11\x11\x11\x11\x11\x11\x11\x11\x11\x11\x11\x11\x12\x08\x22\x22\x22\x22\x22\x22\x22\x22\x7a\x02\x18\x02";
+use tail_settings::Section;
 
 /// A text that left out five attributes.
 const RESOURCE: &[u8] = b"\x10\x05";
@@ -42,7 +32,8 @@ struct Tenant {
     pipeline: Pipeline,
 }
 
-fn tenant_of(alloc: Global, section: Section) -> Result<Tenant, Fail> {
+fn tenant_of(alloc: Global, policy: &str) -> Result<Tenant, Fail> {
+    let section = section_of(alloc, policy)?;
     let pipeline = Pipeline::new(alloc, &section)?;
     Ok(Tenant {
         alloc,
@@ -50,21 +41,6 @@ fn tenant_of(alloc: Global, section: Section) -> Result<Tenant, Fail> {
         past: Vec::new(alloc),
         pipeline,
     })
-}
-
-/// It keeps each trace.
-fn make_tenant(alloc: Global) -> Result<Tenant, Fail> {
-    tenant_of(alloc, section(alloc)?)
-}
-
-/// It keeps the traces with a span whose status is ERROR.
-fn make_tenant_of_errors(alloc: Global) -> Result<Tenant, Fail> {
-    let settings = load(
-        alloc,
-        "tenant = [{ name = \"a\", tail_sampling = { decision_wait_ms = 1000, policy = [{ type = \"status_code\", status_codes = [\"ERROR\"] }] } }]",
-    )?;
-    let (_name, section) = settings.tenants.into_iter().next().ok_or("no such tenant")?;
-    tenant_of(alloc, section)
 }
 
 /// A span with this text, of no resource and no scope.
@@ -119,179 +95,207 @@ fn post(
     tell(rt, tenant, OwnStep { at, spans }, &told)
 }
 
-/// A body with one span, which begins behind six bytes, is posted.
-fn post_one(rt: &impl Abort, tenant: &mut Tenant, at: u64, body: &[u8]) -> Result<(), Fail> {
-    assert!(rt; body.len() > 6);
-    let mut spans = Vec::new(tenant.alloc);
-    spans.push(alone(rt, tenant.alloc, &body[6..])?)?;
-    post(rt, tenant, at, body, spans)
-}
-
-/// A body with one span, which has this text, is posted. Its resource left out five attributes, and has this schema.
-fn post_of_resource(
+/// The spans with these names, or, where there are none, the one that begins behind six bytes of the body.
+fn alone_each(
     rt: &impl Abort,
-    tenant: &mut Tenant,
+    alloc: Global,
     body: &[u8],
-    text: &[u8],
-    schema_url: &[u8],
-) -> Result<(), Fail> {
-    let mut spans = Vec::new(tenant.alloc);
-    spans.push(of_resource(rt, tenant.alloc, text, schema_url)?)?;
-    post(rt, tenant, 0, body, spans)
+    names: &str,
+) -> Result<Vec<StoredSpan>, Fail> {
+    let mut spans = Vec::new(alloc);
+    if names.is_empty() {
+        assert!(rt; body.len() > 6);
+        spans.push(alone(rt, alloc, &body[6..])?)?;
+        return Ok(spans);
+    }
+    for name in names.split(' ') {
+        let text = named(alloc, name)?;
+        spans.push(alone(rt, alloc, text.as_slice())?)?;
+    }
+    Ok(spans)
 }
 
-/// A worker is told that there is no batch.
-fn no_job(rt: &impl Abort, tenant: &mut Tenant, at: u64) -> Result<(), Fail> {
+/// At this moment the body with this name is posted. Its spans have these names.
+fn post_named(rt: &impl Abort, tenant: &mut Tenant, rest: &str) -> Result<(), Fail> {
+    let (moment, rest) = cut(rest);
+    let (name, names) = cut(rest);
+    let at = number(moment).ok_or("no moment")?;
+    let body = named(tenant.alloc, name)?;
+    let spans = alone_each(rt, tenant.alloc, body.as_slice(), names)?;
+    post(rt, tenant, at, body.as_slice(), spans)
+}
+
+/// At this moment the body with this name is posted. Its one span has this name and this schema.
+fn post_of_resource(rt: &impl Abort, tenant: &mut Tenant, rest: &str) -> Result<(), Fail> {
+    let (moment, rest) = cut(rest);
+    let (name, rest) = cut(rest);
+    let (span, schema) = cut(rest);
+    let at = number(moment).ok_or("no moment")?;
+    let body = named(tenant.alloc, name)?;
+    let text = named(tenant.alloc, span)?;
+    let schema = named(tenant.alloc, schema)?;
+    let mut spans = Vec::new(tenant.alloc);
+    spans.push(of_resource(rt, tenant.alloc, text.as_slice(), schema.as_slice())?)?;
+    post(rt, tenant, at, body.as_slice(), spans)
+}
+
+/// At this moment a worker is told that there is no batch.
+fn no_job(rt: &impl Abort, tenant: &mut Tenant, moment: &str) -> Result<(), Fail> {
+    let at = number(moment).ok_or("no moment")?;
     let told = tenant.pipeline.turn(at)?;
     assert_eq!(rt; told, Told::Worked);
     tell(rt, tenant, OwnStep { at, spans: None }, &told)
 }
 
-/// A worker is given this batch.
-fn job(
-    rt: &impl Abort,
-    tenant: &mut Tenant,
-    at: u64,
-    ticket: u64,
-    body: &[u8],
-) -> Result<(), Fail> {
+/// At this moment a worker is given the batch of this ticket and with this text.
+fn job(rt: &impl Abort, tenant: &mut Tenant, rest: &str) -> Result<(), Fail> {
+    let (moment, rest) = cut(rest);
+    let (ticket, name) = cut(rest);
+    let at = number(moment).ok_or("no moment")?;
+    let ticket = number(ticket).ok_or("no ticket")?;
+    let payload = Bytes::from_vec(named(tenant.alloc, name)?)?;
     let told = tenant.pipeline.turn(at)?;
-    let payload = Bytes::copy_from_slice(tenant.alloc, body)?;
     assert_eq!(rt; told, Told::Job { ticket, payload });
     tell(rt, tenant, OwnStep { at, spans: None }, &told)
 }
 
-#[test]
-fn one_body(rt: HostRuntime) -> Result<(), Fail> {
-    let mut tenant = make_tenant(rt.alloc())?;
-    post_one(&rt, &mut tenant, 0, &BODY)?;
-    no_job(&rt, &mut tenant, 999)?;
-    job(&rt, &mut tenant, 1000, 1, &BODY)?;
-    no_job(&rt, &mut tenant, 1000)
+fn live(rt: &impl Abort, tenant: &mut Tenant, line: &str) -> Result<(), Fail> {
+    let (word, rest) = cut(line);
+    match word {
+        "#" => Ok(()),
+        "post" => post_named(rt, tenant, rest),
+        "of_resource" => post_of_resource(rt, tenant, rest),
+        "job" => job(rt, tenant, rest),
+        "worked" => no_job(rt, tenant, rest),
+        _ => Err(Fail::new("no such line")),
+    }
+}
+
+/// Each of these stories of a new tenant comes true, as the definitions have it too. An empty line parts them.
+fn check(rt: &impl Abort, alloc: Global, policy: &str, stories: &str) -> Result<(), Fail> {
+    for story in stories.split("\n\n") {
+        let mut tenant = tenant_of(alloc, policy)?;
+        for line in story.lines() {
+            live(rt, &mut tenant, line)?;
+        }
+    }
+    Ok(())
 }
 
 #[test]
-fn one_trace_before_and_at_its_decision(rt: HostRuntime) -> Result<(), Fail> {
-    let mut tenant = make_tenant(rt.alloc())?;
-    post_one(&rt, &mut tenant, 0, &BODY)?;
-    post_one(&rt, &mut tenant, 999, &SECOND)?;
-    post_one(&rt, &mut tenant, 1000, &SECOND)?;
-    job(&rt, &mut tenant, 1000, 1, &BOTH)?;
-    job(&rt, &mut tenant, 1000, 2, &SECOND)?;
-    no_job(&rt, &mut tenant, 5000)
+fn traces_that_are_all_kept(rt: HostRuntime) -> Result<(), Fail> {
+    check(
+        &rt,
+        rt.alloc(),
+        ALWAYS,
+        "# one body
+post 0 first
+worked 999
+job 1000 1 first
+worked 1000
+
+# one trace before and at its decision
+post 0 first
+post 999 second
+post 1000 second
+job 1000 1 first_and_second
+job 1000 2 second
+worked 5000
+
+# two traces at one moment
+post 5 other
+post 5 first
+worked 1004
+job 1005 1 other
+job 1005 2 first
+worked 1005
+
+# a late span before a later decision
+post 0 first
+post 500 other
+post 1499 second
+job 1500 1 first
+job 1500 2 second
+job 1500 3 other
+worked 1500
+
+# a moment that is past
+post 5000 first
+# It opens its row at 5000.
+post 100 other
+worked 1100
+job 6000 1 first
+# Late, since the clock stands at 6000.
+post 0 second
+job 0 2 other
+job 0 3 second
+
+# a moment above the latest
+post 0 first
+# It is taken as 2^62, so that its row, which opens then, is never due.
+post 18446744073709551615 other
+job 4611686018427387904 1 first
+worked 18446744073709551615
+post 18446744073709551615 second
+job 4611686018427388904 2 second
+worked 18446744073709551615",
+    )
 }
 
 #[test]
-fn two_traces_at_one_moment(rt: HostRuntime) -> Result<(), Fail> {
-    let mut tenant = make_tenant(rt.alloc())?;
-    post_one(&rt, &mut tenant, 5, &OTHER)?;
-    post_one(&rt, &mut tenant, 5, &BODY)?;
-    no_job(&rt, &mut tenant, 1004)?;
-    job(&rt, &mut tenant, 1005, 1, &OTHER)?;
-    job(&rt, &mut tenant, 1005, 2, &BODY)?;
-    no_job(&rt, &mut tenant, 1005)
-}
+fn spans_without_ids(rt: HostRuntime) -> Result<(), Fail> {
+    check(
+        &rt,
+        rt.alloc(),
+        ALWAYS,
+        "# a trace id of zeros, a span id of zeros, and none
+post 0 no_ids span_of_no_trace_id span_of_zeros span_of_no_span_id
+worked 1000
+post 1500 first
+worked 2499
+job 2500 1 first
 
-#[test]
-fn a_late_span_before_a_later_decision(rt: HostRuntime) -> Result<(), Fail> {
-    let mut tenant = make_tenant(rt.alloc())?;
-    post_one(&rt, &mut tenant, 0, &BODY)?;
-    post_one(&rt, &mut tenant, 500, &OTHER)?;
-    post_one(&rt, &mut tenant, 1499, &SECOND)?;
-    job(&rt, &mut tenant, 1500, 1, &BODY)?;
-    job(&rt, &mut tenant, 1500, 2, &SECOND)?;
-    job(&rt, &mut tenant, 1500, 3, &OTHER)?;
-    no_job(&rt, &mut tenant, 1500)
-}
-
-#[test]
-fn a_moment_that_is_past(rt: HostRuntime) -> Result<(), Fail> {
-    let mut tenant = make_tenant(rt.alloc())?;
-    post_one(&rt, &mut tenant, 5000, &BODY)?;
-    // It opens its row at 5000.
-    post_one(&rt, &mut tenant, 100, &OTHER)?;
-    no_job(&rt, &mut tenant, 1100)?;
-    job(&rt, &mut tenant, 6000, 1, &BODY)?;
-    // Late, since the clock stands at 6000.
-    post_one(&rt, &mut tenant, 0, &SECOND)?;
-    job(&rt, &mut tenant, 0, 2, &OTHER)?;
-    job(&rt, &mut tenant, 0, 3, &SECOND)
-}
-
-#[test]
-fn a_moment_above_the_latest(rt: HostRuntime) -> Result<(), Fail> {
-    let mut tenant = make_tenant(rt.alloc())?;
-    post_one(&rt, &mut tenant, 0, &BODY)?;
-    // It is taken as 2^62, so that its row, which opens then, is never due.
-    post_one(&rt, &mut tenant, u64::MAX, &OTHER)?;
-    job(&rt, &mut tenant, 4611686018427387904, 1, &BODY)?;
-    no_job(&rt, &mut tenant, u64::MAX)?;
-    post_one(&rt, &mut tenant, u64::MAX, &SECOND)?;
-    job(&rt, &mut tenant, 4611686018427388904, 2, &SECOND)?;
-    no_job(&rt, &mut tenant, u64::MAX)
-}
-
-#[test]
-fn invalid_spans(rt: HostRuntime) -> Result<(), Fail> {
-    let alloc = rt.alloc();
-    let mut tenant = make_tenant(alloc)?;
-    // A trace id of zeros, a span id of zeros, and none.
-    let body =
-        b"\x0a\x52\x12\x50\x12\x1c\x0a\x10\x00\x00\x00\x00\x00\x00\x00\x00\x00\x00\x00\x00\x00\x00\x00\x00\x12\x08\x22\x22\x22\x22\x22\x22\x22\x22\x12\x1c\x0a\x10\x11\x11\x11\x11\x11\x11\x11\x11\x11\x11\x11\x11\x11\x11\x11\x11\x12\x08\x00\x00\x00\x00\x00\x00\x00\x00\x12\x12\x0a\x10\x11\x11\x11\x11\x11\x11\x11\x11\x11\x11\x11\x11\x11\x11\x11\x11";
-    let mut spans = Vec::new(alloc);
-    spans.push(alone(&rt, alloc, &body[6..34])?)?;
-    spans.push(alone(&rt, alloc, &body[36..64])?)?;
-    spans.push(alone(&rt, alloc, &body[66..])?)?;
-    post(&rt, &mut tenant, 0, body, spans)?;
-    no_job(&rt, &mut tenant, 1000)?;
-    post_one(&rt, &mut tenant, 1500, &BODY)?;
-    no_job(&rt, &mut tenant, 2499)?;
-    job(&rt, &mut tenant, 2500, 1, &BODY)
-}
-
-#[test]
-fn a_trace_id_that_is_short(rt: HostRuntime) -> Result<(), Fail> {
-    let alloc = rt.alloc();
-    let mut tenant = make_tenant(alloc)?;
-    let body =
-        b"\x0a\x3d\x12\x3b\x12\x1b\x0a\x0f\x11\x11\x11\x11\x11\x11\x11\x11\x11\x11\x11\x11\x11\x11\x11\x12\x08\x22\x22\x22\x22\x22\x22\x22\x22\x12\x1c\x0a\x10\x11\x11\x11\x11\x11\x11\x11\x11\x11\x11\x11\x11\x11\x11\x11\x11\x12\x08\x21\x21\x21\x21\x21\x21\x21\x21";
-    let mut spans = Vec::new(alloc);
-    spans.push(alone(&rt, alloc, &body[6..33])?)?;
-    spans.push(alone(&rt, alloc, &body[35..])?)?;
-    post(&rt, &mut tenant, 0, body, spans)?;
-    job(&rt, &mut tenant, 1000, 1, &BODY)?;
-    no_job(&rt, &mut tenant, 1000)
-}
-
-#[test]
-fn traces_with_and_without_an_error(rt: HostRuntime) -> Result<(), Fail> {
-    let mut tenant = make_tenant_of_errors(rt.alloc())?;
-    post_one(&rt, &mut tenant, 0, &BODY)?;
-    post_one(&rt, &mut tenant, 0, &OTHER)?;
-    post_one(&rt, &mut tenant, 999, &FAILED)?;
-    // Late spans, first of the trace that isn't kept.
-    post_one(&rt, &mut tenant, 1000, &OTHER)?;
-    post_one(&rt, &mut tenant, 1000, &SECOND)?;
-    job(&rt, &mut tenant, 1000, 1, &WITH_FAILED)?;
-    job(&rt, &mut tenant, 1000, 2, &SECOND)?;
-    no_job(&rt, &mut tenant, 5000)
-}
-
-#[test]
-fn an_error_that_comes_late(rt: HostRuntime) -> Result<(), Fail> {
-    let mut tenant = make_tenant_of_errors(rt.alloc())?;
-    post_one(&rt, &mut tenant, 0, &BODY)?;
-    post_one(&rt, &mut tenant, 1000, &FAILED)?;
-    no_job(&rt, &mut tenant, 1000)?;
-    no_job(&rt, &mut tenant, 5000)
+# a trace id that is short
+post 0 short_trace_id span_of_short_trace_id first_span
+job 1000 1 first
+worked 1000",
+    )
 }
 
 #[test]
 fn spans_by_resource(rt: HostRuntime) -> Result<(), Fail> {
-    let mut tenant = make_tenant(rt.alloc())?;
-    post_of_resource(&rt, &mut tenant, &OF_RESOURCE, &BODY[6..], b"")?;
-    post_of_resource(&rt, &mut tenant, &SECOND_OF_RESOURCE, &SECOND[6..], b"")?;
-    post_of_resource(&rt, &mut tenant, &WITH_SCHEMA, &WITH_SCHEMA[10..38], b"u")?;
-    job(&rt, &mut tenant, 1000, 1, &BY_SCHEMA)?;
-    no_job(&rt, &mut tenant, 1000)
+    check(
+        &rt,
+        rt.alloc(),
+        ALWAYS,
+        "of_resource 0 of_resource first_span no_schema
+of_resource 0 second_of_resource second_span no_schema
+of_resource 0 third_with_schema third_span schema
+job 1000 1 by_schema
+worked 1000",
+    )
+}
+
+#[test]
+fn traces_with_and_without_an_error(rt: HostRuntime) -> Result<(), Fail> {
+    check(
+        &rt,
+        rt.alloc(),
+        ERRORS,
+        "post 0 first
+post 0 other
+post 999 second_failed
+# Late spans, first of the trace that isn't kept.
+post 1000 other
+post 1000 second
+job 1000 1 first_and_second_failed
+job 1000 2 second
+worked 5000
+
+# an error that comes late
+post 0 first
+post 1000 second_failed
+worked 1000
+worked 5000",
+    )
 }
