@@ -90,6 +90,10 @@ pub fn read_on<M: Message>(
 {
     let message = merged(alloc, M::empty(alloc), bytes, room)?;
     let mut messages = before.into_vec();
+    // A list of one takes the room of one: most lists of groups, scopes and events have no second.
+    if messages.is_empty() {
+        messages.reserve_exact(1)?;
+    }
     messages.push(message)?;
     Ok(Repeated::from_vec(messages))
 }

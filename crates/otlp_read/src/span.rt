@@ -1,4 +1,6 @@
 //! Spans, and the messages in them.
+//!
+//! A message is taken and given back by value. What takes one field is inlined, so that a span isn't copied for each.
 
 ghost use Rattle.std.specs.Prelude.{◌≡◌, ◌≤◌, ◌<◌, ℕ};
 ghost use Rattle.pb_wire.specs.Grammar.{Varint, Eight, Bytes};
@@ -265,6 +267,7 @@ impl Message for Span {
 }
 
 /// The span after one more field that holds a varint.
+#[inline(always)]
 fn span_number(before: Span, number: u32, n: u64, spelled: &[u8]) -> Result<Span, ReadFault>
     ensures exact { (room : ℕ) → Gives span_view result (span_step room (span_view before) (record { number = number; value = Varint n }) spelled.now) }
 {
@@ -288,6 +291,7 @@ fn span_number(before: Span, number: u32, n: u64, spelled: &[u8]) -> Result<Span
 }
 
 /// The span after one more field of eight bytes.
+#[inline(always)]
 fn span_time(before: Span, number: u32, bytes: [u8; 8], spelled: &[u8]) -> Result<Span, ReadFault>
     ensures exact { (room : ℕ) → Gives span_view result (span_step room (span_view before) (record { number = number; value = Eight bytes }) spelled.now) }
 {
@@ -305,6 +309,7 @@ fn span_time(before: Span, number: u32, bytes: [u8; 8], spelled: &[u8]) -> Resul
 }
 
 /// The span after one more field that holds these bytes.
+#[inline(always)]
 fn span_bytes(
     alloc: Global,
     before: Span,
@@ -342,6 +347,7 @@ fn span_bytes(
 }
 
 /// The span after one more field that holds these bytes, with a number above those of ids and texts.
+#[inline(always)]
 fn span_message(
     alloc: Global,
     before: Span,

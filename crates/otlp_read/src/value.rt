@@ -1,4 +1,4 @@
-//! Attribute values, which may hold others.
+//! Attribute values, which may hold others. What takes one field is inlined, as for spans.
 
 ghost use Rattle.std.specs.Prelude.{◌≡◌, ◌≤◌, ℕ};
 ghost use Rattle.pb_wire.specs.Grammar.{entry, Bytes};
@@ -77,6 +77,7 @@ fn any_value(
 
 /// The value after one more field. Messages in the field have room for so many levels.
 #[cycle(any)]
+#[inline(always)]
 fn any_field(
     alloc: Global,
     before: AnyValue,
@@ -117,6 +118,7 @@ fn any_field(
 
 /// The value after one more field that holds these bytes.
 #[cycle(any)]
+#[inline(always)]
 fn any_bytes(
     alloc: Global,
     before: AnyValue,
@@ -279,6 +281,7 @@ fn key_value(
 
 /// The key with its value after one more field. Messages in the field have room for so many levels.
 #[cycle(any)]
+#[inline(always)]
 fn key_value_field(
     alloc: Global,
     before: KeyValue,
