@@ -1,5 +1,6 @@
 pub mod Words
 pub mod Places
+mod Found
 pub mod Kept
 pub mod Lines
 pub mod Long

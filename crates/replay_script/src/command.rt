@@ -9,6 +9,7 @@ ghost use Rattle.replay_script.specs.Command.{command_of, post_of, turn_of};
 ghost use Rattle.replay_script.specs.Named.{command_view};
 
 use hex::FromHexError;
+use memchr::memchr;
 use std::alloc::{AllocError, Global};
 use std::str;
 
@@ -66,7 +67,7 @@ fn first_word(text: &[u8]) -> (&[u8], Option<&[u8]>)
 fn first_space(text: &[u8]) -> Option<usize>
     ensures { result ≡ position (λ byte. byte == 32) text.now }
 {
-    text.iter().position(|byte| *byte == b' ')
+    memchr(b' ', text)
 }
 
 /// `NAME MOMENT HEX`

@@ -6,6 +6,7 @@ ghost use Rattle.replay_script.specs.declared.input.Part.TheVariants.{More, Line
 ghost use Rattle.replay_script.specs.Input.{TakesPart, TakesLine, line_room, with_end, IsOutside};
 
 use crate::fault::ScriptFault;
+use memchr::memchr;
 use std::alloc::AllocError;
 use std::io::{BufRead, ErrorKind};
 
@@ -106,7 +107,7 @@ fn find_part(shown: &[u8]) -> Cut
 fn line_end(shown: &[u8]) -> Option<usize>
     ensures { result ≡ position (λ byte. byte == 10) shown.now }
 {
-    shown.iter().position(|byte| *byte == b'\n')
+    memchr(b'\n', shown)
 }
 
 /// Joins a part to a line, as far as there is room.
