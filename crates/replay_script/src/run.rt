@@ -1,6 +1,6 @@
 //! Running a script: one line after another is read, done and answered.
 
-ghost use Rattle.std.specs.Prelude.{◌≡◌, ℕ, List, ◌++◌, IfSome, IfErr, OnOk, OnErr};
+ghost use Rattle.std.specs.Prelude.{◌≡◌, ℕ, ◌<◌, List, ◌++◌, length, IfSome, IfErr, OnOk, OnErr};
 ghost use Rattle.std.specs.Io.KnownBytes.{Appends};
 ghost use Rattle.replay_script.specs.Line.{kind_of, lines_of};
 ghost use Rattle.replay_script.specs.Told.{Ends};
@@ -38,7 +38,7 @@ pub fn run_script<S: Session, R: BufRead, W: Write>(
     told
 }
 
-/// Does the lines that the reader gives. Some of the answers may be left in the output.
+/// Does the lines that the reader gives. Some of the answers may be left in the output, but little of them.
 fn answer_lines<S: Session, R: BufRead, W: Write>(
     alloc: Global,
     session: &mut S,
@@ -49,6 +49,7 @@ fn answer_lines<S: Session, R: BufRead, W: Write>(
     ensures told { IfSome (R.remaining reader.old) (λ script. (text : List ℕ)
         × Sends (W.contents writer.old) (W.contents writer.new) output.old.text.items text output.new.text.items
         × Ends S.answers (lines_of script) session.old text result) }
+    ensures little { OnOk result (length output.old.text.items < 65536 → length output.new.text.items < 65536) }
 {
     let mut line = Vec::new(alloc);
     let mut reads = MAX_CALLS;

@@ -4,16 +4,16 @@ use Rattle.std.proofs.lemmas.Result.{err_from_is_err_and}
 use Rattle.replay_script.proofs.Going.{going_line, going_over, going_stops, going_refused, outside_line, when_found, line_found, sends_added}
 use Rattle.replay_script.proofs.run.answer_lines.Goals as goal
 
-pub returns-in_err-next_line : goal.returns-in_err-next_line
-returns-in_err-next_line g c =
+pub returns-in_err-next_line-clause-told : goal.returns-in_err-next_line-clause-told
+returns-in_err-next_line-clause-told g c =
     let p = err_from_is_err_and c.from_residual.result c.from_residual.ensures.1 in
-    record { told = rw (p.1, p.2) (going_stops g.S.Session.answers _ _ _ _ _ _ _ _ _ _ c.lines.invariant.going c.in_err-next_line.ensures.err) }
+    rw (p.1, p.2) (going_stops g.S.Session.answers _ _ _ _ _ _ _ _ _ _ c.lines.invariant.going c.in_err-next_line.ensures.err)
 
-pub returns-in_err-answer_line : goal.returns-in_err-answer_line
-returns-in_err-answer_line g c =
+pub returns-in_err-answer_line-clause-told : goal.returns-in_err-answer_line-clause-told
+returns-in_err-answer_line-clause-told g c =
     let p = err_from_is_err_and c.from_residual-in_err-answer_line.result c.from_residual-in_err-answer_line.ensures.1 in
     let line = line_found _ _ _ _ _ c.if-branch.true c.as_slice.ensures.value c.in_ok-next_line.ensures.line in
-    record { told = rw (p.1, p.2) (going_refused g.S.Session.answers _ _ _ _ _ _ _ _ _ _ _ _ _ c.lines.invariant.going line c.in_err-answer_line.ensures.fault c.in_err-answer_line.ensures.err) }
+    rw (p.1, p.2) (going_refused g.S.Session.answers _ _ _ _ _ _ _ _ _ _ _ _ _ c.lines.invariant.going line c.in_err-answer_line.ensures.fault c.in_err-answer_line.ensures.err)
 
 pub lines-preserved : goal.lines-preserved
 lines-preserved g c =
@@ -23,18 +23,19 @@ lines-preserved g c =
     record {
       going = going_line g.S.Session.answers _ _ _ _ _ _ _ _ _ _ said.0 _ _ _ _ c.lines.invariant.going line said.2 sends;
       count = grind (arith, common_steps);
+      little = λ _. c.in_ok-send_much.ensures.little;
     }
 
-pub returns-in_err-send_much : goal.returns-in_err-send_much
-returns-in_err-send_much g c =
+pub returns-in_err-send_much-clause-told : goal.returns-in_err-send_much-clause-told
+returns-in_err-send_much-clause-told g c =
     let p = err_from_is_err_and c.from_residual-in_err-send_much.result c.from_residual-in_err-send_much.ensures.1 in
     let line = line_found _ _ _ _ _ c.if-branch.true c.as_slice.ensures.value c.in_ok-next_line.ensures.line in
     let said = c.in_ok-answer_line.ensures.ok in
     let sends = sends_added _ _ _ _ said.0 _ said.1 c.in_err-send_much.ensures.sends in
     let going = going_line g.S.Session.answers _ _ _ _ _ _ _ _ _ _ said.0 _ _ _ _ c.lines.invariant.going line said.2 sends in
-    record { told = rw (p.1, p.2) (going_stops g.S.Session.answers _ _ _ _ _ _ _ _ _ _ going (outside_line _ c.in_err-send_much.ensures.err)) }
+    rw (p.1, p.2) (going_stops g.S.Session.answers _ _ _ _ _ _ _ _ _ _ going (outside_line _ c.in_err-send_much.ensures.err))
 
-pub returns : goal.returns
-returns g c =
+pub returns-clause-told : goal.returns-clause-told
+returns-clause-told g c =
     let line = when_found _ _ _ _ _ c.if-branch.false c.in_ok-next_line.ensures.line in
-    record { told = going_over g.S.Session.answers _ _ None _ _ _ _ [] _ _ _ _ c.lines.invariant.going line }
+    going_over g.S.Session.answers _ _ None _ _ _ _ [] _ _ _ _ c.lines.invariant.going line
