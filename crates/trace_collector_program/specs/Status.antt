@@ -1,5 +1,5 @@
 -- The statuses with which the program ends early.
-use Rattle.std.specs.Prelude.{ℕ}
+use Rattle.std.specs.Prelude.{ℕ, Result, Ok, Err}
 use Rattle.trace_collector.specs.declared.engine.ReplayFault.TheVariants as replay
 use Rattle.trace_collector_program.specs.declared.ProgramFault.{ProgramFault}
 use Rattle.trace_collector_program.specs.declared.ProgramFault.TheVariants.{Usage, Replay}
@@ -11,3 +11,8 @@ status_of (Replay replay.OutOfMemory) = 3
 status_of (Replay (replay.Settings fault)) = 1
 status_of (Replay (replay.Script line)) = 1
 status_of (Replay replay.Line) = 1
+
+-- 0 where it comes to its end
+abbrev pub end_status : Result Unit ProgramFault → ℕ
+end_status (Ok done) = 0
+end_status (Err fault) = status_of fault

@@ -3,9 +3,16 @@
 //! output; 2 wrong usage; 3 no memory. A fault is told in one line on standard error.
 #![tactic(auto)]
 
-ghost use Rattle.std.specs.Prelude.{◌≡◌};
-ghost use Rattle.trace_collector_program.specs.Status.{status_of};
+ghost use Rattle.std.specs.Prelude.{◌≡◌, IfOk, IfErr, map, option_map, string_bytes};
+ghost use Rattle.std.specs.IoError.{error_kind};
+ghost use Rattle.std.specs.Process.{exit_status};
+ghost use Rattle.trace_collector_program.specs.Arguments.{path_of};
+ghost use Rattle.trace_collector_program.specs.Fault.{IsOfFile, IsOfText};
+ghost use Rattle.trace_collector_program.specs.Status.{status_of, end_status};
+ghost use Rattle.trace_collector_program.specs.declared.ProgramFault.TheVariants as faults;
+ghost use Rattle.trace_collector.specs.declared.engine.ReplayFault.TheVariants as replay_faults;
 
+use std::alloc::AllocFailed;
 use std::io::{BufReader, ErrorKind};
 use std::process::ExitCode;
 use std::rt::{Env, Files};
@@ -40,6 +47,8 @@ impl ProgramFault {
 }
 
 impl From<ReplayFault> for ProgramFault {
+    ghost from_gives = { λ fault given. given ≡ faults.Replay fault };
+
     fn from(fault: ReplayFault) -> ProgramFault {
         ProgramFault::Replay(fault)
     }
@@ -47,6 +56,8 @@ impl From<ReplayFault> for ProgramFault {
 
 /// Of files, input and output only the want of memory is told apart.
 impl From<io::Error> for ProgramFault {
+    ghost from_gives = { λ error given. IsOfFile (error_kind error) given };
+
     fn from(error: io::Error) -> ProgramFault {
         if error.kind() == ErrorKind::OutOfMemory {
             ProgramFault::Replay(ReplayFault::OutOfMemory)
@@ -56,8 +67,23 @@ impl From<io::Error> for ProgramFault {
     }
 }
 
+impl<T: Drop> From<AllocFailed<T>> for ProgramFault {
+    ghost from_gives = { λ _ given. given ≡ faults.Replay replay_faults.OutOfMemory };
+
+    fn from(_error: AllocFailed<T>) -> ProgramFault {
+        ProgramFault::Replay(ReplayFault::OutOfMemory)
+    }
+}
+
 fn main(rt: HostRuntime) -> ExitCode {
-    match run(&rt) {
+    ended(&rt, run(&rt))
+}
+
+/// The status with which the program ends. A fault is told on standard error.
+fn ended(rt: &impl Eprint, end: Result<(), ProgramFault>) -> ExitCode
+    ensures { exit_status result ≡ end_status end }
+{
+    match end {
         Ok(()) => ExitCode::SUCCESS,
         Err(fault) => {
             let status = fault.status();
@@ -69,26 +95,38 @@ fn main(rt: HostRuntime) -> ExitCode {
 }
 
 fn run(rt: &(impl Env + Files + Input + Print + AllocGlobal)) -> Result<(), ProgramFault> {
-    let path = settings_path(rt)?;
-    let settings = read_settings(rt, path.as_str())?;
+    let mut args = Vec::new(rt.alloc());
+    for arg in env::args(rt)?.skip(1) {
+        args.push(arg)?;
+    }
+    let Some(path) = settings_path(args.as_slice()) else {
+        return Err(ProgramFault::Usage);
+    };
+    let settings = settings_text(fs::read(rt, path)?)?;
     replay_input(rt, settings.as_str())
 }
 
-/// The file that the arguments name.
-fn settings_path(rt: &(impl Env + AllocGlobal)) -> Result<String, ProgramFault> {
-    let mut args = env::args(rt)?;
-    let _program = args.next();
-    let command = args.next().ok_or(ProgramFault::Usage)?;
-    let path = args.next().ok_or(ProgramFault::Usage)?;
-    if command.as_str() != "replay" || args.next().is_some() {
-        return Err(ProgramFault::Usage);
+/// The file that these arguments name, or none where they are others. The program's name is not among them.
+fn settings_path(args: &[String]) -> Option<&str>
+    ensures { option_map (λ path. path.now) result ≡ path_of (map string_bytes args.now) }
+{
+    match args {
+        [command, path] => {
+            if command.as_str() == "replay" {
+                Some(path.as_str())
+            } else {
+                None
+            }
+        }
+        _ => None,
     }
-    Ok(path)
 }
 
-/// The file's text.
-fn read_settings(rt: &(impl Files + AllocGlobal), path: &str) -> Result<String, ProgramFault> {
-    let bytes = fs::read(rt, path)?;
+/// The text that a file's bytes spell. Bytes that spell none are no TOML document.
+fn settings_text(bytes: Vec<u8>) -> Result<String, ProgramFault>
+    ensures text { IfOk result (λ text. string_bytes text ≡ bytes.items) }
+    ensures fault { IfErr result (IsOfText bytes.items) }
+{
     match String::from_utf8(bytes) {
         Ok(text) => Ok(text),
         Err(_) => Err(ProgramFault::Replay(ReplayFault::Settings(SettingsFault::NotToml))),

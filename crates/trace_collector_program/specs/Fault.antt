@@ -1,0 +1,19 @@
+-- The faults that end the program, by what they come from.
+use Rattle.std.specs.Prelude.{◌≡◌, ◌≢◌, ℕ, List}
+use Rattle.std.specs.Str.{IsUtf8}
+use Rattle.std.specs.declared.io.ErrorKind.{ErrorKind}
+use Rattle.std.specs.declared.io.ErrorKind.TheVariants as kinds
+use Rattle.tail_settings.specs.declared.fault.SettingsFault.TheVariants as settings
+use Rattle.trace_collector.specs.declared.engine.ReplayFault.TheVariants as replay
+use Rattle.trace_collector_program.specs.declared.ProgramFault.{ProgramFault}
+use Rattle.trace_collector_program.specs.declared.ProgramFault.TheVariants.{Replay}
+
+-- of files, input and output only the want of memory is told apart
+pub record IsOfFile (kind : ErrorKind) (fault : ProgramFault) : Type 0 where
+  pub memory : kind ≡ kinds.OutOfMemory → fault ≡ Replay replay.OutOfMemory
+  pub other : kind ≢ kinds.OutOfMemory → fault ≡ Replay replay.Line
+
+-- the bytes are no text, so they are no TOML document
+pub record IsOfText (bytes : List ℕ) (fault : ProgramFault) : Type 0 where
+  pub unspelled : IsUtf8 bytes → ⊥
+  pub told : fault ≡ Replay (replay.Settings settings.NotToml)
