@@ -7,7 +7,7 @@ use Rattle.otlp_read.specs.declared.fault.ReadFault.{ReadFault}
 use Rattle.otlp_read.specs.declared.fault.ReadFault.TheVariants as read
 use Rattle.otlp_read.specs.Value.{IsValue}
 use Rattle.codec_bench.specs.declared.fault.BenchFault.{BenchFault}
-use Rattle.codec_bench.specs.declared.fault.BenchFault.TheVariants.{Body, OutOfMemory}
+use Rattle.codec_bench.specs.declared.fault.BenchFault.TheVariants.{Usage, Body, NotCanonical, InputOutput, OutOfMemory}
 
 abbrev pub spans_of_scope : ScopeSpansData → ℕ
 spans_of_scope scope = length scope.spans
@@ -32,3 +32,11 @@ pub record IsWrittenAgain (body : List ℕ) (v : RequestData) : Type 0 where
 abbrev pub body_fault : ReadFault → BenchFault
 body_fault read.OutOfMemory = OutOfMemory
 body_fault fault = Body fault
+
+-- a fault of a round: of the body, of its text or of the memory, and none of the arguments or a file
+abbrev pub IsOfRound : BenchFault → Type 0
+IsOfRound Usage = ⊥
+IsOfRound (Body fault) = Unit {0}
+IsOfRound NotCanonical = Unit {0}
+IsOfRound InputOutput = ⊥
+IsOfRound OutOfMemory = Unit {0}

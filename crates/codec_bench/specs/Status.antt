@@ -1,5 +1,7 @@
--- The statuses with which the program ends early.
-use Rattle.std.specs.Prelude.{ℕ}
+-- The statuses with which the program ends, and the faults of files.
+use Rattle.std.specs.Prelude.{◌≡◌, ◌≢◌, ℕ, Result, Ok, Err}
+use Rattle.std.specs.declared.io.ErrorKind.{ErrorKind}
+use Rattle.std.specs.declared.io.ErrorKind.TheVariants as kinds
 use Rattle.codec_bench.specs.declared.fault.BenchFault.{BenchFault}
 use Rattle.codec_bench.specs.declared.fault.BenchFault.TheVariants.{Usage, Body, NotCanonical, InputOutput, OutOfMemory}
 
@@ -10,3 +12,13 @@ status_of (Body fault) = 1
 status_of NotCanonical = 1
 status_of InputOutput = 1
 status_of OutOfMemory = 3
+
+-- 0 where it comes to its end
+abbrev pub end_status : Result Unit BenchFault → ℕ
+end_status (Ok done) = 0
+end_status (Err fault) = status_of fault
+
+-- of files, the clock and the output only the want of memory is told apart
+pub record IsOfFile (kind : ErrorKind) (fault : BenchFault) : Type 0 where
+  pub memory : kind ≡ kinds.OutOfMemory → fault ≡ OutOfMemory
+  pub other : kind ≢ kinds.OutOfMemory → fault ≡ InputOutput

@@ -1,7 +1,8 @@
 //! Why the program ends early.
 
 ghost use Rattle.std.specs.Prelude.{◌≡◌};
-ghost use Rattle.codec_bench.specs.Status.{status_of};
+ghost use Rattle.std.specs.IoError.{error_kind};
+ghost use Rattle.codec_bench.specs.Status.{status_of, IsOfFile};
 ghost use Rattle.codec_bench.specs.Round.{body_fault};
 ghost use Rattle.codec_bench.specs.declared.fault.BenchFault.TheVariants.{OutOfMemory};
 
@@ -66,6 +67,8 @@ impl<T: Drop> From<AllocFailed<T>> for BenchFault {
 
 /// Of files, the clock and the output only the want of memory is told apart.
 impl From<io::Error> for BenchFault {
+    ghost from_gives = { λ error given. IsOfFile (error_kind error) given };
+
     fn from(error: io::Error) -> BenchFault {
         if error.kind() == ErrorKind::OutOfMemory {
             BenchFault::OutOfMemory

@@ -13,6 +13,10 @@ mod tests;
 #[cfg(test)]
 mod vectors;
 
+ghost use Rattle.std.specs.Prelude.{◌≡◌};
+ghost use Rattle.std.specs.Process.{exit_status};
+ghost use Rattle.codec_bench.specs.Status.{end_status};
+
 use fault::BenchFault;
 use measure::measure;
 use round::checked_round;
@@ -25,7 +29,14 @@ use task::{Task, asked_task};
 const STORED: &str = "request.pb";
 
 fn main(rt: HostRuntime) -> ExitCode {
-    match run(&rt) {
+    ended(&rt, run(&rt))
+}
+
+/// The status with which the program ends. A fault is told on standard error.
+fn ended(rt: &impl Eprint, end: Result<(), BenchFault>) -> ExitCode
+    ensures { exit_status result ≡ end_status end }
+{
+    match end {
         Ok(()) => ExitCode::SUCCESS,
         Err(fault) => {
             let status = fault.status();

@@ -1,6 +1,11 @@
 //! Rounds by the clock.
 
-ghost use Rattle.std.specs.Prelude.{◌≡◌, ◌*◌, ◌/◌, max};
+ghost use Rattle.std.specs.Prelude.{◌≡◌, ◌*◌, ◌/◌, ◌<◌, ℕ, max, OnOk, IfErr};
+ghost use Rattle.otlp_trace.specs.Data.{RequestData};
+ghost use Rattle.otlp_trace.specs.Text.{request_text};
+ghost use Rattle.otlp_trace.specs.View.{request_view};
+ghost use Rattle.otlp_read.specs.Value.{IsValue};
+ghost use Rattle.codec_bench.specs.Round.{IsOfRound};
 
 use crate::fault::BenchFault;
 use crate::round::spans_len;
@@ -36,8 +41,11 @@ pub fn measure(
     report(rt, "both", body.len(), spans, rounds, start.elapsed(rt)?)
 }
 
-fn read_rounds(alloc: Global, body: &[u8], rounds: u32) -> Result<(), BenchFault> {
-    for _ in 0..rounds {
+fn read_rounds(alloc: Global, body: &[u8], rounds: u32) -> Result<(), BenchFault>
+    ensures read { OnOk result (0 < rounds → (v : RequestData) × IsValue body.now v) }
+    ensures of_round { IfErr result IsOfRound }
+{
+    'each: for _round in 0..rounds {
         let _request = read_request(alloc, body)?;
     }
     Ok(())
@@ -48,8 +56,11 @@ fn write_rounds(
     request: &ExportTraceServiceRequest,
     text: &mut Vec<u8>,
     rounds: u32,
-) -> Result<(), BenchFault> {
-    for _ in 0..rounds {
+) -> Result<(), BenchFault>
+    ensures written { OnOk result (0 < rounds → text.new.items ≡ request_text (request_view request.now)) }
+    ensures of_round { IfErr result IsOfRound }
+{
+    'each: for _round in 0..rounds {
         text.clear();
         write_request(alloc, text, request)?;
     }
@@ -61,8 +72,11 @@ fn both_rounds(
     body: &[u8],
     text: &mut Vec<u8>,
     rounds: u32,
-) -> Result<(), BenchFault> {
-    for _ in 0..rounds {
+) -> Result<(), BenchFault>
+    ensures both { OnOk result (0 < rounds → (v : RequestData) × IsValue body.now v × (text.new.items ≡ request_text v)) }
+    ensures of_round { IfErr result IsOfRound }
+{
+    'each: for _round in 0..rounds {
         let request = read_request(alloc, body)?;
         text.clear();
         write_request(alloc, text, &request)?;

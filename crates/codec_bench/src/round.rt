@@ -5,7 +5,7 @@ ghost use Rattle.otlp_trace.specs.Data.{RequestData};
 ghost use Rattle.otlp_trace.specs.Text.{request_text};
 ghost use Rattle.otlp_trace.specs.View.{resource_spans_view, request_view};
 ghost use Rattle.otlp_read.specs.Value.{IsValue, IsFault};
-ghost use Rattle.codec_bench.specs.Round.{IsWrittenAgain, spans_of, spans_of_resource, in_64_bits};
+ghost use Rattle.codec_bench.specs.Round.{IsWrittenAgain, IsOfRound, spans_of, spans_of_resource, in_64_bits};
 ghost use Rattle.codec_bench.specs.declared.fault.BenchFault.TheVariants as fault;
 
 use crate::fault::BenchFault;
@@ -45,6 +45,9 @@ pub fn checked_round(alloc: Global, body: &[u8]) -> Result<usize, BenchFault>
     // A fault stands in the body, or the canonical text of its value is another.
     ensures faulty { (f : ReadFault) → IfErr result (λ e. e ≡ fault.Body f → IsFault body.now f) }
     ensures differs { IfErr result (λ e. e ≡ fault.NotCanonical → (v : RequestData) × IsValue body.now v × (request_text v ≢ body.now)) }
+
+    // It is one of these, or memory ran out.
+    ensures of_round { IfErr result IsOfRound }
 {
     let request = read_request(alloc, body)?;
     let mut text = Vec::new(alloc);
