@@ -26,6 +26,7 @@ pub enum Value<'a> {
 pub struct Field<'a> {
     /// 1 to 2^29 - 1 in a field that was read.
     pub number: u32,
+    /// What it holds, of the wire type that its tag has.
     pub value: Value<'a>,
 }
 
@@ -61,12 +62,16 @@ impl WireFault {
 /// How a value is written: the low three bits of a tag.
 #[derive(Clone, Copy, Debug, PartialEq, Eq)]
 pub enum WireType {
+    /// As a number of one to ten bytes.
     Varint = 0,
+    /// As eight bytes.
     Eight = 1,
+    /// As a length and so many bytes.
     Bytes = 2,
     /// What opens a group. Its fields follow.
     GroupStart = 3,
     /// What closes the group of the same number. It has no value.
     GroupEnd = 4,
+    /// As four bytes.
     Four = 5,
 }
