@@ -2,7 +2,7 @@
 use Rattle.std.proofs.Common.{◌≡◌, ℕ, ◌+◌, ◌<◌, List, ◌++◌, length, get_or, drop, map, refl}
 use Rattle.std.proofs.lemmas.List.{drop_more}
 use Rattle.otlp_trace.specs.Data.{ArrayValueData, array_value, AnyValues, KeyValueListData, key_value_list, KeyValues}
-use Rattle.otlp_trace.specs.Text.{bytes_field, repeated, any_text, values_text, key_value_text, key_values_text}
+use Rattle.otlp_trace.specs.Text.{bytes_field, repeated, values_text, key_values_text}
 use Rattle.otlp_trace.specs.View.{any_view, key_value_view, values_of, key_values_of}
 use Rattle.otlp_trace.specs.declared.value.AnyValue.{AnyValue}
 use Rattle.otlp_trace.specs.declared.value.KeyValue.{KeyValue}
@@ -25,9 +25,3 @@ key_values_from i ps = key_values_text (key_values_of (map key_value_view (drop 
 pub repeated_next : {A B : Type 0} (n : ℕ) (text : B → List ℕ) (view : A → B) (xs : List A) (i : ℕ) (d : A) → i < length xs
     → repeated_from n text view i xs ≡ bytes_field n (text (view (get_or xs i d))) ++ repeated_from n text view (i + 1) xs
 repeated_next n text view xs i d lt = rw (drop_more xs i d lt) refl
-
-pub values_next : (vs : List AnyValue) (i : ℕ) (d : AnyValue) → i < length vs → values_from i vs ≡ bytes_field 1 (any_text (any_view (get_or vs i d))) ++ values_from (i + 1) vs
-values_next vs i d lt = rw (drop_more vs i d lt) refl
-
-pub key_values_next : (ps : List KeyValue) (i : ℕ) (d : KeyValue) → i < length ps → key_values_from i ps ≡ bytes_field 1 (key_value_text (key_value_view (get_or ps i d))) ++ key_values_from (i + 1) ps
-key_values_next ps i d lt = rw (drop_more ps i d lt) refl

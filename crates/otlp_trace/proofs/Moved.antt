@@ -1,5 +1,5 @@
 -- Bytes at the end of a list that are moved before others.
-use Rattle.std.proofs.Common.{◌≡◌, ℕ, ◌+◌, ◌-◌, ◌≤◌, List, ◌++◌, length, take, drop, refl, sym, ap, subst, ◌∙◌, arith}
+use Rattle.std.proofs.Common.{◌≡◌, ℕ, ◌+◌, ◌-◌, ◌≤◌, List, ◌++◌, length, take, drop, sym, ap, subst, ◌∙◌, arith}
 use Rattle.std.specs.List.{copy_within}
 use Rattle.std.proofs.Math.Seq.{paste, take-append_seam, drop-append_seam}
 use Rattle.std.proofs.lemmas.List.{take-append-le, take-take, take_all, length-take-le, length-drop, drop-take}

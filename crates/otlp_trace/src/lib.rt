@@ -8,6 +8,12 @@
 //! The writers append the canonical text (`specs/Text`): known fields by rising number, each number as short as it can
 //! be, what has its default left out, embedded messages always written, unknown fields after the known ones as they
 //! were spelled.
+//!
+//! Whoever has texts of messages already, and no message in memory, writes what holds them with [`put_bytes_field`],
+//! [`put_some_bytes`] and [`wrap_in_field`].
+//!
+//! It stands on `pb_wire`. The messages are those of OTLP 1.x, and the rules of their text are those of the Protocol Buffers
+//! encoding guide (<https://protobuf.dev/programming-guides/encoding/>) for proto3.
 #![tactic(auto)]
 
 mod message;
@@ -27,7 +33,8 @@ pub use response::{ExportTracePartialSuccess, ExportTraceServiceResponse};
 pub use span::{Event, Link, Span, Status};
 pub use value::{AnyValue, AnyValueKind, ArrayValue, DoubleBits, KeyValue, KeyValueList};
 pub use write::{
-    write_request, write_resource, write_response, write_scope, write_span, write_status,
+    put_bytes_field, put_some_bytes, wrap_in_field, write_request, write_resource, write_response,
+    write_scope, write_span, write_status,
 };
 
 #[cfg(test)]

@@ -32,7 +32,7 @@ impl Octets {
         }
     }
 
-    /// A copy of these bytes.
+    /// A copy of these bytes, unless memory is refused.
     pub fn from_slice(alloc: Global, bytes: &[u8]) -> Result<Octets, AllocError>
         ensures { IfOk result (λ copy. copy ≡ bytes.now) }
     {
@@ -41,12 +41,14 @@ impl Octets {
         Ok(Octets { bytes: copy })
     }
 
+    /// These bytes, with no copy.
     pub fn from_vec(bytes: Vec<u8>) -> Octets
         ensures { result ≡ bytes.items }
     {
         Octets { bytes }
     }
 
+    /// The bytes, with no copy.
     pub fn into_vec(self) -> Vec<u8>
         ensures { result.items ≡ self }
     {
@@ -54,6 +56,7 @@ impl Octets {
         bytes
     }
 
+    /// The bytes, borrowed.
     pub fn as_slice(&self) -> &[u8]
         ensures { result.now ≡ self.now }
     {

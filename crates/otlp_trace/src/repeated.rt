@@ -30,12 +30,14 @@ impl<T> Repeated<T> {
         }
     }
 
+    /// These values, in their order.
     pub fn from_vec(values: Vec<T>) -> Repeated<T>
         ensures { result ≡ values.items }
     {
         Repeated { values }
     }
 
+    /// The values, in their order.
     pub fn into_vec(self) -> Vec<T>
         ensures { result.items ≡ self }
     {
@@ -43,6 +45,7 @@ impl<T> Repeated<T> {
         values
     }
 
+    /// The values, borrowed.
     pub fn as_slice(&self) -> &[T]
         ensures { result.now ≡ self.now }
     {

@@ -339,6 +339,22 @@ fn replies(rt: HostRuntime) -> Result<(), Fail> {
 }
 
 #[test]
+fn fields_around_texts(rt: HostRuntime) -> Result<(), Fail> {
+    let alloc = rt.alloc();
+    let mut out = Vec::new(alloc);
+    put_bytes_field(&mut out, 1, b"ab")?;
+    put_bytes_field(&mut out, 2, b"")?;
+    let start = out.len();
+    put_some_bytes(&mut out, 2, b"")?;
+    put_some_bytes(&mut out, 3, b"c")?;
+    wrap_in_field(&mut out, start, 16)?;
+    // Number 16 with wire type 2 is 130, a tag of two bytes.
+    let text = b"\x0a\x02ab\x12\x00\x82\x01\x03\x1a\x01c";
+    assert_eq!(rt; out.as_slice(), text.as_slice());
+    Ok(())
+}
+
+#[test]
 fn lists(rt: HostRuntime) -> Result<(), Fail> {
     let alloc = rt.alloc();
     let bytes = Octets::from_vec(octets(alloc, b"ab")?.into_vec());

@@ -11,6 +11,7 @@ pub struct DoubleBits(pub [u8; 8]);
 #[cycle(any)]
 #[derive(Debug, Drop)]
 pub struct AnyValue {
+    /// The value itself.
     pub kind: AnyValueKind,
     /// Fields that this version doesn't know, as they were spelled.
     pub unknown: Octets,
@@ -20,6 +21,7 @@ pub struct AnyValue {
 #[cycle(any)]
 #[derive(Debug, Drop)]
 pub enum AnyValueKind {
+    /// No member: a value with no content.
     Unset,
     String(String),
     Bool(bool),
@@ -34,6 +36,7 @@ pub enum AnyValueKind {
 #[cycle(any)]
 #[derive(Debug, Drop)]
 pub struct ArrayValue {
+    /// The values, in their order.
     pub values: Vec<AnyValue>,
     /// Fields that this version doesn't know, as they were spelled.
     pub unknown: Octets,
@@ -43,6 +46,7 @@ pub struct ArrayValue {
 #[cycle(any)]
 #[derive(Debug, Drop)]
 pub struct KeyValueList {
+    /// The keys with their values, in their order; a key may stand twice.
     pub values: Vec<KeyValue>,
     /// Fields that this version doesn't know, as they were spelled.
     pub unknown: Octets,
@@ -52,7 +56,9 @@ pub struct KeyValueList {
 #[cycle(any)]
 #[derive(Debug, Drop)]
 pub struct KeyValue {
+    /// The attribute's name.
     pub key: String,
+    /// None where the field is missing, which is another text than an empty value.
     pub value: Option<AnyValue>,
     /// Fields that this version doesn't know, as they were spelled.
     pub unknown: Octets,

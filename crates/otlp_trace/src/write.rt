@@ -19,7 +19,7 @@ use crate::message::{ExportTraceServiceRequest, InstrumentationScope, Resource};
 use crate::response::ExportTraceServiceResponse;
 use crate::span::Span;
 use embedded::Message;
-use fields::put_some_bytes;
+pub use fields::{put_bytes_field, put_some_bytes, wrap_in_field};
 use std::alloc::{AllocError, Global};
 
 /// Appends all of a message's text, or nothing.

@@ -3,7 +3,7 @@
 ghost use Rattle.std.specs.Prelude.{◌≡◌, ◌^◌, ◌<◌, ◌++◌, ℕ, List, map, option_map, OnOk};
 ghost use Rattle.otlp_trace.specs.Text.{bytes_field, embedded, repeated};
 
-use crate::write::fields::wrap;
+use crate::write::fields::wrap_in_field;
 use std::alloc::AllocError;
 
 /// A message, which appends its fields.
@@ -26,7 +26,7 @@ fn put_message<M: Message>(out: &mut Vec<u8>, number: u32, message: &M) -> Resul
 {
     let start = out.len();
     message.put(out)?;
-    wrap(out, start, number)
+    wrap_in_field(out, start, number)
 }
 
 /// An embedded message, where there is one.

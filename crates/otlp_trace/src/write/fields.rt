@@ -6,6 +6,7 @@ ghost use Rattle.otlp_trace.specs.Text.{number_field, bytes_field, eight_field, 
 use pb_wire::{WireType, put_bytes, put_tag, put_varint};
 use std::alloc::AllocError;
 
+/// A number, 0 too.
 pub fn put_number_field(out: &mut Vec<u8>, number: u32, value: u64) -> Result<(), AllocError>
     requires some { 0 < number }
     requires fits { number < 2 ^ 29 }
@@ -15,6 +16,8 @@ pub fn put_number_field(out: &mut Vec<u8>, number: u32, value: u64) -> Result<()
     put_varint(out, value)
 }
 
+/// Appends a field of these bytes: its tag, their length and the bytes themselves, none of them too. The field's number is
+/// 1 to 2^29 - 1. Where memory is refused, what `out` then holds is left open.
 pub fn put_bytes_field(out: &mut Vec<u8>, number: u32, bytes: &[u8]) -> Result<(), AllocError>
     requires some { 0 < number }
     requires fits { number < 2 ^ 29 }
@@ -24,6 +27,7 @@ pub fn put_bytes_field(out: &mut Vec<u8>, number: u32, bytes: &[u8]) -> Result<(
     put_bytes(out, bytes)
 }
 
+/// Eight bytes, as they are.
 pub fn put_eight_field(out: &mut Vec<u8>, number: u32, bytes: [u8; 8]) -> Result<(), AllocError>
     requires some { 0 < number }
     requires fits { number < 2 ^ 29 }
@@ -33,7 +37,8 @@ pub fn put_eight_field(out: &mut Vec<u8>, number: u32, bytes: [u8; 8]) -> Result
     out.extend_from_slice(&bytes)
 }
 
-/// Bytes, or a string's.
+/// Appends a field of these bytes, a string's too, or nothing where there are none. The field's number is 1 to 2^29 - 1.
+/// Where memory is refused, what `out` then holds is left open.
 pub fn put_some_bytes(out: &mut Vec<u8>, number: u32, bytes: &[u8]) -> Result<(), AllocError>
     requires some { 0 < number }
     requires fits { number < 2 ^ 29 }
@@ -45,6 +50,7 @@ pub fn put_some_bytes(out: &mut Vec<u8>, number: u32, bytes: &[u8]) -> Result<()
     put_bytes_field(out, number, bytes)
 }
 
+/// A number with no sign.
 pub fn put_some_number(out: &mut Vec<u8>, number: u32, value: u64) -> Result<(), AllocError>
     requires some { 0 < number }
     requires fits { number < 2 ^ 29 }
@@ -90,8 +96,9 @@ pub fn put_some_four(out: &mut Vec<u8>, number: u32, value: u32) -> Result<(), A
     out.extend_from_slice(&value.to_le_bytes())
 }
 
-/// Makes the bytes from a place on the content of a field.
-pub fn wrap(out: &mut Vec<u8>, start: usize, number: u32) -> Result<(), AllocError>
+/// Makes the bytes from `start` on the content of a field with this number, 1 to 2^29 - 1: its tag and their length are put
+/// before them. Where memory is refused, what `out` then holds from `start` on is left open.
+pub fn wrap_in_field(out: &mut Vec<u8>, start: usize, number: u32) -> Result<(), AllocError>
     requires within { start ≤ length out.old.items }
     requires some { 0 < number }
     requires fits { number < 2 ^ 29 }

@@ -8,7 +8,7 @@ ghost use Rattle.otlp_trace.specs.View.{any_view, kind_view, array_view, list_vi
 use crate::value::{AnyValue, AnyValueKind, ArrayValue, KeyValue, KeyValueList};
 use crate::write::embedded::Message;
 use crate::write::fields::{
-    put_bytes_field, put_eight_field, put_number_field, put_some_bytes, wrap,
+    put_bytes_field, put_eight_field, put_number_field, put_some_bytes, wrap_in_field,
 };
 use std::alloc::AllocError;
 
@@ -34,12 +34,12 @@ fn put_kind(out: &mut Vec<u8>, kind: &AnyValueKind) -> Result<(), AllocError>
         AnyValueKind::Array(array) => {
             let start = out.len();
             put_array(out, array)?;
-            wrap(out, start, 5)
+            wrap_in_field(out, start, 5)
         }
         AnyValueKind::KeyValueList(list) => {
             let start = out.len();
             put_list(out, list)?;
-            wrap(out, start, 6)
+            wrap_in_field(out, start, 6)
         }
         AnyValueKind::Bytes(bytes) => put_bytes_field(out, 7, bytes.as_slice()),
     }
@@ -52,7 +52,7 @@ fn put_array(out: &mut Vec<u8>, array: &ArrayValue) -> Result<(), AllocError>
     'values: for value in &array.values {
         let start = out.len();
         put_any(out, value)?;
-        wrap(out, start, 1)?;
+        wrap_in_field(out, start, 1)?;
     }
     out.extend_from_slice(array.unknown.as_slice())
 }
@@ -64,7 +64,7 @@ fn put_list(out: &mut Vec<u8>, list: &KeyValueList) -> Result<(), AllocError>
     'values: for value in &list.values {
         let start = out.len();
         put_key_value(out, value)?;
-        wrap(out, start, 1)?;
+        wrap_in_field(out, start, 1)?;
     }
     out.extend_from_slice(list.unknown.as_slice())
 }
@@ -77,7 +77,7 @@ fn put_key_value(out: &mut Vec<u8>, pair: &KeyValue) -> Result<(), AllocError>
     if let Some(value) = &pair.value {
         let start = out.len();
         put_any(out, value)?;
-        wrap(out, start, 2)?;
+        wrap_in_field(out, start, 2)?;
     }
     out.extend_from_slice(pair.unknown.as_slice())
 }
