@@ -11,16 +11,22 @@ use std::alloc::{AllocError, AllocFailed};
 use std::io::{self, ErrorKind};
 use thiserror::Error;
 
+/// Why the program ends early.
 #[derive(Debug, Drop, Error)]
 pub enum BenchFault {
+    /// The arguments ask for nothing that the program does.
     #[error("usage: codec_bench [FILE ROUNDS]")]
     Usage,
+    /// The body has no value.
     #[error("the body is faulty: {0}")]
     Body(ReadFault),
+    /// The body has a value, whose canonical text is another.
     #[error("the body is not as it is written")]
     NotCanonical,
+    /// The file can't be read, the clock can't be asked or the output can't be written.
     #[error("input or output fault")]
     InputOutput,
+    /// There was no memory.
     #[error("out of memory")]
     OutOfMemory,
 }

@@ -2,6 +2,9 @@
 //! read, written, and read and written in a second. With no arguments it reads `request.pb` once, and checks that what it
 //! writes is that body. Statuses: 0 done; 1 a faulty body, or a fault of the file or the output; 2 wrong usage; 3 no
 //! memory. A fault is told in one line on standard error.
+//!
+//! One round is proved to pass exactly on a body that is the canonical text of its value; nothing that is measured is proved.
+//! It stands on `otlp_read` and `otlp_trace`.
 #![tactic(auto)]
 
 mod fault;

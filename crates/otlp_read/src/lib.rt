@@ -4,7 +4,11 @@
 //! that isn't repeated takes its last value, an embedded message that stands again is merged, repeated fields keep
 //! their order, and fields that aren't known, and known ones with another wire type, are kept as they were spelled, or
 //! dropped in a message that keeps none. `read_request` answers the value exactly where the body has one. Otherwise it
-//! answers a fault that stands in the body, or `OutOfMemory` where a growth was refused.
+//! answers a fault that stands in the body, or `OutOfMemory` where a growth was refused. What `otlp_trace` wrote reads back
+//! ([`written_reads_back`]).
+//!
+//! It stands on `pb_wire` and `otlp_trace`. The rules are those of the proto3 language guide and the Protocol Buffers encoding
+//! guide, over the messages of OTLP 1.x.
 #![tactic(auto)]
 
 mod fault;

@@ -237,6 +237,7 @@ impl Message for ExportTraceServiceRequest {
     }
 }
 
+/// The value of a body, or the first fault that is met.
 fn body(alloc: Global, bytes: &[u8]) -> Result<ExportTraceServiceRequest, ReadFault>
     ensures exact { Gives request_view result (value_of bytes.now) }
 {
@@ -248,7 +249,7 @@ fn body(alloc: Global, bytes: &[u8]) -> Result<ExportTraceServiceRequest, ReadFa
     )
 }
 
-/// The request that a body is.
+/// The request that a body is. The bytes aren't kept: what is read has copies. After a fault nothing is left of what was read.
 pub fn read_request(alloc: Global, bytes: &[u8]) -> Result<ExportTraceServiceRequest, ReadFault>
     // What is read is the value of the body.
     ensures value { IfOk result (λ request. IsValue bytes.now (request_view request)) }

@@ -17,6 +17,7 @@ use pb_wire::{Field, Value, next_field};
 /// How much of a request was refused, and why.
 #[derive(Clone, Copy, Debug, PartialEq, Eq)]
 pub struct Partial<'a> {
+    /// How many spans were refused.
     pub rejected_spans: i64,
     /// For a human; it stands in the body that was read.
     pub error_message: &'a str,

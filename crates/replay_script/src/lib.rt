@@ -1,5 +1,10 @@
-//! Scripts of a replay: the lines of a text, the commands that they say, the lines that answer them, and the engine that
-//! reads a script from a reader, has each command done by a session, and writes the answers to a writer, a line at a time.
+//! Scripts of a replay.
+//!
+//! A script is a text of lines, each a command, a comment or nothing ([`parse_line`]), and each command is answered by a line.
+//! [`run_script`] reads a script from a reader, has each command done by a [`Session`], and writes the answers to a writer, a
+//! line at a time, up to the first faulty line. What is written is exactly the answers' text.
+//!
+//! It stands on the library's `hex`. The grammar is its own, and the README has it.
 #![tactic(auto)]
 
 mod answer;

@@ -14,7 +14,9 @@ const ENOUGH: usize = 65_536;
 /// Text that is yet to be written, and how many more calls of the writer there may be.
 #[derive(Debug, Drop)]
 pub struct Output {
+    /// What is yet to be written.
     pub text: Vec<u8>,
+    /// How many more calls of the writer there may be.
     pub writes: u64,
 }
 

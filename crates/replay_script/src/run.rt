@@ -18,7 +18,8 @@ use std::io::{BufRead, Write};
 /// A replay ends after so many calls of its reader or its writer.
 const MAX_CALLS: u64 = 1 << 62;
 
-/// Runs the script that the reader gives, and writes the answers.
+/// Runs the script that the reader gives, and writes the answers. Where a line is faulty, the answers to all lines before
+/// it were written; where the reader, the writer or memory failed, a beginning of the answers' text was.
 pub fn run_script<S: Session, R: BufRead, W: Write>(
     alloc: Global,
     session: &mut S,

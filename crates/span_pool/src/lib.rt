@@ -12,6 +12,8 @@
 //! [`StoredSpan::view`] borrows from the texts what sampling policies ask. It needs keys and strings that are UTF-8, which
 //! each stored span has. The canonical texts of a span that was read and of its resource are such, and a view over them
 //! tells what the two are ([`read_spans_are_viewed`]).
+//!
+//! It stands on `span_view` and the library's `bytes`, and for what a span that was read is on `otlp_read` and those below it.
 #![tactic(auto)]
 
 mod law;

@@ -7,7 +7,9 @@ ghost use Rattle.span_pool.specs.Numbers.{shifted, shifted_numbers};
 /// resource have one resource: whoever numbers spans sees to that. Spans with different numbers may have one, too.
 #[derive(Clone, Copy, Debug, PartialEq, Eq)]
 pub struct Numbers {
+    /// Of the resource with its schema, 0 where it has no number.
     pub resource: u64,
+    /// Of the scope with its schema, 0 where it has no number.
     pub scope: u64,
 }
 

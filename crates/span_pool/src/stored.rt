@@ -16,7 +16,9 @@ use std::marker::Model;
 /// The URLs of the schemas of a span's resource and scope, empty where there is none.
 #[derive(Clone, Debug, Drop)]
 pub struct SchemaUrls {
+    /// The resource's.
     pub resource: Bytes,
+    /// The scope's.
     pub scope: Bytes,
 }
 
@@ -29,6 +31,7 @@ pub struct StoredSpan {
     resource: Option<Bytes>,
     scope: Option<Bytes>,
     urls: SchemaUrls,
+    // The span's own text.
     bytes: Bytes,
     numbers: Numbers,
 }
@@ -55,7 +58,7 @@ impl Model for StoredSpan {
     ghost invariant = { λ s. AreText (facts_of s.bytes (bytes_of s.resource)).attributes };
 }
 
-/// The same bytes, or none.
+/// The same bytes, or none. It copies no byte, which no contract says.
 pub fn share(bytes: &Option<Bytes>) -> Result<Option<Bytes>, AllocError>
     ensures { IfOk result (λ shared. shared ≡ bytes.now) }
 {
@@ -67,7 +70,7 @@ pub fn share(bytes: &Option<Bytes>) -> Result<Option<Bytes>, AllocError>
 
 impl StoredSpan {
     /// A span of its canonical text and of those of its resource and scope; of texts that aren't canonical at least the
-    /// keys and strings of their attributes are UTF-8 (`span_view::is_text`).
+    /// keys and strings of their attributes are UTF-8 (`span_view::is_text`). It copies no byte.
     pub fn of(
         owner: u32,
         resource: Option<Bytes>,
@@ -110,6 +113,7 @@ impl StoredSpan {
         &self.resource
     }
 
+    /// The URL of the resource's schema, empty where it has none.
     pub fn resource_schema_url(&self) -> &Bytes
         ensures { result.now ≡ self.now.origin.resource_schema_url }
     {
@@ -123,6 +127,7 @@ impl StoredSpan {
         &self.scope
     }
 
+    /// The URL of the scope's schema, empty where it has none.
     pub fn scope_schema_url(&self) -> &Bytes
         ensures { result.now ≡ self.now.origin.scope_schema_url }
     {

@@ -27,6 +27,7 @@ impl<'a> Model for Attributes<'a> {
 }
 
 impl<'a> Attributes<'a> {
+    /// Those of these texts, a span's and its resource's.
     pub fn of(span: &'a [u8], resource: &'a [u8]) -> Attributes<'a>
         requires text { AreText (attributes_in 9 span.now ++ attributes_in 1 resource.now) }
         ensures { result ≡ attributes_in 9 span.now ++ attributes_in 1 resource.now }

@@ -9,6 +9,9 @@
 //! they have kept without knowing them are skipped. Over other bytes it tells what stands first: of several fields of a
 //! number and wire type the first, a value by the first field in it, and a text ends where no field begins. All that a
 //! view asks of its texts is that keys and strings be UTF-8, as they are in canonical text and as [`is_text`] finds out.
+//!
+//! It stands on `pb_wire`, and on `otlp_trace` for what canonical text is. The fields are those of OTLP 1.x's `trace.proto`,
+//! `common.proto` and `resource.proto`.
 #![tactic(auto)]
 
 mod attributes;

@@ -2,6 +2,9 @@
 //!
 //! A trace is kept where one of its tenant's policies keeps it (`specs/Meaning`, after the documents of the OpenTelemetry
 //! Collector's `tail_sampling` processor). Each policy looks at all spans of the trace, each with its resource.
+//! [`keeps`] answers exactly that.
+//!
+//! It stands on `span_view`, for what a policy asks of a span, and on `tail_settings`, for what a policy is.
 #![tactic(auto)]
 
 mod attribute;

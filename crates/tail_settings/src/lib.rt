@@ -3,7 +3,11 @@
 //! [`load`] gives the document's settings, or the first fault in the order in which keys are read: the table `global`, then each
 //! `[[tenant]]` with its `name`, its own keys and its tables `tail_sampling`, `batch`, `sending_queue` and `retry_on_failure`. Keys
 //! that no setting has are ignored. The names are those of the OpenTelemetry Collector's `tail_sampling` and `batch` processors and
-//! of its `exporterhelper`; durations are whole milliseconds.
+//! of its `exporterhelper`; durations are whole milliseconds. docs/SETTINGS.md has every key.
+//!
+//! Settings that load are sound: every number is in its range, which the types say, and what many tenants add up to is bounded.
+//!
+//! It stands on the library's `toml` and `indexmap`.
 #![tactic(auto)]
 
 mod batch;

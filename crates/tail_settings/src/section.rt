@@ -22,9 +22,13 @@ pub struct Section {
     pub max_spans: u32,
     /// The seed of the words by which the delays of retries vary, 0 to 2^62.
     pub seed: u64,
+    /// Which traces are kept, and when that is decided.
     pub tail_sampling: TailSampling,
+    /// How spans are put together.
     pub batch: Batch,
+    /// How batches wait to be sent.
     pub sending_queue: SendingQueue,
+    /// When a batch is sent again.
     pub retry_on_failure: RetryOnFailure,
     pub ghost endpoint_bytes: { IsTrue (is_address (string_bytes endpoint)) },
     pub ghost max_spans_range: { IsFrom 1 (2 ^ 31) max_spans },

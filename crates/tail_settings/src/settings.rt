@@ -10,6 +10,7 @@ use indexmap::IndexMap;
 /// What a document says.
 #[derive(Drop)]
 pub struct Settings {
+    /// What holds for all tenants.
     pub global: GlobalSettings,
     /// The tenants by name, in the order of the document. A tenant's number is its place, from 0.
     pub tenants: IndexMap<String, Section>,

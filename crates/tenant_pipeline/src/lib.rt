@@ -12,6 +12,10 @@
 //!
 //! Where memory is refused, some of those decisions may have been made, the clock then stands at the last one's moment,
 //! and nothing else has changed.
+//!
+//! It stands on `tail_settings`, `tail_policy` and `span_pool`, and on the crates that read and write OTLP. The rules are after
+//! the documents of the OpenTelemetry Collector's `tail_sampling` processor; a batch is an `ExportTraceServiceRequest` of
+//! OTLP 1.x.
 #![tactic(auto)]
 
 ghost use Rattle.std.specs.Prelude.{◌≡◌, ◌↔◌, true, List};

@@ -29,18 +29,23 @@ const LATEST_MOMENT: u64 = 1 << 62;
 /// No more tickets than these are handed out.
 const LAST_TICKET: u64 = 1 << 62;
 
-/// What is kept of one tenant: the rows that its traces opened, the batches that wait, its clock and its tickets. Numbers
-/// up to `last_number` tell which of the spans have one resource, or one scope.
+/// What is kept of one tenant: the rows that its traces opened, the batches that wait, its clock and its tickets.
 #[derive(Drop)]
 pub struct Pipeline {
     alloc: Global,
+    // How long a row waits for its decision, in milliseconds.
     wait: u64,
     policies: Vec<PolicySpec>,
+    // The moment of the last step or decision, in milliseconds, which no later one is before.
     clock: u64,
     rows: Rows,
+    // So many rows are decided, which are the first.
     decided: usize,
+    // The groups that are yet to be handed out, the oldest first.
     queue: VecDeque<Group>,
+    // The last ticket that was handed out, 0 before the first.
     tickets: u64,
+    // No number above this one is in use. The next body's are put above it.
     last_number: u64,
 }
 
@@ -95,7 +100,10 @@ impl Pipeline {
     /// A body's spans come, at a moment in milliseconds, with numbers that are higher than those before. Where memory is
     /// refused, decisions that were due may have been made, and no span has come.
     pub fn post(&mut self, now: u64, prepared: &Prepared) -> Result<Reply, AllocError>
+        // The reply is what the settings and the own steps say, and the state is what they and this step give.
         ensures ok { IfOk result (λ reply. Answers (Post now prepared.now.arrivals) self.old (tell.Reply reply) self.new) }
+
+        // Some first due decisions have been made, and all else is as before.
         ensures refused { OnErr result (IsFront (effective (Post now prepared.now.arrivals) self.old) self.old self.new) }
         ensures policies { self.new.policies ≡ self.old.policies }
     {
@@ -123,7 +131,10 @@ impl Pipeline {
     /// A worker asks for a job, at a moment in milliseconds. Where memory is refused, decisions that were due may have
     /// been made, and no ticket is used up.
     pub fn turn(&mut self, now: u64) -> Result<Told, AllocError>
+        // The answer is what the settings and the own steps say, and the state is what they and this step give.
         ensures ok { IfOk result (λ told. Answers (Turn now) self.old told self.new) }
+
+        // Some first due decisions have been made, and all else is as before.
         ensures refused { OnErr result (IsFront (effective (Turn now) self.old) self.old self.new) }
         ensures policies { self.new.policies ≡ self.old.policies }
     {
@@ -226,6 +237,7 @@ impl Pipeline {
     }
 }
 
+/// The earlier of two moments, none being later than any.
 fn lesser(a: Option<u64>, b: Option<u64>) -> Option<u64>
     ensures { result ≡ lesser a b }
 {
@@ -236,6 +248,7 @@ fn lesser(a: Option<u64>, b: Option<u64>) -> Option<u64>
     }
 }
 
+/// When the oldest group formed, as long as there are tickets.
 fn next_job(queue: &VecDeque<Group>, tickets: u64) -> Option<u64>
     ensures { result ≡ next_job tickets (group_views queue.now.items) }
 {

@@ -26,7 +26,9 @@ pub type Rows = IndexMap<[u8; 16], Row>;
 /// The row of a trace: it is decided at `due`, and its spans wait until then.
 #[derive(Drop)]
 pub struct Row {
+    /// The moment of the decision, in milliseconds.
     pub due: u64,
+    /// The spans that came in time, in order of arrival; none once the row is decided.
     pub spans: Vec<StoredSpan>,
     /// Whether the policies keep the trace, once it is decided. Until then `false`.
     pub kept: bool,
@@ -35,7 +37,9 @@ pub struct Row {
 /// Spans that leave together, with the moment at which the group formed.
 #[derive(Drop)]
 pub struct Group {
+    /// In milliseconds.
     pub moment: u64,
+    /// In order of arrival.
     pub spans: Vec<StoredSpan>,
 }
 
@@ -69,12 +73,18 @@ fn decide(
     queue: &mut VecDeque<Group>,
 ) -> Result<(), AllocError>
     ensures due { row.new.due ≡ row.old.due }
+
+    // The spans leave the row, as a group where the policies keep them.
     ensures spans { OnOk result (row.new.spans.items ≡ []) }
     ensures kept { OnOk result (row.new.kept ≡ are_kept (map policy_view policies.now) (arrivals_in row.old.spans.items)) }
     ensures queue { OnOk result (group_views queue.new.items ≡ group_views queue.old.items ++ (if are_kept (map policy_view policies.now) (arrivals_in row.old.spans.items) then record { moment = row.old.due; spans = arrivals_in row.old.spans.items } ∷ [] else [])) }
+
+    // Where memory is refused, nothing has changed.
     ensures refused_row { OnErr result (row.new.spans.items ≡ row.old.spans.items) }
     ensures refused_kept { OnErr result (row.new.kept ≡ row.old.kept) }
     ensures refused_queue { OnErr result (queue.new.items ≡ queue.old.items) }
+
+    // Numbers go on naming what they named.
     ensures named { (names : Names) (last : ℕ) → AreNamed names last row.old.spans.items → AreGroupsNamed names last queue.old.items → AreNamed names last row.new.spans.items × AreGroupsNamed names last queue.new.items }
 {
     let kept = are_kept(alloc, policies, row.spans.as_slice())?;
@@ -100,8 +110,12 @@ pub fn decide_at(
 ) -> Result<u64, AllocError>
     requires { place < index_map_len rows.old }
     ensures ok { IfOk result (λ due. IsDecided (map policy_view policies.now) place due (row_views rows.old.entries) (group_views queue.old.items) (row_views rows.new.entries) (group_views queue.new.items)) }
+
+    // Where memory is refused, nothing has changed.
     ensures refused_rows { OnErr result (row_views rows.new.entries ≡ row_views rows.old.entries) }
     ensures refused_queue { OnErr result (group_views queue.new.items ≡ group_views queue.old.items) }
+
+    // Numbers go on naming what they named.
     ensures named { (names : Names) (last : ℕ) → AreAllNamed names last rows.old.entries queue.old.items → AreAllNamed names last rows.new.entries queue.new.items }
 {
     let row = &mut rows[place];

@@ -6,7 +6,9 @@ use otlp_trace::Octets;
 /// The answer to a post, as HTTP has it.
 #[derive(Debug, PartialEq, Drop)]
 pub struct Reply {
+    /// The status code (RFC 9110, section 15).
     pub status: u16,
+    /// The content, which may be empty.
     pub body: Octets,
 }
 

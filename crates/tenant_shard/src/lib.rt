@@ -9,6 +9,8 @@
 //! A body is prepared before it is posted, for the policies that its tenant has then. One that was prepared for other
 //! policies than the member's is refused with the number 23, and a post of a tenant that is no member with 22: neither
 //! changes anything, and what the tenant is told afterwards is as if it had not come.
+//!
+//! It stands on `tenant_pipeline` and on `tail_settings`. Its own rules come from no public text.
 #![tactic(auto)]
 
 ghost use Rattle.tenant_shard.specs.Alone.{OwnStepsDecide};

@@ -15,10 +15,13 @@ use tenant_pipeline::{Pipeline, Prepared, Told};
 /// A member of the shard.
 #[derive(Drop)]
 pub struct Member {
+    /// Its number.
     pub tenant: u32,
+    /// What it would have alone.
     pub pipeline: Pipeline,
 }
 
+/// What a pipeline told, with the number of the tenant whose it is.
 fn named(tenant: u32, told: Told) -> Outcome
     ensures { result ≡ named tenant (Answered told) }
 {

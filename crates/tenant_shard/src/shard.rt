@@ -41,6 +41,7 @@ pub struct Shard {
 #[derive(Debug, Drop, Error)]
 #[error("out of memory")]
 pub struct Stopped {
+    /// Those of the steps that were done, in their order.
     pub outcomes: Vec<Outcome>,
 }
 
@@ -81,6 +82,8 @@ impl Shard {
     pub fn step(&mut self, step: &Step) -> Result<Outcome, AllocError>
         ensures ok { IfOk result (λ outcome. ShardSteps step.now self.old outcome self.new) }
         ensures refused { OnErr result (ShardRefuses step.now self.old self.new) }
+
+        // A step of nobody is answered without memory, and changes nothing.
         ensures nobodys { IsNobodys step.now self.old → (IsOk result) × (self.new ≡ self.old) }
     {
         match step {

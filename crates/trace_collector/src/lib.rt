@@ -1,5 +1,10 @@
-//! The replay of a script by shards of tenants: settings and a script come in as text, and what each step is answered goes
-//! out as text. [`replay`] promises, for every settings text and every script, what is written.
+//! The replay of a script by shards of tenants.
+//!
+//! Settings and a script come in as text, and what each step is answered goes out as text. [`replay`] promises, for every
+//! settings text and every script, what is written. There is at most one such text ([`text_is_one`]), and each body that has a
+//! value is taken ([`values_are_taken`]).
+//!
+//! It stands on `replay_script`, `tail_settings` and `tenant_shard`, and on those below them.
 #![tactic(auto)]
 
 mod engine;

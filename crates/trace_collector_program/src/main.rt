@@ -1,6 +1,8 @@
 //! `trace_collector replay SETTINGS`: replays the script on standard input under the settings in that file, and writes what
 //! its steps are answered to standard output. Statuses: 0 done; 1 a fault of the settings, the script, the input or the
 //! output; 2 wrong usage; 3 no memory. A fault is told in one line on standard error.
+//!
+//! It stands on `trace_collector`, whose `replay` promises what is written.
 #![tactic(auto)]
 
 ghost use Rattle.std.specs.Prelude.{◌≡◌, IfOk, IfErr, map, option_map, string_bytes};
@@ -27,8 +29,10 @@ const READ_SIZE: usize = 65_536;
 /// Why the program ends early.
 #[derive(Debug, Drop, Error)]
 enum ProgramFault {
+    /// The arguments aren't `replay` and a file.
     #[error("usage: trace_collector replay SETTINGS")]
     Usage,
+    /// The replay ended early, or there was none.
     #[error("{0}")]
     Replay(ReplayFault),
 }
