@@ -1,15 +1,15 @@
 -- The parts of each message's canonical text.
-use Rattle.std.proofs.Common.{◌≡◌, ℕ, ℤ, pos, negsuc, suc, true, false, length, ◌-◌, ◌%◌, ◌<◌, ◌^◌, ◌==◌, FitsSigned, List, [], ◌∷◌, option_map, refl, arith, append_assoc}
-use Rattle.std.proofs.Math.Facts.{Fits-of_z}
-use Rattle.std.proofs.lemmas.Int.{to_z-of_z}
-use Rattle.std.specs.Int.{w32, w64, cast_signed, cast_unsigned, to_le_bytes}
+use Rattle.std.proofs.Common.{◌≡◌, ℕ, true, false, length, ◌-◌, ◌<◌, ◌^◌, ◌==◌, FitsSigned, List, [], ◌∷◌, option_map, refl, arith, append_assoc}
+use Rattle.std.specs.Int.{w32, w64, cast_unsigned, to_le_bytes}
 use Rattle.std.specs.List.{AllByRecursion}
 use Rattle.pb_wire.specs.Grammar.{Varint, Eight, Bytes, Four}
-use Rattle.otlp_trace.specs.Data.{KindData, KeyValueData, bare_key, key_value, ResourceData, StatusData, SpanData}
+use Rattle.otlp_trace.specs.Data.{KindData, ResourceData, StatusData, SpanData}
 use Rattle.otlp_trace.specs.Data as otlp
 use Rattle.otlp_trace.specs.Text.{bit, array_text, list_text, key_value_text, status_text, event_text, link_text, span_text}
 use Rattle.span_view.specs.Canonical.{SoundKind, SoundSpan}
-use Rattle.span_view.proofs.Parts.{is_number, Part, IsPart, parts_text, one, one_is, unless, unless_is, some, some_is, many, many_is}
+use Rattle.otlp_trace.proofs.Signed.{fits32, fits64}
+use Rattle.otlp_trace.proofs.Spelled.{is_number}
+use Rattle.span_view.proofs.Parts.{Part, IsPart, parts_text, one, one_is, unless, unless_is, some, some_is, many, many_is}
 
 abbrev pub bytes_part : ℕ → List ℕ → Part
 bytes_part n bs = unless (length bs == 0) n (Bytes bs)
@@ -22,20 +22,6 @@ eight_part n x = unless (x == 0) n (Eight (to_le_bytes w64 x))
 
 abbrev pub four_part : ℕ → ℕ → Part
 four_part n x = unless (x == 0) n (Four (to_le_bytes w32 x))
-
--- ---- numbers with a sign
-
-pub fits64 : (z : ℤ) → FitsSigned w64 z → cast_unsigned w64 z < 2 ^ 64
-fits64 z h = let f = Fits-of_z {w = w64} {z = z} h in omega (arith, f.fits)
-
-pub fits32 : (z : ℤ) → FitsSigned w32 z → cast_unsigned w64 z < 2 ^ 64
-fits32 (pos n) h = omega (arith, h.sfits)
-fits32 (negsuc n) h = omega (arith, h.sfits)
-
--- the low 32 bits of such a number in 64
-pub low32 : (z : ℤ) → FitsSigned w32 z → cast_signed w32 (cast_unsigned w64 z % 2 ^ 32) ≡ z
-low32 (pos n) h = let e : n % 2 ^ 32 ≡ n = omega (arith, h.sfits) in rw e (to_z-of_z w32 (pos n) h)
-low32 (negsuc n) h = let e : (2 ^ 64 - suc n) % 2 ^ 32 ≡ 2 ^ 32 - suc n = omega (arith, h.sfits) in rw e (to_z-of_z w32 (negsuc n) h)
 
 -- ---- messages
 

@@ -1,6 +1,5 @@
 -- Canonical text in parts: each is the fields of one number, and what is kept stands behind them.
-use Rattle.std.proofs.Common.{◌≡◌, ◌≢◌, ℕ, ◌+◌, ◌<◌, ◌^◌, Bool, true, false, cond, ◌&&◌, ◌==◌, nat_lt, if◌then◌else◌, List, [], ◌∷◌, ◌++◌, length, map, filter, flat_map, Option, Some, None, refl, sym, ap, subst, ◌∙◌, arith, append_assoc, append-nil, length-append, ◌⊎◌, inl, inr}
-use Rattle.std.proofs.lemmas.Bool.Decides.{nat_tests}
+use Rattle.std.proofs.Common.{◌≡◌, ◌≢◌, ℕ, ◌+◌, ◌<◌, ◌^◌, Bool, true, false, cond, ◌&&◌, ◌==◌, if◌then◌else◌, List, [], ◌∷◌, ◌++◌, length, map, filter, flat_map, Option, Some, None, refl, sym, ap, subst, ◌∙◌, arith, append_assoc, append-nil, length-append, ◌⊎◌, inl, inr}
 use Rattle.std.proofs.lemmas.Bool.{ne_eqb}
 use Rattle.std.specs.List.{AllByRecursion}
 use Rattle.pb_wire.specs.declared.field.WireType.{WireType}
@@ -9,7 +8,7 @@ use Rattle.pb_wire.specs.Text.{field_text, IsWritable}
 use Rattle.pb_wire.proofs.Again.{next_again}
 use Rattle.pb_wire.proofs.Written.{field_written}
 use Rattle.otlp_trace.specs.Text.{bytes_field, embedded, repeated}
-use Rattle.otlp_trace.proofs.Spelled.{bytes_within}
+use Rattle.otlp_trace.proofs.Spelled.{is_number, number_some, number_fits, bytes_within}
 use Rattle.span_view.specs.Canonical.{Skipped}
 use Rattle.span_view.specs.Reading.{fields_from, fields_of, is_kind, has, held}
 use Rattle.span_view.proofs.Walks.{fields_step}
@@ -31,16 +30,6 @@ pub record Part : Type 0 where
   pub number : ℕ
   pub values : List Datum
   pub text : List ℕ
-
--- a number that a tag can hold
-abbrev pub is_number : ℕ → Bool
-is_number n = nat_lt 0 n && nat_lt n (2 ^ 29)
-
-above : (n : ℕ) → is_number n ≡ true → 0 < n
-above n e = grind (arith, nat_tests)
-
-below : (n : ℕ) → is_number n ≡ true → n < 2 ^ 29
-below n e = grind (arith, nat_tests)
 
 -- what a field can hold, if its text isn't too long
 abbrev pub Storable : Datum → Type 0
@@ -83,7 +72,7 @@ values_stand n is (d ∷ ds) h rest es are short =
     let more = flat_map (λ d. field_text (numbered n d)) ds in
     let regrouped : (one ++ more) ++ rest ≡ one ++ (more ++ rest) = append_assoc one more rest in
     let long : length ((one ++ more) ++ rest) ≡ length one + length (more ++ rest) = ap length regrouped ∙ length-append one (more ++ rest) in
-    let first : IsField 0 one (numbered n d) = field_written 0 (numbered n d) (above n is) (below n is) (writable n d h.0 (omega (arith, short, long))) in
+    let first : IsField 0 one (numbered n d) = field_written 0 (numbered n d) (number_some n is) (number_fits n is) (writable n d h.0 (omega (arith, short, long))) in
     let others : Fields 0 (more ++ rest) (map (numbered n) ds ++ es) = values_stand n is ds h.1 rest es are (omega (arith, short, long)) in
     let all : Fields 0 (one ++ (more ++ rest)) (numbered n d ∷ (map (numbered n) ds ++ es)) = more_fields first others in
     subst (λ text. Fields 0 text (numbered n d ∷ (map (numbered n) ds ++ es))) (sym regrouped) all

@@ -17,7 +17,8 @@ use Rattle.span_view.specs.Facts.{ValueFact, unset, int, AttributeFact, SpanFact
 use Rattle.span_view.specs.Reading.{fields_of, is_kind, has, held, first_bytes, first_eight, first_varint, all_bytes, member, first_member, value_in, attribute_in, attributes_in, code_in, facts_of}
 use Rattle.span_view.proofs.Walks.{no_attributes, fields_step}
 use Rattle.span_view.proofs.Parts.{numbered, parts_text, parts_fields, parts_short, not_kind, not_number, canonical_fields, canonical_held, parts_held, unless, some}
-use Rattle.span_view.proofs.Messages.{low32, kind_parts, kind_are, bare_parts, bare_are, pair_parts, pair_are, status_parts, status_are, resource_parts, resource_are, span_parts, span_are, span_same}
+use Rattle.otlp_trace.proofs.Signed.{low32}
+use Rattle.span_view.proofs.Messages.{kind_parts, kind_are, bare_parts, bare_are, pair_parts, pair_are, status_parts, status_are, resource_parts, resource_are, span_parts, span_are, span_same}
 
 -- ---- what is left out at its default
 
