@@ -2,7 +2,7 @@
 use Rattle.std.proofs.Common.{◌≡◌, ◌+◌, ℕ, Bool, true, false, List, [], ◌∷◌, ◌++◌, take, Option, Some, None, Result, Ok, Err, IfSome, refl, ap, sym, subst, ◌∙◌}
 use Rattle.std.proofs.lemmas.List.{append-nil, append_assoc}
 use Rattle.std.specs.Io.KnownBytes.{Appends, Keeps}
-use Rattle.std.proofs.KnownBytes.{Appends-nil, Appends-trans, Appends-kept}
+use Rattle.std.proofs.KnownBytes.{Appends-trans, Appends-kept}
 use Rattle.replay_script.specs.declared.fault.ScriptFault.{ScriptFault}
 use Rattle.replay_script.specs.declared.fault.ScriptFault.TheVariants.{Script, Line, OutOfMemory}
 use Rattle.replay_script.specs.Command.{CommandData}
@@ -12,10 +12,7 @@ use Rattle.replay_script.specs.Step.{Adds, Refuses}
 use Rattle.replay_script.specs.Input.{TakesLine, line_room, IsOutside}
 use Rattle.replay_script.specs.Output.{Sends}
 use Rattle.replay_script.proofs.Long.{kind_cut}
-use Rattle.replay_script.proofs.Ran.{RanTo, ran_none, ran_more, ran_over, ran_faulty, ran_begins, begins}
-
-sends_none : (c : Option (List ℕ)) (held : List ℕ) → Sends c c held [] held
-sends_none c held = ([], Appends-nil c, append-nil held)
+use Rattle.replay_script.proofs.Ran.{RanTo, ran_more, ran_over, ran_faulty, ran_begins, begins}
 
 -- text was sent and then more came, of which some was sent
 sends_more : (a b c : Option (List ℕ)) (held text mid added left : List ℕ) → Sends a b held text mid → Sends b c (mid ++ added) [] left → Sends a c held (text ++ added) left
@@ -43,15 +40,6 @@ module _ {S : Type 0} (answers : S → CommandData → Option (List ℕ) → S �
   pub record Going (reader_then reader writer_then writer : Option (List ℕ)) (held_then held : List ℕ) (start state : S) (number : ℕ) : Type 0 where
     pub so_far : IfSome reader_then (λ script. (rest : List ℕ) × (text : List ℕ) × (reader ≡ Some rest)
         × Sends writer_then writer held_then text held × RanTo answers (lines_of script) start (lines_of rest) number state text)
-
-  -- how a script's run ended, some of its text being held
-  Ended : Option (List ℕ) → Option (List ℕ) → Option (List ℕ) → List ℕ → List ℕ → S → Result Unit ScriptFault → Type 0
-  Ended reader writer_then writer held_then held start r =
-      IfSome reader (λ script. (text : List ℕ) × Sends writer_then writer held_then text held × Ends answers (lines_of script) start text r)
-
-  pub going_none : (r w : Option (List ℕ)) (held : List ℕ) (state : S) → Going r r w w held held state state 0
-  going_none None w held state = record { so_far = tt }
-  going_none (Some script) w held state = record { so_far = (script, [], refl, sends_none w held, ran_none answers (lines_of script) state) }
 
   at_line : (all : List (List ℕ)) (start : S) (lines : List (List ℕ)) (line : List ℕ) (left : List (List ℕ)) (number : ℕ) (state : S) (text : List ℕ)
       → lines ≡ line ∷ left → RanTo answers all start lines number state text → RanTo answers all start (line ∷ left) number state text

@@ -3,7 +3,7 @@ use Rattle.std.proofs.Common.{◌≡◌, ◌≢◌, ◌<◌, ◌≤◌, ◌==◌
 use Rattle.std.specs.List.{onto_first}
 use Rattle.std.specs.Io.KnownBytes.{Consumes, IsAtEnd}
 use Rattle.std.proofs.lemmas.List.{append-nil, append_assoc}
-use Rattle.std.proofs.lemmas.List.Elements.{All-head, All-tail, All-append, All-nil}
+use Rattle.std.proofs.lemmas.List.Elements.{All-head, All-tail, All-append}
 use Rattle.std.proofs.lemmas.Bool.{ne_eqb}
 use Rattle.std.proofs.lemmas.Bool.Decides.{nat_tests}
 use Rattle.replay_script.specs.declared.input.Part.{Part}
@@ -29,10 +29,6 @@ line_last byte (next ∷ bytes) plain =
 pub record Reading (before now : Option (List ℕ)) (kept : List ℕ) : Type 0 where
   pub begun : IfSome before (λ text. (bytes : List ℕ) × (rest : List ℕ) × (now ≡ Some rest) × (text ≡ bytes ++ rest)
       × All (λ byte. byte ≢ 10) bytes × (kept ≡ take line_room bytes))
-
-pub reading_none : (before : Option (List ℕ)) → Reading before before []
-reading_none None = record { begun = tt }
-reading_none (Some text) = record { begun = ([], text, refl, refl, All-nil _, refl) }
 
 left : (now after : Option (List ℕ)) (rest bytes : List ℕ) → now ≡ Some rest → Consumes now after bytes → (behind : List ℕ) × (after ≡ Some behind) × (rest ≡ bytes ++ behind)
 left (Some x) (Some y) rest bytes e h = let same : x ≡ rest = cc in (y, refl, sym same ∙ h)

@@ -16,9 +16,6 @@ module _ {S : Type 0} (answers : S → CommandData → Option (List ℕ) → S �
     pub goes : (lines : List (List ℕ)) (more : List ℕ) (fault : Option ℕ) → Told answers lines (number + 1) state more fault
         → Told answers (done ++ lines) 1 start (text ++ more) fault
 
-  pub ran_none : (all : List (List ℕ)) (start : S) → RanTo all start all 0 start []
-  ran_none all start = record { done = []; split = refl; goes = λ lines more fault told. told }
-
   goes_on : (kind : Kind) (number : ℕ) (old new : S) (text more : List ℕ) (fault : Option ℕ) (rest : S → List ℕ → Option ℕ → Type 0)
       → Adds answers old kind text new → rest new more fault → Goes answers number old kind rest (text ++ more) fault
   goes_on Skipped number old new text more fault rest adds told =

@@ -7,11 +7,8 @@ use Rattle.replay_script.specs.declared.fault.ScriptFault.{ScriptFault}
 use Rattle.replay_script.specs.declared.fault.ScriptFault.TheVariants.{Script, Line, OutOfMemory}
 use Rattle.replay_script.specs.Line.{lines_of}
 
--- no command is longer than the words `post NAME MOMENT HEX` of a name of 64 bytes, a number of 19 digits and a body of 20,971,520 bytes
-abbrev pub most_line_bytes : ℕ
-most_line_bytes = 41943130
-
--- so much of a line is kept
+-- So much of a line is kept: one byte more than the longest command has, the words `post NAME MOMENT HEX` of a name of 64
+-- bytes, a number of 19 digits and a body of 20,971,520 bytes.
 abbrev pub line_room : ℕ
 line_room = 41943131
 
