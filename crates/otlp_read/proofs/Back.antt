@@ -6,15 +6,16 @@ use Rattle.otlp_trace.specs.Data.{KeyValueData, SpanData, RequestData, PartialSu
 use Rattle.otlp_trace.specs.Text.{bytes_field, repeated, key_value_text, resource_text, scope_text, status_text, event_text, link_text, span_names_text, span_times_text, span_lists_text, span_end_text, span_text, scope_spans_text, resource_spans_text, request_text, partial_success_text, response_text}
 use Rattle.otlp_read.specs.AnyValue.{no_key_value, key_value_step}
 use Rattle.otlp_read.specs.Nested.{NestedKeyValue, NestedResource, NestedScope, NestedStatus, NestedEvent, NestedLink, NestedSpan, InSpan, NestedScopeSpans, NestedResourceSpans, NestedRequest}
+use Rattle.otlp_trace.proofs.Spelled.{is_number}
 use Rattle.otlp_read.specs.Response.{no_partial_success, no_response, partial_success_step, response_step}
 use Rattle.otlp_read.specs.Typed.{TypedKeyValue, TypedResource, TypedScope, TypedStatus, TypedEvent, TypedLink, TypedSpan, TypedScopeSpans, TypedResourceSpans, TypedRequest, TypedPartialSuccess, TypedResponse}
 use Rattle.otlp_read.specs.Value.{no_resource, keep_resource, resource_known, resource_step, no_scope, keep_scope, scope_known, scope_step, no_status, keep_status, status_known, status_step, no_event, keep_event, event_known, event_step, no_link, keep_link, link_known, link_step, no_span, keep_span, span_known, span_step, no_scope_spans, scope_spans_step, no_resource_spans, resource_spans_step, no_request, request_step}
 use Rattle.otlp_read.specs.Walk.{◌>>=◌, Step, walk, read_with, with_another}
 use Rattle.otlp_read.proofs.Opened.{opened_at}
-use Rattle.otlp_read.proofs.Taken.{numbers, Short, Taken, Back, then, whole, some_bytes_taken, some_string_taken, some_uint32_taken, some_int32_taken, some_int64_taken, some_eight_taken, some_four_taken, embedded_taken, repeated_taken, kept_taken}
+use Rattle.otlp_read.proofs.Taken.{Short, Taken, Back, then, whole, some_bytes_taken, some_string_taken, some_uint32_taken, some_int32_taken, some_int64_taken, some_eight_taken, some_four_taken, embedded_taken, repeated_taken, kept_taken}
 use Rattle.otlp_read.proofs.ValueBack.{attribute_back}
 
-attributes_taken : {A : Type 0} (step : Step A) (d n room : ℕ) → numbers n ≡ true → (put : List KeyValueData → A) (ps : List KeyValueData) → AllByRecursion TypedKeyValue ps → AllByRecursion (NestedKeyValue room) ps
+attributes_taken : {A : Type 0} (step : Step A) (d n room : ℕ) → is_number n ≡ true → (put : List KeyValueData → A) (ps : List KeyValueData) → AllByRecursion TypedKeyValue ps → AllByRecursion (NestedKeyValue room) ps
     → ((qs : List KeyValueData) (bs : List ℕ) → step (put qs) (record { number = n; value = Bytes bs }) (bytes_field n bs) ≡ (with_another qs (read_with key_value_step room no_key_value bs) >>= λ l. Ok (put l)))
     → Taken step d (put []) (repeated n key_value_text ps) (put ps)
 attributes_taken step d n room is = repeated_taken step d n is (read_with key_value_step room no_key_value) key_value_text TypedKeyValue (NestedKeyValue room) (attribute_back room)

@@ -2,7 +2,7 @@
 use Rattle.std.proofs.Common.{◌≡◌, ℕ, suc, ◌-◌, ◌==◌, List, Some, unwrap_or, Ok, refl, arith}
 use Rattle.std.proofs.lemmas.Str.{IsUtf8-nil}
 use Rattle.pb_wire.specs.Grammar.{Varint, Eight, Bytes, Four}
-use Rattle.otlp_trace.specs.Data.{ResourceData, ScopeData, StatusData, EventData, LinkData, SpanData, ScopeSpansData, ResourceSpansData, RequestData, ResponseData}
+use Rattle.otlp_trace.specs.Data.{EventData, LinkData, SpanData, ScopeSpansData, ResourceSpansData, RequestData, ResponseData}
 use Rattle.otlp_read.specs.AnyValue.{no_key_value, key_value_step}
 use Rattle.otlp_read.specs.Nested.{NestedKeyValue, NestedResource, NestedScope, NestedStatus, NestedEvent, NestedLink, NestedSpan, NestedScopeSpans, NestedResourceSpans, NestedRequest}
 use Rattle.otlp_read.specs.Numbers.{int32, uint32, int64, fixed64, fixed32}
@@ -34,9 +34,6 @@ resource_fine F room r n _ wire good = not_known (λ y. refl)
 resource_reads : (F : Type 0) (room : ℕ) → Reads F NestedResource TypedResource (read_with resource_step) room
 resource_reads F = message_reads F NestedResource TypedResource resource_step (λ r. kept_keeps F (resource_known r) (100 - r) (Good F NestedResource TypedResource (suc r)) (resource_fine F r) keep_resource (λ a e spelled is none good. (assumption (good.0, kept_more resource_known r a.unknown spelled e good.0.unknown is none), λ f. assumption (good.1 f))))
 
-resource_sound : (F : Type 0) (room : ℕ) (x : ResourceData) (text : List ℕ) → (F → AreBytes text) → read_with resource_step room no_resource text ≡ Ok x → Good F NestedResource TypedResource room x
-resource_sound F room x text are e = resource_reads F room no_resource x text are (fresh NestedResource no_resource empty_resource room) (λ f. empty_resource_typed) e
-
 -- ---- scope
 
 empty_scope : (room : ℕ) → NestedScope (suc room) no_scope
@@ -59,9 +56,6 @@ scope_fine F room s n _ wire good = not_known (λ y. refl)
 scope_reads : (F : Type 0) (room : ℕ) → Reads F NestedScope TypedScope (read_with scope_step) room
 scope_reads F = message_reads F NestedScope TypedScope scope_step (λ r. kept_keeps F (scope_known r) (100 - r) (Good F NestedScope TypedScope (suc r)) (scope_fine F r) keep_scope (λ a e spelled is none good. (assumption (good.0, kept_more scope_known r a.unknown spelled e good.0.unknown is none), λ f. assumption (good.1 f))))
 
-scope_sound : (F : Type 0) (room : ℕ) (x : ScopeData) (text : List ℕ) → (F → AreBytes text) → read_with scope_step room no_scope text ≡ Ok x → Good F NestedScope TypedScope room x
-scope_sound F room x text are e = scope_reads F room no_scope x text are (fresh NestedScope no_scope empty_scope room) (λ f. empty_scope_typed) e
-
 -- ---- status
 
 empty_status : (room : ℕ) → NestedStatus (suc room) no_status
@@ -81,9 +75,6 @@ status_fine F room s n _ wire good = not_known (λ y. refl)
 
 status_reads : (F : Type 0) (room : ℕ) → Reads F NestedStatus TypedStatus (read_with status_step) room
 status_reads F = message_reads F NestedStatus TypedStatus status_step (λ r. kept_keeps F status_known (100 - r) (Good F NestedStatus TypedStatus (suc r)) (status_fine F r) keep_status (λ a e spelled is none good. (assumption (good.0, kept_more (λ r. status_known) r a.unknown spelled e good.0.unknown is none), λ f. assumption (good.1 f))))
-
-status_sound : (F : Type 0) (room : ℕ) (x : StatusData) (text : List ℕ) → (F → AreBytes text) → read_with status_step room no_status text ≡ Ok x → Good F NestedStatus TypedStatus room x
-status_sound F room x text are e = status_reads F room no_status x text are (fresh NestedStatus no_status empty_status room) (λ f. empty_status_typed) e
 
 -- ---- event
 

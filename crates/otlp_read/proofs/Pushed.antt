@@ -20,13 +20,13 @@ pushed_key_value (q ∷ ps) p = ap (a_key_value (key_value_view q)) (pushed_key_
 array_roll : (v : Vec AnyValue Global) (u : List ℕ) → array_view (roll-ArrayValue (record { values = v; unknown = u })) ≡ array_value (values_of (map any_view v.items)) u
 array_roll v u = search (rules, the_lemmas)
 
-array_out : (a : ArrayValue) → array_view a ≡ array_value (values_of (map any_view (out-ArrayValue a).values.items)) (out-ArrayValue a).unknown
+pub array_out : (a : ArrayValue) → array_view a ≡ array_value (values_of (map any_view (out-ArrayValue a).values.items)) (out-ArrayValue a).unknown
 array_out a = search (rules, the_lemmas)
 
 list_roll : (v : Vec KeyValue Global) (u : List ℕ) → list_view (roll-KeyValueList (record { values = v; unknown = u })) ≡ key_value_list (key_values_of (map key_value_view v.items)) u
 list_roll v u = search (rules, the_lemmas)
 
-list_out : (a : KeyValueList) → list_view a ≡ key_value_list (key_values_of (map key_value_view (out-KeyValueList a).values.items)) (out-KeyValueList a).unknown
+pub list_out : (a : KeyValueList) → list_view a ≡ key_value_list (key_values_of (map key_value_view (out-KeyValueList a).values.items)) (out-KeyValueList a).unknown
 list_out a = search (rules, the_lemmas)
 
 -- an array with one more element

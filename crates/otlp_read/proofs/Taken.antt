@@ -1,6 +1,5 @@
 -- Text that takes a message on: each form of field, as the canonical text has it.
-use Rattle.std.proofs.Common.{◌≡◌, ℕ, ℤ, pos, negsuc, zero, suc, ◌-◌, ◌%◌, ◌<◌, ◌^◌, Bool, true, false, ◌&&◌, nat_lt, ◌==◌, FitsSigned, List, [], ◌∷◌, ◌++◌, length, Option, Some, None, option_map, IfSome, Result, Ok, refl, sym, ap, subst, ◌∙◌, arith, append_assoc, append-nil, length-append}
-use Rattle.std.proofs.Math.Facts.{Fits-of_z}
+use Rattle.std.proofs.Common.{◌≡◌, ℕ, ℤ, pos, negsuc, zero, suc, ◌-◌, ◌%◌, ◌<◌, ◌^◌, true, false, ◌==◌, FitsSigned, List, [], ◌∷◌, ◌++◌, length, Option, Some, None, option_map, IfSome, Result, Ok, refl, sym, ap, subst, ◌∙◌, arith, append_assoc, append-nil, length-append}
 use Rattle.std.proofs.lemmas.Bool.Decides.{nat_tests}
 use Rattle.std.proofs.lemmas.Int.{to_z-of_z}
 use Rattle.std.proofs.lemmas.Nat.{from_le_bytes-to_le_bytes_4, from_le_bytes-to_le_bytes_8}
@@ -9,7 +8,8 @@ use Rattle.std.specs.List.{AllByRecursion}
 use Rattle.std.specs.Str.{IsUtf8}
 use Rattle.pb_wire.specs.Grammar.{Varint, Eight, Bytes, Four}
 use Rattle.otlp_trace.specs.Text.{number_field, bytes_field, eight_field, four_field, unless_zero, some_bytes, some_number, some_signed, some_eight, some_four, embedded, repeated}
-use Rattle.otlp_trace.proofs.Spelled.{number_at, bytes_at, eight_at, four_at, bytes_within, unless_full}
+use Rattle.otlp_trace.proofs.Signed.{fits32, fits64, low32}
+use Rattle.otlp_trace.proofs.Spelled.{is_number, number_some, number_fits, number_at, bytes_at, eight_at, four_at, bytes_within, unless_full}
 use Rattle.otlp_read.specs.declared.fault.ReadFault.{ReadFault}
 use Rattle.otlp_read.specs.Nested.{IsUnknown, Kept}
 use Rattle.otlp_read.specs.Numbers.{utf8, int32, uint32, int64, fixed64, fixed32}
@@ -47,32 +47,22 @@ whole {step = step} {d = d} {a = a} {b = b} {text = text} t short = ap (walk ste
 
 -- ---- a field that is always written
 
--- a field's number, which a tag can hold
-abbrev pub numbers : ℕ → Bool
-numbers n = nat_lt 0 n && nat_lt n (2 ^ 29)
-
-above : (n : ℕ) → numbers n ≡ true → 0 < n
-above n e = grind (arith, nat_tests)
-
-below : (n : ℕ) → numbers n ≡ true → n < 2 ^ 29
-below n e = grind (arith, nat_tests)
-
-module _ {A : Type 0} (step : Step A) (d n : ℕ) (is : numbers n ≡ true) where
+module _ {A : Type 0} (step : Step A) (d n : ℕ) (is : is_number n ≡ true) where
   pub bytes_taken : (a b : A) (bs : List ℕ) → (Short bs → step a (record { number = n; value = Bytes bs }) (bytes_field n bs) ≡ Ok b) → Taken step d a (bytes_field n bs) b
   bytes_taken a b bs made = record {
     taken = λ short rest.
         let inside : Short bs = omega (arith, short, bytes_within n bs) in
-        front_taken step d a b (bytes_field n bs) rest (record { number = n; value = Bytes bs }) (bytes_at d n bs (above n is) (below n is) inside) (made inside);
+        front_taken step d a b (bytes_field n bs) rest (record { number = n; value = Bytes bs }) (bytes_at d n bs (number_some n is) (number_fits n is) inside) (made inside);
   }
 
   pub number_taken : (a b : A) (x : ℕ) → x < 2 ^ 64 → step a (record { number = n; value = Varint x }) (number_field n x) ≡ Ok b → Taken step d a (number_field n x) b
-  number_taken a b x fits made = record { taken = λ short rest. front_taken step d a b (number_field n x) rest (record { number = n; value = Varint x }) (number_at d n x (above n is) (below n is) fits) made }
+  number_taken a b x fits made = record { taken = λ short rest. front_taken step d a b (number_field n x) rest (record { number = n; value = Varint x }) (number_at d n x (number_some n is) (number_fits n is) fits) made }
 
   pub eight_taken : (a b : A) (bs : List ℕ) → length bs ≡ 8 → step a (record { number = n; value = Eight bs }) (eight_field n bs) ≡ Ok b → Taken step d a (eight_field n bs) b
-  eight_taken a b bs long made = record { taken = λ short rest. front_taken step d a b (eight_field n bs) rest (record { number = n; value = Eight bs }) (eight_at d n bs (above n is) (below n is) long) made }
+  eight_taken a b bs long made = record { taken = λ short rest. front_taken step d a b (eight_field n bs) rest (record { number = n; value = Eight bs }) (eight_at d n bs (number_some n is) (number_fits n is) long) made }
 
   four_taken : (a b : A) (bs : List ℕ) → length bs ≡ 4 → step a (record { number = n; value = Four bs }) (four_field n bs) ≡ Ok b → Taken step d a (four_field n bs) b
-  four_taken a b bs long made = record { taken = λ short rest. front_taken step d a b (four_field n bs) rest (record { number = n; value = Four bs }) (four_at d n bs (above n is) (below n is) long) made }
+  four_taken a b bs long made = record { taken = λ short rest. front_taken step d a b (four_field n bs) rest (record { number = n; value = Four bs }) (four_at d n bs (number_some n is) (number_fits n is) long) made }
 
 -- ---- fields that are left out at their default: put says the message by what this field holds
 
@@ -80,27 +70,15 @@ unless_zero_taken : {A : Type 0} (step : Step A) (d x : ℕ) (a b : A) (text : L
 unless_zero_taken step d zero a b text same taken = subst (λ c. Taken step d a [] c) (same refl) (nothing step d a)
 unless_zero_taken step d (suc x) a b text same taken = let some : (suc x == 0) ≡ false = grind (arith, nat_tests) in rw some taken
 
-pub fits64 : (z : ℤ) → FitsSigned w64 z → cast_unsigned w64 z < 2 ^ 64
-fits64 z h = let f = Fits-of_z {w = w64} {z = z} h in omega (arith, f.fits)
-
 zero64 : (z : ℤ) → FitsSigned w64 z → cast_unsigned w64 z ≡ 0 → pos 0 ≡ z
 zero64 (pos n) h e = ap pos (sym e)
 zero64 (negsuc n) h e = absurd (omega (arith, h.sfits, e))
-
--- a number of 32 bits with a sign, written as 64
-back32 : (z : ℤ) → FitsSigned w32 z → int32 (cast_unsigned w64 z) ≡ z
-back32 (pos n) h = let e : n % 2 ^ 32 ≡ n = omega (arith, h.sfits) in rw e (to_z-of_z w32 (pos n) h)
-back32 (negsuc n) h = let e : (2 ^ 64 - suc n) % 2 ^ 32 ≡ 2 ^ 32 - suc n = omega (arith, h.sfits) in rw e (to_z-of_z w32 (negsuc n) h)
-
-below64 : (z : ℤ) → FitsSigned w32 z → cast_unsigned w64 z < 2 ^ 64
-below64 (pos n) h = omega (arith, h.sfits)
-below64 (negsuc n) h = omega (arith, h.sfits)
 
 zero32 : (z : ℤ) → FitsSigned w32 z → cast_unsigned w64 z ≡ 0 → pos 0 ≡ z
 zero32 (pos n) h e = ap pos (sym e)
 zero32 (negsuc n) h e = absurd (omega (arith, h.sfits, e))
 
-module _ {A : Type 0} (step : Step A) (d n : ℕ) (is : numbers n ≡ true) where
+module _ {A : Type 0} (step : Step A) (d n : ℕ) (is : is_number n ≡ true) where
   pub some_bytes_taken : (put : List ℕ → A) (bs : List ℕ) → (step (put []) (record { number = n; value = Bytes bs }) (bytes_field n bs) ≡ Ok (put bs)) → Taken step d (put []) (some_bytes n bs) (put bs)
   some_bytes_taken put [] made = nothing step d (put [])
   some_bytes_taken put (b ∷ bs) made =
@@ -117,7 +95,7 @@ module _ {A : Type 0} (step : Step A) (d n : ℕ) (is : numbers n ≡ true) wher
   pub some_int32_taken : (put : ℤ → A) (z : ℤ) → FitsSigned w32 z → ((x : ℕ) → step (put (pos 0)) (record { number = n; value = Varint x }) (number_field n x) ≡ Ok (put (int32 x))) → Taken step d (put (pos 0)) (some_signed n z) (put z)
   some_int32_taken put z fits made =
       let x = cast_unsigned w64 z in
-      unless_zero_taken step d x (put (pos 0)) (put z) (number_field n x) (λ e. ap put (zero32 z fits e)) (number_taken step d n is (put (pos 0)) (put z) x (below64 z fits) (made x ∙ ap (λ y. Ok (put y)) (back32 z fits)))
+      unless_zero_taken step d x (put (pos 0)) (put z) (number_field n x) (λ e. ap put (zero32 z fits e)) (number_taken step d n is (put (pos 0)) (put z) x (fits32 z fits) (made x ∙ ap (λ y. Ok (put y)) (low32 z fits)))
 
   pub some_int64_taken : (put : ℤ → A) (z : ℤ) → FitsSigned w64 z → ((x : ℕ) → step (put (pos 0)) (record { number = n; value = Varint x }) (number_field n x) ≡ Ok (put (int64 x))) → Taken step d (put (pos 0)) (some_signed n z) (put z)
   some_int64_taken put z fits made =
@@ -136,7 +114,7 @@ module _ {A : Type 0} (step : Step A) (d n : ℕ) (is : numbers n ≡ true) wher
 
 -- ---- messages inside
 
-module _ {A B : Type 0} (step : Step A) (d n : ℕ) (is : numbers n ≡ true) (read : List ℕ → Result B ReadFault) (text : B → List ℕ) (Typed Nested : B → Type 0) (back : Back read text Typed Nested) where
+module _ {A B : Type 0} (step : Step A) (d n : ℕ) (is : is_number n ≡ true) (read : List ℕ → Result B ReadFault) (text : B → List ℕ) (Typed Nested : B → Type 0) (back : Back read text Typed Nested) where
   pub embedded_taken : (put : Option B → A) (o : Option B) → IfSome o Typed → IfSome o Nested → ((bs : List ℕ) → step (put None) (record { number = n; value = Bytes bs }) (bytes_field n bs) ≡ (read bs >>= λ x. Ok (put (Some x))))
       → Taken step d (put None) (embedded n (option_map text o)) (put o)
   embedded_taken put None typed nested made = nothing step d (put None)

@@ -7,8 +7,8 @@ use Rattle.otlp_trace.specs.declared.value.AnyValue.{AnyValue}
 use Rattle.otlp_trace.specs.declared.value.ArrayValue.{ArrayValue, out-ArrayValue}
 use Rattle.otlp_trace.specs.declared.value.KeyValue.{KeyValue, out-KeyValue}
 use Rattle.otlp_trace.specs.declared.value.KeyValueList.{KeyValueList, out-KeyValueList}
-use Rattle.otlp_trace.specs.Data.{array_value, key_value_list}
 use Rattle.otlp_trace.specs.View.{any_view, array_view, list_view, key_value_view, values_of, key_values_of, key_value_of}
+use Rattle.otlp_read.proofs.Pushed.{array_out, list_out}
 use Rattle.otlp_read.specs.Typed.{TypedAny, TypedArray, TypedValues, TypedList, TypedKeyValue, TypedKeyValues}
 
 -- all of them
@@ -28,12 +28,6 @@ values_typed (v ∷ vs) each = (each.0, values_typed vs each.1)
 key_values_typed : (ps : List KeyValue) → AllByRecursion (λ p. TypedKeyValue (key_value_view p)) ps → TypedKeyValues (key_values_of (map key_value_view ps))
 key_values_typed [] each = tt
 key_values_typed (p ∷ ps) each = (each.0, key_values_typed ps each.1)
-
-array_out : (a : ArrayValue) → array_view a ≡ array_value (values_of (map any_view (out-ArrayValue a).values.items)) (out-ArrayValue a).unknown
-array_out a = search (rules, the_lemmas)
-
-list_out : (l : KeyValueList) → list_view l ≡ key_value_list (key_values_of (map key_value_view (out-KeyValueList l).values.items)) (out-KeyValueList l).unknown
-list_out l = search (rules, the_lemmas)
 
 key_value_out : (p : KeyValue) → key_value_view p ≡ key_value_of (string_bytes (out-KeyValue p).key) (option_map any_view (out-KeyValue p).value) (out-KeyValue p).unknown
 key_value_out p = search (rules, the_lemmas)

@@ -3,38 +3,16 @@ use Rattle.std.proofs.Common.{◌≡◌, ℕ, zero, suc, ◌-◌, true, false, L
 use Rattle.std.proofs.lemmas.Int.{to_z-of_z}
 use Rattle.std.specs.Int.{w64, cast_unsigned}
 use Rattle.std.specs.Str.{IsUtf8}
-use Rattle.otlp_trace.specs.Data.{AnyValueData, any_value, KindData, unset, string, boolean, int, double, array, kvlist, bytes, ArrayValueData, array_value, AnyValues, no_values, a_value, KeyValueListData, key_value_list, KeyValueData, bare_key, key_value, KeyValues, no_key_values, a_key_value}
+use Rattle.otlp_trace.specs.Data.{AnyValueData, any_value, KindData, unset, string, boolean, int, double, array, kvlist, bytes, array_value, AnyValues, no_values, a_value, key_value_list, KeyValueData, bare_key, key_value, KeyValues, no_key_values, a_key_value}
+use Rattle.otlp_trace.proofs.Signed.{fits64}
 use Rattle.otlp_trace.specs.Text.{some_bytes, any_text, kind_text, array_text, values_text, list_text, key_value_text, key_values_text}
 use Rattle.otlp_read.specs.AnyValue.{no_value, no_array, no_list, no_key_value, keep_any, any_step, push_value, keep_array, array_step, push_key_value, keep_list, list_step, keep_key_value, read_any, read_array, read_list, read_key_value, key_value_step}
 use Rattle.otlp_read.specs.Nested.{known_of_any, known_of_array, known_of_list, known_of_key_value, NestedAny, NestedKind, NestedArray, NestedValues, NestedList, NestedKeyValue, NestedKeyValues}
 use Rattle.otlp_read.specs.Typed.{TypedAny, TypedKind, TypedArray, TypedValues, TypedList, TypedKeyValue, TypedKeyValues}
-use Rattle.otlp_read.specs.Walk.{walk, read_with}
+use Rattle.otlp_read.specs.Walk.{read_with}
 use Rattle.otlp_read.proofs.Leaves.{utf8_yes}
-use Rattle.otlp_read.proofs.Taken.{Taken, Back, nothing, then, whole, fits64, bytes_taken, number_taken, eight_taken, some_string_taken, kept_taken}
-
--- ---- a reader with room is a walk
-
-any_opened : (room : ℕ) (v : AnyValueData) (bs : List ℕ) → read_any (suc room) v bs ≡ walk (any_step (read_array room) (read_list room)) (100 - room) v bs
-unfolding read_any
-any_opened room v bs = refl
-
-array_opened : (room : ℕ) (a : ArrayValueData) (bs : List ℕ) → read_array (suc room) a bs ≡ walk (array_step (read_any room)) (100 - room) a bs
-unfolding read_any
-array_opened room a bs = refl
-
-list_opened : (room : ℕ) (l : KeyValueListData) (bs : List ℕ) → read_list (suc room) l bs ≡ walk (list_step (read_key_value room)) (100 - room) l bs
-unfolding read_any
-list_opened room l bs = refl
-
-key_value_opened : (room : ℕ) (p : KeyValueData) (bs : List ℕ) → read_key_value (suc room) p bs ≡ walk (key_value_step room) (100 - room) p bs
-unfolding read_any
-key_value_opened room p bs = refl
-
--- a key with its value is read as any other message is
-pub attribute_read : (room : ℕ) (p : KeyValueData) (bs : List ℕ) → read_with key_value_step room p bs ≡ read_key_value room p bs
-unfolding read_any read_with
-attribute_read zero p bs = refl
-attribute_read (suc room) p bs = refl
+use Rattle.otlp_read.proofs.Opened.{any_opened, array_opened, list_opened, key_value_opened, attribute_read}
+use Rattle.otlp_read.proofs.Taken.{Taken, Back, nothing, then, whole, bytes_taken, number_taken, eight_taken, some_string_taken, kept_taken}
 
 -- ---- lists: what has been read, and what follows
 

@@ -10,7 +10,7 @@ use Rattle.otlp_read.specs.Nested.{known_of_any, known_of_array, known_of_list, 
 use Rattle.otlp_read.specs.Typed.{TypedAny, TypedKind, TypedArray, TypedValues, TypedList, TypedKeyValue, TypedKeyValues}
 use Rattle.otlp_read.specs.Walk.{read_with}
 use Rattle.otlp_read.proofs.Sound.{AreBytes, not_known, made, read_fine, string_fine, kept_keeps, nothing_kept, kept_more, walk_kept, Good, Before, Reads, FieldsFine, fresh, from_nested, int64_fits, by_test, err_not_ok}
-use Rattle.otlp_read.proofs.ValueBack.{attribute_read}
+use Rattle.otlp_read.proofs.Opened.{attribute_read}
 
 -- ---- the messages of no fields
 
