@@ -39,6 +39,38 @@ const NO_NUMBERS: Numbers = Numbers {
     scope: 0,
 };
 
+/// A span of no resource, without numbers.
+fn of_no_resource(
+    rt: &impl Abort,
+    owner: u32,
+    scope: Option<Bytes>,
+    urls: SchemaUrls,
+    text: &'static [u8],
+) -> StoredSpan
+    ensures { result.numbers ≡ NO_NUMBERS }
+{
+    assert!(rt; is_text(text, NONE));
+    let bytes = Bytes::from_static(text);
+    StoredSpan::of(owner, None, scope, urls, bytes, NO_NUMBERS)
+}
+
+/// A span of this resource, without numbers.
+fn of_resource(
+    rt: &impl Abort,
+    owner: u32,
+    resource: &'static [u8],
+    scope: Option<Bytes>,
+    urls: SchemaUrls,
+    text: &'static [u8],
+) -> StoredSpan
+    ensures { result.numbers ≡ NO_NUMBERS }
+{
+    assert!(rt; is_text(text, resource));
+    let resource = Some(Bytes::from_static(resource));
+    let bytes = Bytes::from_static(text);
+    StoredSpan::of(owner, resource, scope, urls, bytes, NO_NUMBERS)
+}
+
 /// A span of those texts, without numbers.
 fn stored(
     rt: &impl Abort,
@@ -54,39 +86,40 @@ fn stored(
         scope: Bytes::from_static(scope.1),
     };
     let scope = shared(scope.0);
-    let bytes = Bytes::from_static(text);
     match resource.0 {
-        Some(resource) => {
-            assert!(rt; is_text(text, resource));
-            StoredSpan::of(
-                owner,
-                Some(Bytes::from_static(resource)),
-                scope,
-                urls,
-                bytes,
-                NO_NUMBERS,
-            )
-        }
-        None => {
-            assert!(rt; is_text(text, NONE));
-            StoredSpan::of(owner, None, scope, urls, bytes, NO_NUMBERS)
-        }
+        Some(resource) => of_resource(rt, owner, resource, scope, urls, text),
+        None => of_no_resource(rt, owner, scope, urls, text),
     }
+}
+
+/// Whether there are bytes, and these.
+fn are(bytes: &Option<Bytes>, want: &[u8]) -> bool {
+    match bytes {
+        Some(bytes) => bytes.as_slice() == want,
+        None => false,
+    }
+}
+
+fn is_of_seven(span: &StoredSpan) -> bool {
+    span.owner() == 7
+        && span.text().as_slice() == NAME
+        && are(span.resource(), b"\x10\x01")
+        && are(span.scope(), b"\x0a\x01s")
+        && span.resource_schema_url().as_slice() == b"r".as_slice()
+        && span.scope_schema_url().as_slice() == b"u".as_slice()
 }
 
 #[test]
 fn what_was_stored_is_there(rt: HostRuntime) {
     let resource: Source = (Some(b"\x10\x01"), b"r");
     let span = stored(&rt, 7, resource, (Some(b"\x0a\x01s"), b"u"), NAME);
-    assert_eq!(rt; span.owner(), 7);
-    assert!(rt; *span.text() == Bytes::from_static(NAME));
-    assert!(rt; *span.resource() == Some(Bytes::from_static(b"\x10\x01")));
-    assert!(rt; *span.scope() == Some(Bytes::from_static(b"\x0a\x01s")));
-    assert!(rt; *span.resource_schema_url() == Bytes::from_static(b"r"));
-    assert!(rt; *span.scope_schema_url() == Bytes::from_static(b"u"));
-    let bare = stored(&rt, 7, NOWHERE, NOWHERE, NAME);
-    assert!(rt; bare.resource().is_none());
-    assert!(rt; bare.scope().is_none());
+    assert!(rt; is_of_seven(&span));
+}
+
+#[test]
+fn what_is_missing_is_not_there(rt: HostRuntime) {
+    let span = stored(&rt, 7, NOWHERE, NOWHERE, NAME);
+    assert!(rt; span.resource().is_none() && span.scope().is_none());
 }
 
 /// A span of the long text.
@@ -141,15 +174,24 @@ fn are_one_scope(rt: &impl Abort, here: Source, there: Source) -> bool {
     one.is_same_scope(&other)
 }
 
+/// Whether both comparisons tell these two apart where they differ, and only there.
+fn are_told_apart(rt: &impl Abort, here: u8, there: u8) -> bool {
+    are_one_resource(rt, source(here), source(there)) == (here == there)
+        && are_one_scope(rt, source(here), source(there)) == (here == there)
+}
+
+fn is_told_from_each(rt: &impl Abort, here: u8) -> bool {
+    let mut is_told = true;
+    for there in 0..6u8 {
+        is_told &= are_told_apart(rt, here, there);
+    }
+    is_told
+}
+
 #[test]
 fn sources_are_the_same_by_text_and_schema(rt: HostRuntime) {
     for here in 0..6u8 {
-        for there in 0..6u8 {
-            let resources = are_one_resource(&rt, source(here), source(there));
-            assert_eq!(rt; resources, here == there, "{here} and {there}");
-            let scopes = are_one_scope(&rt, source(here), source(there));
-            assert_eq!(rt; scopes, here == there, "{here} and {there}");
-        }
+        assert!(rt; is_told_from_each(&rt, here), "{here}");
     }
 }
 
@@ -200,18 +242,18 @@ fn numbered(rt: &impl Abort) -> StoredSpan {
     StoredSpan::of(7, None, None, urls, Bytes::from_static(NAME), numbers)
 }
 
+/// Whether a span is the same with numbers that are so much higher.
+fn is_same_with(rt: &impl Abort, base: u64) -> Result<bool, AllocError> {
+    let span = numbered(rt);
+    let other = span.renumbered(base)?;
+    Ok(other == span && other.is_same_resource(&span) && other.is_same_scope(&span))
+}
+
 #[test]
 fn a_span_is_the_same_with_other_numbers(rt: HostRuntime) -> Result<(), AllocError> {
-    let span = numbered(&rt);
-    let higher = span.renumbered(5)?;
-    assert!(rt; higher == span);
-    assert!(rt; higher.is_same_resource(&span));
-    assert!(rt; higher.is_same_scope(&span));
+    assert!(rt; is_same_with(&rt, 5)?);
     // These numbers would be too great.
-    let none = span.renumbered(u64::MAX)?;
-    assert!(rt; none == span);
-    assert!(rt; none.is_same_resource(&span));
-    assert!(rt; none.is_same_scope(&span));
+    assert!(rt; is_same_with(&rt, u64::MAX)?);
     Ok(())
 }
 
