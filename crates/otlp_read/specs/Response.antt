@@ -1,5 +1,5 @@
 -- The value of a reply's body: how much of a request was refused, and why (the partial success of the OTLP specification).
-use Rattle.std.specs.Prelude.{ℕ, pos, ◌==◌, if◌then◌else◌, List, [], Some, None, unwrap_or, Ok}
+use Rattle.std.specs.Prelude.{ℕ, pos, ◌==◌, if◌then◌else◌, List, [], Some, None, unwrap_or, Result, Ok}
 use Rattle.pb_wire.specs.Grammar.{Varint, Bytes}
 use Rattle.otlp_trace.specs.Data.{PartialSuccessData, ResponseData}
 use Rattle.otlp_read.specs.declared.fault.ReadFault.{ReadFault}
@@ -27,6 +27,10 @@ response_known room r n _ = None
 
 abbrev pub response_step : ℕ → Step ResponseData
 response_step room = known_or_dropped (response_known room)
+
+-- the value of a reply's body, or the first fault that is met
+abbrev pub response_value_of : List ℕ → Result ResponseData ReadFault
+response_value_of bytes = read_with response_step 101 no_response bytes
 
 -- the body's fields make this response
 abbrev pub IsResponse : List ℕ → ResponseData → Type 0
