@@ -1,3 +1,5 @@
+//! Messages spelled by hand, field by field.
+
 ghost use Rattle.otlp_read.specs.Examples.{Meanings, Spans, Groups, Members, Faults, Relations, Conditions, Replies};
 
 use super::*;

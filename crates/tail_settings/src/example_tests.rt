@@ -1,3 +1,5 @@
+//! The documents of examples/, and what they are read to.
+
 use super::*;
 use crate::tests::{check_printed, counted};
 use std::test::Fail;

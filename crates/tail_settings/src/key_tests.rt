@@ -1,3 +1,5 @@
+//! Each key: its kind, its range, its place in the order of faults, and what it is where it is left out.
+
 use super::*;
 use crate::tests::{check_cases, check_printed, compare, repeated};
 use std::alloc::{AllocError, Global};

@@ -1,3 +1,5 @@
+//! Policies: their faults, how many there may be, and equal and copied ones.
+
 use super::*;
 use crate::tests::{check_cases, compare_repeated};
 use std::alloc::{AllocError, Global};

@@ -1,3 +1,5 @@
+//! Documents, tenants and their names, and how the tests of this crate tell what was read.
+
 use super::*;
 use std::alloc::{AllocError, Global};
 use std::process::Abort;

@@ -1,3 +1,5 @@
+//! Stories of posts and turns, a line for each, and what bodies are prepared to.
+
 ghost use Rattle.tenant_pipeline.specs.Examples.{OnePost, FourPosts, Invalid, TwoResources};
 
 use super::*;
@@ -96,6 +98,7 @@ pub fn named(alloc: Global, name: &str) -> Result<Vec<u8>, AllocError> {
     Ok(bytes)
 }
 
+/// The number that these digits are, or none for a word, as `never`.
 pub fn number(digits: &str) -> Option<u64> {
     digits.parse().ok()
 }

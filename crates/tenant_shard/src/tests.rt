@@ -1,3 +1,5 @@
+//! Stories of several tenants' posts and turns, a line for each.
+
 use super::*;
 use bytes::Bytes;
 use otlp_trace::Octets;
