@@ -292,39 +292,23 @@ fn key_value_field(
     requires room { room ≤ 100 }
     ensures exact { Gives key_value_view result (key_value_step_of (read_any room) (key_value_view before) (entry field.entry) spelled.now) }
 {
-    let KeyValue {
-        key,
-        value,
-        unknown,
-    } = before;
     if let Value::Bytes(bytes) = field.value {
         if field.number == 1 {
             let key = text(alloc, bytes)?;
-            return Ok(KeyValue {
-                key,
-                value,
-                unknown,
-            });
+            return Ok(KeyValue { key, ..before });
         }
         if field.number == 2 {
-            let start = match value {
+            let old = before.value;
+            let start = match old {
                 Some(value) => value,
                 None => empty_value(alloc),
             };
             let value = Some(any_value(alloc, start, bytes, room)?);
-            return Ok(KeyValue {
-                key,
-                value,
-                unknown,
-            });
+            return Ok(KeyValue { value, ..before });
         }
     }
-    let unknown = keep(unknown, spelled)?;
-    Ok(KeyValue {
-        key,
-        value,
-        unknown,
-    })
+    let unknown = keep(before.unknown, spelled)?;
+    Ok(KeyValue { unknown, ..before })
 }
 
 impl Message for KeyValue {
