@@ -4,3 +4,4 @@ pub mod Rules
 pub mod Sound
 pub mod Tenants
 pub mod Told
+pub mod OnLiterals

@@ -1,35 +1,14 @@
-use Rattle.std.specs.Prelude.{⊤}
 use Rattle.std.proofs.Common.{◌≢◌, ◌≤◌, ◌^◌, codes, [], ◌∷◌, AllPairs, IsTrue, bytes_eq, refl, ap, true≢false, arith, lit<, lit≤}
 use Rattle.std.proofs.lemmas.List.Elements.{All-nil, All-cons}
 use Rattle.std.proofs.lemmas.List.Kept.{AllPairs-cons}
-use Rattle.toml.proofs.OnLiterals.{toml_on_literals}
 use Rattle.tail_settings.specs.Keys.{number_at, required_number_at, integer_at, text_at, text_or_at, table_at, tables_at, texts_at, some_tables_at, some_texts_at}
 use Rattle.tail_settings.specs.Texts.{is_name, address_at, header_at, attribute_key_at}
-use Rattle.tail_settings.specs.Global.{global_of}
-use Rattle.tail_settings.specs.Policy.{leaf, always_sample, status_code_of, values_of, string_attribute_of, numeric_attribute_of, leaf_of_type, leaf_of, and_of, policy_of, policies_of}
-use Rattle.tail_settings.specs.TailSampling.{tail_sampling_of}
-use Rattle.tail_settings.specs.Batch.{batch_of}
-use Rattle.tail_settings.specs.SendingQueue.{sending_queue_of}
-use Rattle.tail_settings.specs.RetryOnFailure.{retry_of}
-use Rattle.tail_settings.specs.Section.{section_of}
-use Rattle.tail_settings.specs.Settings.{TenantData, name_of, tenant_of, tenants_of, settings_of_table, settings_of}
+use Rattle.tail_settings.specs.Policy.{leaf, always_sample}
+use Rattle.tail_settings.specs.Settings.{TenantData}
 use Rattle.tail_settings.specs.Sound.{IsSoundPolicy, IsSoundTailSampling, IsSoundSection, AreSoundTenants}
 use Rattle.tail_settings.specs.Examples.{default_section, named}
+use Rattle.tail_settings.proofs.OnLiterals.{tables_on_literals, policies_on_literals, settings_on_literals, texts_on_literals}
 use Rattle.tail_settings.proofs.definition_tests.definitions_on_small_inputs.Goals as goal
-
--- what an answer unfolds to compute tables, policies, sections and settings
-
-unfoldable tables_on_literals : ⊤
-unfolding number_at text_or_at table_at address_at header_at global_of batch_of sending_queue_of retry_of
-tables_on_literals = tt
-
-unfoldable policies_on_literals : ⊤
-unfolding required_number_at integer_at text_at tables_at texts_at some_tables_at some_texts_at attribute_key_at status_code_of values_of string_attribute_of numeric_attribute_of leaf_of_type leaf_of and_of policy_of policies_of
-policies_on_literals = tt
-
-unfoldable settings_on_literals : ⊤
-unfolding tables_on_literals policies_on_literals tail_sampling_of section_of name_of tenant_of tenants_of settings_of_table settings_of
-settings_on_literals = tt
 
 pub returns-clause-numbers : goal.returns-clause-numbers
 unfolding number_at
@@ -220,7 +199,7 @@ pub returns-clause-most_spans : goal.returns-clause-most_spans
 returns-clause-most_spans c = record { added = refl; all = refl; one_more = refl }
 
 pub returns-clause-documents : goal.returns-clause-documents
-unfolding settings_on_literals toml_on_literals
+unfolding texts_on_literals
 returns-clause-documents c = record {
   of_table = refl;
   global_first = refl;
