@@ -6,7 +6,7 @@ use Rattle.tail_settings.specs.Settings.{SettingsData}
 use Rattle.tenant_pipeline.specs.declared.told.Told.TheVariants as tell
 use Rattle.tenant_pipeline.specs.Examples.{one_second, span, body}
 use Rattle.tenant_pipeline.specs.Prepared.{PreparedData}
-use Rattle.tenant_pipeline.specs.State.{State, accepted}
+use Rattle.tenant_pipeline.specs.State.{RowData, State, accepted}
 use Rattle.tenant_shard.specs.declared.step.Step.{Step}
 use Rattle.tenant_shard.specs.declared.step.Step.TheVariants.{Post, Turn}
 use Rattle.tenant_shard.specs.declared.step.Outcome.{Outcome}
@@ -16,9 +16,9 @@ use Rattle.tenant_shard.specs.Lists.{Lists, ShardStands}
 use Rattle.tenant_shard.specs.Table.{opened}
 use Rattle.tenant_shard.specs.Outcomes.{Posted, Turned, is_taken, Answered, NotTaken, named, is_own}
 use Rattle.tenant_shard.specs.Pick.{IsPick}
-use Rattle.tenant_shard.specs.Run.{after, IsNext, Run}
+use Rattle.tenant_shard.specs.Run.{after, after_all, IsNext, Run, RunFrom}
 use Rattle.tenant_shard.specs.Alone.{alone, own_steps, told_to}
-use Rattle.tenant_shard.specs.Refusal.{IsNobodys, IsRefused}
+use Rattle.tenant_shard.specs.Refusal.{IsNobodys, IsRefused, without}
 use Rattle.tenant_shard.specs.Stop.{IsStopped}
 
 -- ---- members, and what is kept of them
@@ -217,3 +217,64 @@ pub record Losses : Type 0 where
 pub record Stops : Type 0 where
   pub no_room : IsStopped (Turn 2000 ∷ []) (view 1 waits ∷ []) [] (view 1 waits ∷ [])
   pub at_the_turn : IsStopped (Turn 2000 ∷ []) (view 1 waits ∷ []) [] (view 1 decided ∷ [])
+
+-- ---- a run in which the own steps of a tenant are not known
+
+-- tenant 1 had its post at 500, and then it was refused memory. Tenant 0 has had no step
+abbrev pub one_unknown : Lists
+one_unknown = without 1 (after (Post 500 (prepared 1 18 34)) (taken 1) two)
+
+-- of a pipeline that waits two seconds: nothing yet, a span that came at 0, and beside it another that came at 100
+abbrev pub starts : State
+starts = record fresh { wait = 2000 }
+
+abbrev pub waiting : ℕ → ℕ → ℕ → RowData
+waiting trace due id = record { trace = replicate 16 trace; due = due; spans = span trace id ∷ []; kept = false }
+
+abbrev pub holds : State
+holds = record starts { rows = waiting 17 2000 33 ∷ [] }
+
+abbrev pub holds_two : State
+holds_two = record starts { clock = 100; rows = waiting 17 2000 33 ∷ waiting 19 2100 35 ∷ [] }
+
+-- the first sent at 2000
+abbrev pub sent : State
+sent = record starts {
+  clock = 2000;
+  rows = record { trace = replicate 16 17; due = 2000; spans = []; kept = true } ∷ [];
+  decided = 1;
+  tickets = 1;
+}
+
+-- what `decided` is once its group was handed out at 2000
+abbrev pub handed_out : State
+handed_out = record decided { clock = 2000; queue = []; tickets = 1 }
+
+-- what is kept of both
+abbrev pub kept_of_both : State → State → List View
+kept_of_both first second = view 0 first ∷ view 1 second ∷ []
+
+abbrev pub three_steps : List Step
+three_steps = Post 0 (prepared 0 17 33) ∷ Turn 2000 ∷ Turn 2000 ∷ []
+
+-- what is kept of tenant 1 is ready at 1500, before tenant 0
+abbrev pub three_outcomes : List Outcome
+three_outcomes = taken 0 ∷ Job 1 1 (body 18 34) ∷ Job 0 1 (body 17 33) ∷ []
+
+abbrev pub two_posts : List Step
+two_posts = Post 0 (prepared 0 17 33) ∷ Post 100 (prepared 0 19 35) ∷ []
+
+-- tenant 0 is told what its own steps give. Of tenant 1 it is open what it is told, though no refusal, and what is kept of it
+-- after its turn; it is ready by what is kept of it, and no step of tenant 0 changes that
+pub record OneUnknown : Type 0 where
+  pub stands : ShardStands one_unknown (kept_of_both starts decided)
+  pub run : RunFrom one_unknown (kept_of_both starts decided) three_steps three_outcomes (kept_of_both sent handed_out)
+  pub stands_after : ShardStands (after_all three_steps three_outcomes one_unknown) (kept_of_both sent handed_out)
+  pub some_answer : RunFrom one_unknown (kept_of_both starts decided) (Turn 2000 ∷ []) (Worked 1 ∷ []) (kept_of_both starts handed_out)
+  pub refusal : (new : List View) → RunFrom one_unknown (kept_of_both starts decided) (Turn 2000 ∷ []) (Refused 1 23 ∷ []) new → ⊥
+  pub idle_though_ready : (new : List View) → RunFrom one_unknown (kept_of_both starts decided) (Turn 2000 ∷ []) (Idle ∷ []) new → ⊥
+  pub own_refused : (new : List View) → RunFrom one_unknown (kept_of_both starts decided) (Post 0 (prepared 0 17 33) ∷ []) (Refused 0 23 ∷ []) new → ⊥
+  pub later_one_first : (new : List View) → RunFrom one_unknown (kept_of_both starts decided) (Post 0 (prepared 0 17 33) ∷ Turn 2000 ∷ []) (taken 0 ∷ Job 0 1 (body 17 33) ∷ []) new → ⊥
+  pub other_stays : RunFrom one_unknown (kept_of_both starts decided) two_posts (taken 0 ∷ taken 0 ∷ []) (kept_of_both holds_two decided)
+  pub other_changed : (first : State) → RunFrom one_unknown (kept_of_both starts decided) two_posts (taken 0 ∷ taken 0 ∷ []) (kept_of_both first waits) → ⊥
+  pub one_less : (new : List View) → RunFrom one_unknown (kept_of_both starts decided) two_posts (taken 0 ∷ []) new → ⊥

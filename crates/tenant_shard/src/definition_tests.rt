@@ -1,6 +1,6 @@
 //! What the definitions say of members, picks, runs and refusals, on examples that were worked out by hand.
 
-ghost use Rattle.tenant_shard.specs.Examples.{Kept, Opened, Taken, Whose, Picks, Nexts, FourSteps, EachIsTold, Skipped, Nobodys, Losses, Stops};
+ghost use Rattle.tenant_shard.specs.Examples.{Kept, Opened, Taken, Whose, Picks, Nexts, FourSteps, EachIsTold, Skipped, Nobodys, Losses, Stops, OneUnknown};
 
 /// The definitions, on small shards, give what was worked out by hand.
 fn definitions_on_small_inputs()
@@ -16,4 +16,5 @@ fn definitions_on_small_inputs()
     ensures nobodys { Nobodys }
     ensures losses { Losses }
     ensures stops { Stops }
+    ensures one_unknown { OneUnknown }
 {}

@@ -1,23 +1,27 @@
 use Rattle.std.proofs.Common.{◌≡◌, ◌≢◌, ℕ, zero, suc, ◌<◌, ◌≤◌, Bool, true, false, List, [], ◌∷◌, Option, Some, None, refl, sym, ap, subst, ◌∙◌, arith, inl, inr, eqb}
 use Rattle.std.proofs.lemmas.Bool.Decides.{nat_tests}
 use Rattle.std.specs.Option.{unwrap_or}
+use Rattle.std.specs.Prelude.{option_and_then}
 use Rattle.tail_settings.specs.Section.{SectionData}
+use Rattle.tenant_pipeline.specs.declared.told.Told.{Told}
+use Rattle.tenant_pipeline.specs.declared.told.Told.TheVariants as tell
 use Rattle.tenant_pipeline.specs.Own.{Own}
 use Rattle.tenant_pipeline.specs.State.{State}
+use Rattle.tenant_pipeline.specs.Ready.{ready}
 use Rattle.tenant_pipeline.specs.Timers.{ran, effective}
 use Rattle.tenant_pipeline.specs.Examples.{body}
 use Rattle.tenant_pipeline.proofs.OnLiterals.{pipelines_on_literals}
 use Rattle.tenant_shard.specs.declared.step.Outcome.{Outcome}
 use Rattle.tenant_shard.specs.declared.step.Outcome.TheVariants.{Job, Idle, Refused}
-use Rattle.tenant_shard.specs.declared.step.Step.TheVariants.{Turn}
+use Rattle.tenant_shard.specs.declared.step.Step.TheVariants.{Post, Turn}
 use Rattle.tenant_shard.specs.View.{View, kept_of}
 use Rattle.tenant_shard.specs.Lists.{Lists, MemberStands, ShardStands}
 use Rattle.tenant_shard.specs.Table.{opened}
-use Rattle.tenant_shard.specs.Outcomes.{own_step, piped, told_whom}
+use Rattle.tenant_shard.specs.Outcomes.{own_step, piped, Answered, named, told_whom}
 use Rattle.tenant_shard.specs.Pick.{ready_in, ready_at, NotAfter, IsPick}
-use Rattle.tenant_shard.specs.Run.{IsTurned, IsNext, ShardRuns, after}
+use Rattle.tenant_shard.specs.Run.{IsTurned, IsNext, RunFrom, ShardRuns, after, after_all}
 use Rattle.tenant_shard.specs.Refusal.{IsRefused, without}
-use Rattle.tenant_shard.specs.Examples.{view, fresh, table, both_at_1000, second_first, posted, waits, decided}
+use Rattle.tenant_shard.specs.Examples.{view, fresh, table, prepared, taken, both_at_1000, second_first, posted, waits, decided, one_unknown, starts, holds, holds_two, sent, handed_out, kept_of_both, three_steps, three_outcomes, two_posts}
 use Rattle.tenant_shard.proofs.definition_tests.definitions_on_small_inputs.Goals as goal
 
 some_same : (a b : ℕ) → Some a ≡ Some b → a ≡ b
@@ -26,7 +30,10 @@ some_same a b e = ap (λ o. unwrap_or o a) e
 never : (a : ℕ) → None ≡ Some a → ⊥
 never a e = cc
 
--- a greater number is not 1
+-- a greater number is neither 0 nor 1
+above_0 : (n : ℕ) → eqb 0 (suc (suc n)) ≡ false
+above_0 n = grind (arith, nat_tests)
+
 above_1 : (n : ℕ) → eqb 1 (suc (suc n)) ≡ false
 above_1 n = grind (arith, nat_tests)
 
@@ -321,4 +328,133 @@ returns-clause-stops c = record {
     refused = refused_after_one;
     stands = still_stands waits decided refl;
   };
+}
+
+-- ---- a run in which the own steps of a tenant are not known
+
+both_stand : ShardStands one_unknown (kept_of_both starts decided)
+unfolding pipelines_on_literals
+both_stand zero = refl
+both_stand (suc zero) = refl
+both_stand (suc (suc n)) = rw (above_0 n, above_1 n) tt
+
+both_stand_after : ShardStands (after_all three_steps three_outcomes one_unknown) (kept_of_both sent handed_out)
+unfolding pipelines_on_literals
+both_stand_after zero = refl
+both_stand_after (suc zero) = refl
+both_stand_after (suc (suc n)) = rw (above_0 n, above_1 n) tt
+
+second_stays : (s t u : State) (other : ℕ) → Some 0 ≢ Some other → kept_of other (kept_of_both t u) ≡ kept_of other (kept_of_both s u)
+second_stays s t u zero apart = absurd (apart refl)
+second_stays s t u (suc zero) apart = refl
+second_stays s t u (suc (suc n)) apart = rw (above_0 n) refl
+
+first_stays : (s t u : State) (other : ℕ) → Some 1 ≢ Some other → kept_of other (kept_of_both u t) ≡ kept_of other (kept_of_both u s)
+first_stays s t u zero apart = refl
+first_stays s t u (suc zero) apart = absurd (apart refl)
+first_stays s t u (suc (suc n)) apart = rw (above_0 n, above_1 n) refl
+
+0-not-1 : told_whom (taken 0) ≢ Some 1
+0-not-1 same = omega (arith, some_same 0 1 same)
+
+-- after the post of tenant 0, and after the job of tenant 1
+abbrev second_posted : Lists
+second_posted = after (Post 0 (prepared 0 17 33)) (taken 0) one_unknown
+
+abbrev second_handed : Lists
+second_handed = after (Turn 2000) (Job 1 1 (body 18 34)) second_posted
+
+unknown_first : (tenant moment : ℕ) → ready_at second_posted (kept_of_both holds decided) tenant ≡ Some moment → NotAfter 1500 1 moment tenant
+unfolding pipelines_on_literals
+unknown_first zero moment h = inl (omega (arith, some_same 2000 moment h))
+unknown_first (suc zero) moment h = inr (some_same 1500 moment h, omega arith)
+unknown_first (suc (suc n)) moment h = absurd (never moment h)
+
+unknown_alone : (tenant moment : ℕ) → ready_at one_unknown (kept_of_both starts decided) tenant ≡ Some moment → NotAfter 1500 1 moment tenant
+unfolding pipelines_on_literals
+unknown_alone zero moment h = absurd (never moment h)
+unknown_alone (suc zero) moment h = inr (some_same 1500 moment h, omega arith)
+unknown_alone (suc (suc n)) moment h = absurd (never moment h)
+
+known_then : (tenant moment : ℕ) → ready_at second_handed (kept_of_both holds handed_out) tenant ≡ Some moment → NotAfter 2000 0 moment tenant
+unfolding pipelines_on_literals
+known_then zero moment h = inr (some_same 2000 moment h, omega arith)
+known_then (suc zero) moment h = absurd (never moment h)
+known_then (suc (suc n)) moment h = absurd (never moment h)
+
+three_run : RunFrom one_unknown (kept_of_both starts decided) three_steps three_outcomes (kept_of_both sent handed_out)
+unfolding pipelines_on_literals
+three_run = (
+  refl,
+  kept_of_both holds decided,
+  second_stays starts holds decided,
+  (
+    (Some 1, (1500, refl, omega arith, unknown_first), (tell.Job 1 (body 18 34), refl)),
+    kept_of_both holds handed_out,
+    first_stays decided handed_out holds,
+    ((Some 0, (2000, refl, omega arith, known_then), refl), kept_of_both sent handed_out, second_stays holds sent handed_out, refl),
+  ),
+)
+
+-- an answer is no refusal, and it names its tenant
+no_refusal : (tenant number other : ℕ) (said : Told) → Refused tenant number ≡ named other (Answered said) → ⊥
+no_refusal tenant number other (tell.Reply reply) e = let same : true ≡ false = ap is_refusal e in cc
+no_refusal tenant number other (tell.Job ticket payload) e = let same : true ≡ false = ap is_refusal e in cc
+no_refusal tenant number other tell.Worked e = let same : true ≡ false = ap is_refusal e in cc
+
+no_idle : (other : ℕ) (said : Told) → Idle ≡ named other (Answered said) → ⊥
+no_idle other (tell.Reply reply) e = never other (ap told_whom e)
+no_idle other (tell.Job ticket payload) e = never other (ap told_whom e)
+no_idle other tell.Worked e = never other (ap told_whom e)
+
+unknown_not_refused : (picked : Option ℕ) → IsTurned one_unknown 2000 picked (Refused 1 23) → ⊥
+unfolding pipelines_on_literals
+unknown_not_refused None turned = never 1 (sym (ap told_whom turned))
+unknown_not_refused (Some zero) turned = let same : true ≡ false = ap is_refusal turned in cc
+unknown_not_refused (Some (suc zero)) turned = no_refusal 1 23 1 turned.0 turned.1
+unknown_not_refused (Some (suc (suc n))) turned = omega (arith, some_same 1 (suc (suc n)) (ap told_whom turned))
+
+unknown_not_idle : (picked : Option ℕ) → IsPick (ready_at one_unknown (kept_of_both starts decided)) 2000 picked → IsTurned one_unknown 2000 picked Idle → ⊥
+unfolding pipelines_on_literals
+unknown_not_idle None pick turned = let less : 2000 < 1500 = pick 1 1500 refl in omega (arith, less)
+unknown_not_idle (Some zero) pick turned = never 0 (ap told_whom turned)
+unknown_not_idle (Some (suc zero)) pick turned = no_idle 1 turned.0 turned.1
+unknown_not_idle (Some (suc (suc n))) pick turned = never (suc (suc n)) (ap told_whom turned)
+
+-- tenant 1 is ready before tenant 0 in whatever is kept, as long as that is what was kept of it
+not_later_one : (middle : List View) → kept_of 1 middle ≡ Some decided → (picked : Option ℕ)
+    → IsPick (ready_at second_posted middle) 2000 picked → IsTurned second_posted 2000 picked (Job 0 1 (body 17 33)) → ⊥
+unfolding pipelines_on_literals
+not_later_one middle stays None pick turned = never 0 (sym (ap told_whom turned))
+not_later_one middle stays (Some zero) pick turned =
+    later pick.0 0 1500 1 (omega (arith, some_same 2000 pick.0 pick.1)) (pick.3 1 1500 (ap (option_and_then ready) stays))
+not_later_one middle stays (Some (suc zero)) pick turned = another_named turned.0 turned.1
+  where
+    another_named : (said : Told) → Job 0 1 (body 17 33) ≡ named 1 (Answered said) → ⊥
+    another_named (tell.Reply reply) e = omega (arith, some_same 0 1 (ap told_whom e))
+    another_named (tell.Job ticket payload) e = omega (arith, some_same 0 1 (ap told_whom e))
+    another_named tell.Worked e = omega (arith, some_same 0 1 (ap told_whom e))
+not_later_one middle stays (Some (suc (suc n))) pick turned = omega (arith, some_same 0 (suc (suc n)) (ap told_whom turned))
+
+not_changed : (first : State) → RunFrom one_unknown (kept_of_both starts decided) two_posts (taken 0 ∷ taken 0 ∷ []) (kept_of_both first waits) → ⊥
+not_changed first h =
+    let rest = h.3 in
+    let same : Some waits ≡ Some decided = ap (kept_of 1) rest.3 ∙ rest.2 1 0-not-1 ∙ h.2 1 0-not-1 in
+    let clocks : 500 ≡ 1500 = ap (λ o. (unwrap_or o fresh).clock) same in
+    omega (arith, clocks)
+
+pub returns-clause-one_unknown : goal.returns-clause-one_unknown
+unfolding pipelines_on_literals
+returns-clause-one_unknown c = record {
+  stands = both_stand;
+  run = three_run;
+  stands_after = both_stand_after;
+  some_answer = ((Some 1, (1500, refl, omega arith, unknown_alone), (tell.Worked, refl)), kept_of_both starts handed_out, first_stays decided handed_out starts, refl);
+  refusal = λ new h. unknown_not_refused h.0.0 h.0.2;
+  idle_though_ready = λ new h. unknown_not_idle h.0.0 h.0.1 h.0.2;
+  own_refused = λ new h. let same : true ≡ false = ap is_refusal h.0 in cc;
+  later_one_first = λ new h. not_later_one h.1 (h.2 1 0-not-1) h.3.0.0 h.3.0.1 h.3.0.2;
+  other_stays = (refl, kept_of_both holds decided, second_stays starts holds decided, (refl, kept_of_both holds_two decided, second_stays holds holds_two decided, refl));
+  other_changed = not_changed;
+  one_less = λ new h. h.3;
 }
