@@ -1,16 +1,19 @@
 -- What the definitions give on a small script, worked out by hand, for the tests.
-use Rattle.std.specs.Prelude.{◌≡◌, ℕ, List, [], ◌∷◌, ◌++◌, codes, Some, None}
+use Rattle.std.specs.Prelude.{◌≡◌, ℕ, List, [], ◌∷◌, ◌++◌, codes, Some, None, Ok, Err}
 use Rattle.otlp_read.specs.Value.{IsValue}
 use Rattle.tail_settings.specs.Section.{SectionData}
-use Rattle.tail_settings.specs.Settings.{SettingsData, TenantData}
+use Rattle.tail_settings.specs.Settings.{SettingsData, TenantData, settings_of}
+use Rattle.tail_settings.specs.declared.fault.SettingsFault.TheVariants.{NotToml, TooMany}
 use Rattle.tenant_pipeline.specs.Examples.{one_second, span, body, value}
 use Rattle.tenant_pipeline.specs.Own.{Own}
 use Rattle.tenant_pipeline.specs.Own as own
 use Rattle.tenant_shard.specs.declared.step.Outcome.TheVariants.{Reply, Job, Worked, Idle, Refused}
 use Rattle.replay_script.specs.Command.{Post, Turn}
+use Rattle.trace_collector.specs.declared.engine.ReplayFault.TheVariants.{Settings, Script, Line, OutOfMemory}
 use Rattle.trace_collector.specs.Outcomes.{name_at, outcome_text, bad_protobuf}
 use Rattle.trace_collector.specs.Answered.{section_in, HasNoValue, IsAnswered}
 use Rattle.trace_collector.specs.Script.{no_steps, ScriptText, BeginsScriptText}
+use Rattle.trace_collector.specs.Replay.{IsReplay}
 
 -- so many shards, and else the defaults
 abbrev pub with_shards : ℕ → List TenantData → SettingsData
@@ -57,8 +60,12 @@ pub record Lines : Type 0 where
 
 -- ---- one tenant, whose name is `a`, in one shard
 
+-- a second's wait, and where batches go if the document doesn't say
+abbrev pub at_default : SectionData
+at_default = record one_second { endpoint = codes "127.0.0.1:4319" }
+
 abbrev pub one_tenant : SettingsData
-one_tenant = with_shards 1 (record { name = codes "a"; section = one_second } ∷ [])
+one_tenant = with_shards 1 (record { name = codes "a"; section = at_default } ∷ [])
 
 -- a body of one span, whose trace id is 11 and whose span id is 21 again and again, in hexadecimal digits
 abbrev pub hex : List ℕ
@@ -82,7 +89,40 @@ script = codes "post a 0 " ++ (hex ++ codes "\nturn 0 999\nturn 0 1000\n")
 abbrev pub told : List ℕ
 told = codes "reply a 200 -\nidle 0\njob a 1 " ++ (hex ++ codes "\n")
 
+-- as far as it was written when a reader or a writer failed
+abbrev pub begun : List ℕ
+begun = codes "reply a 200 -\nid"
+
+-- there is no shard 1
+abbrev pub faulty_script : List ℕ
+faulty_script = codes "turn 0 0\nturn 1 0\n"
+
 pub record Scripts : Type 0 where
   pub text : ScriptText one_tenant script told None
-  pub begins : BeginsScriptText one_tenant script (codes "reply a 200 -\nid")
-  pub fault : ScriptText one_tenant (codes "turn 0 0\nturn 1 0\n") (codes "idle 0\n") (Some 2)
+  pub begins : BeginsScriptText one_tenant script begun
+  pub fault : ScriptText one_tenant faulty_script (codes "idle 0\n") (Some 2)
+
+-- ---- replays
+
+-- a document that means `one_tenant`
+abbrev pub document : List ℕ
+document = codes "[[tenant]]\nname = \"a\"\n\n[tenant.tail_sampling]\ndecision_wait_ms = 1000\n\n[[tenant.tail_sampling.policy]]\ntype = \"always_sample\"\n"
+
+-- a key without a value, which TOML 1.0 calls invalid
+abbrev pub no_document : List ℕ
+no_document = codes "key = # INVALID"
+
+-- each end of a replay. Where the settings are faulty, nothing may be written; done is a replay only when all is written
+pub record Replays : Type 0 where
+  pub means : settings_of document ≡ Ok one_tenant
+  pub done : IsReplay document script told (Ok tt)
+  pub half_done : IsReplay document script begun (Ok tt) → ⊥
+  pub script_fault : IsReplay document faulty_script (codes "idle 0\n") (Err (Script 2))
+  pub failed : IsReplay document script begun (Err Line)
+  pub no_memory : IsReplay document script begun (Err OutOfMemory)
+  pub settings_fault : IsReplay no_document script [] (Err (Settings NotToml))
+  pub other_fault : IsReplay no_document script [] (Err (Settings TooMany)) → ⊥
+  pub written_after_fault : IsReplay no_document script told (Err (Settings NotToml)) → ⊥
+  pub no_fault : IsReplay document script [] (Err (Settings NotToml)) → ⊥
+  pub no_memory_for_settings : IsReplay no_document script [] (Err OutOfMemory)
+  pub written_without_settings : IsReplay no_document script told (Err OutOfMemory) → ⊥

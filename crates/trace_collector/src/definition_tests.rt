@@ -1,6 +1,6 @@
-//! What the definitions say of shards, lines and scripts, on examples that were worked out by hand.
+//! What the definitions say of shards, lines, scripts and replays, on examples that were worked out by hand.
 
-ghost use Rattle.trace_collector.specs.Examples.{Members, Lines, Posts, Scripts};
+ghost use Rattle.trace_collector.specs.Examples.{Members, Lines, Posts, Scripts, Replays};
 
 use otlp_read::values_or_faults;
 
@@ -10,6 +10,7 @@ fn definitions_on_small_inputs()
     ensures lines { Lines }
     ensures posts { Posts }
     ensures scripts { Scripts }
+    ensures replays { Replays }
 {
     values_or_faults();
 }

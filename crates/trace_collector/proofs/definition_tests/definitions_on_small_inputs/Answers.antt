@@ -1,9 +1,12 @@
-use Rattle.std.proofs.Common.{◌≡◌, ◌↔◌, ◌==◌, ◌%◌, ℕ, zero, suc, ◌<◌, Bool, true, false, List, [], ◌∷◌, ◌++◌, Option, Some, None, Ok, is_ok, refl, sym, ap, ◌∙◌, arith, inl, inr}
+use Rattle.std.proofs.Common.{◌≡◌, ◌↔◌, ◌==◌, ◌%◌, ℕ, zero, suc, ◌<◌, Bool, true, false, List, [], ◌∷◌, ◌++◌, Option, Some, None, Ok, Err, is_ok, length, subst, refl, sym, ap, ◌∙◌, arith, inl, inr}
 use Rattle.std.specs.Prelude.{codes, if◌then◌else◌}
 use Rattle.std.specs.Option.{unwrap_or}
 use Rattle.otlp_trace.specs.Data.{RequestData}
 use Rattle.otlp_read.specs.Value.{value_of, IsValue}
-use Rattle.tenant_pipeline.specs.Examples.{one_second, body, value}
+use Rattle.tail_settings.specs.Fault.{FaultData, not_toml, too_many}
+use Rattle.tail_settings.specs.Settings.{SettingsData, settings_of}
+use Rattle.tail_settings.proofs.OnLiterals.{texts_on_literals}
+use Rattle.tenant_pipeline.specs.Examples.{body, value}
 use Rattle.tenant_pipeline.specs.Own.{Own}
 use Rattle.tenant_pipeline.specs.Prepared.{prepared_of}
 use Rattle.tenant_shard.specs.declared.step.Outcome.{Outcome}
@@ -15,9 +18,11 @@ use Rattle.tenant_shard.specs.Run.{after}
 use Rattle.tenant_pipeline.proofs.OnLiterals.{values_on_literals, pipelines_on_literals}
 use Rattle.replay_script.proofs.OnLiterals.{script_on_literals, answers_on_literals}
 use Rattle.replay_script.specs.Command.{Post, Turn}
+use Rattle.replay_script.specs.Line.{lines_of}
 use Rattle.trace_collector.specs.Answered.{lists_of, HasNoValue, IsAnswered}
 use Rattle.trace_collector.specs.Script.{no_steps, ScriptText, BeginsScriptText}
-use Rattle.trace_collector.specs.Examples.{one_tenant, hex, script, told}
+use Rattle.trace_collector.specs.Examples.{at_default, one_tenant, hex, script, told, begun, faulty_script, document, no_document}
+use Rattle.trace_collector.proofs.One.{told_one, script_answered_one, same_value}
 use Rattle.trace_collector.proofs.definition_tests.definitions_on_small_inputs.Goals as goal
 
 pub returns-clause-members : goal.returns-clause-members
@@ -60,7 +65,7 @@ has_none exact v is = let same : false ≡ true = ap is_ok ((exact (0 ∷ 0 ∷ 
 -- ---- the steps
 
 abbrev the_post : Step
-the_post = steps.Post 0 (prepared_of 0 one_second (value 17 33))
+the_post = steps.Post 0 (prepared_of 0 at_default (value 17 33))
 
 abbrev accepted : Outcome
 accepted = Reply 0 (record { status = 200; body = [] })
@@ -93,7 +98,7 @@ no_other pasts n = none_either (suc n % 1 == 0) (pasts (suc n)) None
 
 post_is_answered : Exact → IsAnswered one_tenant no_steps (Post (codes "a") 0 (body 17 33)) (Some (codes "reply a 200 -\n")) posted
 unfolding pipelines_on_literals answers_on_literals
-post_is_answered exact = inl (one_second, value 17 33, refl, has_this_value exact, (accepted, refl, refl, refl))
+post_is_answered exact = inl (at_default, value 17 33, refl, has_this_value exact, (accepted, refl, refl, refl))
 
 idle_before : (tenant moment : ℕ) → ready_at (lists_of one_tenant posted 0) [] tenant ≡ Some moment → 999 < moment
 unfolding pipelines_on_literals
@@ -148,7 +153,7 @@ whole_text exact = (
   ),
 )
 
-begins : Exact → BeginsScriptText one_tenant script (codes "reply a 200 -\nid")
+begins : Exact → BeginsScriptText one_tenant script begun
 unfolding script_on_literals
 begins exact = (
   (codes "post a 0 " ++ hex) ∷ codes "turn 0 999" ∷ [],
@@ -170,7 +175,7 @@ unfolding pipelines_on_literals
 none_ready zero moment h = absurd (never moment h)
 none_ready (suc n) moment h = absurd (never moment (sym (no_other no_steps n) ∙ h))
 
-second_faulty : ScriptText one_tenant (codes "turn 0 0\nturn 1 0\n") (codes "idle 0\n") (Some 2)
+second_faulty : ScriptText one_tenant faulty_script (codes "idle 0\n") (Some 2)
 unfolding script_on_literals answers_on_literals
 second_faulty = (
   Some (codes "idle 0\n"),
@@ -184,3 +189,59 @@ unfolding Exact
 returns-clause-scripts c =
     let exact = c.values_or_faults.ensures.exact in
     record { text = whole_text exact; begins = begins exact; fault = second_faulty }
+
+-- ---- replays
+
+means : settings_of document ≡ Ok one_tenant
+unfolding texts_on_literals
+means = refl
+
+is_no_document : settings_of no_document ≡ Err not_toml
+unfolding texts_on_literals
+is_no_document = refl
+
+-- a document has one meaning
+same_settings : (s : SettingsData) → settings_of document ≡ Ok s → one_tenant ≡ s
+same_settings s e = let same : Ok one_tenant ≡ Ok s = sym means ∙ e in cc
+
+has_settings : (f : FaultData) → settings_of document ≡ Err f → ⊥
+has_settings f e = let same : Ok one_tenant ≡ Err f = sym means ∙ e in cc
+
+has_fault : (s : SettingsData) → settings_of no_document ≡ Ok s → ⊥
+has_fault s e = let same : Err not_toml ≡ Ok s = sym is_no_document ∙ e in cc
+
+some_told : told ≡ [] → ⊥
+some_told none = let lengths : 98 ≡ 0 = ap length none in omega (arith, lengths)
+
+half_told : Exact → ScriptText one_tenant script begun None → ⊥
+unfolding Exact
+half_told exact half =
+    let same = told_one (IsAnswered one_tenant) (λ h k k' command line line'. script_answered_one (same_value exact) one_tenant h k k' command line line')
+    (lines_of script) 1 no_steps told begun None None (whole_text exact) half in
+    let lengths : 98 ≡ 16 = ap length same.0 in
+    omega (arith, lengths)
+
+pub returns-clause-replays : goal.returns-clause-replays
+unfolding Exact
+returns-clause-replays c =
+    let exact = c.values_or_faults.ensures.exact in
+    record {
+      means = means;
+      done = (one_tenant, means, whole_text exact);
+      half_done = λ is. half_told exact (subst (λ s. ScriptText s script begun None) (sym (same_settings is.0 is.1)) is.2);
+      script_fault = (one_tenant, means, second_faulty);
+      failed = (one_tenant, means, begins exact);
+      no_memory = (
+        λ s e. subst (λ s. BeginsScriptText s script begun) (same_settings s e) (begins exact),
+        λ f e. absurd (has_settings f e),
+      );
+      settings_fault = (not_toml, refl, is_no_document, refl);
+      other_fault = λ is.
+          let told : Some too_many ≡ Some is.0 = is.1 in
+          let meant : Err not_toml ≡ Err is.0 = sym is_no_document ∙ is.2 in
+          cc;
+      written_after_fault = λ is. some_told is.3;
+      no_fault = λ is. has_settings is.0 is.2;
+      no_memory_for_settings = (λ s e. absurd (has_fault s e), λ f e. refl);
+      written_without_settings = λ is. some_told (is.1 not_toml is_no_document);
+    }
