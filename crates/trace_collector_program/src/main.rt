@@ -5,6 +5,11 @@
 //! It stands on `trace_collector`, whose `replay` promises what is written.
 #![tactic(auto)]
 
+#[cfg(test)]
+mod definition_tests;
+#[cfg(test)]
+mod tests;
+
 ghost use Rattle.std.specs.Prelude.{◌≡◌, IfOk, IfErr, map, option_map, string_bytes};
 ghost use Rattle.std.specs.IoError.{error_kind};
 ghost use Rattle.std.specs.Process.{exit_status};

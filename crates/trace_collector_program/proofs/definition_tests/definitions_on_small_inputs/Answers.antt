@@ -1,0 +1,57 @@
+use Rattle.std.proofs.Common.{◌≡◌, ℕ, true, false, List, [], ◌∷◌, refl, sym, ◌∙◌}
+use Rattle.std.proofs.lemmas.Bool.{false≢true}
+use Rattle.std.proofs.lemmas.Str.{IsUtf8-from_is_utf8, is_utf8-from_IsUtf8}
+use Rattle.std.specs.Char.{encode_utf8}
+use Rattle.std.specs.Str.{IsUtf8, chars, is_utf8}
+use Rattle.std.specs.declared.io.ErrorKind.TheVariants as kinds
+use Rattle.trace_collector.specs.declared.engine.ReplayFault.TheVariants as replay
+use Rattle.trace_collector_program.specs.declared.ProgramFault.TheVariants.{Usage, Replay}
+use Rattle.trace_collector_program.proofs.definition_tests.definitions_on_small_inputs.Goals as goal
+
+pub returns-clause-arguments : goal.returns-clause-arguments
+returns-clause-arguments c = record {
+  named = refl;
+  same_word = refl;
+  empty_path = refl;
+  one_word_more = refl;
+  no_path = refl;
+  none = refl;
+  other_command = refl;
+  capital = refl;
+  longer_command = refl;
+  other_order = refl;
+}
+
+pub returns-clause-statuses : goal.returns-clause-statuses
+returns-clause-statuses c = record { done = refl; faults = refl; usage = refl; memory = refl; ended = refl }
+
+-- ---- faults
+
+is_memory : kinds.NotFound ≡ kinds.OutOfMemory → ⊥
+is_memory same = cc
+
+pub returns-clause-of_files : goal.returns-clause-of_files
+returns-clause-of_files c = record {
+  memory = record { memory = λ same. refl; other = λ apart. absurd (apart refl) };
+  memory_as_other = λ is. let told : Replay replay.Line ≡ Replay replay.OutOfMemory = is.memory refl in cc;
+  not_found = record { memory = λ same. absurd (is_memory same); other = λ apart. refl };
+  not_found_as_memory = λ is. let told : Replay replay.OutOfMemory ≡ Replay replay.Line = is.other is_memory in cc;
+  not_found_as_usage = λ is. let told : Usage ≡ Replay replay.Line = is.other is_memory in cc;
+}
+
+is_text : (bytes : List ℕ) → is_utf8 bytes ≡ true → IsUtf8 bytes
+is_text bytes e = IsUtf8-from_is_utf8 bytes e
+
+no_text : (bytes : List ℕ) → is_utf8 bytes ≡ false → IsUtf8 bytes → ⊥
+no_text bytes e text = false≢true (sym e ∙ is_utf8-from_IsUtf8 bytes text)
+
+pub returns-clause-of_texts : goal.returns-clause-of_texts
+unfolding is_utf8 chars encode_utf8
+returns-clause-of_texts c = record {
+  no_text = record { unspelled = no_text (255 ∷ []) refl; told = refl };
+  cut = record { unspelled = no_text (97 ∷ 226 ∷ 130 ∷ []) refl; told = refl };
+  as_usage = λ is. let told = is.told in cc;
+  whole = λ fault is. is.unspelled (is_text (97 ∷ 226 ∷ 130 ∷ 172 ∷ []) refl);
+  letter = λ fault is. is.unspelled (is_text (97 ∷ []) refl);
+  empty = λ fault is. is.unspelled (is_text [] refl);
+}

@@ -1,0 +1,11 @@
+//! What the definitions say of arguments, faults and statuses, on examples that were worked out by hand.
+
+ghost use Rattle.trace_collector_program.specs.Examples.{Arguments, Statuses, OfFiles, OfTexts};
+
+/// The definitions, on small inputs, give what was worked out by hand.
+fn definitions_on_small_inputs()
+    ensures arguments { Arguments }
+    ensures statuses { Statuses }
+    ensures of_files { OfFiles }
+    ensures of_texts { OfTexts }
+{}
