@@ -10,17 +10,19 @@ mod definition_tests;
 #[cfg(test)]
 mod tests;
 
-ghost use Rattle.std.specs.Prelude.{◌≡◌, IfOk, IfErr, map, option_map, string_bytes};
+ghost use Rattle.std.specs.Prelude.{◌≡◌, ℕ, List, IfSome, IfOk, IfErr, map, option_map, string_bytes};
+ghost use Rattle.std.specs.Io.KnownBytes.{Appends};
 ghost use Rattle.std.specs.IoError.{error_kind};
 ghost use Rattle.std.specs.Process.{exit_status};
 ghost use Rattle.trace_collector_program.specs.Arguments.{path_of};
 ghost use Rattle.trace_collector_program.specs.Fault.{IsOfFile, IsOfText};
+ghost use Rattle.trace_collector_program.specs.Run.{IsRun};
 ghost use Rattle.trace_collector_program.specs.Status.{status_of, end_status};
 ghost use Rattle.trace_collector_program.specs.declared.ProgramFault.TheVariants as faults;
 ghost use Rattle.trace_collector.specs.declared.engine.ReplayFault.TheVariants as replay_faults;
 
-use std::alloc::AllocFailed;
-use std::io::{BufReader, ErrorKind};
+use std::alloc::{AllocFailed, Global};
+use std::io::{BufRead, BufReader, ErrorKind, Write};
 use std::process::ExitCode;
 use std::rt::{Env, Files};
 use std::{env, fs, io};
@@ -111,8 +113,11 @@ fn run(rt: &(impl Env + Files + Input + Print + AllocGlobal)) -> Result<(), Prog
     let Some(path) = settings_path(args.as_slice()) else {
         return Err(ProgramFault::Usage);
     };
-    let settings = settings_text(fs::read(rt, path)?)?;
-    replay_input(rt, settings.as_str())
+    let settings = fs::read(rt, path)?;
+    let alloc = rt.alloc();
+    let mut reader = BufReader::with_capacity(alloc, READ_SIZE, rt.reader())?;
+    let mut writer = io::writer(rt);
+    replay_under(alloc, settings, &mut reader, &mut writer)
 }
 
 /// The file that these arguments name, or none where they are others. The program's name is not among them.
@@ -142,14 +147,17 @@ fn settings_text(bytes: Vec<u8>) -> Result<String, ProgramFault>
     }
 }
 
-/// Replays the script on standard input.
-fn replay_input(
-    rt: &(impl Input + Print + AllocGlobal),
-    settings: &str,
-) -> Result<(), ProgramFault> {
-    let alloc = rt.alloc();
-    let mut reader = BufReader::with_capacity(alloc, READ_SIZE, rt.reader())?;
-    let mut writer = io::writer(rt);
-    replay(alloc, settings, &mut reader, &mut writer)?;
+/// Replays a script under the settings in a file's bytes.
+fn replay_under<R: BufRead, W: Write>(
+    alloc: Global,
+    settings: Vec<u8>,
+    reader: &mut R,
+    writer: &mut W,
+) -> Result<(), ProgramFault>
+    ensures { IfSome (R.remaining reader.old) (λ script. (written : List ℕ)
+        × Appends (W.contents writer.old) (W.contents writer.new) written × IsRun settings.items script written result) }
+{
+    let settings = settings_text(settings)?;
+    replay(alloc, settings.as_str(), reader, writer)?;
     Ok(())
 }
