@@ -4,9 +4,9 @@ use Rattle.tail_settings.specs.Policy.{PolicyData, always_sample, latency, leaf}
 use Rattle.tail_settings.specs.Section.{SectionData}
 use Rattle.tail_settings.specs.Settings.{SettingsData}
 use Rattle.tenant_pipeline.specs.declared.told.Told.TheVariants as tell
-use Rattle.tenant_pipeline.specs.Examples.{one_second, span, body}
+use Rattle.tenant_pipeline.specs.Examples.{one_second, span, body, waiting, decided_row}
 use Rattle.tenant_pipeline.specs.Prepared.{PreparedData}
-use Rattle.tenant_pipeline.specs.State.{RowData, State, accepted}
+use Rattle.tenant_pipeline.specs.State.{State, accepted}
 use Rattle.tenant_shard.specs.declared.step.Step.{Step}
 use Rattle.tenant_shard.specs.declared.step.Step.TheVariants.{Post, Turn}
 use Rattle.tenant_shard.specs.declared.step.Outcome.{Outcome}
@@ -228,9 +228,6 @@ one_unknown = without 1 (after (Post 500 (prepared 1 18 34)) (taken 1) two)
 abbrev pub starts : State
 starts = record fresh { wait = 2000 }
 
-abbrev pub waiting : ℕ → ℕ → ℕ → RowData
-waiting trace due id = record { trace = replicate 16 trace; due = due; spans = span trace id ∷ []; kept = false }
-
 abbrev pub holds : State
 holds = record starts { rows = waiting 17 2000 33 ∷ [] }
 
@@ -241,7 +238,7 @@ holds_two = record starts { clock = 100; rows = waiting 17 2000 33 ∷ waiting 1
 abbrev pub sent : State
 sent = record starts {
   clock = 2000;
-  rows = record { trace = replicate 16 17; due = 2000; spans = []; kept = true } ∷ [];
+  rows = decided_row 17 2000 true ∷ [];
   decided = 1;
   tickets = 1;
 }
