@@ -7,6 +7,7 @@ use Rattle.tail_policy.specs.Meaning.{keeps}
 use Rattle.tenant_pipeline.specs.ExportText.{export_text}
 use Rattle.tenant_pipeline.specs.Groups.{groups}
 use Rattle.tenant_pipeline.specs.State.{state, answer}
+use Rattle.tenant_pipeline.specs.Machine.{next, told}
 use Rattle.tenant_pipeline.specs.Ready.{ready}
 
 unfoldable pub values_on_literals : ⊤
@@ -14,5 +15,5 @@ unfolding read_with walk walk_in number_in varint_at tag_at split_at value_with
 values_on_literals = tt
 
 unfoldable pub pipelines_on_literals : ⊤
-unfolding keeps groups export_text state answer ready bits
+unfolding keeps groups export_text state answer next told ready bits
 pipelines_on_literals = tt

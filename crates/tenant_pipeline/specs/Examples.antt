@@ -11,8 +11,9 @@ use Rattle.tenant_pipeline.specs.Groups.{GroupData, groups}
 use Rattle.tenant_pipeline.specs.Own.{Own, Post, Turn, clock}
 use Rattle.tenant_pipeline.specs.Prepared.{PreparedData, prepared_of, IsPrepared}
 use Rattle.tenant_pipeline.specs.Rows.{Opened, opened, taken}
-use Rattle.tenant_pipeline.specs.State.{RowData, State, state, handed, answer}
+use Rattle.tenant_pipeline.specs.State.{RowData, State, state, handed, accepted, answer, StandsFor}
 use Rattle.tenant_pipeline.specs.Timers.{next_timer, one_run, ran, IsFront}
+use Rattle.tenant_pipeline.specs.Machine.{GoesOnFrom}
 use Rattle.tenant_pipeline.specs.Ready.{next_decision, ready}
 
 -- a wait of a second, and else the defaults
@@ -330,6 +331,42 @@ pub record Fronts : Type 0 where
   pub both : IsFront 1500 undecided both_decided
   pub not_due : IsFront 1499 undecided both_decided → ⊥
   pub clock_alone : IsFront 1500 undecided (record undecided { clock = 1500 }) → ⊥
+
+-- two rows were due at 1000, and memory was refused after the first one's decision
+abbrev pub half_decided : State
+half_decided = record undecided {
+  clock = 1000;
+  rows = decided_row 17 1000 true ∷ waiting 18 1000 34 ∷ [];
+  decided = 1;
+  queue = group 1000 (span 17 33 ∷ []) ∷ [];
+}
+
+-- a turn decides the second one at its moment, and hands out the first one's group
+abbrev pub half_handed : State
+half_handed = record undecided {
+  clock = 1000;
+  rows = decided_row 17 1000 true ∷ decided_row 18 1000 true ∷ [];
+  decided = 2;
+  queue = group 1000 (span 18 34 ∷ []) ∷ [];
+  tickets = 1;
+}
+
+-- a post at 1200 decides it too, before its span opens a row
+abbrev pub half_posted : State
+half_posted = record undecided {
+  clock = 1200;
+  rows = decided_row 17 1000 true ∷ decided_row 18 1000 true ∷ waiting 19 2200 35 ∷ [];
+  decided = 2;
+  queue = group 1000 (span 17 33 ∷ []) ∷ group 1000 (span 18 34 ∷ []) ∷ [];
+}
+
+-- no own steps leave that state, since rows of one moment are decided together; what is told and kept goes on from it
+pub record AfterRefusal : Type 0 where
+  pub of_no_steps : (section : SectionData) (past : List Own) → StandsFor section past half_decided → ⊥
+  pub turn : GoesOnFrom (Turn 0) half_decided (tell.Job 1 (body 17 33)) half_handed
+  pub post : GoesOnFrom (one 1200 19 35) half_decided accepted half_posted
+  pub no_job : GoesOnFrom (Turn 0) half_decided tell.Worked half_handed → ⊥
+  pub still_undecided : GoesOnFrom (Turn 0) half_decided (tell.Job 1 (body 17 33)) (record half_decided { queue = []; tickets = 1 }) → ⊥
 
 -- the first group formed at 1000, before the next decision at 1500; with no ticket left it doesn't count
 pub record Readiness : Type 0 where

@@ -85,3 +85,8 @@ rows_with_all wait moment (x ∷ xs) rows = rows_with_all wait moment xs (rows_w
 abbrev pub late_with_all : ℕ → ℕ → List Arrival → List RowData → List GroupData
 late_with_all wait moment [] rows = []
 late_with_all wait moment (x ∷ xs) rows = late_with moment x rows ++ late_with_all wait moment xs (rows_with wait moment x rows)
+
+-- what is told and kept follows from what was kept, whether or not own steps leave that: also after refused memory
+pub record GoesOnFrom (step : Own) (old : State) (said : Told) (new : State) : Type 0 where
+  pub said_is : said ≡ told step old
+  pub new_is : new ≡ next step old

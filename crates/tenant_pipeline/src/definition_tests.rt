@@ -1,6 +1,6 @@
 //! What the definitions say of bodies, policies, rows, groups and timers, on examples that were worked out by hand.
 
-ghost use Rattle.tenant_pipeline.specs.Examples.{Bodies, Ids, SamePolicies, KeptRows, Ties, Ends, TwoScopes, Timers, Fronts, Readiness};
+ghost use Rattle.tenant_pipeline.specs.Examples.{Bodies, Ids, SamePolicies, KeptRows, Ties, Ends, TwoScopes, Timers, Fronts, AfterRefusal, Readiness};
 
 use otlp_read::values_or_faults;
 
@@ -15,6 +15,7 @@ fn definitions_of_rows_and_timers()
     ensures two_scopes { TwoScopes }
     ensures timers { Timers }
     ensures fronts { Fronts }
+    ensures after_refusal { AfterRefusal }
     ensures readiness { Readiness }
 {
     values_or_faults();

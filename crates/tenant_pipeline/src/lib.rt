@@ -11,7 +11,7 @@
 //! so far, after the decisions that are due by then, each at its own moment (`specs/Timers`).
 //!
 //! Where memory is refused, some of those decisions may have been made, the clock then stands at the last one's moment,
-//! and nothing else has changed.
+//! and nothing else has changed. What a tenant is told afterwards follows from that state (`specs/Machine`).
 //!
 //! It stands on `tail_settings`, `tail_policy` and `span_pool`, and on the crates that read and write OTLP. The rules are after
 //! the documents of the OpenTelemetry Collector's `tail_sampling` processor; a batch is an `ExportTraceServiceRequest` of

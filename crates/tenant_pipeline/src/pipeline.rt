@@ -6,7 +6,7 @@ ghost use Rattle.tenant_pipeline.specs.Equal.{same_policies};
 ghost use Rattle.tenant_pipeline.specs.Own.{Post, Turn, latest_moment};
 ghost use Rattle.tenant_pipeline.specs.State.{StandsFor, Answers, handed};
 ghost use Rattle.tenant_pipeline.specs.Timers.{next_timer, one_run, is_due, ran, IsFront, effective};
-ghost use Rattle.tenant_pipeline.specs.Machine.{handed_out, set_to};
+ghost use Rattle.tenant_pipeline.specs.Machine.{handed_out, set_to, GoesOnFrom};
 ghost use Rattle.tenant_pipeline.specs.Ready.{lesser, next_job, ready};
 ghost use Rattle.tenant_pipeline.specs.View.{group_views};
 ghost use Rattle.tenant_pipeline.specs.declared.told.Told.TheVariants as tell;
@@ -100,8 +100,10 @@ impl Pipeline {
     /// A body's spans come, at a moment in milliseconds, with numbers that are higher than those before. Where memory is
     /// refused, decisions that were due may have been made, and no span has come.
     pub fn post(&mut self, now: u64, prepared: &Prepared) -> Result<Reply, AllocError>
-        // The reply is what the settings and the own steps say, and the state is what they and this step give.
+        // The reply is what the settings and the own steps say, and the state is what they and this step give. Where no own
+        // steps leave the old state, as after refused memory, both follow from that state.
         ensures ok { IfOk result (λ reply. Answers (Post now prepared.now.arrivals) self.old (tell.Reply reply) self.new) }
+        ensures goes_on { IfOk result (λ reply. GoesOnFrom (Post now prepared.now.arrivals) self.old (tell.Reply reply) self.new) }
 
         // Some first due decisions have been made, and all else is as before.
         ensures refused { OnErr result (IsFront (effective (Post now prepared.now.arrivals) self.old) self.old self.new) }
@@ -131,8 +133,10 @@ impl Pipeline {
     /// A worker asks for a job, at a moment in milliseconds. Where memory is refused, decisions that were due may have
     /// been made, and no ticket is used up.
     pub fn turn(&mut self, now: u64) -> Result<Told, AllocError>
-        // The answer is what the settings and the own steps say, and the state is what they and this step give.
+        // The answer is what the settings and the own steps say, and the state is what they and this step give. Where no own
+        // steps leave the old state, as after refused memory, both follow from that state.
         ensures ok { IfOk result (λ told. Answers (Turn now) self.old told self.new) }
+        ensures goes_on { IfOk result (λ told. GoesOnFrom (Turn now) self.old told self.new) }
 
         // Some first due decisions have been made, and all else is as before.
         ensures refused { OnErr result (IsFront (effective (Turn now) self.old) self.old self.new) }

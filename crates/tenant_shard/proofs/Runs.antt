@@ -21,7 +21,8 @@ use Rattle.tenant_shard.specs.Lists.{Lists, MemberStands, ShardStands}
 use Rattle.tenant_shard.specs.Outcomes.{OwnStep, Posted, Turned, own_step, piped, is_taken, not_member, other_policies, Answer, Answered, NotTaken, named, told_whom, is_own}
 use Rattle.tenant_shard.specs.Pick.{ready_in, ready_after, ready_at, IsPick}
 use Rattle.tenant_shard.specs.Run.{IsTakenOrNot, IsAnswered, IsAnswerTo, IsOutcome, recorded, AllKnown, OthersStay, ShardSteps, after}
-use Rattle.tenant_shard.specs.Refusal.{IsStepFor, ShardRefuses}
+use Rattle.tenant_shard.specs.Refusal.{IsStepFor, ReachesNone, ShardRefuses}
+use Rattle.tenant_shard.specs.GoesOn.{ShardGoesOn}
 use Rattle.tenant_shard.specs.Steps.{AreFor, IsStepOf, IsLossOf}
 use Rattle.tenant_shard.proofs.Picks.{same_or_other}
 
@@ -180,6 +181,32 @@ idle_steps now old pick = done (Turn now) old Idle old all (λ other ne. refl)
       (None, pick_at lists old (own.moment_of (own.Turn now)) None stands pick, refl),
       stands,
     )
+
+-- what was kept decides what a member's own step gives
+pub own_goes_on : (t : ℕ) (step : Step) (old new : List View) (outcome : Outcome) → IsStepFor t step old → IsStepOf t (piped (own_step step)) old outcome new → ShardGoesOn step old outcome new
+own_goes_on t step old new outcome whose is = inr (
+  t,
+  record {
+    whose = whose;
+    before = is.before;
+    said = is.said;
+    after = is.after;
+    was = is.change.was;
+    goes_on = is.goes_on;
+    outcome_is = is.outcome_is;
+    is_now = is.change.is_now;
+  },
+)
+
+pub stranger_goes_on : (now : ℕ) (prepared : PreparedData) (old new : List View) (outcome : Outcome) → kept_of prepared.tenant old ≡ None → ShardGoesOn (Post now prepared) old outcome new
+stranger_goes_on now prepared old new outcome none = inl (rw none tt)
+
+reaches_none : (policies : List PolicyData) (kept : Option State) → AreFor policies kept false → ReachesNone policies kept
+reaches_none policies None for = tt
+reaches_none policies (Some kept) for = sym for
+
+pub other_goes_on : (now : ℕ) (prepared : PreparedData) (old new : List View) (outcome : Outcome) → AreFor prepared.policies (kept_of prepared.tenant old) false → ShardGoesOn (Post now prepared) old outcome new
+other_goes_on now prepared old new outcome for = inl (reaches_none prepared.policies (kept_of prepared.tenant old) for)
 
 -- no member is ready where one is
 pub not_both : (f : ℕ → Option ℕ) (now t : ℕ) → IsPick f now (Some t) → IsPick f now None → ⊥

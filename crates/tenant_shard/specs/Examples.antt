@@ -4,7 +4,7 @@ use Rattle.tail_settings.specs.Policy.{PolicyData, always_sample, latency, leaf}
 use Rattle.tail_settings.specs.Section.{SectionData}
 use Rattle.tail_settings.specs.Settings.{SettingsData}
 use Rattle.tenant_pipeline.specs.declared.told.Told.TheVariants as tell
-use Rattle.tenant_pipeline.specs.Examples.{one_second, span, body, waiting, decided_row}
+use Rattle.tenant_pipeline.specs.Examples.{one_second, span, body, waiting, decided_row, half_decided, half_handed}
 use Rattle.tenant_pipeline.specs.Prepared.{PreparedData}
 use Rattle.tenant_pipeline.specs.State.{State, accepted}
 use Rattle.tenant_shard.specs.declared.step.Step.{Step}
@@ -19,6 +19,7 @@ use Rattle.tenant_shard.specs.Pick.{IsPick}
 use Rattle.tenant_shard.specs.Run.{after, after_all, IsNext, Run, RunFrom}
 use Rattle.tenant_shard.specs.Alone.{alone, own_steps, told_to}
 use Rattle.tenant_shard.specs.Refusal.{IsNobodys, IsRefused, without}
+use Rattle.tenant_shard.specs.GoesOn.{ShardGoesOn}
 use Rattle.tenant_shard.specs.Stop.{IsStopped}
 
 -- ---- members, and what is kept of them
@@ -213,7 +214,13 @@ pub record Losses : Type 0 where
   pub one_decided : IsRefused 1 (Turn 2000) (view 1 waits ∷ []) (view 1 decided ∷ [])
   pub clock_moved : IsRefused 1 (Turn 2000) (view 1 waits ∷ []) (view 1 (record waits { clock = 2000 }) ∷ []) → ⊥
 
--- a run of that turn alone that stopped without an outcome: there was no room for outcomes, or the turn was refused
+-- of two rows due at 1000 one was decided when memory was refused: the next turn decides the other, and hands out the first
+pub record AfterLoss : Type 0 where
+  pub job : ShardGoesOn (Turn 1000) (view 1 half_decided ∷ []) (Job 1 1 (body 17 33)) (view 1 half_handed ∷ [])
+  pub no_job : ShardGoesOn (Turn 1000) (view 1 half_decided ∷ []) (Worked 1) (view 1 half_handed ∷ []) → ⊥
+  pub other_left : ShardGoesOn (Turn 1000) (view 1 half_decided ∷ []) (Job 1 1 (body 17 33)) (view 1 half_decided ∷ []) → ⊥
+
+-- a run of the turn at 2000 alone that stopped without an outcome: there was no room for outcomes, or the turn was refused
 pub record Stops : Type 0 where
   pub no_room : IsStopped (Turn 2000 ∷ []) (view 1 waits ∷ []) [] (view 1 waits ∷ [])
   pub at_the_turn : IsStopped (Turn 2000 ∷ []) (view 1 waits ∷ []) [] (view 1 decided ∷ [])

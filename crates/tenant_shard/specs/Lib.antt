@@ -4,6 +4,7 @@ pub mod Outcomes
 pub mod Pick
 pub mod Run
 pub mod Refusal
+pub mod GoesOn
 pub mod Alone
 pub mod Stop
 pub mod Table

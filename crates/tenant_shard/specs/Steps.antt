@@ -6,6 +6,7 @@ use Rattle.tenant_pipeline.specs.declared.told.Told.{Told}
 use Rattle.tenant_pipeline.specs.Own.{Own}
 use Rattle.tenant_pipeline.specs.State.{State, Answers}
 use Rattle.tenant_pipeline.specs.Timers.{IsFront, effective}
+use Rattle.tenant_pipeline.specs.Machine.{GoesOnFrom}
 use Rattle.tenant_shard.specs.declared.step.Outcome.{Outcome}
 use Rattle.tenant_shard.specs.View.{View, kept_of}
 use Rattle.tenant_shard.specs.Outcomes.{Answered, named}
@@ -28,6 +29,7 @@ pub record IsStepOf (tenant : ℕ) (step : Own) (old : List View) (outcome : Out
   pub change : IsChangeOf tenant before after old new
   pub said : Told
   pub answers : Answers step before said after
+  pub goes_on : GoesOnFrom step before said after
   pub policies_stay : after.policies ≡ before.policies
   pub outcome_is : outcome ≡ named tenant (Answered said)
 

@@ -1,6 +1,6 @@
 //! What the definitions say of members, picks, runs and refusals, on examples that were worked out by hand.
 
-ghost use Rattle.tenant_shard.specs.Examples.{Kept, Opened, Taken, Whose, Picks, Nexts, FourSteps, EachIsTold, Skipped, Nobodys, Losses, Stops, OneUnknown};
+ghost use Rattle.tenant_shard.specs.Examples.{Kept, Opened, Taken, Whose, Picks, Nexts, FourSteps, EachIsTold, Skipped, Nobodys, Losses, Stops, OneUnknown, AfterLoss};
 
 /// The definitions, on small shards, give what was worked out by hand.
 fn definitions_on_small_inputs()
@@ -15,6 +15,7 @@ fn definitions_on_small_inputs()
     ensures skipped { Skipped }
     ensures nobodys { Nobodys }
     ensures losses { Losses }
+    ensures after_loss { AfterLoss }
     ensures stops { Stops }
     ensures one_unknown { OneUnknown }
 {}

@@ -4,7 +4,7 @@
 //! lower number first where several are ready at one moment. `Shard::run` promises what the whole
 //! collector is for: whatever the other tenants' settings and steps, each member is told exactly
 //! what a pipeline of its own answers to the steps that were its own. `Shard::step` promises it one
-//! step at a time, and says what is left where memory was refused.
+//! step at a time, and says what is left where memory was refused, and what follows from that.
 //!
 //! A body is prepared before it is posted, for the policies that its tenant has then. One that was prepared for other
 //! policies than the member's is refused with the number 23, and a post of a tenant that is no member with 22: neither

@@ -7,6 +7,7 @@ ghost use Rattle.tenant_shard.specs.Lists.{ShardStands};
 ghost use Rattle.tenant_shard.specs.Members.{views};
 ghost use Rattle.tenant_shard.specs.Run.{ShardSteps, ShardRuns};
 ghost use Rattle.tenant_shard.specs.Refusal.{ShardRefuses, IsNobodys};
+ghost use Rattle.tenant_shard.specs.GoesOn.{ShardGoesOn};
 ghost use Rattle.tenant_shard.specs.Table.{opened};
 ghost use Rattle.tenant_shard.specs.declared.step.Step.TheVariants.{Post, Turn};
 
@@ -36,8 +37,8 @@ pub struct Shard {
 }
 
 /// Memory was refused: for the outcomes' room before the first step, or at a step, after the
-/// outcomes of those before it. The shard goes on with any steps, but what the refused step's own
-/// tenant is told is then no longer promised.
+/// outcomes of those before it. The shard goes on with any steps. What the refused step's own tenant
+/// is told from then on is promised by `Shard::step` alone (`goes_on`).
 #[derive(Debug, Drop, Error)]
 #[error("out of memory")]
 pub struct Stopped {
@@ -80,10 +81,13 @@ impl Shard {
     /// have run, and all else is as before. A step that reaches no member's pipeline takes no memory
     /// and changes nothing: no timer runs, and no clock goes on.
     pub fn step(&mut self, step: &Step) -> Result<Outcome, AllocError>
+        // The outcome is what the members' own steps say. Where no own steps leave what is kept of the step's tenant, as after
+        // refused memory, it follows from that.
         ensures ok { IfOk result (λ outcome. ShardSteps step.now self.old outcome self.new) }
-        ensures refused { OnErr result (ShardRefuses step.now self.old self.new) }
+        ensures goes_on { IfOk result (λ outcome. ShardGoesOn step.now self.old outcome self.new) }
 
-        // A step of nobody is answered without memory, and changes nothing.
+        // What is left where memory is refused. A step of nobody takes none, and changes nothing.
+        ensures refused { OnErr result (ShardRefuses step.now self.old self.new) }
         ensures nobodys { IsNobodys step.now self.old → (IsOk result) × (self.new ≡ self.old) }
     {
         match step {
@@ -123,6 +127,8 @@ fn post_to(members: &mut Vec<Member>, now: u64, prepared: &Prepared) -> Result<O
     requires { AreInOrder (views members.old.items) }
     ensures ok { IfOk result (λ outcome. ShardSteps (Post now prepared.now)
         (views members.old.items) outcome (views members.new.items)) }
+    ensures goes_on { IfOk result (λ outcome. ShardGoesOn (Post now prepared.now)
+        (views members.old.items) outcome (views members.new.items)) }
     ensures refused { OnErr result (ShardRefuses (Post now prepared.now)
         (views members.old.items) (views members.new.items)) }
     ensures nobodys { IsNobodys (Post now prepared.now) (views members.old.items) →
@@ -144,6 +150,8 @@ fn post_to(members: &mut Vec<Member>, now: u64, prepared: &Prepared) -> Result<O
 fn turn(members: &mut Vec<Member>, now: u64) -> Result<Outcome, AllocError>
     requires { AreInOrder (views members.old.items) }
     ensures ok { IfOk result (λ outcome. ShardSteps (Turn now)
+        (views members.old.items) outcome (views members.new.items)) }
+    ensures goes_on { IfOk result (λ outcome. ShardGoesOn (Turn now)
         (views members.old.items) outcome (views members.new.items)) }
     ensures refused { OnErr result (ShardRefuses (Turn now)
         (views members.old.items) (views members.new.items)) }

@@ -1,4 +1,4 @@
-use Rattle.std.proofs.Common.{◌≡◌, ◌↔◌, ℕ, zero, suc, List, [], ◌∷◌, Ok, refl, ap, arith}
+use Rattle.std.proofs.Common.{◌≡◌, ◌↔◌, ℕ, zero, suc, List, [], ◌∷◌, Ok, Some, None, refl, sym, ap, ◌∙◌, arith}
 use Rattle.pb_wire.specs.Reading.{number_in, varint_at, tag_at, split_at, value_with}
 use Rattle.pb_wire.specs.Text.{groups as bits}
 use Rattle.otlp_trace.specs.Data.{RequestData}
@@ -6,13 +6,19 @@ use Rattle.otlp_read.specs.Value.{value_of, IsValue}
 use Rattle.otlp_read.specs.Walk.{walk_in, walk, read_with}
 use Rattle.tail_policy.specs.Meaning.{keeps}
 use Rattle.tail_settings.specs.Policy.{always_sample, leaf}
+use Rattle.tail_settings.specs.Section.{SectionData}
 use Rattle.tenant_pipeline.specs.Groups.{groups}
 use Rattle.tenant_pipeline.specs.ExportText.{export_text}
-use Rattle.tenant_pipeline.specs.State.{State, state, answer}
-use Rattle.tenant_pipeline.specs.Timers.{ran}
-use Rattle.tenant_pipeline.specs.Ready.{ready}
+use Rattle.tenant_pipeline.specs.declared.told.Told.{Told}
+use Rattle.tenant_pipeline.specs.declared.told.Told.TheVariants as tell
+use Rattle.tenant_pipeline.specs.State.{State, state, answer, StandsFor}
+use Rattle.tenant_pipeline.specs.Own.{Own, Turn, clock}
+use Rattle.tenant_pipeline.specs.Timers.{next_timer, ran}
+use Rattle.tenant_pipeline.specs.Machine.{GoesOnFrom, next, told}
+use Rattle.tenant_pipeline.specs.Ready.{next_decision, ready}
 use Rattle.tenant_pipeline.specs.Prepared.{PreparedData, IsPrepared}
-use Rattle.tenant_pipeline.specs.Examples.{one_second, span, body, value, prepared, undecided, both_decided}
+use Rattle.tenant_pipeline.specs.Examples.{one_second, span, body, value, prepared, undecided, both_decided, half_decided, half_handed}
+use Rattle.tenant_pipeline.proofs.Run.{first_is_least}
 use Rattle.tenant_pipeline.proofs.definition_tests.definitions_of_rows_and_timers.Goals as goal
 
 -- a body has a value exactly where the functions give it
@@ -108,6 +114,29 @@ returns-clause-fronts c = record {
   both = (2, refl);
   not_due = λ h. not_due h.0 h.1;
   clock_alone = λ h. clock_alone h.0 h.1;
+}
+
+-- a row that is due by the clock isn't the least above it
+of_no_steps : (section : SectionData) (past : List Own) → StandsFor section past half_decided → ⊥
+unfolding state
+of_no_steps section past stands =
+    let at : clock past ≡ 1000 = sym (ap (λ (s : State). s.clock) stands) in
+    let least : next_timer half_decided ≡ next_decision (clock past) half_decided.rows =
+    ap next_timer stands ∙ (first_is_least section past ∙ ap (λ (s : State). next_decision (clock past) s.rows) (sym stands)) in
+    let none : Some 1000 ≡ None = least ∙ ap (λ moment. next_decision moment half_decided.rows) at in
+    cc
+
+no_job : (body : List ℕ) → tell.Worked ≡ tell.Job 1 body → ⊥
+no_job body e = cc
+
+pub returns-clause-after_refusal : goal.returns-clause-after_refusal
+unfolding keeps next told export_text bits
+returns-clause-after_refusal c = record {
+  of_no_steps = of_no_steps;
+  turn = record { said_is = refl; new_is = refl };
+  post = record { said_is = refl; new_is = refl };
+  no_job = λ h. no_job (body 17 33) h.said_is;
+  still_undecided = λ h. let same : 1 ≡ 2 = ap (λ (s : State). s.decided) h.new_is in omega (arith, same);
 }
 
 pub returns-clause-readiness : goal.returns-clause-readiness

@@ -6,13 +6,15 @@ use Rattle.tail_settings.specs.Section.{SectionData}
 use Rattle.tenant_pipeline.specs.declared.told.Told.{Told}
 use Rattle.tenant_pipeline.specs.declared.told.Told.TheVariants as tell
 use Rattle.tenant_pipeline.specs.Own.{Own}
+use Rattle.tenant_pipeline.specs.Own as own
 use Rattle.tenant_pipeline.specs.State.{State}
 use Rattle.tenant_pipeline.specs.Ready.{ready}
 use Rattle.tenant_pipeline.specs.Timers.{ran, effective}
-use Rattle.tenant_pipeline.specs.Examples.{body}
+use Rattle.tenant_pipeline.specs.Machine.{next, told}
+use Rattle.tenant_pipeline.specs.Examples.{body, half_decided, half_handed}
 use Rattle.tenant_pipeline.proofs.OnLiterals.{pipelines_on_literals}
 use Rattle.tenant_shard.specs.declared.step.Outcome.{Outcome}
-use Rattle.tenant_shard.specs.declared.step.Outcome.TheVariants.{Job, Idle, Refused}
+use Rattle.tenant_shard.specs.declared.step.Outcome.TheVariants.{Job, Idle, Refused, Worked}
 use Rattle.tenant_shard.specs.declared.step.Step.TheVariants.{Post, Turn}
 use Rattle.tenant_shard.specs.View.{View, kept_of}
 use Rattle.tenant_shard.specs.Lists.{Lists, MemberStands, ShardStands}
@@ -20,8 +22,9 @@ use Rattle.tenant_shard.specs.Table.{opened}
 use Rattle.tenant_shard.specs.Outcomes.{own_step, piped, Answered, named, told_whom}
 use Rattle.tenant_shard.specs.Pick.{ready_in, ready_at, NotAfter, IsPick}
 use Rattle.tenant_shard.specs.Run.{IsTurned, IsNext, RunFrom, ShardRuns, after, after_all}
-use Rattle.tenant_shard.specs.Refusal.{IsRefused, without}
+use Rattle.tenant_shard.specs.Refusal.{IsRefused, without, IsNobodys}
 use Rattle.tenant_shard.specs.Examples.{view, fresh, table, prepared, taken, both_at_1000, second_first, posted, waits, decided, one_unknown, starts, holds, holds_two, sent, handed_out, kept_of_both, three_steps, three_outcomes, two_posts}
+use Rattle.tenant_shard.specs.GoesOn.{MemberGoesOn}
 use Rattle.tenant_shard.proofs.definition_tests.definitions_on_small_inputs.Goals as goal
 
 some_same : (a b : ℕ) → Some a ≡ Some b → a ≡ b
@@ -305,6 +308,63 @@ returns-clause-losses c = record {
   };
   one_decided = refused_after_one;
   clock_moved = not_moved;
+}
+
+half_least : (tenant moment : ℕ) → ready_in (view 1 half_decided ∷ []) tenant ≡ Some moment → NotAfter 1000 1 moment tenant
+unfolding pipelines_on_literals
+half_least zero moment h = absurd (never moment h)
+half_least (suc zero) moment h = inr (some_same 1000 moment h, omega arith)
+half_least (suc (suc n)) moment h = absurd (never moment (sym (ready_in_above_1 half_decided n) ∙ h))
+
+half_picked : IsPick (ready_in (view 1 half_decided ∷ [])) 1000 (Some 1)
+unfolding pipelines_on_literals
+half_picked = (1000, refl, omega arith, half_least)
+
+not_nobodys : IsNobodys (Turn 1000) (view 1 half_decided ∷ []) → ⊥
+unfolding pipelines_on_literals
+not_nobodys none = let less : 1000 < 1000 = none 1 1000 refl in omega (arith, less)
+
+never_kept : (s : State) → None ≡ Some s → ⊥
+never_kept s e = cc
+
+-- what goes on from that state is one outcome and one state
+goes_on_so : (tenant : ℕ) (outcome : Outcome) (new : State) → MemberGoesOn tenant (Turn 1000) (view 1 half_decided ∷ []) outcome (view 1 new ∷ []) → (outcome ≡ Job 1 1 (body 17 33)) × (new ≡ half_handed)
+unfolding pipelines_on_literals
+goes_on_so zero outcome new is = absurd (never_kept is.before is.was)
+goes_on_so (suc zero) outcome new is =
+    let before : is.before ≡ half_decided = ap (λ o. unwrap_or o half_decided) (sym is.was) in
+    let said : is.said ≡ told (own.Turn 1000) half_decided = is.goes_on.said_is ∙ ap (told (own.Turn 1000)) before in
+    let after : is.after ≡ next (own.Turn 1000) half_decided = is.goes_on.new_is ∙ ap (next (own.Turn 1000)) before in
+    let kept : new ≡ is.after = ap (λ o. unwrap_or o half_decided) is.is_now in (
+      is.outcome_is ∙ ap (λ told. named 1 (Answered told)) said,
+      kept ∙ after,
+    )
+goes_on_so (suc (suc n)) outcome new is = absurd (never_kept is.before (rw (above_1 n) at is.was))
+
+no_job : (body : List ℕ) → Worked 1 ≡ Job 1 1 body → ⊥
+no_job body e = cc
+
+pub returns-clause-after_loss : goal.returns-clause-after_loss
+unfolding pipelines_on_literals
+returns-clause-after_loss c = record {
+  job = inr (
+    1,
+    record {
+      whose = half_picked;
+      before = half_decided;
+      said = tell.Job 1 (body 17 33);
+      after = half_handed;
+      was = refl;
+      goes_on = record { said_is = refl; new_is = refl };
+      outcome_is = refl;
+      is_now = refl;
+    },
+  );
+  no_job = λ h. elim h [ inl none ↦ not_nobodys none | inr is ↦ no_job (body 17 33) (goes_on_so is.0 (Worked 1) half_handed is.1).0 ];
+  other_left = λ h. elim h [
+    | inl none ↦ not_nobodys none
+    | inr is ↦ let same : 1 ≡ 2 = ap (λ (s : State). s.decided) (goes_on_so is.0 (Job 1 1 (body 17 33)) half_decided is.1).1 in omega (arith, same)
+  ];
 }
 
 no_steps_run : (old : List View) → ShardRuns [] old [] old

@@ -23,6 +23,7 @@ returns-clause-ok c = record {
   change = change_at c.args.prepared.now.tenant c.args.members.now.items c.args.i c.index_mut-member.result.now c.requires.place c.index_mut-member.ensures.value c.post.new.self;
   said = told.Reply c.in_ok-reply.reply;
   answers = c.in_ok-reply.ensures.ok;
+  goes_on = c.in_ok-reply.ensures.goes_on;
   policies_stay = c.post.ensures.policies;
   outcome_is = ap (λ tenant. Reply tenant c.in_ok-reply.reply) c.tenant.ensures;
 }

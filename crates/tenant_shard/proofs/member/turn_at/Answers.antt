@@ -20,6 +20,7 @@ returns-clause-ok c = record {
   change = change_at c.args.tenant c.args.members.now.items c.args.i c.index_mut-member.result.now c.requires.place c.index_mut-member.ensures.value c.turn.new.self;
   said = c.in_ok-told.told;
   answers = c.in_ok-told.ensures.ok;
+  goes_on = c.in_ok-told.ensures.goes_on;
   policies_stay = c.turn.ensures.policies;
   outcome_is = c.named.ensures;
 }

@@ -1,4 +1,4 @@
-use Rattle.std.proofs.Common.{◌≡◌, ℕ, List, Option, Some, None, min, ◌∙◌, sym, ap}
+use Rattle.std.proofs.Common.{◌≡◌, ℕ, List, Option, Some, None, min, ◌∙◌, sym, ap, inl}
 use Rattle.tenant_pipeline.specs.Own.{latest_moment}
 use Rattle.tenant_shard.specs.declared.step.Step.TheVariants.{Turn}
 use Rattle.tenant_shard.specs.declared.member.Member.{Member}
@@ -8,7 +8,7 @@ use Rattle.tenant_shard.specs.Least.{least, named_by}
 use Rattle.tenant_shard.specs.View.{AreInOrder}
 use Rattle.tenant_shard.proofs.Picks.{least_is_pick, pick_is_kept}
 use Rattle.tenant_shard.proofs.Places.{kept_of-gap, on_err}
-use Rattle.tenant_shard.proofs.Runs.{turn_steps, idle_steps, loss_refuses, not_both}
+use Rattle.tenant_shard.proofs.Runs.{turn_steps, idle_steps, own_goes_on, loss_refuses, not_both}
 use Rattle.tenant_shard.proofs.shard.turn.Goals as goal
 
 -- what the call finds is the pick
@@ -21,6 +21,10 @@ pub returns-in_default-clause-ok : goal.returns-in_default-clause-ok
 returns-in_default-clause-ok c =
     let pick = found c.args.now c.min.result c.args.members.now.items c.deref.result.now c.least.result None c.requires c.least.ensures c.min.ensures c.deref.ensures.value c.in_default.is in
     idle_steps c.args.now (views c.args.members.now.items) pick
+
+pub returns-in_default-clause-goes_on : goal.returns-in_default-clause-goes_on
+returns-in_default-clause-goes_on c =
+    inl (found c.args.now c.min.result c.args.members.now.items c.deref.result.now c.least.result None c.requires c.least.ensures c.min.ensures c.deref.ensures.value c.in_default.is)
 
 pub unreachable-requires : goal.unreachable-requires
 unreachable-requires c =
@@ -42,6 +46,11 @@ pub returns-clause-ok : goal.returns-clause-ok
 returns-clause-ok c =
     let pick = found c.args.now c.min.result c.args.members.now.items c.deref.result.now c.least.result (Some (c.in-Some.field-0-0, c.in-Some.tenant)) c.requires c.least.ensures c.min.ensures c.deref.ensures.value c.in-Some.is in
     turn_steps c.args.now c.in-Some.tenant (views c.args.members.now.items) _ _ pick c.in_ok-outcome.ensures.ok
+
+pub returns-clause-goes_on : goal.returns-clause-goes_on
+returns-clause-goes_on c =
+    let pick = found c.args.now c.min.result c.args.members.now.items c.deref.result.now c.least.result (Some (c.in-Some.field-0-0, c.in-Some.tenant)) c.requires c.least.ensures c.min.ensures c.deref.ensures.value c.in-Some.is in
+    own_goes_on c.in-Some.tenant (Turn c.args.now) (views c.args.members.now.items) _ _ pick c.in_ok-outcome.ensures.ok
 
 pub returns-clause-nobodys : goal.returns-clause-nobodys
 returns-clause-nobodys c = λ none.

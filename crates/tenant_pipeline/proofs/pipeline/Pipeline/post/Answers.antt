@@ -14,9 +14,9 @@ use Rattle.tenant_pipeline.specs.Numbered.{AreAllNumbered}
 use Rattle.tenant_pipeline.proofs.Names.{posted}
 use Rattle.tenant_pipeline.proofs.pipeline.Pipeline.post.Goals as goal
 
-pub returns-clause-ok : goal.returns-clause-ok
+pub returns-clause-goes_on : goal.returns-clause-goes_on
 unfolding next told
-returns-clause-ok c =
+returns-clause-goes_on c =
     let old = c.args.self.now in
     let e = max old.clock (min c.args.now latest_moment) in
     let at : c.effective-moment.result ≡ e = c.effective-moment.ensures.at in
@@ -33,9 +33,18 @@ returns-clause-ok c =
     let kept : State = record { wait = w; policies = map policy_view c.self.inside.policies.items; clock = 0; rows = row_views c.place_all.new.rows.entries; decided = c.self.inside.decided; queue = group_views c.place_all.new.queue.items; tickets = c.self.inside.tickets } in
     let new = ap (λ m. set_to m kept) at ∙ post_by e (valid c.args.prepared.now.arrivals) (the_view c.self.inside) _ _ _ now rows queue in
     let said = ap (λ body. tell.Reply (record { status = 200; body = body })) c.new.ensures in
-    let wait : w ≡ old.wait = ap (λ (s : State). s.wait) now ∙ ran-wait (length old.rows) e old in
+    record { said_is = said; new_is = new }
+
+pub returns-clause-ok : goal.returns-clause-ok
+returns-clause-ok c =
+    let old = c.args.self.now in
+    let e = max old.clock (min c.args.now latest_moment) in
+    let at : c.effective-moment.result ≡ e = c.effective-moment.ensures.at in
+    let run : c.run_due.new.self ≡ ran (length old.rows) e old = c.in_ok-run_due.ensures.ok ∙ ap (λ m. ran (length old.rows) m old) at in
+    let wait : c.self.inside.wait ≡ old.wait = ap (λ (s : State). s.wait) (c.self.view_is ∙ run) ∙ ran-wait (length old.rows) e old in
     let some : 0 < old.wait = omega (arith, c.self.invariant.0.some_wait) in
-    answers_by (Post c.args.now c.args.prepared.now.arrivals) old _ _ some said new
+    let on = returns-clause-goes_on c in
+    answers_by (Post c.args.now c.args.prepared.now.arrivals) old _ _ some on.said_is on.new_is
 
 pub invariant_of-self : goal.invariant_of-self
 invariant_of-self c =

@@ -6,6 +6,12 @@ returns-in-Post-clause-ok c = rw (c.in-Post.is, ← c.self.view_is) c.post_to.en
 pub returns-in-Turn-clause-ok : goal.returns-in-Turn-clause-ok
 returns-in-Turn-clause-ok c = rw (c.in-Turn.is, ← c.self.view_is) c.turn.ensures.ok
 
+pub returns-in-Post-clause-goes_on : goal.returns-in-Post-clause-goes_on
+returns-in-Post-clause-goes_on c = rw (c.in-Post.is, ← c.self.view_is) c.post_to.ensures.goes_on
+
+pub returns-in-Turn-clause-goes_on : goal.returns-in-Turn-clause-goes_on
+returns-in-Turn-clause-goes_on c = rw (c.in-Turn.is, ← c.self.view_is) c.turn.ensures.goes_on
+
 pub returns-in-Post-clause-refused : goal.returns-in-Post-clause-refused
 returns-in-Post-clause-refused c = rw (c.in-Post.is, ← c.self.view_is) c.post_to.ensures.refused
 
