@@ -1,7 +1,7 @@
 //! The text of a batch.
 
-ghost use Rattle.std.specs.Prelude.{◌≡◌, ◌^◌, ◌<◌, ◌≤◌, ◌++◌, ◌∷◌, ℕ, Bool, List, length, take, drop, flat_map, IfOk, OnOk};
-ghost use Rattle.otlp_trace.specs.Text.{bytes_field, some_bytes, embedded, repeated};
+ghost use Rattle.std.specs.Prelude.{◌≡◌, ◌<◌, ◌≤◌, ◌++◌, ◌∷◌, ℕ, Bool, List, length, take, drop, flat_map, IfOk, OnOk};
+ghost use Rattle.otlp_trace.specs.Text.{embedded, repeated};
 ghost use Rattle.span_pool.specs.Stored.{StoredData, same_resource, same_scope};
 ghost use Rattle.span_pool.specs.Named.{AreAlike};
 ghost use Rattle.tenant_pipeline.specs.Arrivals.{arrivals_in};
@@ -9,7 +9,7 @@ ghost use Rattle.tenant_pipeline.specs.Numbered.{AreNumbered};
 ghost use Rattle.tenant_pipeline.specs.ExportText.{runs, scope_spans_field, resource_spans_field, export_text};
 
 use bytes::Bytes;
-use pb_wire::{WireType, put_bytes, put_tag, put_varint};
+use otlp_trace::{put_bytes_field, put_some_bytes, wrap_in_field};
 use span_pool::StoredSpan;
 use std::alloc::{AllocError, Global};
 
@@ -22,49 +22,14 @@ const INNER: u32 = 2;
 /// The number of `schema_url` in both.
 const SCHEMA_URL: u32 = 3;
 
-/// Appends a field of bytes.
-pub fn put_field(out: &mut Vec<u8>, number: u32, bytes: &[u8]) -> Result<(), AllocError>
-    requires some { 0 < number }
-    requires fits { number < 2 ^ 29 }
-    ensures { OnOk result (out.new.items ≡ out.old.items ++ bytes_field number bytes.now) }
-{
-    put_tag(out, number, WireType::Bytes)?;
-    put_bytes(out, bytes)
-}
-
 /// Appends the resource or the scope, where there is one.
 pub fn put_embedded(out: &mut Vec<u8>, text: &Option<Bytes>) -> Result<(), AllocError>
     ensures { OnOk result (out.new.items ≡ out.old.items ++ embedded 1 text.now) }
 {
     match text {
-        Some(text) => put_field(out, FIRST, text.as_slice()),
+        Some(text) => put_bytes_field(out, FIRST, text.as_slice()),
         None => Ok(()),
     }
-}
-
-/// Appends the schema, where it has any bytes.
-pub fn put_schema_url(out: &mut Vec<u8>, url: &Bytes) -> Result<(), AllocError>
-    ensures { OnOk result (out.new.items ≡ out.old.items ++ some_bytes 3 url.now) }
-{
-    if url.is_empty() {
-        return Ok(());
-    }
-    put_field(out, SCHEMA_URL, url.as_slice())
-}
-
-/// Makes the bytes from a place on the content of a field.
-fn wrap(out: &mut Vec<u8>, start: usize, number: u32) -> Result<(), AllocError>
-    requires within { start ≤ length out.old.items }
-    requires some { 0 < number }
-    requires fits { number < 2 ^ 29 }
-    ensures { OnOk result (out.new.items ≡ take start out.old.items ++ bytes_field number (drop start out.old.items)) }
-{
-    let end = out.len();
-    put_tag(out, number, WireType::Bytes)?;
-    put_varint(out, (end - start) as u64)?;
-    let added = out.len() - end;
-    out[start..].rotate_right(added);
-    Ok(())
 }
 
 /// Appends the spans, each as a field of a `ScopeSpans`.
@@ -72,7 +37,7 @@ pub fn put_spans(out: &mut Vec<u8>, spans: &[StoredSpan]) -> Result<(), AllocErr
     ensures { OnOk result (out.new.items ≡ out.old.items ++ repeated 2 (λ a. a.text) (arrivals_in spans.now)) }
 {
     for span in spans {
-        put_field(out, INNER, span.text().as_slice())?;
+        put_bytes_field(out, INNER, span.text().as_slice())?;
     }
     Ok(())
 }
@@ -111,8 +76,8 @@ impl Level for ScopeLevel {
         let start = out.len();
         put_embedded(out, first.scope())?;
         put_spans(out, spans)?;
-        put_schema_url(out, first.scope_schema_url())?;
-        wrap(out, start, INNER)
+        put_some_bytes(out, SCHEMA_URL, first.scope_schema_url().as_slice())?;
+        wrap_in_field(out, start, INNER)
     }
 }
 
@@ -135,8 +100,8 @@ impl Level for ResourceLevel {
         let start = out.len();
         put_embedded(out, first.resource())?;
         put_runs::<ScopeLevel>(out, spans)?;
-        put_schema_url(out, first.resource_schema_url())?;
-        wrap(out, start, FIRST)
+        put_some_bytes(out, SCHEMA_URL, first.resource_schema_url().as_slice())?;
+        wrap_in_field(out, start, FIRST)
     }
 }
 

@@ -11,10 +11,10 @@ ghost use Rattle.tenant_pipeline.specs.Groups.{GroupData, due_of, on_time, are_k
 ghost use Rattle.tenant_pipeline.specs.ExportText.{joined_to, runs, same_resource, same_scope, scope_spans_field, resource_spans_field, export_text};
 ghost use Rattle.tenant_pipeline.specs.State.{handed, tickets_after, tickets, answer};
 
-use crate::export::{put_embedded, put_field, put_schema_url, put_spans};
+use crate::export::{put_embedded, put_spans};
 use crate::told::{Reply, Told};
 use bytes::Bytes;
-use otlp_trace::Octets;
+use otlp_trace::{Octets, put_bytes_field, put_some_bytes};
 use span_pool::StoredSpan;
 use span_view::SpanRef;
 use std::alloc::{AllocError, Global};
@@ -624,8 +624,8 @@ fn scope_spans_field(alloc: Global, spans: &[StoredSpan]) -> Result<Vec<u8>, All
     let mut content = Vec::new(alloc);
     put_embedded(&mut content, x.scope())?;
     put_spans(&mut content, spans)?;
-    put_schema_url(&mut content, x.scope_schema_url())?;
-    put_field(&mut text, 2, content.as_slice())?;
+    put_some_bytes(&mut content, 3, x.scope_schema_url().as_slice())?;
+    put_bytes_field(&mut text, 2, content.as_slice())?;
     Ok(text)
 }
 
@@ -654,8 +654,8 @@ fn resource_spans_field(alloc: Global, spans: &[StoredSpan]) -> Result<Vec<u8>, 
     let mut content = Vec::new(alloc);
     put_embedded(&mut content, x.resource())?;
     content.append(&mut fields)?;
-    put_schema_url(&mut content, x.resource_schema_url())?;
-    put_field(&mut text, 1, content.as_slice())?;
+    put_some_bytes(&mut content, 3, x.resource_schema_url().as_slice())?;
+    put_bytes_field(&mut text, 1, content.as_slice())?;
     Ok(text)
 }
 

@@ -17,6 +17,7 @@ returns c =
     let start : c.len-start.result ≡ length out = omega (arith, c.len-start.ensures) in
     let first : c.put_embedded.new.out.items ≡ out ++ embedded 1 x.origin.resource = c.in_ok-put_embedded.ensures ∙ ap (λ t. out ++ embedded 1 t) c.resource.ensures in
     let second : c.put_runs.new.out.items ≡ (out ++ embedded 1 x.origin.resource) ++ inner = c.in_ok-put_runs.ensures ∙ (ap (λ bs. bs ++ stored) first ∙ ap (λ bs. (out ++ embedded 1 x.origin.resource) ++ bs) (fields_of_runs arrival_in same_scope scope_spans_field spans)) in
-    let third : c.put_schema_url.new.out.items ≡ ((out ++ embedded 1 x.origin.resource) ++ inner) ++ some_bytes 3 x.origin.resource_schema_url =
-    c.in_ok-put_schema_url.ensures ∙ (ap (λ bs. bs ++ some_bytes 3 c.resource_schema_url.result.now) second ∙ ap (λ url. ((out ++ embedded 1 x.origin.resource) ++ inner) ++ some_bytes 3 url) c.resource_schema_url.ensures) in
-    on_ok_weaker c.wrap.result (λ made. wrapped (bytes_field 1) out _ _ _ _ _ _ start third made ∙ ap (λ bs. out ++ bs) (sym (resource_field x spans at))) c.wrap.ensures
+    let url : c.as_slice.result.now ≡ x.origin.resource_schema_url = c.as_slice.ensures ∙ c.resource_schema_url.ensures in
+    let third : c.put_some_bytes.new.out.items ≡ ((out ++ embedded 1 x.origin.resource) ++ inner) ++ some_bytes 3 x.origin.resource_schema_url =
+    c.in_ok-put_some_bytes.ensures.ok ∙ (ap (λ bs. bs ++ some_bytes 3 c.as_slice.result.now) second ∙ ap (λ bs. ((out ++ embedded 1 x.origin.resource) ++ inner) ++ some_bytes 3 bs) url) in
+    on_ok_weaker c.wrap_in_field.result (λ made. wrapped (bytes_field 1) out _ _ _ _ _ _ start third made ∙ ap (λ bs. out ++ bs) (sym (resource_field x spans at))) c.wrap_in_field.ensures.ok
