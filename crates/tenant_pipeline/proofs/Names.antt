@@ -1,17 +1,15 @@
 -- Spans whose numbers name what they have, as numbers are handed out and spans come.
-use Rattle.std.proofs.Common.{◌≡◌, ◌<◌, ◌≤◌, ◌+◌, ◌-◌, ◌^◌, ℕ, min, Bool, true, false, cond, eqb, leb, ltb, List, [], ◌∷◌, ◌++◌, length, map, take, drop, get_or, None, refl, sym, ap, ◌∙◌, subst, arith}
+use Rattle.std.proofs.Common.{◌≡◌, ◌<◌, ◌≤◌, ◌+◌, ◌-◌, ◌^◌, ℕ, min, Bool, true, false, cond, eqb, leb, ltb, List, [], ◌∷◌, ◌++◌, length, map, drop, get_or, None, refl, sym, ap, ◌∙◌, subst, arith}
 use Rattle.std.specs.Prelude.{◌&&◌}
-use Rattle.std.specs.List.{AllByRecursion}
 use Rattle.std.proofs.lemmas.Bool.Decides.{nat_tests}
 use Rattle.std.proofs.Math.Nat.{le-min}
 use Rattle.span_pool.specs.declared.numbers.Numbers.{Numbers}
-use Rattle.span_pool.specs.Numbers.{shifted}
 use Rattle.span_pool.specs.Stored.{Origin, StoredData}
 use Rattle.span_pool.specs.Named.{Named, Names, IsNumber, IsNamed, AreNamed, AreAlike, resource_of, scope_of, renumbered}
 use Rattle.tenant_pipeline.specs.declared.rows.Row.{Row}
 use Rattle.tenant_pipeline.specs.declared.rows.Group.{Group}
 use Rattle.tenant_pipeline.specs.Numbered.{AreNumbered, AreNumberedWith, AreRowsNamed, AreGroupsNamed, AreAllNamed, AreAllNumbered}
-use Rattle.tenant_pipeline.proofs.Numbered.{every_weaker, every_at, every_take, every_drop, every_pushed}
+use Rattle.tenant_pipeline.proofs.Numbered.{every_weaker, every_at, every_drop, every_pushed}
 
 -- ---- spans of one batch
 
@@ -25,9 +23,6 @@ alike names last one other is its = record {
 pub alike_at : (last : ℕ) (spans : List StoredData) (i j : ℕ) (one other : StoredData) → AreNumbered last spans → i < length spans → j < length spans → one ≡ get_or spans i one → other ≡ get_or spans j other → AreAlike one other
 alike_at last spans i j one other are within its is other_is =
     alike are.names last one other (every_at (IsNamed are.names last) spans i one within is are.named) (every_at (IsNamed are.names last) spans j other its other_is are.named)
-
-pub numbered_take : (last n : ℕ) (spans : List StoredData) → AreNumbered last spans → AreNumbered last (take n spans)
-numbered_take last n spans are = record { names = are.names; named = every_take (IsNamed are.names last) n spans are.named }
 
 pub numbered_drop : (last n : ℕ) (spans : List StoredData) → AreNumbered last spans → AreNumbered last (drop n spans)
 numbered_drop last n spans are = record { names = are.names; named = every_drop (IsNamed are.names last) n spans are.named }

@@ -1,16 +1,13 @@
 -- Rows and groups whose spans' numbers name what the spans have.
-use Rattle.std.proofs.Common.{◌≡◌, ◌<◌, ◌≤◌, ◌+◌, ◌-◌, ℕ, zero, suc, Bool, true, false, cond, List, [], ◌∷◌, ◌++◌, length, map, take, drop, get_or, slice_get, Option, Some, None, refl, sym, ap, ◌∙◌, subst, arith}
+use Rattle.std.proofs.Common.{◌≡◌, ◌<◌, ℕ, zero, suc, Bool, true, false, cond, List, [], ◌∷◌, ◌++◌, length, map, drop, get_or, slice_get, Some, sym, subst, arith}
 use Rattle.std.specs.List.{AllByRecursion}
-use Rattle.std.specs.Option.{option_to_list}
 use Rattle.std.specs.Map.{values_of}
 use Rattle.indexmap.specs.Layout.{set_value_at}
 use Rattle.indexmap.specs.IndexMap.{insert_entry}
-use Rattle.span_pool.specs.Stored.{StoredData}
-use Rattle.span_pool.specs.Named.{Names, IsNamed, AreNamed}
+use Rattle.span_pool.specs.Named.{Names, AreNamed}
 use Rattle.tenant_pipeline.specs.declared.rows.Row.{Row}
-use Rattle.tenant_pipeline.specs.declared.rows.Group.{Group}
 use Rattle.tenant_pipeline.specs.Rows.{is_same}
-use Rattle.tenant_pipeline.specs.Numbered.{AreRowsNamed, AreGroupsNamed}
+use Rattle.tenant_pipeline.specs.Numbered.{AreRowsNamed}
 
 -- ---- what holds of each element
 
@@ -22,10 +19,6 @@ module _ {X : Type 0} (P : X → Type 0) where
   every_front : (xs ys : List X) → AllByRecursion P (xs ++ ys) → AllByRecursion P xs
   every_front [] ys all = tt
   every_front (x ∷ xs) ys all = (all.0, every_front xs ys all.1)
-
-  every_back : (xs ys : List X) → AllByRecursion P (xs ++ ys) → AllByRecursion P ys
-  every_back [] ys all = all
-  every_back (x ∷ xs) ys all = every_back xs ys all.1
 
   -- of each as it was
   pub every_same : (old new : List X) → new ≡ old → AllByRecursion P old → AllByRecursion P new
@@ -39,9 +32,6 @@ module _ {X : Type 0} (P : X → Type 0) where
   pub every_left : (old new gone : List X) → old ≡ new ++ gone → AllByRecursion P old → AllByRecursion P new
   every_left old new gone is all = every_front new gone (subst (AllByRecursion P) is all)
 
-  pub every_rest : (old gone new : List X) → old ≡ gone ++ new → AllByRecursion P old → AllByRecursion P new
-  every_rest old gone new is all = every_back gone new (subst (AllByRecursion P) is all)
-
   -- of the one at a place
   pub every_at : (xs : List X) (i : ℕ) (x : X) → i < length xs → x ≡ get_or xs i x → AllByRecursion P xs → P x
   every_at [] i x within is all = absurd (omega arith)
@@ -49,11 +39,6 @@ module _ {X : Type 0} (P : X → Type 0) where
   every_at (y ∷ ys) (suc i) x within is all = every_at ys i x (omega arith) is all.1
 
   -- of some that are left out
-  pub every_take : (n : ℕ) (xs : List X) → AllByRecursion P xs → AllByRecursion P (take n xs)
-  every_take zero xs all = tt
-  every_take (suc n) [] all = tt
-  every_take (suc n) (x ∷ xs) all = (all.0, every_take n xs all.1)
-
   pub every_drop : (n : ℕ) (xs : List X) → AllByRecursion P xs → AllByRecursion P (drop n xs)
   every_drop zero xs all = all
   every_drop (suc n) [] all = tt

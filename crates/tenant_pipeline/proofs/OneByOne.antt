@@ -33,9 +33,6 @@ ran-more (suc n) k e s =
     let z : suc n + k ≡ suc (n + k) = omega arith in
     rw z (ran_by (is_due (next_timer s) e) n k e s refl (ran-more n k e (one_run s)))
 
-pub IsFront_refl : (e : ℕ) (s : State) → IsFront e s s
-IsFront_refl e s = (0, refl)
-
 -- one more timer that is due
 pub IsFront-push : (e : ℕ) (old s new : State) → IsFront e old s → is_due (next_timer s) e ≡ true → new ≡ one_run s → IsFront e old new
 IsFront-push e old s new front now is =

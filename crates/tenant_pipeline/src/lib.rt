@@ -32,7 +32,7 @@ mod rows;
 mod told;
 
 pub use body::{Prepared, Refusal, prepare};
-pub use pipeline::Pipeline;
+pub use pipeline::{LATEST_MOMENT, Pipeline};
 pub use told::{Reply, Told};
 
 /// What a tenant is after one more step, and what it is told of it, follows from what it was: a law over the

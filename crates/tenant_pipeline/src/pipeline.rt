@@ -23,8 +23,8 @@ use std::collections::VecDeque;
 use std::marker::Model;
 use tail_settings::{PolicySpec, Section, copied_policies};
 
-/// A later moment is taken as this one.
-const LATEST_MOMENT: u64 = 1 << 62;
+/// A later moment is taken as this one, in milliseconds.
+pub const LATEST_MOMENT: u64 = 1 << 62;
 
 /// No more tickets than these are handed out.
 const LAST_TICKET: u64 = 1 << 62;

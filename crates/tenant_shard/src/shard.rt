@@ -17,11 +17,8 @@ use crate::step::{Outcome, Step};
 use std::alloc::{AllocError, Global};
 use std::marker::Model;
 use tail_settings::Settings;
-use tenant_pipeline::{Pipeline, Prepared};
+use tenant_pipeline::{LATEST_MOMENT, Pipeline, Prepared};
 use thiserror::Error;
-
-/// A later moment is taken as this one.
-const LATEST_MOMENT: u64 = 1 << 62;
 
 /// The number of the refusal of a tenant that is no member.
 const NOT_MEMBER: u8 = 22;

@@ -23,15 +23,11 @@ use Rattle.replay_script.specs.Command.{CommandData, Post, Turn}
 use Rattle.replay_script.specs.Line.{Kind, Skipped, Says, Faulty, kind_of}
 use Rattle.replay_script.specs.Told.{Answered, Goes, Told, BeginsTold}
 use Rattle.trace_collector.specs.Outcomes.{outcome_text}
-use Rattle.trace_collector.specs.Answered.{section_in, lists_of, IsStepped, HasNoValue, IsPosted, IsPostedTo}
+use Rattle.trace_collector.specs.Answered.{section_in, lists_of, IsStepped, IsPosted, IsPostedTo}
 use Rattle.trace_collector.specs.Answered as of_script
 
 module _ {H : Type 0} (answers : H → CommandData → Option (List ℕ) → H → Type 0)
     (one : (h k k' : H) (command : CommandData) (line line' : Option (List ℕ)) → answers h command line k → answers h command line' k' → (line ≡ line') × (k ≡ k')) where
-  -- of two texts one begins the other
-  Begins : List ℕ → List ℕ → Type 0
-  Begins text text' = (rest : List ℕ) × (text' ≡ text ++ rest)
-
   goes_one : (kind : Kind) (number : ℕ) (h : H) (rest : H → List ℕ → Option ℕ → Type 0) (text text' : List ℕ) (fault fault' : Option ℕ)
       → ((h : H) (t t' : List ℕ) (f f' : Option ℕ) → rest h t f → rest h t' f' → (t ≡ t') × (f ≡ f'))
       → Goes answers number h kind rest text fault → Goes answers number h kind rest text' fault' → (text ≡ text') × (fault ≡ fault')

@@ -46,9 +46,6 @@ other_stands section past later kept is stands = elim is [
       (nothing_stands past later true kept (subst (λ s. MemberStands s past true kept) none stands))
 ]
 
-Later : SettingsData → (ℕ → List Own) → ℕ → Step → Outcome → ℕ → List Own
-Later settings pasts shard step outcome = (after step outcome (lists_of settings pasts shard)).pasts
-
 others_stand : (settings : SettingsData) (pasts : ℕ → List Own) (shard other : ℕ) (step : Step) (outcome : Outcome) (kept : List View) → other ≢ shard
     → ShardStands (lists_of settings pasts other) kept → ShardStands (lists_of settings (after step outcome (lists_of settings pasts shard)).pasts other) kept
 others_stand settings pasts shard other step outcome kept apart stands tenant =

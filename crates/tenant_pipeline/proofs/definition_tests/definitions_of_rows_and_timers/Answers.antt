@@ -9,15 +9,14 @@ use Rattle.tail_settings.specs.Policy.{always_sample, leaf}
 use Rattle.tail_settings.specs.Section.{SectionData}
 use Rattle.tenant_pipeline.specs.Groups.{groups}
 use Rattle.tenant_pipeline.specs.ExportText.{export_text}
-use Rattle.tenant_pipeline.specs.declared.told.Told.{Told}
 use Rattle.tenant_pipeline.specs.declared.told.Told.TheVariants as tell
 use Rattle.tenant_pipeline.specs.State.{State, state, answer, StandsFor}
-use Rattle.tenant_pipeline.specs.Own.{Own, Turn, clock}
+use Rattle.tenant_pipeline.specs.Own.{Own, clock}
 use Rattle.tenant_pipeline.specs.Timers.{next_timer, ran}
-use Rattle.tenant_pipeline.specs.Machine.{GoesOnFrom, next, told}
+use Rattle.tenant_pipeline.specs.Machine.{next, told}
 use Rattle.tenant_pipeline.specs.Ready.{next_decision, ready}
 use Rattle.tenant_pipeline.specs.Prepared.{PreparedData, IsPrepared}
-use Rattle.tenant_pipeline.specs.Examples.{one_second, span, body, value, prepared, undecided, both_decided, half_decided, half_handed}
+use Rattle.tenant_pipeline.specs.Examples.{one_second, span, body, value, prepared, undecided, both_decided, half_decided}
 use Rattle.tenant_pipeline.proofs.Run.{first_is_least}
 use Rattle.tenant_pipeline.proofs.definition_tests.definitions_of_rows_and_timers.Goals as goal
 

@@ -1,4 +1,4 @@
-use Rattle.std.proofs.Common.{◌≡◌, ◌<◌, length, sym, subst, arith}
+use Rattle.std.proofs.Common.{◌<◌, length, sym, subst}
 use Rattle.tenant_pipeline.specs.Numbered.{AreNumbered}
 use Rattle.tenant_pipeline.proofs.Names.{group_numbered}
 use Rattle.tenant_pipeline.proofs.pipeline.Pipeline.hand_out.Goals as goal
