@@ -1,9 +1,10 @@
 #!/usr/bin/env python3
-"""Whether the texts that docs/definitions/ quotes stand in the files that it names.
+"""Whether docs/definitions/ quotes the definitions of all crates, each to the letter.
 
 A quoted text belongs to the last specs file that is linked before it. Each part of
-it, up to an empty line, has to stand there to the letter. Ends with 1, and names
-what doesn't, where one doesn't stand or a link names no file.
+it, up to an empty line, has to stand there to the letter; and each public definition
+of a specs file has to stand on a page, but for the examples. Ends with 1, and names
+what doesn't stand, where something doesn't or a link names no file.
 """
 import pathlib
 import re
@@ -11,6 +12,7 @@ import sys
 
 ROOT = pathlib.Path(__file__).resolve().parent.parent
 LINK = re.compile(r"\]\(\.\./\.\./(crates/[^)]+\.antt)\)")
+DEFINITION = re.compile(r"^(?:abbrev |unfoldable )?pub (?:record |data )?(?!mod\b|use\b)(\w+)", re.M)
 
 
 def quoted(page):
@@ -28,8 +30,16 @@ def quoted(page):
             part.append(line)
 
 
+def defined():
+    """Each public definition of the crates' specs, with its file, but for the examples."""
+    for file in sorted((ROOT / "crates").glob("*/specs/**/*.antt")):
+        if file.stem not in ("Examples", "Lib"):
+            for name in DEFINITION.findall(file.read_text()):
+                yield str(file.relative_to(ROOT)), name
+
+
 def main():
-    faults, count = [], 0
+    faults, count, shown = [], 0, set()
     for page in sorted((ROOT / "docs" / "definitions").glob("*.md")):
         for named, part in quoted(page):
             count += 1
@@ -38,7 +48,9 @@ def main():
                 faults.append(f"{page.name}: no file for `{part[0]}`")
             elif "\n".join([""] + part + [""]) not in "\n" + file.read_text() + "\n":
                 faults.append(f"{page.name}: `{part[0]}` doesn't stand so in {named}")
-    for fault in faults or [f"{count} quoted definitions stand in their files"]:
+            shown |= {(named, name) for name in DEFINITION.findall("\n".join(part))}
+    faults += [f"no page quotes `{name}` of {file}" for file, name in defined() if (file, name) not in shown]
+    for fault in faults or [f"{count} texts of definitions stand in their files, and no definition is without one"]:
         print(fault)
     return 1 if faults or not count else 0
 

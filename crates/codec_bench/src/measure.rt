@@ -24,7 +24,10 @@ pub fn measure(
     rt: &(impl Clock + Print + AllocGlobal),
     body: &[u8],
     rounds: u32,
-) -> Result<(), BenchFault> {
+) -> Result<(), BenchFault>
+    // Nothing is measured on a body without a value.
+    ensures value { OnOk result ((v : RequestData) × IsValue body.now v) }
+{
     let alloc = rt.alloc();
     let request = read_request(alloc, body)?;
     let spans = spans_len(&request);
