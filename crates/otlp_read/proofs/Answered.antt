@@ -24,6 +24,16 @@ failed TooDeep read h other = h
 failed NotUtf8 read h other = h
 failed OutOfMemory read h other = absurd (other refl)
 
+-- where the body has a value, only want of memory refuses it
+pub only_memory : {Y : Type 0} (f : ReadFault) (y : Y) → Fails f (Ok y) → f ≡ OutOfMemory
+only_memory Truncated y is = absurd (cc)
+only_memory VarintTooLong y is = absurd (cc)
+only_memory BadTag y is = absurd (cc)
+only_memory GroupMismatch y is = absurd (cc)
+only_memory TooDeep y is = absurd (cc)
+only_memory NotUtf8 y is = absurd (cc)
+only_memory OutOfMemory y is = refl
+
 pub answered_fault : {X A : Type 0} (view : X → A) (step : ℕ → Step A) (a : A) (bytes : List ℕ) (r : Result X ReadFault) → Gives view r (read_with step 101 a bytes) → IfErr r (λ f. f ≢ OutOfMemory → Stands (step 100) 0 a bytes f)
 answered_fault view step a bytes (Ok x) h = tt
 answered_fault view step a bytes (Err f) h = λ other. stands (step 100) 0 a bytes f (rw (whole step a bytes) at (failed f (read_with step 101 a bytes) h other))

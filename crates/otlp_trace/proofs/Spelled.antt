@@ -1,5 +1,5 @@
 -- What is written as a field is that field's spelling, and no shorter than what the field holds.
-use Rattle.std.proofs.Common.{◌≡◌, ℕ, suc, ◌+◌, ◌<◌, ◌≤◌, ◌^◌, Bool, true, false, ◌&&◌, nat_lt, ◌==◌, List, ◌∷◌, ◌++◌, length, refl, arith, length-append}
+use Rattle.std.proofs.Common.{◌≡◌, ℕ, suc, ◌<◌, ◌≤◌, ◌^◌, Bool, true, false, ◌&&◌, nat_lt, ◌==◌, List, ◌∷◌, ◌++◌, length, refl, arith, length-append}
 use Rattle.std.proofs.lemmas.Bool.Decides.{nat_tests}
 use Rattle.pb_wire.specs.declared.field.WireType.TheVariants as types
 use Rattle.pb_wire.specs.Grammar.{Varint, Eight, Bytes, Four, IsField, varint_field as varint_is, eight_field as eight_is, bytes_field as bytes_is, four_field as four_is}

@@ -1,5 +1,5 @@
 -- The parts of each message's canonical text.
-use Rattle.std.proofs.Common.{◌≡◌, ℕ, true, false, length, ◌-◌, ◌<◌, ◌^◌, ◌==◌, FitsSigned, List, [], ◌∷◌, option_map, refl, arith, append_assoc}
+use Rattle.std.proofs.Common.{◌≡◌, ℕ, true, false, length, ◌<◌, ◌^◌, ◌==◌, FitsSigned, List, [], ◌∷◌, option_map, refl, arith, append_assoc}
 use Rattle.std.specs.Int.{w32, w64, cast_unsigned, to_le_bytes}
 use Rattle.std.specs.List.{AllByRecursion}
 use Rattle.pb_wire.specs.Grammar.{Varint, Eight, Bytes, Four}

@@ -1,36 +1,21 @@
--- The spans of a body, and its refusal.
-use Rattle.std.proofs.Common.{◌≡◌, ℕ, ◌<◌, ◌^◌, List, [], ◌∷◌, ◌++◌, Option, Some, None, refl, sym, ap, subst, ◌∙◌, Ok, append_assoc, append-nil, length, arith}
+-- The spans of a body.
+use Rattle.std.proofs.Common.{◌≡◌, ℕ, ◌<◌, ◌^◌, List, [], ◌∷◌, ◌++◌, Option, Some, None, refl, sym, ap, subst, ◌∙◌, append_assoc, append-nil, length, arith}
 use Rattle.std.specs.Prelude.{option_map, IfSome}
 use Rattle.std.proofs.lemmas.List.{map-append}
-use Rattle.otlp_trace.specs.Data.{ResourceData, SpanData, RequestData}
+use Rattle.otlp_trace.specs.Data.{ResourceData, SpanData}
 use Rattle.otlp_trace.specs.Text.{resource_text, span_text}
 use Rattle.otlp_read.specs.Nested.{NestedSpan}
 use Rattle.otlp_read.specs.Typed.{TypedSpan}
-use Rattle.otlp_read.specs.Fault.{Fails}
-use Rattle.otlp_read.specs.declared.fault.ReadFault.{ReadFault}
-use Rattle.otlp_read.specs.declared.fault.ReadFault.TheVariants.{Truncated, VarintTooLong, BadTag, GroupMismatch, TooDeep, NotUtf8, OutOfMemory}
 use Rattle.span_view.specs.Facts.{AreText, facts}
 use Rattle.span_view.specs.Reading.{facts_of}
 use Rattle.span_pool.specs.Stored.{Origin, StoredData, bytes_of, stored_facts}
 use Rattle.span_pool.specs.Read.{IsReadSpan, IsReadResource}
-use Rattle.tenant_pipeline.specs.declared.body.Refusal.TheVariants as refusal
 use Rattle.tenant_pipeline.specs.Arrivals.{Arrival, arrival_in, arrivals_in, arrival_of}
-use Rattle.tenant_pipeline.specs.Prepared.{refusal_of}
 use Rattle.tenant_pipeline.specs.Texts.{IsTextOf, AreOwned}
 
 -- what is taken from the front of a list goes behind what was taken before
 pub next_taken : {A : Type 0} → (now before more rest whole : List A) → now ≡ before ++ more → before ++ (more ++ rest) ≡ whole → now ++ rest ≡ whole
 next_taken now before more rest whole is all = ap (λ xs. xs ++ rest) is ∙ (append_assoc before more rest ∙ all)
-
--- where the body has a value, only want of memory refuses it
-pub only_memory : (fault : ReadFault) (v : RequestData) → Fails fault (Ok v) → refusal_of fault ≡ refusal.OutOfMemory
-only_memory Truncated v is = absurd (cc)
-only_memory VarintTooLong v is = absurd (cc)
-only_memory BadTag v is = absurd (cc)
-only_memory GroupMismatch v is = absurd (cc)
-only_memory TooDeep v is = absurd (cc)
-only_memory NotUtf8 v is = absurd (cc)
-only_memory OutOfMemory v is = refl
 
 -- nothing is left of a list without elements
 pub none_left : {A B : Type 0} → (f : List A → List B) (before whole : List B) (rest : List A) → f [] ≡ [] → length rest ≡ 0 → before ++ f rest ≡ whole → before ≡ whole

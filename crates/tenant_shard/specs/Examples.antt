@@ -2,6 +2,7 @@
 use Rattle.std.specs.Prelude.{◌≡◌, ℕ, zero, suc, true, false, List, [], ◌∷◌, map, replicate, codes, Option, Some, None}
 use Rattle.tail_settings.specs.Policy.{PolicyData, always_sample, latency, leaf}
 use Rattle.tail_settings.specs.Section.{SectionData}
+use Rattle.tail_settings.specs.Examples.{default_global}
 use Rattle.tail_settings.specs.Settings.{SettingsData}
 use Rattle.tenant_pipeline.specs.declared.told.Told.TheVariants as tell
 use Rattle.tenant_pipeline.specs.Examples.{one_second, span, body, waiting, decided_row, half_decided, half_handed}
@@ -48,15 +49,7 @@ two_seconds = record one_second { tail_sampling = record (one_second.tail_sampli
 
 abbrev pub table : SettingsData
 table = record {
-  global = record {
-    shards = 1;
-    parts = 2;
-    receivers = 4;
-    senders = 4;
-    lane_size = 64;
-    listen = codes "127.0.0.1:4318";
-    tenant_header = codes "x-scope-orgid";
-  };
+  global = default_global;
   tenants = record { name = codes "a"; section = two_seconds } ∷ record { name = codes "b"; section = one_second } ∷ [];
 }
 

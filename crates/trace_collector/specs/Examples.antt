@@ -2,6 +2,7 @@
 use Rattle.std.specs.Prelude.{◌≡◌, ℕ, List, [], ◌∷◌, ◌++◌, codes, Some, None, Ok, Err}
 use Rattle.otlp_read.specs.Value.{IsValue}
 use Rattle.tail_settings.specs.Section.{SectionData}
+use Rattle.tail_settings.specs.Examples.{default_global}
 use Rattle.tail_settings.specs.Settings.{SettingsData, TenantData, settings_of}
 use Rattle.tail_settings.specs.declared.fault.SettingsFault.TheVariants.{NotToml, TooMany}
 use Rattle.tenant_pipeline.specs.Examples.{one_second, span, body, value}
@@ -18,15 +19,7 @@ use Rattle.trace_collector.specs.Replay.{IsReplay}
 -- so many shards, and else the defaults
 abbrev pub with_shards : ℕ → List TenantData → SettingsData
 with_shards shards tenants = record {
-  global = record {
-    shards = shards;
-    parts = 2;
-    receivers = 4;
-    senders = 4;
-    lane_size = 64;
-    listen = codes "127.0.0.1:4318";
-    tenant_header = codes "x-scope-orgid";
-  };
+  global = record default_global { shards = shards };
   tenants = tenants;
 }
 

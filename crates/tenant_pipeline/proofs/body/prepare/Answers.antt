@@ -4,12 +4,15 @@ use Rattle.otlp_trace.specs.Data.{RequestData}
 use Rattle.otlp_trace.specs.View.{request_view}
 use Rattle.tenant_pipeline.specs.Arrivals.{arrivals_in, arrivals_of}
 use Rattle.otlp_read.specs.declared.fault.ReadFault.{ReadFault}
-use Rattle.tenant_pipeline.proofs.Bodies.{only_memory}
+use Rattle.otlp_read.proofs.Answered.{only_memory}
+use Rattle.tenant_pipeline.specs.declared.body.Refusal.TheVariants as refusal
+use Rattle.tenant_pipeline.specs.Prepared.{refusal_of}
 use Rattle.tenant_pipeline.proofs.body.prepare.Goals as goal
 
 pub returns-in_err-request-clause-only : goal.returns-in_err-request-clause-only
 returns-in_err-request-clause-only c = λ v is.
-    let memory = only_memory c.in_err-request.field-0.0 v (c.in_err-request.ensures.only v is) in
+    let memory : refusal_of c.in_err-request.field-0.0 ≡ refusal.OutOfMemory =
+    ap refusal_of (only_memory c.in_err-request.field-0.0 v (c.in_err-request.ensures.only v is)) in
     search (rules, memory)
 
 pub returns-clause-only : goal.returns-clause-only
