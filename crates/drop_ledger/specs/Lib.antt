@@ -1,0 +1,3 @@
+pub mod Ledger
+pub mod Report
+pub mod Examples
