@@ -3,8 +3,10 @@ use Rattle.std.specs.Prelude.{◌≡◌, codes, ℕ, List, [], ◌∷◌, map, S
 use Rattle.std.specs.declared.io.ErrorKind.TheVariants as kinds
 use Rattle.tail_settings.specs.declared.fault.SettingsFault.TheVariants as settings
 use Rattle.trace_collector.specs.declared.engine.ReplayFault.TheVariants as replay
+use Rattle.trace_collector.specs.Replay.{IsReplay}
 use Rattle.trace_collector_program.specs.Arguments.{path_of}
 use Rattle.trace_collector_program.specs.Fault.{IsOfFile, IsOfText}
+use Rattle.trace_collector_program.specs.Run.{IsRun}
 use Rattle.trace_collector_program.specs.Status.{status_of, end_status}
 use Rattle.trace_collector_program.specs.declared.ProgramFault.{ProgramFault}
 use Rattle.trace_collector_program.specs.declared.ProgramFault.TheVariants.{Usage, Replay}
@@ -58,3 +60,15 @@ pub record OfTexts : Type 0 where
   pub whole : (fault : ProgramFault) → IsOfText (97 ∷ 226 ∷ 130 ∷ 172 ∷ []) fault → ⊥
   pub letter : (fault : ProgramFault) → IsOfText (97 ∷ []) fault → ⊥
   pub empty : (fault : ProgramFault) → IsOfText [] fault → ⊥
+
+-- ---- runs
+
+-- of a file that is no text whatever the script, and of one that is, the letter a, as its replay ends
+pub record Runs : Type 0 where
+  pub no_text : (script : List ℕ) → IsRun (255 ∷ []) script [] (Err (Replay (replay.Settings settings.NotToml)))
+  pub written_without_settings : (script : List ℕ) → IsRun (255 ∷ []) script (10 ∷ []) (Err (Replay (replay.Settings settings.NotToml))) → ⊥
+  pub no_text_is_done : (script written : List ℕ) → IsRun (255 ∷ []) script written (Ok tt) → ⊥
+  pub no_text_is_no_memory : (script : List ℕ) → IsRun (255 ∷ []) script [] (Err (Replay replay.OutOfMemory)) → ⊥
+  pub replayed : (script written : List ℕ) → IsReplay (97 ∷ []) script written (Err replay.Line) → IsRun (97 ∷ []) script written (Err (Replay replay.Line))
+  pub not_replayed : (script written : List ℕ) → (IsReplay (97 ∷ []) script written (Ok tt) → ⊥) → IsRun (97 ∷ []) script written (Ok tt) → ⊥
+  pub wrong_usage : (script written : List ℕ) → IsRun (97 ∷ []) script written (Err Usage) → ⊥

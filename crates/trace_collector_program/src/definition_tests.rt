@@ -1,6 +1,6 @@
-//! What the definitions say of arguments, faults and statuses, on examples that were worked out by hand.
+//! What the definitions say of arguments, statuses, faults and runs, on examples that were worked out by hand.
 
-ghost use Rattle.trace_collector_program.specs.Examples.{Arguments, Statuses, OfFiles, OfTexts};
+ghost use Rattle.trace_collector_program.specs.Examples.{Arguments, Statuses, OfFiles, OfTexts, Runs};
 
 /// The definitions, on small inputs, give what was worked out by hand.
 fn definitions_on_small_inputs()
@@ -8,4 +8,5 @@ fn definitions_on_small_inputs()
     ensures statuses { Statuses }
     ensures of_files { OfFiles }
     ensures of_texts { OfTexts }
+    ensures runs { Runs }
 {}

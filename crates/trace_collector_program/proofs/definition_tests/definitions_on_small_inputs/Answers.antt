@@ -55,3 +55,22 @@ returns-clause-of_texts c = record {
   letter = λ fault is. is.unspelled (is_text (97 ∷ []) refl);
   empty = λ fault is. is.unspelled (is_text [] refl);
 }
+
+a_text : IsUtf8 (97 ∷ [])
+unfolding is_utf8 chars encode_utf8
+a_text = is_text (97 ∷ []) refl
+
+unspelled : IsUtf8 (255 ∷ []) → ⊥
+unfolding is_utf8 chars encode_utf8
+unspelled = no_text (255 ∷ []) refl
+
+pub returns-clause-runs : goal.returns-clause-runs
+returns-clause-runs c = record {
+  no_text = λ script. record { spelled = λ text. absurd (unspelled text); nothing_written = λ none. refl; not_toml = λ none. refl };
+  written_without_settings = λ script is. let nothing = is.nothing_written unspelled in cc;
+  no_text_is_done = λ script written is. let ended = is.not_toml unspelled in cc;
+  no_text_is_no_memory = λ script is. let ended = is.not_toml unspelled in cc;
+  replayed = λ script written is. record { spelled = λ text. is; nothing_written = λ none. absurd (none a_text); not_toml = λ none. absurd (none a_text) };
+  not_replayed = λ script written never is. never (is.spelled a_text);
+  wrong_usage = λ script written is. is.spelled a_text;
+}
