@@ -1,7 +1,11 @@
 //! The messages of OTLP traces, and their canonical text.
 //!
-//! A message is a struct with the name and the fields that OTLP gives it, of `opentelemetry/proto/trace/v1/trace.proto`,
-//! `opentelemetry/proto/common/v1/common.proto`, `opentelemetry/proto/resource/v1/resource.proto` and
+//! A collector keeps spans as text, and sends them on as text. This crate has the messages that such text is read into,
+//! and writes each of them in one way, so that texts can be compared byte by byte.
+//!
+//! A message is a struct with the name and the fields that OTLP gives it, of
+//! `opentelemetry/proto/trace/v1/trace.proto`, `opentelemetry/proto/common/v1/common.proto`,
+//! `opentelemetry/proto/resource/v1/resource.proto` and
 //! `opentelemetry/proto/collector/trace/v1/trace_service.proto`. Contracts see one as a record of numbers and lists
 //! (`specs/Data`), so that two messages with the same fields are the same wherever they lie in memory.
 //!
@@ -12,8 +16,8 @@
 //! Whoever has texts of messages already, and no message in memory, writes what holds them with [`put_bytes_field`],
 //! [`put_some_bytes`] and [`wrap_in_field`].
 //!
-//! It stands on `pb_wire`. The messages are those of OTLP 1.x, and the rules of their text are those of the Protocol Buffers
-//! encoding guide (<https://protobuf.dev/programming-guides/encoding/>) for proto3.
+//! It stands on `pb_wire`. The messages are those of OTLP 1.x, and the rules of their text are those of the Protocol
+//! Buffers encoding guide (<https://protobuf.dev/programming-guides/encoding/>) for proto3.
 #![tactic(auto)]
 
 mod message;
@@ -36,6 +40,3 @@ pub use write::{
     put_bytes_field, put_some_bytes, wrap_in_field, write_request, write_resource, write_response,
     write_scope, write_span, write_status,
 };
-
-#[cfg(test)]
-mod tests;

@@ -37,7 +37,8 @@ pub fn put_embedded<M: Message>(
 ) -> Result<(), AllocError>
     requires some { 0 < number }
     requires fits { number < 2 ^ 29 }
-    ensures ok { OnOk result (out.new.items ≡ out.old.items ++ embedded number (option_map M.text (option_map M.view message.now))) }
+    ensures ok { OnOk result (out.new.items
+        ≡ out.old.items ++ embedded number (option_map M.text (option_map M.view message.now))) }
 {
     match message {
         None => Ok(()),

@@ -1,6 +1,6 @@
 //! Single fields. Those with `some` in their name are left out at their proto3 default.
 
-ghost use Rattle.std.specs.Prelude.{◌≡◌, ◌^◌, ◌+◌, ◌<◌, ◌≤◌, ◌++◌, length, take, drop, OnOk};
+ghost use Rattle.std.specs.Prelude.{◌≡◌, ◌^◌, ◌+◌, ◌<◌, ◌≤◌, ◌++◌, length, take, drop, OnOk, OnErr, vec_len, vec_capacity};
 ghost use Rattle.otlp_trace.specs.Text.{number_field, bytes_field, eight_field, some_bytes, some_number, some_signed, some_eight, some_four};
 
 use pb_wire::{WireType, put_bytes, put_tag, put_varint};
@@ -16,15 +16,24 @@ pub fn put_number_field(out: &mut Vec<u8>, number: u32, value: u64) -> Result<()
     put_varint(out, value)
 }
 
-/// Appends a field of these bytes: its tag, their length and the bytes themselves, none of them too. The field's number is
-/// 1 to 2^29 - 1. Where memory is refused, what `out` then holds is left open.
+/// Appends a field of these bytes: its tag, their length and the bytes themselves, none of them too; or nothing, where
+/// memory is refused. The field's number is 1 to 2^29 - 1.
 pub fn put_bytes_field(out: &mut Vec<u8>, number: u32, bytes: &[u8]) -> Result<(), AllocError>
     requires some { 0 < number }
     requires fits { number < 2 ^ 29 }
     ensures ok { OnOk result (out.new.items ≡ out.old.items ++ bytes_field number bytes.now) }
+    ensures err { OnErr result (out.new.items ≡ out.old.items) }
+
+    // Memory is refused only where the vector had too little room.
+    ensures full { OnErr result (vec_capacity out.old < vec_len out.old + length (bytes_field number bytes.now)) }
 {
+    let before = out.len();
     put_tag(out, number, WireType::Bytes)?;
-    put_bytes(out, bytes)
+    if let Err(error) = put_bytes(out, bytes) {
+        out.truncate(before);
+        return Err(error);
+    }
+    Ok(())
 }
 
 /// Eight bytes, as they are.
@@ -37,12 +46,16 @@ pub fn put_eight_field(out: &mut Vec<u8>, number: u32, bytes: [u8; 8]) -> Result
     out.extend_from_slice(&bytes)
 }
 
-/// Appends a field of these bytes, a string's too, or nothing where there are none. The field's number is 1 to 2^29 - 1.
-/// Where memory is refused, what `out` then holds is left open.
+/// Appends a field of these bytes, a string's too, or nothing where there are none or memory is refused. The field's
+/// number is 1 to 2^29 - 1.
 pub fn put_some_bytes(out: &mut Vec<u8>, number: u32, bytes: &[u8]) -> Result<(), AllocError>
     requires some { 0 < number }
     requires fits { number < 2 ^ 29 }
     ensures ok { OnOk result (out.new.items ≡ out.old.items ++ some_bytes number bytes.now) }
+    ensures err { OnErr result (out.new.items ≡ out.old.items) }
+
+    // Memory is refused only where the vector had too little room, so never for no bytes.
+    ensures full { OnErr result (vec_capacity out.old < vec_len out.old + length (some_bytes number bytes.now)) }
 {
     if bytes.len() == 0 {
         return Ok(());
@@ -96,17 +109,26 @@ pub fn put_some_four(out: &mut Vec<u8>, number: u32, value: u32) -> Result<(), A
     out.extend_from_slice(&value.to_le_bytes())
 }
 
-/// Makes the bytes from `start` on the content of a field with this number, 1 to 2^29 - 1: its tag and their length are put
-/// before them. Where memory is refused, what `out` then holds from `start` on is left open.
+/// Makes the bytes from `start` on the content of a field with this number, 1 to 2^29 - 1: its tag and their length are
+/// put before them. Where memory is refused, nothing changes.
 pub fn wrap_in_field(out: &mut Vec<u8>, start: usize, number: u32) -> Result<(), AllocError>
     requires within { start ≤ length out.old.items }
     requires some { 0 < number }
     requires fits { number < 2 ^ 29 }
-    ensures ok { OnOk result (out.new.items ≡ take start out.old.items ++ bytes_field number (drop start out.old.items)) }
+    ensures ok { OnOk result (out.new.items
+        ≡ take start out.old.items ++ bytes_field number (drop start out.old.items)) }
+    ensures err { OnErr result (out.new.items ≡ out.old.items) }
+
+    // Memory is refused only where the vector had too little room.
+    ensures full { OnErr result (vec_capacity out.old
+        < start + length (bytes_field number (drop start out.old.items))) }
 {
     let end = out.len();
     put_tag(out, number, WireType::Bytes)?;
-    put_varint(out, (end - start) as u64)?;
+    if let Err(error) = put_varint(out, (end - start) as u64) {
+        out.truncate(end);
+        return Err(error);
+    }
     move_forward(out, start, end);
     Ok(())
 }

@@ -1,6 +1,6 @@
 use Rattle.std.proofs.Common.{refl}
 use Rattle.pb_wire.specs.Text.{groups}
-use Rattle.otlp_trace.proofs.tests.definitions_on_small_inputs.Goals as goal
+use Rattle.wire_tests.proofs.messages.definitions_on_small_inputs.Goals as goal
 
 pub returns-clause-example : goal.returns-clause-example
 unfolding groups

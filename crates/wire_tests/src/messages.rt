@@ -1,8 +1,14 @@
 //! Messages against bytes worked out by hand from the encoding rules.
 
-ghost use Rattle.otlp_trace.specs.Examples.{ExampleTrace, Values, Messages, Replies};
+ghost use Rattle.wire_tests.specs.MessageExamples.{ExampleTrace, Values, Messages, Replies};
 
-use super::*;
+use otlp_trace::{
+    AnyValue, AnyValueKind, ArrayValue, DoubleBits, Event, ExportTracePartialSuccess,
+    ExportTraceServiceRequest, ExportTraceServiceResponse, InstrumentationScope, KeyValue,
+    KeyValueList, Link, Octets, Repeated, Resource, ResourceSpans, ScopeSpans, Span, Status,
+    put_bytes_field, put_some_bytes, wrap_in_field, write_request, write_resource, write_response,
+    write_scope, write_span, write_status,
+};
 use std::alloc::Global;
 use std::test::Fail;
 

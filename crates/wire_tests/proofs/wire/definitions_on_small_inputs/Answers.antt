@@ -7,13 +7,13 @@ use Rattle.pb_wire.specs.declared.field.WireType.TheVariants as types
 use Rattle.pb_wire.specs.Grammar.{Varint, Bytes, Group, Entry, Spells, last_byte, more_bytes, IsVarint, code, IsTag, IsField, varint_field, eight_field, bytes_field, four_field, group_field, Fields, no_fields, more_fields, GoesOn, nothing, byte, cut, long, no_varint, no_bytes, no_value, bad_tag, stray_end, no_end, too_deep, FaultIn, here, after, inside}
 use Rattle.pb_wire.specs.Reading.{Tag, number_in, varint_at, tag_at, split_at, value_with, end_in, next_at, fields_in, fields_at}
 use Rattle.pb_wire.specs.Text.{groups}
-use Rattle.pb_wire.specs.Examples.{field_of, one_fifty, letters, testing, packed, minus_two, content, group, ten_go_on, NoTag, both}
+use Rattle.wire_tests.specs.WireExamples.{field_of, one_fifty, letters, testing, packed, minus_two, content, group, ten_go_on, NoTag, both}
 use Rattle.pb_wire.proofs.Steps.{ok_is}
 use Rattle.pb_wire.proofs.Fields.{Takes, varint_takes, varint_again, code_below, tag_takes, tag_again}
 use Rattle.pb_wire.proofs.Again.{next_again}
 use Rattle.pb_wire.proofs.Whole.{fields_whole}
 use Rattle.pb_wire.proofs.Sound.{fault_or_fields}
-use Rattle.pb_wire.proofs.tests.definitions_on_small_inputs.Goals as goal
+use Rattle.wire_tests.proofs.wire.definitions_on_small_inputs.Goals as goal
 
 -- ---- varints
 

@@ -15,13 +15,15 @@ use Rattle.pb_wire.specs.Text.{varint_text, tag_text, bytes_text, field_text}
 abbrev pub field_of : ℕ → Datum → Entry
 field_of number value = record { number = number; value = value }
 
--- the guide's field 1 with 150, and its field 2 with "testing"
+-- the guide's field 1 with 150
 abbrev pub one_fifty : List ℕ
 one_fifty = 0x08 ∷ 0x96 ∷ 0x01 ∷ []
 
+-- "testing"
 abbrev pub letters : List ℕ
 letters = 0x74 ∷ 0x65 ∷ 0x73 ∷ 0x74 ∷ 0x69 ∷ 0x6e ∷ 0x67 ∷ []
 
+-- the guide's field 2, with them
 abbrev pub testing : List ℕ
 testing = 0x12 ∷ 0x07 ∷ letters
 
@@ -33,10 +35,11 @@ packed = 0x03 ∷ 0x8e ∷ 0x02 ∷ 0x9e ∷ 0xa7 ∷ 0x05 ∷ []
 abbrev pub minus_two : List ℕ
 minus_two = 0xfe ∷ 0xff ∷ 0xff ∷ 0xff ∷ 0xff ∷ 0xff ∷ 0xff ∷ 0xff ∷ 0xff ∷ 0x01 ∷ []
 
--- what the guide's group 8:!{1: 2 3: {"foo"}} holds, and the group, its bytes by hand
+-- what the guide's group 8:!{1: 2 3: {"foo"}} holds
 abbrev pub content : List ℕ
 content = 0x08 ∷ 0x02 ∷ 0x1a ∷ 0x03 ∷ 0x66 ∷ 0x6f ∷ 0x6f ∷ []
 
+-- the group, its bytes by hand
 abbrev pub group : List ℕ
 group = 0x43 ∷ 0x08 ∷ 0x02 ∷ 0x1a ∷ 0x03 ∷ 0x66 ∷ 0x6f ∷ 0x6f ∷ 0x44 ∷ []
 
@@ -44,6 +47,7 @@ group = 0x43 ∷ 0x08 ∷ 0x02 ∷ 0x1a ∷ 0x03 ∷ 0x66 ∷ 0x6f ∷ 0x6f ∷ 
 abbrev pub ten_go_on : List ℕ
 ten_go_on = 0xff ∷ 0xff ∷ 0xff ∷ 0xff ∷ 0xff ∷ 0xff ∷ 0xff ∷ 0xff ∷ 0xff ∷ 0xff ∷ []
 
+-- varints that spell a number, and texts that are none
 pub record Varints : Type 0 where
   -- the guide: 150, and the last of its packed numbers
   pub spells_one_fifty : Spells (0x96 ∷ 0x01 ∷ []) 150
@@ -56,7 +60,8 @@ pub record Varints : Type 0 where
   -- by hand: no end, the highest group first, and eleven bytes
   pub cut : (n : ℕ) → IsVarint (0x96 ∷ []) n → ⊥
   pub backwards : (n : ℕ) → IsVarint (0x01 ∷ 0x96 ∷ []) n → ⊥
-  pub eleven : (n : ℕ) → IsVarint (0x80 ∷ 0x80 ∷ 0x80 ∷ 0x80 ∷ 0x80 ∷ 0x80 ∷ 0x80 ∷ 0x80 ∷ 0x80 ∷ 0x80 ∷ 0x01 ∷ []) n → ⊥
+  pub eleven : (n : ℕ)
+      → IsVarint (0x80 ∷ 0x80 ∷ 0x80 ∷ 0x80 ∷ 0x80 ∷ 0x80 ∷ 0x80 ∷ 0x80 ∷ 0x80 ∷ 0x80 ∷ 0x01 ∷ []) n → ⊥
   -- 150 and no other number
   pub alone : (n : ℕ) → IsVarint (0x96 ∷ 0x01 ∷ []) n → n ≡ 150
 
@@ -64,6 +69,7 @@ pub record Varints : Type 0 where
 abbrev pub NoTag : List ℕ → Type 0
 NoTag text = (number : ℕ) (kind : WireType) → IsTag text number kind → ⊥
 
+-- tags, and texts that are none
 pub record Tags : Type 0 where
   -- the guide
   pub varint : IsTag (0x08 ∷ []) 1 types.Varint
@@ -80,6 +86,7 @@ pub record Tags : Type 0 where
   pub type_seven : NoTag (0x0f ∷ [])
   pub too_great : NoTag (0x88 ∷ 0x80 ∷ 0x80 ∷ 0x80 ∷ 0x10 ∷ [])
 
+-- texts that are one field, and texts that are not
 pub record OneField : Type 0 where
   -- the guide: 1: 150, 2: {"testing"}, 3: {1: 150}, 6: {3 270 86942}, -2 as field 1, 5: 25.4 and 6: 200i64
   pub varint : IsField 0 one_fifty (field_of 1 (Varint 150))
@@ -109,6 +116,7 @@ pub record OneField : Type 0 where
 abbrev pub both : List ℕ
 both = 0x08 ∷ 0x96 ∷ 0x01 ∷ testing
 
+-- texts of no field, and of two
 pub record Texts : Type 0 where
   pub none : Fields 0 [] []
   pub two : Fields 0 both (field_of 1 (Varint 150) ∷ field_of 2 (Bytes letters) ∷ [])

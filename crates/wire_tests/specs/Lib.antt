@@ -1,0 +1,2 @@
+pub mod MessageExamples
+pub mod WireExamples
