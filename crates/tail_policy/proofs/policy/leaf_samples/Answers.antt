@@ -1,7 +1,7 @@
 use Rattle.std.proofs.Common.{rules, w64}
 use Rattle.std.specs.Int.RustNames.{FitsSigned}
 use Rattle.std.proofs.lemmas.Int.{to_z-of_z}
-use Rattle.tail_policy.proofs.policy.leaf_keeps.Goals as goal
+use Rattle.tail_policy.proofs.policy.leaf_samples.Goals as goal
 
 pub returns-in-NumericAttribute : goal.returns-in-NumericAttribute
 returns-in-NumericAttribute c =
