@@ -1,6 +1,6 @@
 //! What is kept of a span.
 
-ghost use Rattle.std.specs.Prelude.{◌≡◌, IfOk};
+ghost use Rattle.std.specs.Prelude.{◌≡◌, IfOk, IsOk};
 ghost use Rattle.span_view.specs.Facts.{AreText};
 ghost use Rattle.span_view.specs.Reading.{facts_of};
 ghost use Rattle.span_pool.specs.Stored.{bytes_of, stored_facts, same_resource, same_scope};
@@ -22,9 +22,9 @@ pub struct SchemaUrls {
     pub scope: Bytes,
 }
 
-/// A span as it is kept: its canonical text, whose it is, and the canonical texts of its resource and scope, where it has
-/// any, with their schemas. The spans of one resource can share its text, and those of one scope that scope's. A clone
-/// shares the bytes. `==` doesn't look at the numbers: with others it is the same span.
+/// A span as it is kept: its canonical text, whose it is, and the canonical texts of its resource and scope, where it
+/// has any, with their schemas. The spans of one resource can share its text, and those of one scope that scope's. A
+/// clone shares the bytes. `==` doesn't look at the numbers: with others it is the same span.
 #[derive(Debug, Drop)]
 pub struct StoredSpan {
     owner: u32,
@@ -58,9 +58,10 @@ impl Model for StoredSpan {
     ghost invariant = { λ s. AreText (facts_of s.bytes (bytes_of s.resource)).attributes };
 }
 
-/// The same bytes, or none. It copies no byte, which no contract says.
+/// The same bytes, or none, for which no memory is wanted. It copies no byte, which no contract says.
 pub fn share(bytes: &Option<Bytes>) -> Result<Option<Bytes>, AllocError>
-    ensures { IfOk result (λ shared. shared ≡ bytes.now) }
+    ensures shared { IfOk result (λ shared. shared ≡ bytes.now) }
+    ensures none { bytes.now ≡ None → IsOk result }
 {
     match bytes {
         Some(bytes) => Ok(Some(bytes.clone()?)),
@@ -80,7 +81,17 @@ impl StoredSpan {
         numbers: Numbers,
     ) -> StoredSpan
         requires { AreText (facts_of bytes (bytes_of resource)).attributes }
-        ensures { result ≡ record { owner = owner; origin = record { resource = resource; resource_schema_url = urls.resource; scope = scope; scope_schema_url = urls.scope }; text = bytes; numbers = numbers } }
+        ensures { result ≡ record {
+          owner = owner;
+          origin = record {
+            resource = resource;
+            resource_schema_url = urls.resource;
+            scope = scope;
+            scope_schema_url = urls.scope;
+          };
+          text = bytes;
+          numbers = numbers;
+        } }
     {
         StoredSpan {
             owner,
