@@ -1,6 +1,6 @@
 //! What is kept of a span.
 
-ghost use Rattle.std.specs.Prelude.{◌≡◌, IfOk, IsOk};
+ghost use Rattle.std.specs.Prelude.{◌≡◌, IfOk};
 ghost use Rattle.span_view.specs.Facts.{AreText};
 ghost use Rattle.span_view.specs.Reading.{facts_of};
 ghost use Rattle.span_pool.specs.Stored.{bytes_of, stored_facts, same_resource, same_scope};
@@ -58,10 +58,9 @@ impl Model for StoredSpan {
     ghost invariant = { λ s. AreText (facts_of s.bytes (bytes_of s.resource)).attributes };
 }
 
-/// The same bytes, or none, for which no memory is wanted. It copies no byte, which no contract says.
+/// The same bytes, or none. It copies no byte, which no contract says.
 pub fn share(bytes: &Option<Bytes>) -> Result<Option<Bytes>, AllocError>
-    ensures shared { IfOk result (λ shared. shared ≡ bytes.now) }
-    ensures none { bytes.now ≡ None → IsOk result }
+    ensures { IfOk result (λ shared. shared ≡ bytes.now) }
 {
     match bytes {
         Some(bytes) => Ok(Some(bytes.clone()?)),
