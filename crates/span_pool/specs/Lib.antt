@@ -3,4 +3,3 @@ pub mod Stored
 pub mod Named
 pub mod Equal
 pub mod Read
-pub mod Examples

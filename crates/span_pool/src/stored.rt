@@ -22,9 +22,9 @@ pub struct SchemaUrls {
     pub scope: Bytes,
 }
 
-/// A span as it is kept: its canonical text, whose it is, and the canonical texts of its resource and scope, where it has
-/// any, with their schemas. The spans of one resource can share its text, and those of one scope that scope's. A clone
-/// shares the bytes. `==` doesn't look at the numbers: with others it is the same span.
+/// A span as it is kept: its canonical text, whose it is, and the canonical texts of its resource and scope, where it
+/// has any, with their schemas. The spans of one resource can share its text, and those of one scope that scope's. A
+/// clone shares the bytes. `==` doesn't look at the numbers: with others it is the same span.
 #[derive(Debug, Drop)]
 pub struct StoredSpan {
     owner: u32,
@@ -80,7 +80,17 @@ impl StoredSpan {
         numbers: Numbers,
     ) -> StoredSpan
         requires { AreText (facts_of bytes (bytes_of resource)).attributes }
-        ensures { result ≡ record { owner = owner; origin = record { resource = resource; resource_schema_url = urls.resource; scope = scope; scope_schema_url = urls.scope }; text = bytes; numbers = numbers } }
+        ensures { result ≡ record {
+          owner = owner;
+          origin = record {
+            resource = resource;
+            resource_schema_url = urls.resource;
+            scope = scope;
+            scope_schema_url = urls.scope;
+          };
+          text = bytes;
+          numbers = numbers;
+        } }
     {
         StoredSpan {
             owner,

@@ -3,3 +3,4 @@ pub mod Shallower
 pub mod Parts
 pub mod Messages
 pub mod Told
+pub mod Values

@@ -1,11 +1,13 @@
--- What a view tells of a span and its resource: what sampling policies ask.
+-- What a view tells of a span and its resource: what sampling policies ask. The messages and their fields are those of
+-- OTLP 1.x's trace.proto, common.proto and resource.proto (https://github.com/open-telemetry/opentelemetry-proto).
 use Rattle.std.specs.Prelude.{ℕ, ℤ, pos, Bool, List, [], ◌++◌, map, Option, Some, None}
 use Rattle.std.specs.List.{AllByRecursion}
 use Rattle.std.specs.Str.{IsUtf8}
 use Rattle.otlp_trace.specs.Data.{AnyValueData, KindData, KeyValueData, ResourceData, StatusData, SpanData}
 use Rattle.otlp_trace.specs.Data as otlp
 
--- the kind of an attribute's value, and what it holds where it holds no further values
+-- the kind of an attribute's value, a member of common.proto's AnyValue, and what it holds where it holds no further
+-- values
 pub data ValueFact : Type 0 where
   unset : ValueFact
   string : List ℕ → ValueFact
@@ -16,10 +18,12 @@ pub data ValueFact : Type 0 where
   kvlist : ValueFact
   bytes : List ℕ → ValueFact
 
+-- an attribute, of common.proto's KeyValue: the bytes of its key, and its value
 pub record AttributeFact : Type 0 where
   pub key : List ℕ
   pub value : ValueFact
 
+-- what is told of a span: fields of trace.proto's Span, the code of its Status, and its attributes with its resource's
 pub record SpanFacts : Type 0 where
   pub trace_id : List ℕ
   pub span_id : List ℕ
@@ -30,6 +34,7 @@ pub record SpanFacts : Type 0 where
 
 -- ---- the facts of a span and its resource
 
+-- a member of AnyValue, without the values in an array or a list of keys
 abbrev pub kind_fact : KindData → ValueFact
 kind_fact otlp.unset = unset
 kind_fact (otlp.string bs) = string bs
@@ -40,25 +45,26 @@ kind_fact (otlp.array a) = array
 kind_fact (otlp.kvlist l) = kvlist
 kind_fact (otlp.bytes bs) = bytes bs
 
+-- a value, without the fields that it has kept
 abbrev pub value_fact : AnyValueData → ValueFact
 value_fact (otlp.any_value kind unknown) = kind_fact kind
 
--- a key without a value has an unset one
+-- an attribute as a message has it; a key without a value has an unset one
 abbrev pub key_value_fact : KeyValueData → AttributeFact
 key_value_fact (otlp.bare_key key unknown) = record { key = key; value = unset }
 key_value_fact (otlp.key_value key v unknown) = record { key = key; value = value_fact v }
 
--- a missing status is UNSET
+-- the code of a status; a missing one is UNSET, which trace.proto's StatusCode numbers 0
 abbrev pub status_fact : Option StatusData → ℤ
 status_fact None = pos 0
 status_fact (Some status) = status.code
 
--- a missing resource has no attributes
+-- the attributes of a resource; a missing one has none
 abbrev pub resource_attributes : Option ResourceData → List KeyValueData
 resource_attributes None = []
 resource_attributes (Some resource) = resource.attributes
 
--- the span's attributes come first, and each occurrence of a key counts
+-- the facts of a span and its resource: the span's attributes come first, and each occurrence of a key counts
 abbrev pub facts : SpanData → Option ResourceData → SpanFacts
 facts s r = record {
   trace_id = s.trace_id;
@@ -69,15 +75,18 @@ facts s r = record {
   attributes = map key_value_fact s.attributes ++ map key_value_fact (resource_attributes r);
 }
 
--- ---- what is text is UTF-8
+-- ---- what is text is UTF-8, as proto3 asks of every `string` field
 
+-- a value is UTF-8 where it is a string
 abbrev pub IsValueText : ValueFact → Type 0
 IsValueText (string bs) = IsUtf8 bs
 IsValueText _ = Unit {0}
 
+-- an attribute's key is UTF-8, and so is its value where that is a string
 pub record IsAttributeText (a : AttributeFact) : Type 0 where
   pub key : IsUtf8 a.key
   pub value : IsValueText a.value
 
+-- the same of each attribute
 abbrev pub AreText : List AttributeFact → Type 0
 AreText attributes = AllByRecursion IsAttributeText attributes

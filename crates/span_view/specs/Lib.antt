@@ -2,4 +2,3 @@ pub mod Facts
 pub mod Reading
 pub mod Shown
 pub mod Canonical
-pub mod Examples

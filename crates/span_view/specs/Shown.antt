@@ -5,6 +5,7 @@ use Rattle.span_view.specs.Facts.{ValueFact, unset, string, boolean, int, double
 use Rattle.span_view.specs.declared.value.ValueRef.{ValueRef}
 use Rattle.span_view.specs.declared.value.ValueRef.TheVariants as values
 
+-- a value, with the bytes that a borrowed one points to
 abbrev pub value_shown : ValueRef → ValueFact
 value_shown values.Unset = unset
 value_shown (values.String text) = string text.now
@@ -15,5 +16,6 @@ value_shown values.Array = array
 value_shown values.KeyValueList = kvlist
 value_shown (values.Bytes bs) = bytes bs.now
 
+-- a key and a value, with the bytes that they point to
 abbrev pub attribute_shown : Bor (List ℕ) × ValueRef → AttributeFact
 attribute_shown attribute = record { key = attribute.0.now; value = value_shown attribute.1 }

@@ -3,11 +3,13 @@
 ghost use Rattle.std.specs.Prelude.{◌≡◌, ◌<◌, true, length, IfSome};
 ghost use Rattle.pb_wire.specs.declared.field.WireType.TheVariants as types;
 ghost use Rattle.pb_wire.specs.Grammar.{datum, entry};
-ghost use Rattle.span_view.specs.Reading.{fields_of, found_fields, has, is_kind, held, found_held, first_bytes, first_eight, first_varint};
+ghost use Rattle.span_view.specs.Reading.{fields_of, found_fields, has, is_kind, held, found_held};
+ghost use Rattle.span_view.specs.Reading.{first_bytes, first_eight, first_varint};
 
 use pb_wire::{Field, Value, WireType, next_field};
 
 /// The first field, and the text behind it.
+#[inline(always)]
 pub fn first_field(text: &[u8]) -> Option<(Field<'_>, &[u8])>
     ensures fields { fields_of text.now ≡ found_fields result }
     ensures shorter { IfSome result (λ found. length found.1.now < length text.now) }
@@ -19,6 +21,7 @@ pub fn first_field(text: &[u8]) -> Option<(Field<'_>, &[u8])>
 }
 
 /// Whether a field has this number and wire type, a group's being that of its start.
+#[inline(always)]
 fn has(field: &Field<'_>, number: u32, kind: WireType) -> bool
     ensures { result ≡ has number kind (entry field.now) }
 {
@@ -34,6 +37,7 @@ fn has(field: &Field<'_>, number: u32, kind: WireType) -> bool
 }
 
 /// What the first field of this number and wire type holds, and the text behind it.
+#[inline(always)]
 pub fn find(text: &[u8], number: u32, kind: WireType) -> Option<(Value<'_>, &[u8])>
     ensures held { held number kind (fields_of text.now) ≡ found_held number kind result }
     ensures kind { IfSome result (λ found. is_kind kind (datum found.0) ≡ true) }
@@ -50,6 +54,7 @@ pub fn find(text: &[u8], number: u32, kind: WireType) -> Option<(Value<'_>, &[u8
 }
 
 /// The bytes in the first such field, none where there is none.
+#[inline(always)]
 pub fn bytes(text: &[u8], number: u32) -> &[u8]
     ensures { result.now ≡ first_bytes (held number types.Bytes (fields_of text.now)) }
 {
@@ -60,6 +65,7 @@ pub fn bytes(text: &[u8], number: u32) -> &[u8]
 }
 
 /// The number in the first such field of eight bytes, 0 where there is none.
+#[inline(always)]
 pub fn eight(text: &[u8], number: u32) -> u64
     ensures { result ≡ first_eight (held number types.Eight (fields_of text.now)) }
 {
@@ -70,6 +76,7 @@ pub fn eight(text: &[u8], number: u32) -> u64
 }
 
 /// The number in the first such varint field, 0 where there is none.
+#[inline(always)]
 pub fn varint(text: &[u8], number: u32) -> u64
     ensures { result ≡ first_varint (held number types.Varint (fields_of text.now)) }
 {

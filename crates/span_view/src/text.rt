@@ -7,7 +7,7 @@ ghost use Rattle.span_view.specs.Reading.{value_in, attribute_in, attributes_in,
 
 use crate::fields::{bytes, first_field};
 use crate::value::next_attribute;
-use pb_wire::Value;
+use pb_wire::{Field, Value};
 use std::str;
 
 fn is_utf8(bytes: &[u8]) -> bool
@@ -24,17 +24,16 @@ fn is_value_text(text: &[u8]) -> bool
     ensures { IsTrue result ↔ IsValueText (value_in text.now) }
 {
     match first_field(text) {
-        Some((field, _)) => match field.value {
-            Value::Bytes(string) => {
-                if field.number == 1 {
-                    is_utf8(string)
-                } else {
-                    true
-                }
-            }
-            _ => true,
-        },
-        None => true,
+        Some(
+            (
+                Field {
+                    number: 1,
+                    value: Value::Bytes(string),
+                },
+                _,
+            ),
+        ) => is_utf8(string),
+        _ => true,
     }
 }
 

@@ -31,36 +31,14 @@ fn member_of(field: Field<'_>) -> ValueRef<'_>
     requires text { IsValueText (member field.number (datum field.value)) }
     ensures { value_shown result ≡ member field.entry.number (datum field.entry.value) }
 {
-    match field.value {
-        Value::Varint(number) => {
-            if field.number == 2 {
-                ValueRef::Bool(number != 0)
-            } else if field.number == 3 {
-                ValueRef::Int(number.cast_signed())
-            } else {
-                ValueRef::Unset
-            }
-        }
-        Value::Eight(bits) => {
-            if field.number == 4 {
-                ValueRef::Double(DoubleBits(bits))
-            } else {
-                ValueRef::Unset
-            }
-        }
-        Value::Bytes(bytes) => {
-            if field.number == 1 {
-                ValueRef::String(unsafe { str::from_utf8_unchecked(bytes) })
-            } else if field.number == 5 {
-                ValueRef::Array
-            } else if field.number == 6 {
-                ValueRef::KeyValueList
-            } else if field.number == 7 {
-                ValueRef::Bytes(bytes)
-            } else {
-                ValueRef::Unset
-            }
-        }
+    match (field.number, field.value) {
+        (1, Value::Bytes(bytes)) => ValueRef::String(unsafe { str::from_utf8_unchecked(bytes) }),
+        (2, Value::Varint(number)) => ValueRef::Bool(number != 0),
+        (3, Value::Varint(number)) => ValueRef::Int(number.cast_signed()),
+        (4, Value::Eight(bits)) => ValueRef::Double(DoubleBits(bits)),
+        (5, Value::Bytes(_)) => ValueRef::Array,
+        (6, Value::Bytes(_)) => ValueRef::KeyValueList,
+        (7, Value::Bytes(bytes)) => ValueRef::Bytes(bytes),
         _ => ValueRef::Unset,
     }
 }

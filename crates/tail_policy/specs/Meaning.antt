@@ -1,10 +1,12 @@
--- Which traces policies keep, as the documents of the OpenTelemetry Collector's tail_sampling processor have it: a predicate
--- on the spans of a trace, each with its resource.
+-- Which traces policies sample, as the README of the OpenTelemetry Collector's tail_sampling processor has it
+-- (https://github.com/open-telemetry/opentelemetry-collector-contrib/tree/main/processor/tailsamplingprocessor): a
+-- predicate on the spans of a trace, each with its resource.
 use Rattle.std.specs.Prelude.{ℕ, ℤ, pos, ◌-◌, ◌/◌, Bool, true, false, ◌&&◌, List, [], ◌∷◌, min, max, nat_le, int_le}
 use Rattle.std.specs.List.{list_all, list_any}
 use Rattle.std.specs.Ordering.{int_eq}
 use Rattle.std.specs.Str.{bytes_eq}
-use Rattle.tail_settings.specs.Policy.{StatusData, LeafData, always_sample, latency, status_code, string_attribute, numeric_attribute, PolicyData, leaf, and}
+use Rattle.tail_settings.specs.Policy.{StatusData, LeafData, PolicyData, leaf, and}
+use Rattle.tail_settings.specs.Policy.{always_sample, latency, status_code, string_attribute, numeric_attribute}
 use Rattle.tail_settings.specs.Policy as settings
 use Rattle.span_view.specs.Facts.{ValueFact, string, int, SpanFacts}
 
@@ -24,14 +26,15 @@ latest_end span (other ∷ others) = max span.end_time_unix_nano (latest_end oth
 abbrev pub nanoseconds : ℕ
 nanoseconds = 1000000
 
--- from the earliest start to the latest end in whole milliseconds, rounded down; 0 where that end is before that start
+-- what the policy `latency` compares: from the earliest start to the latest end in whole milliseconds, rounded down; 0
+-- where that end is before that start
 abbrev pub duration : List SpanFacts → ℕ
 duration [] = 0
 duration (span ∷ spans) = (latest_end span spans - earliest_start span spans) / nanoseconds
 
 -- ---- what a span and its resource have
 
--- the number of a code in OTLP
+-- the number of a code in trace.proto's Status.StatusCode (OTLP 1.x)
 abbrev pub number_of : StatusData → ℤ
 number_of settings.unset = pos 0
 number_of settings.ok = pos 1
@@ -53,23 +56,25 @@ is_within low high _ = false
 
 -- the span or its resource has an attribute of this key whose value is such a one; each occurrence of the key counts
 abbrev pub has_attribute : List ℕ → (ValueFact → Bool) → SpanFacts → Bool
-has_attribute key is_such span = list_any (λ attribute. bytes_eq attribute.key key && is_such attribute.value) span.attributes
+has_attribute key is_such span =
+    list_any (λ attribute. bytes_eq attribute.key key && is_such attribute.value) span.attributes
 
 -- ---- policies
 
--- a policy that holds no other keeps the trace of these spans
-abbrev pub leaf_keeps : LeafData → List SpanFacts → Bool
-leaf_keeps always_sample spans = true
-leaf_keeps (latency threshold) spans = nat_le threshold (duration spans)
-leaf_keeps (status_code codes) spans = list_any (has_status codes) spans
-leaf_keeps (string_attribute key values) spans = list_any (has_attribute key (is_one_of values)) spans
-leaf_keeps (numeric_attribute key low high) spans = list_any (has_attribute key (is_within low high)) spans
+-- a policy that holds no other samples the trace of these spans: always, by how long the trace lasts, or by one of its
+-- spans
+abbrev pub leaf_samples : LeafData → List SpanFacts → Bool
+leaf_samples always_sample spans = true
+leaf_samples (latency threshold) spans = nat_le threshold (duration spans)
+leaf_samples (status_code codes) spans = list_any (has_status codes) spans
+leaf_samples (string_attribute key values) spans = list_any (has_attribute key (is_one_of values)) spans
+leaf_samples (numeric_attribute key low high) spans = list_any (has_attribute key (is_within low high)) spans
 
--- of policies that are joined by `and` each has to keep the trace, possibly by different spans
-abbrev pub policy_keeps : PolicyData → List SpanFacts → Bool
-policy_keeps (leaf l) spans = leaf_keeps l spans
-policy_keeps (and ls) spans = list_all (λ l. leaf_keeps l spans) ls
+-- of policies that are joined by `and` each has to sample the trace, possibly by different spans
+abbrev pub policy_samples : PolicyData → List SpanFacts → Bool
+policy_samples (leaf l) spans = leaf_samples l spans
+policy_samples (and ls) spans = list_all (λ l. leaf_samples l spans) ls
 
--- a trace is kept where one of the tenant's policies keeps it
+-- a trace is sampled where one of the tenant's policies samples it
 unfoldable pub keeps : List PolicyData → List SpanFacts → Bool
-keeps policies spans = list_any (λ policy. policy_keeps policy spans) policies
+keeps policies spans = list_any (λ policy. policy_samples policy spans) policies

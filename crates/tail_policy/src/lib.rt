@@ -1,8 +1,8 @@
-//! What sampling policies keep.
+//! Which traces sampling policies sample.
 //!
-//! A trace is kept where one of its tenant's policies keeps it (`specs/Meaning`, after the documents of the OpenTelemetry
-//! Collector's `tail_sampling` processor). Each policy looks at all spans of the trace, each with its resource.
-//! [`keeps`] answers exactly that.
+//! A trace is sampled where one of its tenant's policies samples it (`specs/Meaning`, after the documents of the
+//! OpenTelemetry Collector's `tail_sampling` processor). Each policy looks at all spans of the trace, each with its
+//! resource. [`keeps`] answers exactly that.
 //!
 //! It stands on `span_view`, for what a policy asks of a span, and on `tail_settings`, for what a policy is.
 #![tactic(auto)]
@@ -16,21 +16,18 @@ ghost use Rattle.std.specs.Prelude.{◌≡◌, ◌<◌, length, map};
 ghost use Rattle.tail_settings.specs.Policy.{policy_view};
 ghost use Rattle.tail_policy.specs.Meaning.{keeps};
 
-use policy::policy_keeps;
+use policy::policy_samples;
 use span_view::SpanRef;
 use tail_settings::PolicySpec;
 
-/// Whether one of the policies keeps the trace that has these spans.
+/// Whether the trace that has these spans is sampled: whether one of the policies samples it.
 ///
-/// It takes no memory. Its time grows no faster than the number of policies that hold no other, times the number of codes
-/// or texts that one of them has, times the size of the texts of the spans and their resources.
+/// It takes no memory. Its time grows no faster than the number of policies that hold no other, times the number of
+/// codes or texts that one of them has, times the size of the texts of the spans and their resources.
 #[tactic(auto, unfolding(crate::specs::Meaning::keeps))]
 pub fn keeps(policies: &[PolicySpec], spans: &[SpanRef<'_>]) -> bool
     requires some { 0 < length spans.now }
     ensures { result ≡ keeps (map policy_view policies.now) spans.now }
 {
-    policies.iter().any(|policy| policy_keeps(policy, spans))
+    policies.iter().any(|policy| policy_samples(policy, spans))
 }
-
-#[cfg(test)]
-mod tests;

@@ -2,7 +2,7 @@
 
 ghost use Rattle.std.specs.Prelude.{◌≡◌};
 ghost use Rattle.tail_settings.specs.Policy.{leaf_view, policy_view};
-ghost use Rattle.tail_policy.specs.Meaning.{leaf_keeps, policy_keeps};
+ghost use Rattle.tail_policy.specs.Meaning.{leaf_samples, policy_samples};
 
 use crate::attribute::{any_has_number, any_has_text};
 use crate::status::any_has_status;
@@ -10,9 +10,9 @@ use crate::time::duration;
 use span_view::SpanRef;
 use tail_settings::{LeafPolicy, PolicySpec};
 
-/// Whether a policy that holds no other keeps the trace.
-fn leaf_keeps(leaf: &LeafPolicy, spans: &[SpanRef<'_>]) -> bool
-    ensures { result ≡ leaf_keeps (leaf_view leaf.now) spans.now }
+/// Whether a policy that holds no other samples the trace.
+fn leaf_samples(leaf: &LeafPolicy, spans: &[SpanRef<'_>]) -> bool
+    ensures { result ≡ leaf_samples (leaf_view leaf.now) spans.now }
 {
     match leaf {
         LeafPolicy::AlwaysSample => true,
@@ -27,12 +27,12 @@ fn leaf_keeps(leaf: &LeafPolicy, spans: &[SpanRef<'_>]) -> bool
     }
 }
 
-/// Whether a policy keeps the trace. Policies that are joined by `and` may each be met by another span.
-pub fn policy_keeps(policy: &PolicySpec, spans: &[SpanRef<'_>]) -> bool
-    ensures { result ≡ policy_keeps (policy_view policy.now) spans.now }
+/// Whether a policy samples the trace. Policies that are joined by `and` may each be met by another span.
+pub fn policy_samples(policy: &PolicySpec, spans: &[SpanRef<'_>]) -> bool
+    ensures { result ≡ policy_samples (policy_view policy.now) spans.now }
 {
     match policy {
-        PolicySpec::Leaf(leaf) => leaf_keeps(leaf, spans),
-        PolicySpec::And(leaves) => leaves.iter().all(|leaf| leaf_keeps(leaf, spans)),
+        PolicySpec::Leaf(leaf) => leaf_samples(leaf, spans),
+        PolicySpec::And(leaves) => leaves.iter().all(|leaf| leaf_samples(leaf, spans)),
     }
 }

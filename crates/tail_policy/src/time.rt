@@ -8,7 +8,8 @@ use span_view::SpanRef;
 /// How many nanoseconds a millisecond has.
 const NANOSECONDS: u64 = 1_000_000;
 
-/// From the earliest start to the latest end in whole milliseconds, rounded down; 0 where that end is before that start.
+/// From the earliest start to the latest end in whole milliseconds, rounded down; 0 where that end is before that
+/// start.
 pub fn duration(spans: &[SpanRef<'_>]) -> u64
     ensures { result ≡ duration spans.now }
 {

@@ -1,0 +1,109 @@
+//! Views of spans.
+
+ghost use Rattle.span_tests.specs.Views.{Told, Members, CanonicalTexts};
+
+use otlp_trace::DoubleBits;
+use span_view::{SpanRef, ValueRef, canonical_text_is_viewed, equal_values, is_text};
+use std::process::Abort;
+
+/// The span of opentelemetry-proto's example of a trace (examples/trace.json), with a status of code 2 and fields that
+/// no span knows behind it.
+const SPAN: &[u8] = b"\x0a\x10\x5b\x8e\xff\xf7\x98\x03\x81\x03\xd2\x69\xb6\x33\x81\x3f\xc6\x0c\
+\x12\x08\xee\xe1\x9b\x7e\xc3\xc1\xb1\x74\
+\x22\x08\xee\xe1\x9b\x7e\xc3\xc1\xb1\x73\
+\x2a\x11I'm a server span\
+\x30\x02\
+\x39\x00\x48\x59\xe3\xfa\xeb\x6f\x15\
+\x41\x00\x12\xf4\x1e\xfb\xeb\x6f\x15\
+\x4a\x1c\x0a\x0cmy.span.attr\x12\x0c\x0a\x0asome value\
+\x7a\x05\x12\x01m\x18\x02\
+\x08\x09\
+\x38\x63\
+\xa3\x01\x0a\x01z\xa4\x01";
+
+/// Its resource.
+const RESOURCE: &[u8] = b"\x0a\x1c\x0a\x0cservice.name\x12\x0c\x0a\x0amy.service";
+
+fn checked<'a>(rt: &impl Abort, span: &'a [u8], resource: &'a [u8]) -> SpanRef<'a> {
+    assert!(rt; is_text(span, resource));
+    SpanRef::of(span, resource)
+}
+
+#[test]
+fn the_example_of_a_trace_is_viewed(rt: HostRuntime) {
+    let view = checked(&rt, SPAN, RESOURCE);
+    let id: &[u8] = b"\x5b\x8e\xff\xf7\x98\x03\x81\x03\xd2\x69\xb6\x33\x81\x3f\xc6\x0c";
+    assert_eq!(rt; view.trace_id(), id);
+    let span_id: &[u8] = b"\xee\xe1\x9b\x7e\xc3\xc1\xb1\x74";
+    assert_eq!(rt; view.span_id(), span_id);
+    assert_eq!(rt; view.start(), 1544712660000000000);
+    assert_eq!(rt; view.end(), 1544712661000000000);
+    assert_eq!(rt; view.status(), 2);
+    let mut attributes = view.attributes();
+    let own = ("my.span.attr", ValueRef::String("some value"));
+    assert_eq!(rt; attributes.next(), Some(own));
+    let of_resource = ("service.name", ValueRef::String("my.service"));
+    assert_eq!(rt; attributes.next(), Some(of_resource));
+    assert_eq!(rt; attributes.next(), None);
+    assert_eq!(rt; attributes.next(), None);
+}
+
+#[test]
+fn each_kind_of_value_is_told(rt: HostRuntime) {
+    let cases: [(&[u8], ValueRef<'static>); 11] = [
+        (b"\x0a\x04\x0a\x00\x12\x00", ValueRef::Unset),
+        (b"\x0a\x04\x12\x02\x0a\x00", ValueRef::String("")),
+        (
+            b"\x0a\x06\x12\x04\x0a\x02\xc3\xa4",
+            ValueRef::String("\u{e4}"),
+        ),
+        (b"\x0a\x04\x12\x02\x10\x00", ValueRef::Bool(false)),
+        (b"\x0a\x04\x12\x02\x10\x01", ValueRef::Bool(true)),
+        (
+            b"\x0a\x0d\x12\x0b\x18\xff\xff\xff\xff\xff\xff\xff\xff\xff\x01",
+            ValueRef::Int(-1),
+        ),
+        (
+            b"\x0a\x0b\x12\x09\x21\x01\x00\x00\x00\x00\x00\xf8\x7f",
+            ValueRef::Double(DoubleBits([1, 0, 0, 0, 0, 0, 0xf8, 0x7f])),
+        ),
+        (b"\x0a\x08\x12\x06\x2a\x04\x0a\x02\x18\x07", ValueRef::Array),
+        (b"\x0a\x04\x12\x02\x32\x00", ValueRef::KeyValueList),
+        (
+            b"\x0a\x06\x12\x04\x3a\x02\xff\x00",
+            ValueRef::Bytes(b"\xff\x00"),
+        ),
+        // A field that no value knows, and one with another wire type.
+        (b"\x0a\x06\x12\x04\x40\x01\x08\x02", ValueRef::Unset),
+    ];
+    for (resource, value) in cases {
+        let none: &[u8] = b"";
+        let mut attributes = checked(&rt, none, resource).attributes();
+        assert_eq!(rt; attributes.next(), Some(("", value)));
+        assert_eq!(rt; attributes.next(), None);
+    }
+}
+
+#[test]
+fn strings_that_are_not_utf8_are_found(rt: HostRuntime) {
+    let none: &[u8] = b"";
+    assert!(rt; !is_text(b"\x4a\x03\x0a\x01\xff", none));
+    assert!(rt; !is_text(b"\x4a\x05\x12\x03\x0a\x01\xff", none));
+    assert!(rt; !is_text(none, b"\x0a\x03\x0a\x01\xff"));
+    // Bytes, and a name that no view reads.
+    assert!(rt; is_text(b"\x4a\x05\x12\x03\x3a\x01\xff", none));
+    assert!(rt; is_text(b"\x2a\x01\xff", none));
+}
+
+#[test]
+fn laws_of_views_can_be_called(_rt: HostRuntime) {
+    canonical_text_is_viewed();
+    equal_values();
+}
+
+/// The definitions say of small spans and texts what was worked out by hand.
+fn definitions_of_views()
+    ensures told { Told }
+    ensures members { Members }
+    ensures canonical { CanonicalTexts }
+{}
