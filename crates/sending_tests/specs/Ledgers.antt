@@ -1,5 +1,5 @@
--- What the definitions give on small ledgers, worked out by hand.
-use Rattle.std.specs.Prelude.{◌≡◌, ◌^◌, [], ◌∷◌, codes}
+-- What the definitions of ledgers give on small ones, worked out by hand.
+use Rattle.std.specs.Prelude.{◌≡◌, ◌^◌, [], ◌∷◌, ◌++◌, codes}
 use Rattle.drop_ledger.specs.declared.places.Place.TheVariants.{Undecided, Pending, Queued, Active, Exported, NotSampled, TooEarly, QueueFull, RetryExhausted, BackEndRefused, BackEndRejected}
 use Rattle.drop_ledger.specs.Ledger.{LedgerData, held, in_places, counted, IsSound, no_places, no_spans, ledger_of, taken, moved, left_out}
 use Rattle.drop_ledger.specs.Report.{counter, report_text}
@@ -34,8 +34,10 @@ pub record Orders : Type 0 where
 -- spans come, move and are left out
 pub record Steps : Type 0 where
   pub come : taken 3 no_spans ≡ three
-  pub move_on : moved Undecided NotSampled 2 three ≡ record no_spans { accepted = 3; places = record no_places { undecided = 1; not_sampled = 2 } }
-  pub move_all : moved Undecided Pending 3 three ≡ record no_spans { accepted = 3; places = record no_places { pending = 3 } }
+  pub move_on : moved Undecided NotSampled 2 three
+      ≡ record no_spans { accepted = 3; places = record no_places { undecided = 1; not_sampled = 2 } }
+  pub move_all : moved Undecided Pending 3 three
+      ≡ record no_spans { accepted = 3; places = record no_places { pending = 3 } }
   pub stay : moved Undecided Undecided 2 three ≡ three
   pub leave_out : left_out 1 4 three ≡ record three { invalid = 1; over_budget = 4 }
 
@@ -48,7 +50,12 @@ pub record Soundness : Type 0 where
   pub most : IsSound (record no_spans { invalid = 2 ^ 62 })
   pub one_more : IsSound (record no_spans { invalid = 2 ^ 62; over_budget = 1 }) → ⊥
 
+-- lines of ledgers
 pub record Reports : Type 0 where
   pub of_one : counter (codes "active") 120 ≡ codes "active=120"
-  pub of_none : report_text no_spans ≡ codes "accepted=0 undecided=0 pending=0 queued=0 active=0 exported=0 not_sampled=0 too_early=0 queue_full=0 retry_exhausted=0 back_end_refused=0 back_end_rejected=0 invalid=0 over_budget=0"
-  pub of_fourteen : report_text from_1_to_14 ≡ codes "accepted=1 undecided=2 pending=3 queued=4 active=5 exported=6 not_sampled=7 too_early=8 queue_full=9 retry_exhausted=10 back_end_refused=11 back_end_rejected=12 invalid=13 over_budget=14"
+  pub of_none : report_text no_spans
+      ≡ codes "accepted=0 undecided=0 pending=0 queued=0 active=0 exported=0 not_sampled=0 too_early=0 queue_full=0 "
+      ++ codes "retry_exhausted=0 back_end_refused=0 back_end_rejected=0 invalid=0 over_budget=0"
+  pub of_fourteen : report_text from_1_to_14
+      ≡ codes "accepted=1 undecided=2 pending=3 queued=4 active=5 exported=6 not_sampled=7 too_early=8 queue_full=9 "
+      ++ codes "retry_exhausted=10 back_end_refused=11 back_end_rejected=12 invalid=13 over_budget=14"

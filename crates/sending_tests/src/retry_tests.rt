@@ -2,7 +2,7 @@
 
 ghost use Rattle.std.specs.Prelude.{◌≤◌};
 
-use super::*;
+use send_retry::{Answer, NextDelay, RetryState, Verdict, classify, next_delay};
 use std::alloc::{AllocError, Global};
 use std::test::Fail;
 use tail_settings::RetryOnFailure;
@@ -58,8 +58,8 @@ fn some_statuses_are_for_now(rt: HostRuntime) -> Result<(), Fail> {
     Ok(())
 }
 
-/// The moment of the attempt after the next, 0 where there is none: after an answer at 1000 that asks for a wait of 40 seconds, and
-/// one at 41,000 with the greatest word.
+/// The moment of the attempt after the next, 0 where there is none: after an answer at 1000 that asks for a wait of 40
+/// seconds, and one at 41,000 with the greatest word.
 fn third_attempt(max_elapsed_time: u64) -> u64
     requires { max_elapsed_time ≤ 100000 }
 {

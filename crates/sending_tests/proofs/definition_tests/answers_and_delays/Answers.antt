@@ -1,7 +1,7 @@
 use Rattle.std.proofs.Common.{refl}
 use Rattle.pb_wire.specs.Reading.{number_in, varint_at, tag_at, split_at, value_with}
 use Rattle.otlp_read.specs.Walk.{walk_in, walk, read_with}
-use Rattle.send_retry.proofs.definition_tests.definitions_on_small_inputs.Goals as goal
+use Rattle.sending_tests.proofs.definition_tests.answers_and_delays.Goals as goal
 
 pub returns-clause-refused : goal.returns-clause-refused
 unfolding read_with walk walk_in number_in varint_at tag_at split_at value_with

@@ -1,9 +1,9 @@
--- What the definitions give on small answers and states, worked out by hand.
+-- What the definitions of answers and delays give on small ones, worked out by hand.
 use Rattle.std.specs.Prelude.{◌≡◌, ◌+◌, ◌-◌, ◌^◌, ℕ, pos, negsuc, List, [], ◌∷◌, Some, None}
 use Rattle.tail_settings.specs.RetryOnFailure.{RetryData}
 use Rattle.send_retry.specs.declared.answer.Verdict.TheVariants.{Taken, Again, Never}
 use Rattle.send_retry.specs.Class.{Http, Failed, not_negative, refused_of, class_of}
-use Rattle.send_retry.specs.Delay.{first_state, spread, picked, delay_of, next_interval, Delay, GiveUp, next_delay, with_interval}
+use Rattle.send_retry.specs.Delay.{StateData, first_state, spread, picked, delay_of, next_interval, Delay, GiveUp, next_delay, with_interval}
 
 -- the exporterhelper's defaults, but for the longest time
 abbrev pub settings : ℕ → RetryData
@@ -15,7 +15,7 @@ settings longest = record {
   randomization_factor = 500;
 }
 
--- partial success: 5 spans refused, none, and less than none (-1 in ten bytes)
+-- partial success: 5 spans refused, and less than none (-1 in ten bytes)
 abbrev pub five_refused : List ℕ
 five_refused = 0x0a ∷ 0x02 ∷ 0x08 ∷ 0x05 ∷ []
 
@@ -58,11 +58,19 @@ pub record Delays : Type 0 where
   pub second_interval : next_interval (first_state (settings 0) 1000) ≡ 7500
   pub longest_interval : next_interval (with_interval 20001 (first_state (settings 0) 1000)) ≡ 30000
 
--- a batch whose first job came at 1000: an answer at once that asks for 40 seconds, and one at the second attempt with the greatest
--- word, whose attempt would come 51,250 after the first job
+-- a batch whose first job came at 1000, and its state at the second attempt, by the longest time
+abbrev pub at_first : ℕ → StateData
+at_first longest = first_state (settings longest) 1000
+
+abbrev pub at_second : ℕ → StateData
+at_second longest = with_interval 7500 (at_first longest)
+
+-- an answer at once that asks for 40 seconds, and one at the second attempt with the greatest word, whose attempt
+-- would come 51,250 after the first job
 pub record Attempts : Type 0 where
-  pub first : next_delay (first_state (settings 50000) 1000) 1000 0 40 ≡ Delay 41000 (with_interval 7500 (first_state (settings 50000) 1000))
-  pub second : next_delay (with_interval 7500 (first_state (settings 50000) 1000)) 41000 (2 ^ 32 - 1) 0 ≡ GiveUp
-  pub just_in_time : next_delay (with_interval 7500 (first_state (settings 51250) 1000)) 41000 (2 ^ 32 - 1) 0
-      ≡ Delay 52250 (with_interval 11250 (first_state (settings 51250) 1000))
-  pub without_end : next_delay (first_state (settings 0) 0) (2 ^ 40 + 1) 0 0 ≡ Delay (2 ^ 40 + 2501) (with_interval 7500 (first_state (settings 0) 0))
+  pub first : next_delay (at_first 50000) 1000 0 40 ≡ Delay 41000 (at_second 50000)
+  pub second : next_delay (at_second 50000) 41000 (2 ^ 32 - 1) 0 ≡ GiveUp
+  pub just_in_time : next_delay (at_second 51250) 41000 (2 ^ 32 - 1) 0
+      ≡ Delay 52250 (with_interval 11250 (at_first 51250))
+  pub without_end : next_delay (first_state (settings 0) 0) (2 ^ 40 + 1) 0 0
+      ≡ Delay (2 ^ 40 + 2501) (with_interval 7500 (first_state (settings 0) 0))

@@ -1,6 +1,6 @@
 use Rattle.std.proofs.Common.{refl, arith}
 use Rattle.std.specs.Fmt.{digits}
-use Rattle.drop_ledger.proofs.definition_tests.definitions_on_small_inputs.Goals as goal
+use Rattle.sending_tests.proofs.definition_tests.ledgers.Goals as goal
 
 pub returns-clause-orders : goal.returns-clause-orders
 returns-clause-orders c = record {
