@@ -1,13 +1,18 @@
 //! Policies: their faults, how many there may be, and equal and copied ones.
 
-use super::*;
-use crate::tests::{check_cases, compare_repeated};
+use crate::told::{check_cases, check_none, compare_repeated, joined};
 use std::alloc::{AllocError, Global};
 use std::process::Abort;
 use std::test::Fail;
+use tail_settings::{PolicySpec, Settings, copied_policies, load, same_policies};
 
-/// `load` prints what each of these cases wants of a document with an array of policies between these two. A sound one is followed
-/// by the fault of a later key.
+/// What stands before the array of policies in a document, and behind it: a later key with a fault.
+const HEAD: &str = "[[tenant]]\nname = \"a\"\ntail_sampling.policy = ";
+
+const TAIL: &str = "\nbatch.timeout_ms = false\n";
+
+/// `load` prints what each of these cases wants of a document with an array of policies between these two. A sound
+/// one is followed by the fault of a later key.
 fn check_policies(
     rt: &impl Abort,
     alloc: Global,
@@ -15,8 +20,8 @@ fn check_policies(
     cases: &str,
     after: &str,
 ) -> Result<(), Fail> {
-    let before = format!(in alloc; "[[tenant]]\nname = \"a\"\ntail_sampling.policy = {before}")?;
-    let after = format!(in alloc; "{after}\nbatch.timeout_ms = false\n")?;
+    let before = joined(alloc, HEAD, before, "")?;
+    let after = joined(alloc, after, "", TAIL)?;
     check_cases(rt, alloc, before.as_str(), cases, after.as_str())
 }
 
@@ -184,8 +189,8 @@ settings fault 13 type
     )
 }
 
-/// Adds a line where `load` prints another text than is wanted of a document with so many times a part between these two in its array
-/// of policies.
+/// Adds a line where `load` prints another text than is wanted of a document with so many times a part between these
+/// two in its array of policies.
 fn compare_count(
     alloc: Global,
     before: &str,
@@ -195,8 +200,8 @@ fn compare_count(
     want: &str,
     wrong: &mut String,
 ) -> Result<(), AllocError> {
-    let before = format!(in alloc; "[[tenant]]\nname = \"a\"\ntail_sampling.policy = [{before}")?;
-    let after = format!(in alloc; "{after}]\nbatch.timeout_ms = false\n")?;
+    let before = joined(alloc, HEAD, "[", before)?;
+    let after = joined(alloc, after, "]", TAIL)?;
     compare_repeated(
         alloc,
         before.as_str(),
@@ -232,7 +237,7 @@ fn compare_counts(alloc: Global, wrong: &mut String) -> Result<(), AllocError> {
 fn counts_of_policies(rt: HostRuntime) -> Result<(), Fail> {
     let mut wrong = String::new(rt.alloc());
     compare_counts(rt.alloc(), &mut wrong)?;
-    assert_eq!(rt; wrong.as_str(), "");
+    check_none(&rt, wrong.as_str());
     Ok(())
 }
 
@@ -260,7 +265,7 @@ fn compare_lengths(alloc: Global, wrong: &mut String) -> Result<(), AllocError> 
 fn counts_of_values(rt: HostRuntime) -> Result<(), Fail> {
     let mut wrong = String::new(rt.alloc());
     compare_lengths(rt.alloc(), &mut wrong)?;
-    assert_eq!(rt; wrong.as_str(), "");
+    check_none(&rt, wrong.as_str());
     Ok(())
 }
 
@@ -280,18 +285,18 @@ const DIFFERENT: &str = "[{ type = \"always_sample\" }]
 [{ type = \"and\", and_sub_policy = [{ type = \"always_sample\" }] }]
 [{ type = \"always_sample\" }, { type = \"always_sample\" }]";
 
-/// A copy of the policies of the first tenant, none where there is no tenant.
-fn first_policies(alloc: Global, settings: &Settings) -> Result<Vec<PolicySpec>, AllocError> {
+/// The policies of the first tenant, none where there is no tenant.
+fn first_policies(settings: &Settings) -> &[PolicySpec] {
     match settings.section(0) {
-        Some(section) => copied_policies(alloc, &section.tail_sampling.policies),
-        None => Ok(Vec::new(alloc)),
+        Some(section) => section.tail_sampling.policies.as_slice(),
+        None => &[],
     }
 }
 
 fn policies_of(alloc: Global, policies: &str) -> Result<Vec<PolicySpec>, Fail> {
-    let text = format!(in alloc; "[[tenant]]\nname = \"a\"\ntail_sampling.policy = {policies}\n")?;
+    let text = joined(alloc, HEAD, policies, "\n")?;
     let settings = load(alloc, text.as_str())?;
-    Ok(first_policies(alloc, &settings)?)
+    Ok(copied_policies(alloc, first_policies(&settings))?)
 }
 
 /// Whether both comparisons tell this of two lists of policies.
@@ -311,7 +316,6 @@ fn is_told_from_each(alloc: Global, left: usize, policies: &Vec<PolicySpec>) -> 
 
 #[test]
 fn equal_and_copied(rt: HostRuntime) -> Result<(), Fail> {
-    equal_policies();
     for (left, line) in DIFFERENT.lines().enumerate() {
         let policies = policies_of(rt.alloc(), line)?;
         assert!(rt;

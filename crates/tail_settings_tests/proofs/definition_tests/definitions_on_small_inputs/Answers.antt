@@ -6,9 +6,9 @@ use Rattle.tail_settings.specs.Texts.{is_name, address_at, header_at, attribute_
 use Rattle.tail_settings.specs.Policy.{leaf, always_sample}
 use Rattle.tail_settings.specs.Settings.{TenantData}
 use Rattle.tail_settings.specs.Sound.{IsSoundPolicy, IsSoundTailSampling, IsSoundSection, AreSoundTenants}
-use Rattle.tail_settings.specs.Examples.{default_section, named}
+use Rattle.tail_settings_tests.specs.Examples.{default_section, named}
 use Rattle.tail_settings.proofs.OnLiterals.{tables_on_literals, policies_on_literals, settings_on_literals, texts_on_literals}
-use Rattle.tail_settings.proofs.definition_tests.definitions_on_small_inputs.Goals as goal
+use Rattle.tail_settings_tests.proofs.definition_tests.definitions_on_small_inputs.Goals as goal
 
 pub returns-clause-numbers : goal.returns-clause-numbers
 unfolding number_at

@@ -1,9 +1,9 @@
 //! The definitions on examples that were worked out by hand (`specs/Examples`).
 
-ghost use Rattle.tail_settings.specs.Examples.{Numbers, RequiredNumbers, Integers, TextsAndTables, Arrays, Lists};
-ghost use Rattle.tail_settings.specs.Examples.{Names, Addresses, Headers, AttributeKeys, Tables};
-ghost use Rattle.tail_settings.specs.Examples.{Policies, PolicyFaults, Leaves, Views, Sections, Tenants, MostSpans, Documents};
-ghost use Rattle.tail_settings.specs.Examples.{FaultNumbers, Sound};
+ghost use Rattle.tail_settings_tests.specs.Examples.{Numbers, RequiredNumbers, Integers, TextsAndTables, Arrays, Lists};
+ghost use Rattle.tail_settings_tests.specs.Examples.{Names, Addresses, Headers, AttributeKeys, Tables};
+ghost use Rattle.tail_settings_tests.specs.Examples.{Policies, PolicyFaults, Leaves, Views, Sections, Tenants, MostSpans, Documents};
+ghost use Rattle.tail_settings_tests.specs.Examples.{FaultNumbers, Sound};
 
 /// The definitions, on small inputs, give what was worked out by hand.
 fn definitions_on_small_inputs()

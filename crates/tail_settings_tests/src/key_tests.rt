@@ -1,10 +1,10 @@
 //! Each key: its kind, its range, its place in the order of faults, and what it is where it is left out.
 
-use super::*;
-use crate::tests::{check_cases, check_printed, compare, repeated};
+use crate::told::{check_cases, check_none, check_printed, compare, repeated};
 use std::alloc::{AllocError, Global};
 use std::process::Abort;
 use std::test::Fail;
+use tail_settings::load;
 
 /// A sound document. The comments are the places for a line.
 const DOCUMENT: &str = "[global]
@@ -79,9 +79,33 @@ fn compare_at(
     wrong: &mut String,
 ) -> Result<(), AllocError> {
     let (before, after) = around(place);
-    let lines = lines_before(key);
-    let text = format!(in alloc; "{before}{lines}{key} = {value}{after}")?;
+    let text = document_of(alloc, before, key, value, after)?;
     compare(alloc, text.as_str(), want, wrong)
+}
+
+/// The text of the key's fault of this number.
+fn fault_of(alloc: Global, fault: u32, key: &str) -> Result<String, AllocError> {
+    format!(in alloc; "settings fault {fault} {key}")
+}
+
+/// What is wanted: the key's fault of this number, or settings for 0.
+fn want_of(alloc: Global, fault: u32, key: &str) -> Result<String, AllocError> {
+    match fault {
+        0 => String::from_str(alloc, "settings"),
+        _ => fault_of(alloc, fault, key),
+    }
+}
+
+/// A document with a value at a key between these two.
+fn document_of(
+    alloc: Global,
+    before: &str,
+    key: &str,
+    value: &str,
+    after: &str,
+) -> Result<String, AllocError> {
+    let lines = lines_before(key);
+    format!(in alloc; "{before}{lines}{key} = {value}{after}")
 }
 
 /// The same of each of these values. What is wanted is the key's fault of this number, or settings for 0.
@@ -93,10 +117,7 @@ fn compare_each(
     fault: u32,
     wrong: &mut String,
 ) -> Result<(), AllocError> {
-    let want = match fault {
-        0 => String::from_str(alloc, "settings")?,
-        _ => format!(in alloc; "settings fault {fault} {key}")?,
-    };
+    let want = want_of(alloc, fault, key)?;
     for value in values.split(' ') {
         compare_at(alloc, place, key, value, want.as_str(), wrong)?;
     }
@@ -135,7 +156,7 @@ fn wrong_numbers(alloc: Global) -> Result<String, AllocError> {
 #[test]
 fn ranges_and_kinds_of_numbers(rt: HostRuntime) -> Result<(), Fail> {
     let wrong = wrong_numbers(rt.alloc())?;
-    assert_eq!(rt; wrong.as_str(), "");
+    check_none(&rt, wrong.as_str());
     Ok(())
 }
 
@@ -206,7 +227,7 @@ fn compare_lengths(
     longest: u32,
     wrong: &mut String,
 ) -> Result<(), AllocError> {
-    let out = format!(in alloc; "settings fault 13 {key}")?;
+    let out = fault_of(alloc, 13, key)?;
     compare_length(alloc, place, key, byte, 1, "settings", wrong)?;
     compare_length(alloc, place, key, byte, longest, "settings", wrong)?;
     compare_length(alloc, place, key, byte, 0, out.as_str(), wrong)?;
@@ -221,7 +242,7 @@ fn lengths_of_texts(rt: HostRuntime) -> Result<(), Fail> {
     compare_lengths(rt.alloc(), "#global", "listen", "~", 255, &mut wrong)?;
     compare_lengths(rt.alloc(), "#global", "tenant_header", "-", 64, &mut wrong)?;
     compare_lengths(rt.alloc(), "#tenant", "endpoint", "!", 255, &mut wrong)?;
-    assert_eq!(rt; wrong.as_str(), "");
+    check_none(&rt, wrong.as_str());
     Ok(())
 }
 
@@ -274,8 +295,8 @@ endpoint = \"a\\tb\"",
     )
 }
 
-/// All keys in the order in which they are read: the head of a table before its first key, the key, and a sound line where there
-/// has to be one.
+/// All keys in the order in which they are read: the head of a table before its first key, the key, and a sound line
+/// where there has to be one.
 const ORDER: &str = "[global]|shards|
 |parts|
 |receivers|
@@ -310,22 +331,20 @@ fn cell(row: &str) -> (&str, &str) {
 }
 
 /// Adds a row's head and its line, the sound one or one of another kind.
-fn add_row(alloc: Global, row: &str, is_sound: bool, text: &mut String) -> Result<(), AllocError> {
+fn add_row(row: &str, is_sound: bool, text: &mut String) -> Result<(), AllocError> {
     let (head, rest) = cell(row);
     let (key, line) = cell(rest);
-    let lines = if is_sound {
-        format!(in alloc; "{head}\n{line}\n")?
-    } else {
-        format!(in alloc; "{head}\n{key} = false\n")?
-    };
-    text.push_str(lines.as_str())
+    text.push_str(head)?;
+    text.push('\n')?;
+    text.push_str(if is_sound { line } else { key })?;
+    text.push_str(if is_sound { "\n" } else { " = false\n" })
 }
 
 /// A document whose keys are sound up to this one, and of another kind from it on.
 fn faulty_from(alloc: Global, first: usize) -> Result<String, AllocError> {
     let mut text = String::new(alloc);
     for (number, row) in ORDER.lines().enumerate() {
-        add_row(alloc, row, number < first, &mut text)?;
+        add_row(row, number < first, &mut text)?;
     }
     Ok(text)
 }
@@ -339,7 +358,7 @@ fn compare_from(
     let (_head, rest) = cell(row);
     let (key, _line) = cell(rest);
     let text = faulty_from(alloc, first)?;
-    let want = format!(in alloc; "settings fault 12 {key}")?;
+    let want = fault_of(alloc, 12, key)?;
     compare(alloc, text.as_str(), want.as_str(), wrong)
 }
 
@@ -354,7 +373,7 @@ fn wrong_orders(alloc: Global) -> Result<String, AllocError> {
 #[test]
 fn order_of_keys(rt: HostRuntime) -> Result<(), Fail> {
     let wrong = wrong_orders(rt.alloc())?;
-    assert_eq!(rt; wrong.as_str(), "");
+    check_none(&rt, wrong.as_str());
     let sound = faulty_from(rt.alloc(), 24)?;
     check_printed(&rt, rt.alloc(), sound.as_str(), 0, DEFAULTS)
 }
@@ -394,12 +413,14 @@ retry_on_failure = true",
 }
 
 const DEFAULTS: &str =
-    "GlobalSettings { shards: 1, parts: 2, receivers: 4, senders: 4, lane_size: 64, listen: \"127.0.0.1:4318\", tenant_header: \"x-scope-orgid\" }
+    "GlobalSettings { shards: 1, parts: 2, receivers: 4, senders: 4, lane_size: 64, listen: \"127.0.0.1:4318\", \
+tenant_header: \"x-scope-orgid\" }
 Section { endpoint: \"127.0.0.1:4319\", max_spans: 100000, seed: 0, \
 tail_sampling: TailSampling { decision_wait: 30000, num_traces: 50000, policies: [Leaf(AlwaysSample)] }, \
 batch: Batch { send_batch_size: 8192, timeout: 200, send_batch_max_size: 0 }, \
 sending_queue: SendingQueue { queue_size: 1000, num_consumers: 10 }, \
-retry_on_failure: RetryOnFailure { initial_interval: 5000, max_interval: 30000, max_elapsed_time: 300000, multiplier: 1500, randomization_factor: 500 } }";
+retry_on_failure: RetryOnFailure { initial_interval: 5000, max_interval: 30000, max_elapsed_time: 300000, \
+multiplier: 1500, randomization_factor: 500 } }";
 
 const NO_KEYS: &str =
     "tenant = [{ name = \"Az09_-.\", tail_sampling = { policy = [{ type = \"always_sample\" }] } }]";

@@ -1,7 +1,6 @@
 //! The documents of examples/, and what they are read to.
 
-use super::*;
-use crate::tests::{check_printed, counted};
+use crate::told::{check_printed, counted};
 use std::test::Fail;
 
 /// The text of `examples/two-tenants.toml`.
@@ -127,12 +126,14 @@ randomization_factor = 500
 ";
 
 const SEARCH: &str =
-    "GlobalSettings { shards: 1, parts: 2, receivers: 4, senders: 4, lane_size: 64, listen: \"127.0.0.1:4318\", tenant_header: \"x-scope-orgid\" }
+    "GlobalSettings { shards: 1, parts: 2, receivers: 4, senders: 4, lane_size: 64, listen: \"127.0.0.1:4318\", \
+tenant_header: \"x-scope-orgid\" }
 Section { endpoint: \"10.0.0.12:4318\", max_spans: 20000, seed: 0, \
 tail_sampling: TailSampling { decision_wait: 30000, num_traces: 50000, policies: [Leaf(AlwaysSample)] }, \
 batch: Batch { send_batch_size: 8192, timeout: 200, send_batch_max_size: 0 }, \
 sending_queue: SendingQueue { queue_size: 1000, num_consumers: 10 }, \
-retry_on_failure: RetryOnFailure { initial_interval: 5000, max_interval: 30000, max_elapsed_time: 300000, multiplier: 1500, randomization_factor: 500 } }";
+retry_on_failure: RetryOnFailure { initial_interval: 5000, max_interval: 30000, max_elapsed_time: 300000, \
+multiplier: 1500, randomization_factor: 500 } }";
 
 #[test]
 fn two_tenants(rt: HostRuntime) -> Result<(), Fail> {
@@ -141,7 +142,8 @@ fn two_tenants(rt: HostRuntime) -> Result<(), Fail> {
 }
 
 const SHOP: &str =
-    "GlobalSettings { shards: 1, parts: 2, receivers: 4, senders: 4, lane_size: 64, listen: \"127.0.0.1:4318\", tenant_header: \"x-scope-orgid\" }
+    "GlobalSettings { shards: 1, parts: 2, receivers: 4, senders: 4, lane_size: 64, listen: \"127.0.0.1:4318\", \
+tenant_header: \"x-scope-orgid\" }
 Section { endpoint: \"tracing.internal:4318\", max_spans: 100000, seed: 0, \
 tail_sampling: TailSampling { decision_wait: 10000, num_traces: 20000, policies: [\
 Leaf(StatusCode { status_codes: [Error] }), \
@@ -150,7 +152,8 @@ And([StringAttribute { key: \"payment.state\", values: [\"declined\", \"timeout\
 NumericAttribute { key: \"payment.amount\", min_value: 100, max_value: 9223372036854775807 }])] }, \
 batch: Batch { send_batch_size: 8192, timeout: 200, send_batch_max_size: 0 }, \
 sending_queue: SendingQueue { queue_size: 1000, num_consumers: 10 }, \
-retry_on_failure: RetryOnFailure { initial_interval: 5000, max_interval: 30000, max_elapsed_time: 300000, multiplier: 1500, randomization_factor: 500 } }";
+retry_on_failure: RetryOnFailure { initial_interval: 5000, max_interval: 30000, max_elapsed_time: 300000, \
+multiplier: 1500, randomization_factor: 500 } }";
 
 #[test]
 fn errors_and_slow_traces(rt: HostRuntime) -> Result<(), Fail> {
@@ -158,7 +161,8 @@ fn errors_and_slow_traces(rt: HostRuntime) -> Result<(), Fail> {
 }
 
 const ALL_POLICIES: &str =
-    "GlobalSettings { shards: 1, parts: 2, receivers: 4, senders: 4, lane_size: 64, listen: \"127.0.0.1:4318\", tenant_header: \"x-scope-orgid\" }
+    "GlobalSettings { shards: 1, parts: 2, receivers: 4, senders: 4, lane_size: 64, listen: \"127.0.0.1:4318\", \
+tenant_header: \"x-scope-orgid\" }
 Section { endpoint: \"127.0.0.1:4319\", max_spans: 100000, seed: 0, \
 tail_sampling: TailSampling { decision_wait: 30000, num_traces: 50000, policies: [\
 Leaf(AlwaysSample), \
@@ -169,7 +173,8 @@ Leaf(NumericAttribute { key: \"http.response.status_code\", min_value: 500, max_
 And([Latency { threshold_ms: 1000 }, StatusCode { status_codes: [Error] }])] }, \
 batch: Batch { send_batch_size: 8192, timeout: 200, send_batch_max_size: 0 }, \
 sending_queue: SendingQueue { queue_size: 1000, num_consumers: 10 }, \
-retry_on_failure: RetryOnFailure { initial_interval: 5000, max_interval: 30000, max_elapsed_time: 300000, multiplier: 1500, randomization_factor: 500 } }";
+retry_on_failure: RetryOnFailure { initial_interval: 5000, max_interval: 30000, max_elapsed_time: 300000, \
+multiplier: 1500, randomization_factor: 500 } }";
 
 #[test]
 fn everything(rt: HostRuntime) -> Result<(), Fail> {
