@@ -1,5 +1,6 @@
--- The counters of a tenant's spans: each span that was taken is counted in exactly one place. After the metrics of the Collector's
--- tail_sampling processor and exporterhelper, with names and rules of our own.
+-- The counters of a tenant's spans: each span that was taken is counted in exactly one place. The reasons for which
+-- spans are dropped are those of the Collector's tailsamplingprocessor and exporterhelper; names and rules are our
+-- own.
 use Rattle.std.specs.Prelude.{◌≡◌, ◌≤◌, ◌+◌, ◌-◌, ◌^◌, ℕ, List, slice_index_or}
 use Rattle.drop_ledger.specs.declared.places.Place.{Place}
 use Rattle.drop_ledger.specs.declared.places.Place.TheVariants.{Undecided, Pending, Queued, Active, Exported, NotSampled, TooEarly, QueueFull, RetryExhausted, BackEndRefused, BackEndRejected}
@@ -11,6 +12,15 @@ pub record LedgerData : Type 0 where
   pub places : Places
   pub invalid : ℕ
   pub over_budget : ℕ
+
+-- a ledger of these counters
+abbrev pub ledger_data : ℕ → Places → ℕ → ℕ → LedgerData
+ledger_data accepted places invalid over_budget = record {
+  accepted = accepted;
+  places = places;
+  invalid = invalid;
+  over_budget = over_budget;
+}
 
 -- so many spans are in a place
 abbrev pub held : Place → Places → ℕ
@@ -42,8 +52,9 @@ with_held BackEndRejected n places = record places { back_end_rejected = n }
 
 -- all spans that are in some place
 abbrev pub in_places : Places → ℕ
-in_places places = places.undecided + places.pending + places.queued + places.active + places.exported + places.not_sampled
-    + places.too_early + places.queue_full + places.retry_exhausted + places.back_end_refused + places.back_end_rejected
+in_places places = places.undecided + places.pending + places.queued + places.active + places.exported
+    + places.not_sampled + places.too_early + places.queue_full + places.retry_exhausted + places.back_end_refused
+    + places.back_end_rejected
 
 -- all spans that were counted: taken or left out
 abbrev pub counted : LedgerData → ℕ
@@ -58,7 +69,7 @@ pub record IsSound (ledger : LedgerData) : Type 0 where
   pub each_once : in_places ledger.places ≡ ledger.accepted
   pub few : counted ledger ≤ most_counted
 
--- no spans so far
+-- no spans in any place
 abbrev pub no_places : Places
 no_places = record {
   undecided = 0;
@@ -74,6 +85,7 @@ no_places = record {
   back_end_rejected = 0;
 }
 
+-- no spans so far
 abbrev pub no_spans : LedgerData
 no_spans = record { accepted = 0; places = no_places; invalid = 0; over_budget = 0 }
 

@@ -24,13 +24,13 @@ pub struct Ledger {
 }
 
 impl Model for Ledger {
-    ghost use Rattle.drop_ledger.specs.Ledger.{LedgerData, IsSound};
+    ghost use Rattle.drop_ledger.specs.Ledger.{LedgerData, ledger_data, IsSound};
 
     ghost Value = { LedgerData };
 
-    ghost view = { λ l. record { accepted = l.accepted; places = l.places; invalid = l.invalid; over_budget = l.over_budget } };
+    ghost view = { λ l. ledger_data l.accepted l.places l.invalid l.over_budget };
 
-    ghost invariant = { λ l. IsSound (record { accepted = l.accepted; places = l.places; invalid = l.invalid; over_budget = l.over_budget }) };
+    ghost invariant = { λ l. IsSound (ledger_data l.accepted l.places l.invalid l.over_budget) };
 }
 
 impl Ledger {
@@ -78,11 +78,52 @@ impl Ledger {
         self.accepted
     }
 
-    /// Where the spans are that were taken.
+    /// Where the spans are that were taken. Together they are as many as were taken.
     pub fn places(&self) -> Places
-        ensures { result ≡ self.now.places }
+        ensures same { result ≡ self.now.places }
+        ensures sound { IsSound self.now }
     {
         self.places
+    }
+
+    /// How many spans were left out of posts that were taken, since they aren't valid.
+    pub fn invalid(&self) -> u64
+        ensures { result ≡ self.now.invalid }
+    {
+        self.invalid
+    }
+
+    /// How many spans were left out of posts that were taken, since there was no room for them.
+    pub fn over_budget(&self) -> u64
+        ensures { result ≡ self.now.over_budget }
+    {
+        self.over_budget
+    }
+
+    /// All counters, in the order of the line that reports them. [`Ledger::of`] makes the same ledger of them.
+    pub fn counters(&self) -> [u64; 14]
+        // Each counter of the ledger is here.
+        ensures same { ledger_of result ≡ self.now }
+
+        // The eleven places add up to what was taken, and no more than 2^62 spans are counted.
+        ensures sound { IsSound (ledger_of result) }
+    {
+        [
+            self.accepted,
+            self.places.undecided,
+            self.places.pending,
+            self.places.queued,
+            self.places.active,
+            self.places.exported,
+            self.places.not_sampled,
+            self.places.too_early,
+            self.places.queue_full,
+            self.places.retry_exhausted,
+            self.places.back_end_refused,
+            self.places.back_end_rejected,
+            self.invalid,
+            self.over_budget,
+        ]
     }
 
     /// Whether so many spans more can be counted.

@@ -1,6 +1,6 @@
 //! Where the spans are that were taken.
 
-ghost use Rattle.std.specs.Prelude.{◌≡◌};
+ghost use Rattle.std.specs.Prelude.{◌≡◌, ◌↔◌, true};
 ghost use Rattle.drop_ledger.specs.Ledger.{held, with_held, no_places};
 
 /// Where a span is that was taken: what it waits for, or how it ended.
@@ -115,3 +115,9 @@ impl Places {
         }
     }
 }
+
+/// Places are equal where they are the same place, and counts where they are the same in each place.
+pub fn equal_places()
+    ensures place { (a b : Place) → (⟦<Place as PartialEq>⟧.eq a b ≡ true) ↔ (a ≡ b) }
+    ensures places { (a b : Places) → (⟦<Places as PartialEq>⟧.eq a b ≡ true) ↔ (a ≡ b) }
+{}

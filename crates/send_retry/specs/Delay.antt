@@ -1,4 +1,5 @@
--- When a batch is sent again (`retry_on_failure` of the Collector's exporterhelper, in whole milliseconds).
+-- When a batch is sent again: `retry_on_failure` of the Collector's exporterhelper (its README, "Retry on Failure"),
+-- in whole milliseconds. Factors are thousandths, and divisions round down.
 use Rattle.std.specs.Prelude.{ℕ, Bool, ◌+◌, ◌-◌, ◌*◌, ◌/◌, ◌^◌, min, max, nat_lt, ◌==◌, ◌&&◌, not, if◌then◌else◌}
 use Rattle.tail_settings.specs.RetryOnFailure.{RetryData, retry_view}
 use Rattle.send_retry.specs.declared.state.RetryState.{RetryState}
@@ -11,12 +12,21 @@ pub record StateData : Type 0 where
   pub interval : ℕ
   pub first_job : ℕ
 
+-- a Rust state as such
 abbrev pub state_view : RetryState → StateData
-state_view state = record { settings = retry_view state.settings; interval = state.interval; first_job = state.first_job }
+state_view state = record {
+  settings = retry_view state.settings;
+  interval = state.interval;
+  first_job = state.first_job;
+}
 
 -- before a batch's first answer
 abbrev pub first_state : RetryData → ℕ → StateData
-first_state settings first_job = record { settings = settings; interval = settings.initial_interval; first_job = first_job }
+first_state settings first_job = record {
+  settings = settings;
+  interval = settings.initial_interval;
+  first_job = first_job;
+}
 
 -- how far a delay lies from its interval at most
 abbrev pub spread : StateData → ℕ
@@ -40,17 +50,21 @@ next_interval state = min (state.interval * state.settings.multiplier / 1000) st
 
 -- an attempt at that moment comes too late: so long after the first job; with 0 none does
 abbrev pub is_too_late : StateData → ℕ → Bool
-is_too_late state due = not (state.settings.max_elapsed_time == 0) && nat_lt state.settings.max_elapsed_time (due - state.first_job)
+is_too_late state due =
+    let longest = state.settings.max_elapsed_time in
+    not (longest == 0) && nat_lt longest (due - state.first_job)
 
 -- the moment of the next attempt and the state after it, or none
 pub data NextData : Type 0 where
   Delay : ℕ → StateData → NextData
   GiveUp : NextData
 
+-- a Rust answer to when the batch is sent again, as such
 abbrev pub next_view : NextDelay → NextData
 next_view (delays.Delay due state) = Delay due (state_view state)
 next_view delays.GiveUp = GiveUp
 
+-- an attempt at that moment, unless it comes too late
 abbrev pub next_at : StateData → ℕ → NextData
 next_at state due = if is_too_late state due then GiveUp else Delay due (with_interval (next_interval state) state)
 

@@ -1,3 +1,2 @@
 pub mod Class
 pub mod Delay
-pub mod Examples

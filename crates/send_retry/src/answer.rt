@@ -1,6 +1,6 @@
 //! What an answer means.
 
-ghost use Rattle.std.specs.Prelude.{◌≡◌};
+ghost use Rattle.std.specs.Prelude.{◌≡◌, ◌↔◌, true};
 ghost use Rattle.send_retry.specs.Class.{answer_view, not_negative, refused_of, wait_of, class_of, class_of_status};
 
 use otlp_read::read_response;
@@ -31,6 +31,11 @@ pub enum Verdict {
     /// The batch is refused for good.
     Never,
 }
+
+/// Verdicts are equal where they say the same.
+pub fn equal_verdicts()
+    ensures { (a b : Verdict) → (⟦<Verdict as PartialEq>⟧.eq a b ≡ true) ↔ (a ≡ b) }
+{}
 
 /// What an answer means for the batch. It takes no memory.
 pub fn classify(answer: &Answer) -> Verdict

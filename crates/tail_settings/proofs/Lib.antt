@@ -1,7 +1,8 @@
 pub mod Arrays
+pub mod Faults
+pub mod OnLiterals
 pub mod Policies
 pub mod Rules
 pub mod Sound
 pub mod Tenants
 pub mod Told
-pub mod OnLiterals

@@ -37,10 +37,10 @@ module _ {A D : Type 0} (E : A → A → Bool) (view : A → D) (says : (a b : A
         rw ((says x y).1 first, (lists_equal xs ys).1 rest),
   )
 
-texts_equal : (s t : String Global) → (string_eq s t ≡ true) ↔ (string_bytes s ≡ string_bytes t)
+pub texts_equal : (s t : String Global) → (string_eq s t ≡ true) ↔ (string_bytes s ≡ string_bytes t)
 texts_equal s t = bytes_eq-Decides (string_bytes s) (string_bytes t)
 
-statuses_equal : (a b : StatusCode) → (status_equal.eq-value.it a b ≡ true) ↔ (status_view a ≡ status_view b)
+pub statuses_equal : (a b : StatusCode) → (status_equal.eq-value.it a b ≡ true) ↔ (status_view a ≡ status_view b)
 statuses_equal statuses.Unset statuses.Unset = (λ _. refl, λ _. refl)
 statuses_equal statuses.Ok statuses.Ok = (λ _. refl, λ _. refl)
 statuses_equal statuses.Error statuses.Error = (λ _. refl, λ _. refl)

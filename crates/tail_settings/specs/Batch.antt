@@ -1,4 +1,5 @@
--- The table `batch`: how many spans are sent together, and how long they wait for more.
+-- The table `batch`: how many spans are sent together, and how long they wait for more. Keys and defaults are those
+-- of the Collector's batchprocessor (its README, "Configuration").
 use Rattle.std.specs.Prelude.{codes, ℕ, Bool, ◌||◌, ◌==◌, nat_le, Result, Ok}
 use Rattle.toml.specs.Data.{Members}
 use Rattle.tail_settings.specs.declared.batch.Batch.{Batch}
@@ -11,6 +12,7 @@ pub record BatchData : Type 0 where
   pub timeout : ℕ
   pub send_batch_max_size : ℕ
 
+-- what a Rust value says
 abbrev pub batch_view : Batch → BatchData
 batch_view b = record {
   send_batch_size = b.send_batch_size;
@@ -22,6 +24,7 @@ batch_view b = record {
 abbrev pub is_max_size : ℕ → ℕ → Bool
 is_max_size size max_size = (max_size == 0) || nat_le size max_size
 
+-- the table of a tenant, or its first fault
 unfoldable pub batch_of : Members → Result BatchData FaultData
 batch_of tenant = do
   batch ← table_at (codes "batch") tenant

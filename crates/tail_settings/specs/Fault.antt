@@ -1,8 +1,9 @@
 -- What a settings document is refused for, with the key or the name that the fault is about.
-use Rattle.std.specs.Prelude.{◌≡◌, ℕ, List, string_bytes, Option, Some, None, Result, Ok, Err, IfSome}
+use Rattle.std.specs.Prelude.{◌≡◌, ℕ, List, string_bytes, Option, Some, None, Result, Ok, Err, IfSome, IsSome}
 use Rattle.tail_settings.specs.declared.fault.SettingsFault.{SettingsFault}
 use Rattle.tail_settings.specs.declared.fault.SettingsFault.TheVariants as faults
 
+-- a fault of the document, in the order of its numbers
 pub data FaultData : Type 0 where
   not_toml : FaultData
   missing_key : List ℕ → FaultData
@@ -20,7 +21,7 @@ fault_number (out_of_range key) = 13
 fault_number (double_tenant name) = 14
 fault_number too_many = 15
 
--- the fault of the document; refused memory is none
+-- the fault of the document that a Rust fault tells; refused memory is none
 abbrev pub fault_view : SettingsFault → Option FaultData
 fault_view faults.NotToml = Some not_toml
 fault_view (faults.MissingKey key) = Some (missing_key key.now)
@@ -35,6 +36,10 @@ infixl 10 ◌>>=◌
 abbrev pub ◌>>=◌ : {A B : Type 0} → Result A FaultData → (A → Result B FaultData) → Result B FaultData
 (Ok x) >>= f = f x
 (Err e) >>= f = Err e
+
+-- a fault of the document, which refused memory is not
+abbrev pub IsOfDocument : SettingsFault → Type 0
+IsOfDocument e = IsSome (fault_view e)
 
 -- a fault is the one that the meaning has; refused memory says nothing of it
 abbrev pub TellsFault : {A : Type 0} → SettingsFault → Result A FaultData → Type 0

@@ -1,4 +1,5 @@
--- The table `global`: what holds for all tenants.
+-- The table `global`: what holds for all tenants. Port 4318 is that of OTLP over HTTP (OTLP/HTTP Request, "Default
+-- Port"), and `X-Scope-OrgID` is the header field by which Grafana Tempo and Mimir are told a tenant.
 use Rattle.std.specs.Prelude.{codes, ℕ, List, Result, Ok, string_bytes}
 use Rattle.toml.specs.Data.{Members}
 use Rattle.tail_settings.specs.declared.global.GlobalSettings.{GlobalSettings}
@@ -6,6 +7,8 @@ use Rattle.tail_settings.specs.Fault.{FaultData, ◌>>=◌}
 use Rattle.tail_settings.specs.Keys.{number_at, table_at}
 use Rattle.tail_settings.specs.Texts.{address_at, header_at}
 
+-- groups of tenants, threads for the spans of one body, for connections and for sending, jobs that wait for a sender,
+-- where requests come in, and the header field with the tenant's name
 pub record GlobalData : Type 0 where
   pub shards : ℕ
   pub parts : ℕ
@@ -15,6 +18,7 @@ pub record GlobalData : Type 0 where
   pub listen : List ℕ
   pub tenant_header : List ℕ
 
+-- what a Rust value says
 abbrev pub global_view : GlobalSettings → GlobalData
 global_view g = record {
   shards = g.shards;
@@ -26,6 +30,7 @@ global_view g = record {
   tenant_header = string_bytes g.tenant_header;
 }
 
+-- the table of a document, or its first fault
 unfoldable pub global_of : Members → Result GlobalData FaultData
 global_of document = do
   global ← table_at (codes "global") document

@@ -1,4 +1,5 @@
--- The keys of a table: kinds, ranges and defaults, the same for all settings.
+-- The keys of a table: kinds, ranges and defaults, the same for all settings. Values are those of TOML 1.1 (toml.io),
+-- as the library `toml` reads them; an array that mixes kinds, which TOML allows, is refused.
 use Rattle.std.specs.Prelude.{String, ℕ, ◌≤◌, ℤ, pos, negsuc, Bool, true, ◌&&◌, List, [], ◌∷◌, ◌++◌, length, Option, Some, None, Result, Ok, Err, is_some, unwrap_or, nat_le, if◌then◌else◌}
 use Rattle.std.specs.Borrow.{Bor}
 use Rattle.std.specs.BTreeMap.{BTreeMap}
@@ -36,6 +37,7 @@ abbrev pub in_range : List ℕ → ℕ → ℕ → ℤ → Result ℕ FaultData
 in_range key low high (pos n) = if nat_le low n && nat_le n high then Ok n else Err (out_of_range key)
 in_range key low high (negsuc n) = Err (out_of_range key)
 
+-- a value as a whole number from low to high, or the default where there is none
 abbrev pub number_or : List ℕ → ℕ → ℕ → ℕ → Option Data → Result ℕ FaultData
 number_or key low high default None = Ok default
 number_or key low high default (Some d) = of_kind key (as_integer d) >>= λ z. in_range key low high z
@@ -56,6 +58,7 @@ required_number_at key low high table = do
   z ← integer_at key table
   in_range key low high z
 
+-- a value as a text, or the default where there is none
 abbrev pub text_or : List ℕ → List ℕ → Option Data → Result (List ℕ) FaultData
 text_or key default None = Ok default
 text_or key default (Some d) = of_kind key (as_str d)
@@ -70,6 +73,7 @@ text_at key table = do
   d ← required key (get_member key table)
   of_kind key (as_str d)
 
+-- a value as a table, or one without keys where there is none
 abbrev pub table_or : List ℕ → Option Data → Result Members FaultData
 table_or key None = Ok no_members
 table_or key (Some d) = of_kind key (as_table d)
@@ -95,9 +99,11 @@ array_at kind other key table = do
   items ← of_kind key (as_array d)
   if are_all kind items then Ok (all_of kind other items) else Err (wrong_kind key)
 
+-- the tables of an array of tables
 abbrev pub tables_in : Items → List Members
 tables_in = all_of as_table no_members
 
+-- the texts of an array of texts
 abbrev pub texts_in : Items → List (List ℕ)
 texts_in = all_of as_str []
 

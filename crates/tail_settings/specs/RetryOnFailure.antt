@@ -1,4 +1,5 @@
--- The table `retry_on_failure`: when a batch is sent again.
+-- The table `retry_on_failure`: when a batch is sent again. Keys and defaults are those of the Collector's
+-- exporterhelper (its README, "Retry on Failure"); durations are whole milliseconds, factors thousandths.
 use Rattle.std.specs.Prelude.{codes, ℕ, ◌^◌, Result, Ok}
 use Rattle.toml.specs.Data.{Members}
 use Rattle.tail_settings.specs.declared.retry_on_failure.RetryOnFailure.{RetryOnFailure}
@@ -13,6 +14,7 @@ pub record RetryData : Type 0 where
   pub multiplier : ℕ
   pub randomization_factor : ℕ
 
+-- what a Rust value says
 abbrev pub retry_view : RetryOnFailure → RetryData
 retry_view r = record {
   initial_interval = r.initial_interval;
@@ -22,6 +24,7 @@ retry_view r = record {
   randomization_factor = r.randomization_factor;
 }
 
+-- the table of a tenant, or its first fault
 unfoldable pub retry_of : Members → Result RetryData FaultData
 retry_of tenant = do
   retry ← table_at (codes "retry_on_failure") tenant

@@ -20,6 +20,7 @@ pub record SectionData : Type 0 where
   pub sending_queue : SendingQueueData
   pub retry_on_failure : RetryData
 
+-- what a Rust value says
 abbrev pub section_view : Section → SectionData
 section_view s = record {
   endpoint = string_bytes s.endpoint;
@@ -31,6 +32,7 @@ section_view s = record {
   retry_on_failure = retry_view s.retry_on_failure;
 }
 
+-- the table of a tenant, or its first fault
 unfoldable pub section_of : Members → Result SectionData FaultData
 section_of tenant = do
   endpoint ← address_at (codes "endpoint") (codes "127.0.0.1:4319") tenant

@@ -1,4 +1,5 @@
--- The table `sending_queue`: how many batches wait to be sent, and how many are being sent.
+-- The table `sending_queue`: how many batches wait to be sent, and how many are being sent. Keys and defaults are
+-- those of the Collector's exporterhelper (its README, "Sending Queue").
 use Rattle.std.specs.Prelude.{codes, ℕ, Result, Ok}
 use Rattle.toml.specs.Data.{Members}
 use Rattle.tail_settings.specs.declared.sending_queue.SendingQueue.{SendingQueue}
@@ -10,9 +11,11 @@ pub record SendingQueueData : Type 0 where
   pub queue_size : ℕ
   pub num_consumers : ℕ
 
+-- what a Rust value says
 abbrev pub sending_queue_view : SendingQueue → SendingQueueData
 sending_queue_view q = record { queue_size = q.queue_size; num_consumers = q.num_consumers }
 
+-- the table of a tenant, or its first fault
 unfoldable pub sending_queue_of : Members → Result SendingQueueData FaultData
 sending_queue_of tenant = do
   queue ← table_at (codes "sending_queue") tenant

@@ -13,18 +13,21 @@ use Rattle.tail_settings.specs.Keys.{text_at, allowed, tables_at, not_empty, at_
 use Rattle.tail_settings.specs.Section.{SectionData, section_view, section_of}
 use Rattle.tail_settings.specs.Texts.{is_name}
 
+-- a tenant's name and what its table says beside it
 pub record TenantData : Type 0 where
   pub name : List ℕ
   pub section : SectionData
 
--- tenant number i stands at place i, from 0
+-- what holds for all tenants, and the tenants; number i stands at place i, from 0
 pub record SettingsData : Type 0 where
   pub global : GlobalData
   pub tenants : List TenantData
 
+-- what a Rust entry says
 abbrev pub tenant_view : String Global × Section → TenantData
 tenant_view entry = record { name = string_bytes entry.0; section = section_view entry.1 }
 
+-- what a Rust value says
 abbrev pub settings_view : Settings → SettingsData
 settings_view s = record { global = global_view s.global; tenants = map tenant_view s.tenants.entries }
 
@@ -32,12 +35,14 @@ settings_view s = record { global = global_view s.global; tenants = map tenant_v
 abbrev pub new_name : List TenantData → List ℕ → Result (List ℕ) FaultData
 new_name before name = if list_any (λ t. bytes_eq name t.name) before then Err (double_tenant name) else Ok name
 
+-- the name in a tenant's table, tested against all tenants before it
 unfoldable pub name_of : List TenantData → Members → Result (List ℕ) FaultData
 name_of before table = do
   text ← text_at (codes "name") table
   name ← allowed (codes "name") is_name text
   new_name before name
 
+-- a tenant's table, behind those before it
 unfoldable pub tenant_of : List TenantData → Members → Result TenantData FaultData
 tenant_of before table = do
   name ← name_of before table
@@ -48,6 +53,7 @@ tenant_of before table = do
 abbrev pub with_tenant : List TenantData → Members → Result (List TenantData) FaultData
 with_tenant before table = tenant_of before table >>= λ t. Ok (before ++ t ∷ [])
 
+-- the tenants of a document, 1 to 1,000
 unfoldable pub tenants_of : Members → Result (List TenantData) FaultData
 tenants_of document = do
   found ← tables_at (codes "tenant") document
@@ -59,9 +65,11 @@ tenants_of document = do
 abbrev pub spans_of : List TenantData → ℕ
 spans_of = sum_by (λ t. t.section.max_spans)
 
+-- tenants that may hold at most 2^31 spans together
 abbrev pub few_spans : List TenantData → Result (List TenantData) FaultData
 few_spans tenants = if nat_le (spans_of tenants) (2 ^ 31) then Ok tenants else Err too_many
 
+-- a document's settings, or its first fault
 unfoldable pub settings_of_table : Members → Result SettingsData FaultData
 settings_of_table document = do
   global ← global_of document
@@ -69,6 +77,7 @@ settings_of_table document = do
   tenants ← few_spans found
   Ok (record { global = global; tenants = tenants })
 
+-- the same, where a text may be no document
 abbrev pub settings_from : Option Members → Result SettingsData FaultData
 settings_from None = Err not_toml
 settings_from (Some document) = settings_of_table document

@@ -1,4 +1,4 @@
--- What holds of all settings that a document means.
+-- What holds of all settings that a document means: the ranges and counts of docs/SETTINGS.md.
 use Rattle.std.specs.Prelude.{◌<◌, ◌≤◌, ◌≢◌, ◌^◌, List, length, All, AllPairs, IsTrue}
 use Rattle.tail_settings.specs.Global.{GlobalData}
 use Rattle.tail_settings.specs.Keys.{IsFrom}
@@ -11,6 +11,7 @@ use Rattle.tail_settings.specs.Section.{SectionData}
 use Rattle.tail_settings.specs.Settings.{TenantData, SettingsData, spans_of}
 use Rattle.tail_settings.specs.Texts.{is_name, is_address, is_header, is_attribute_key}
 
+-- the table `global`
 pub record IsSoundGlobal (g : GlobalData) : Type 0 where
   pub shards : IsFrom 1 64 g.shards
   pub parts : IsFrom 1 16 g.parts
@@ -20,6 +21,7 @@ pub record IsSoundGlobal (g : GlobalData) : Type 0 where
   pub listen : IsTrue (is_address g.listen)
   pub tenant_header : IsTrue (is_header g.tenant_header)
 
+-- a policy that holds no other; bounds of numbers may be any
 abbrev pub IsSoundLeaf : LeafData → Type 0
 IsSoundLeaf always_sample = Unit {0}
 IsSoundLeaf (latency threshold) = threshold ≤ 2 ^ 40
@@ -27,10 +29,12 @@ IsSoundLeaf (status_code codes) = 0 < length codes
 IsSoundLeaf (string_attribute key values) = IsTrue (is_attribute_key key) × IsFrom 1 64 (length values)
 IsSoundLeaf (numeric_attribute key low high) = IsTrue (is_attribute_key key)
 
+-- a policy
 abbrev pub IsSoundPolicy : PolicyData → Type 0
 IsSoundPolicy (leaf l) = IsSoundLeaf l
 IsSoundPolicy (and ls) = (0 < length ls) × All IsSoundLeaf ls
 
+-- a table `tail_sampling`
 pub record IsSoundTailSampling (s : TailSamplingData) : Type 0 where
   pub decision_wait : IsFrom 1 86400000 s.decision_wait
   pub num_traces : IsFrom 1 1000000 s.num_traces
@@ -38,16 +42,19 @@ pub record IsSoundTailSampling (s : TailSamplingData) : Type 0 where
   pub few_leaves : leaves_of s.policies ≤ 64
   pub policies : All IsSoundPolicy s.policies
 
+-- a table `batch`
 pub record IsSoundBatch (b : BatchData) : Type 0 where
   pub send_batch_size : IsFrom 1 1000000 b.send_batch_size
   pub timeout : b.timeout ≤ 86400000
   pub send_batch_max_size : b.send_batch_max_size ≤ 1000000
   pub none_or_more : 0 < b.send_batch_max_size → b.send_batch_size ≤ b.send_batch_max_size
 
+-- a table `sending_queue`
 pub record IsSoundSendingQueue (q : SendingQueueData) : Type 0 where
   pub queue_size : IsFrom 1 100000 q.queue_size
   pub num_consumers : IsFrom 1 1000 q.num_consumers
 
+-- a table `retry_on_failure`
 pub record IsSoundRetry (r : RetryData) : Type 0 where
   pub initial_interval : IsFrom 1 86400000 r.initial_interval
   pub max_interval : IsFrom 1 86400000 r.max_interval
@@ -55,6 +62,7 @@ pub record IsSoundRetry (r : RetryData) : Type 0 where
   pub multiplier : IsFrom 1000 100000 r.multiplier
   pub randomization_factor : r.randomization_factor ≤ 1000
 
+-- a tenant's table
 pub record IsSoundSection (s : SectionData) : Type 0 where
   pub endpoint : IsTrue (is_address s.endpoint)
   pub max_spans : IsFrom 1 (2 ^ 31) s.max_spans
@@ -70,6 +78,7 @@ pub record AreSoundTenants (tenants : List TenantData) : Type 0 where
   pub distinct : AllPairs (λ t u. t.name ≢ u.name) tenants
   pub sections : All (λ t. IsSoundSection t.section) tenants
 
+-- all settings
 pub record IsSound (s : SettingsData) : Type 0 where
   pub global : IsSoundGlobal s.global
   pub some_tenant : 0 < length s.tenants

@@ -1,4 +1,5 @@
--- The table `tail_sampling`: how a tenant chooses the traces that it keeps.
+-- The table `tail_sampling`: how a tenant chooses the traces that it keeps. Keys and defaults are those of the
+-- Collector's tailsamplingprocessor (its README).
 use Rattle.std.specs.Prelude.{codes, ℕ, List, map, Result, Ok}
 use Rattle.toml.specs.Data.{Members}
 use Rattle.tail_settings.specs.declared.tail_sampling.TailSampling.{TailSampling}
@@ -6,12 +7,14 @@ use Rattle.tail_settings.specs.Fault.{FaultData, ◌>>=◌}
 use Rattle.tail_settings.specs.Keys.{number_at, table_at}
 use Rattle.tail_settings.specs.Policy.{PolicyData, policy_view, policies_of}
 
--- how long a trace waits for its decision, in milliseconds, how many traces are held, and the policies of which one has to be met
+-- how long a trace waits for its decision, in milliseconds, how many traces are held, and the policies of which one
+-- has to be met
 pub record TailSamplingData : Type 0 where
   pub decision_wait : ℕ
   pub num_traces : ℕ
   pub policies : List PolicyData
 
+-- what a Rust value says
 abbrev pub tail_sampling_view : TailSampling → TailSamplingData
 tail_sampling_view s = record {
   decision_wait = s.decision_wait;
@@ -19,6 +22,7 @@ tail_sampling_view s = record {
   policies = map policy_view s.policies.items;
 }
 
+-- the table of a tenant, or its first fault
 unfoldable pub tail_sampling_of : Members → Result TailSamplingData FaultData
 tail_sampling_of tenant = do
   sampling ← table_at (codes "tail_sampling") tenant

@@ -1,4 +1,4 @@
--- What the texts of settings may hold, byte by byte.
+-- What the texts of settings may hold, byte by byte (ASCII, RFC 20).
 use Rattle.std.specs.Prelude.{ℕ, Bool, ◌&&◌, ◌||◌, ◌==◌, List, length, Result, nat_le}
 use Rattle.std.specs.List.{list_all}
 use Rattle.toml.specs.Data.{Members}
@@ -9,12 +9,15 @@ use Rattle.tail_settings.specs.Keys.{allowed, text_at, text_or_at}
 abbrev pub is_long : ℕ → List ℕ → Bool
 is_long high text = nat_le 1 (length text) && nat_le (length text) high
 
+-- A to Z
 abbrev pub is_upper : ℕ → Bool
 is_upper b = nat_le 65 b && nat_le b 90
 
+-- a to z
 abbrev pub is_lower : ℕ → Bool
 is_lower b = nat_le 97 b && nat_le b 122
 
+-- 0 to 9
 abbrev pub is_digit : ℕ → Bool
 is_digit b = nat_le 48 b && nat_le b 57
 
@@ -34,7 +37,7 @@ is_address_byte b = nat_le 33 b && nat_le b 126
 abbrev pub is_address : List ℕ → Bool
 is_address text = is_long 255 text && list_all is_address_byte text
 
--- a to z, 0 to 9 and `-`
+-- a to z, 0 to 9 and `-`, which are some of the bytes of a field name of HTTP (token, RFC 9110, 5.6.2)
 abbrev pub is_header_byte : ℕ → Bool
 is_header_byte b = is_lower b || is_digit b || (b == 45)
 
@@ -52,6 +55,7 @@ address_at key default table = do
   text ← text_or_at key default table
   allowed key is_address text
 
+-- the name of a header field at a key, or the default
 unfoldable pub header_at : List ℕ → List ℕ → Members → Result (List ℕ) FaultData
 header_at key default table = do
   text ← text_or_at key default table

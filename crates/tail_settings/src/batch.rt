@@ -23,7 +23,8 @@ pub struct Batch {
 }
 
 impl Batch {
-    ghost use Rattle.tail_settings.specs.Fault.{Tells};
+    ghost use Rattle.std.specs.Prelude.{IfErr};
+    ghost use Rattle.tail_settings.specs.Fault.{Tells, IsOfDocument};
     ghost use Rattle.tail_settings.specs.Keys.{keys_of};
     ghost use Rattle.tail_settings.specs.Batch.{batch_view, is_max_size, batch_of};
 
@@ -37,7 +38,8 @@ impl Batch {
     /// The table of a tenant.
     #[tactic(auto, using(crate::proofs::Told::tells_more), unfolding(crate::specs::Batch::batch_of))]
     pub(crate) fn read(tenant: Option<&Table>) -> Result<Batch, SettingsFault>
-        ensures { Tells batch_view result (batch_of (keys_of tenant.entry)) }
+        ensures meaning { Tells batch_view result (batch_of (keys_of tenant.entry)) }
+        ensures no_memory { IfErr result IsOfDocument }
     {
         let batch = keys::table(tenant, "batch")?;
         let send_batch_size = keys::number(batch, "send_batch_size", 1, 1_000_000, 8192)?;

@@ -32,7 +32,8 @@ fn name(
     before: &IndexMap<String, Section>,
     tenant: Option<&Table>,
 ) -> Result<String, SettingsFault>
-    ensures meaning { Tells string_bytes result (name_of (map tenant_view before.now.entries) (keys_of tenant.entry)) }
+    ensures meaning { Tells string_bytes result
+        (name_of (map tenant_view before.now.entries) (keys_of tenant.entry)) }
     ensures new { IfOk result (λ name. get_by_text before.now (string_bytes name) ≡ None) }
 {
     let name = keys::text(tenant, "name")?;
@@ -53,7 +54,8 @@ fn add_tenant(
     tenants: &mut IndexMap<String, Section>,
     tenant: Option<&Table>,
 ) -> Result<(), SettingsFault>
-    ensures meaning { Tells (λ _. map tenant_view tenants.new.entries) result (with_tenant (map tenant_view tenants.old.entries) (keys_of tenant.entry)) }
+    ensures meaning { Tells (λ _. map tenant_view tenants.new.entries) result
+        (with_tenant (map tenant_view tenants.old.entries) (keys_of tenant.entry)) }
     ensures len { OnOk result (index_map_len tenants.new ≡ index_map_len tenants.old + 1) }
 {
     let name = name(alloc, tenants, tenant)?;

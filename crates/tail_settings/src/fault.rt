@@ -1,6 +1,6 @@
 //! Why a document gives no settings.
 
-ghost use Rattle.std.specs.Prelude.{◌≡◌, option_map};
+ghost use Rattle.std.specs.Prelude.{◌≡◌, ◌↔◌, true, option_map};
 ghost use Rattle.tail_settings.specs.declared.fault.SettingsFault.TheVariants.{OutOfMemory};
 
 use std::alloc::{AllocError, AllocFailed};
@@ -24,7 +24,8 @@ pub enum SettingsFault {
     /// A second tenant of this name.
     #[error("settings fault 14 {0}")]
     DoubleTenant(String),
-    /// More than 1,000 tenants, more than 64 policies of one tenant that hold no other, or a sum of `max_spans` above 2,147,483,648.
+    /// More than 1,000 tenants, more than 64 policies of one tenant that hold no other, or a sum of `max_spans` above
+    /// 2,147,483,648.
     #[error("settings fault 15")]
     TooMany,
     /// Memory was refused, which says nothing of the document.
@@ -50,6 +51,13 @@ impl SettingsFault {
         }
     }
 }
+
+ghost use Rattle.tail_settings.specs.Fault.{fault_view};
+
+/// Faults are equal where they say the same of the document; refused memory says nothing of it.
+pub fn equal_faults()
+    ensures { (a b : SettingsFault) → (⟦<SettingsFault as PartialEq>⟧.eq a b ≡ true) ↔ (fault_view a ≡ fault_view b) }
+{}
 
 impl From<AllocError> for SettingsFault {
     ghost from_gives = { λ _ e. e ≡ OutOfMemory };

@@ -22,7 +22,8 @@ pub struct GlobalSettings {
     pub senders: u32,
     /// How many jobs wait for a sender at most, 1 to 4,096.
     pub lane_size: u32,
-    /// Where requests are received: a host and a port, as `127.0.0.1:4318`. 1 to 255 printable bytes of ASCII without the space.
+    /// Where requests are received: a host and a port, as `127.0.0.1:4318`. 1 to 255 printable bytes of ASCII without
+    /// the space.
     pub listen: String,
     /// The header field that names the tenant of a request. 1 to 64 of a to z, 0 to 9 and `-`.
     pub tenant_header: String,

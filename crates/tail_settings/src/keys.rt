@@ -1,10 +1,10 @@
 //! The keys of a table that may be missing: kinds, ranges and defaults.
 
-ghost use Rattle.std.specs.Prelude.{◌≡◌, ◌<◌, ◌≤◌, option_map, IfOk, length};
+ghost use Rattle.std.specs.Prelude.{◌≡◌, ◌<◌, ◌≤◌, option_map, IfOk, IfErr, length};
 ghost use Rattle.toml.specs.Data.{get_member};
 ghost use Rattle.toml.specs.View.{view, items_view};
 ghost use Rattle.toml.specs.Data.{as_table, as_str};
-ghost use Rattle.tail_settings.specs.Fault.{Tells};
+ghost use Rattle.tail_settings.specs.Fault.{Tells, IsOfDocument};
 ghost use Rattle.tail_settings.specs.Keys.{keys_of, required, IsFrom, in_range, number_at, integer_at, required_number_at, text_at, text_or_at, table_at, are_all, tables_at, tables_in, texts_at, texts_in, some_tables_at, some_texts_at};
 
 use crate::fault::SettingsFault;
@@ -22,7 +22,8 @@ fn get<'a>(table: Option<&'a Table>, key: &str) -> Option<&'a Value>
 
 /// The value at a key that has to be there.
 fn value<'a>(table: Option<&'a Table>, key: &'static str) -> Result<&'a Value, SettingsFault>
-    ensures { Tells (λ v. view v.now) result (required key.now (get_member key.now (keys_of table.entry))) }
+    ensures meaning { Tells (λ v. view v.now) result (required key.now (get_member key.now (keys_of table.entry))) }
+    ensures no_memory { IfErr result IsOfDocument }
 {
     match get(table, key) {
         Some(value) => Ok(value),
@@ -34,6 +35,7 @@ fn value<'a>(table: Option<&'a Table>, key: &'static str) -> Result<&'a Value, S
 fn in_range(key: &'static str, low: u64, high: u64, number: i64) -> Result<u64, SettingsFault>
     ensures meaning { Tells (λ n. n) result (in_range key.now low high number) }
     ensures range { IfOk result (λ n. IsFrom low high n) }
+    ensures no_memory { IfErr result IsOfDocument }
 {
     match u64::try_from(number) {
         Ok(number) if low <= number && number <= high => Ok(number),
@@ -53,6 +55,7 @@ pub fn number(
     requires { IsFrom low high default }
     ensures meaning { Tells (λ n. n) result (number_at key.now low high default (keys_of table.entry)) }
     ensures range { IfOk result (λ n. IsFrom low high n) }
+    ensures no_memory { IfErr result IsOfDocument }
 {
     let Some(value) = get(table, key) else {
         return Ok(default);
@@ -66,7 +69,8 @@ pub fn number(
 /// The whole number at a key that has to be there, of either sign.
 #[tactic(auto, using(crate::proofs::Told::tells_more), unfolding(crate::specs::Keys::integer_at))]
 pub fn integer(table: Option<&Table>, key: &'static str) -> Result<i64, SettingsFault>
-    ensures { Tells (λ z. z) result (integer_at key.now (keys_of table.entry)) }
+    ensures meaning { Tells (λ z. z) result (integer_at key.now (keys_of table.entry)) }
+    ensures no_memory { IfErr result IsOfDocument }
 {
     match value(table, key)?.as_integer() {
         Some(number) => Ok(number),
@@ -82,7 +86,8 @@ pub fn required_number(
     low: u64,
     high: u64,
 ) -> Result<u64, SettingsFault>
-    ensures { Tells (λ n. n) result (required_number_at key.now low high (keys_of table.entry)) }
+    ensures meaning { Tells (λ n. n) result (required_number_at key.now low high (keys_of table.entry)) }
+    ensures no_memory { IfErr result IsOfDocument }
 {
     let number = integer(table, key)?;
     in_range(key, low, high, number)
@@ -91,7 +96,8 @@ pub fn required_number(
 /// The text at a key that has to be there.
 #[tactic(auto, using(crate::proofs::Told::tells_more), unfolding(crate::specs::Keys::text_at))]
 pub fn text<'a>(table: Option<&'a Table>, key: &'static str) -> Result<&'a str, SettingsFault>
-    ensures { Tells (λ s. s.now) result (text_at key.now (keys_of table.entry)) }
+    ensures meaning { Tells (λ s. s.now) result (text_at key.now (keys_of table.entry)) }
+    ensures no_memory { IfErr result IsOfDocument }
 {
     match value(table, key)?.as_str() {
         Some(text) => Ok(text),
@@ -106,7 +112,8 @@ pub fn text_or<'a>(
     key: &'static str,
     default: &'a str,
 ) -> Result<&'a str, SettingsFault>
-    ensures { Tells (λ s. s.now) result (text_or_at key.now default.now (keys_of table.entry)) }
+    ensures meaning { Tells (λ s. s.now) result (text_or_at key.now default.now (keys_of table.entry)) }
+    ensures no_memory { IfErr result IsOfDocument }
 {
     let Some(value) = get(table, key) else {
         return Ok(default);
@@ -123,7 +130,8 @@ pub fn table<'a>(
     table: Option<&'a Table>,
     key: &'static str,
 ) -> Result<Option<&'a Table>, SettingsFault>
-    ensures { Tells keys_of result (table_at key.now (keys_of table.entry)) }
+    ensures meaning { Tells keys_of result (table_at key.now (keys_of table.entry)) }
+    ensures no_memory { IfErr result IsOfDocument }
 {
     let Some(value) = get(table, key) else {
         return Ok(None);
@@ -149,7 +157,8 @@ fn are_all_tables(values: &[Value]) -> bool
 /// The array of tables at a key that has to be there.
 #[tactic(auto, using(crate::proofs::Told::tells_more), unfolding(crate::specs::Keys::tables_at))]
 pub fn tables<'a>(table: Option<&'a Table>, key: &'static str) -> Result<&'a [Value], SettingsFault>
-    ensures { Tells (λ v. tables_in (items_view v.now)) result (tables_at key.now (keys_of table.entry)) }
+    ensures meaning { Tells (λ v. tables_in (items_view v.now)) result (tables_at key.now (keys_of table.entry)) }
+    ensures no_memory { IfErr result IsOfDocument }
 {
     match value(table, key)?.as_array() {
         Some(values) if are_all_tables(values) => Ok(values.as_slice()),
@@ -172,7 +181,8 @@ fn are_all_texts(values: &[Value]) -> bool
 /// The array of texts at a key that has to be there.
 #[tactic(auto, using(crate::proofs::Told::tells_more), unfolding(crate::specs::Keys::texts_at))]
 pub fn texts<'a>(table: Option<&'a Table>, key: &'static str) -> Result<&'a [Value], SettingsFault>
-    ensures { Tells (λ v. texts_in (items_view v.now)) result (texts_at key.now (keys_of table.entry)) }
+    ensures meaning { Tells (λ v. texts_in (items_view v.now)) result (texts_at key.now (keys_of table.entry)) }
+    ensures no_memory { IfErr result IsOfDocument }
 {
     match value(table, key)?.as_array() {
         Some(values) if are_all_texts(values) => Ok(values.as_slice()),
@@ -188,6 +198,7 @@ pub fn some_tables<'a>(
 ) -> Result<&'a [Value], SettingsFault>
     ensures meaning { Tells (λ v. tables_in (items_view v.now)) result (some_tables_at key.now (keys_of table.entry)) }
     ensures some { IfOk result (λ v. 0 < length v.now) }
+    ensures no_memory { IfErr result IsOfDocument }
 {
     let values = tables(table, key)?;
     if values.is_empty() {
@@ -204,6 +215,7 @@ pub fn some_texts<'a>(
 ) -> Result<&'a [Value], SettingsFault>
     ensures meaning { Tells (λ v. texts_in (items_view v.now)) result (some_texts_at key.now (keys_of table.entry)) }
     ensures some { IfOk result (λ v. 0 < length v.now) }
+    ensures no_memory { IfErr result IsOfDocument }
 {
     let values = texts(table, key)?;
     if values.is_empty() {

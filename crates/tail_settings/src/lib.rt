@@ -1,11 +1,13 @@
 //! The settings of a collector that many tenants share, read from a TOML document.
 //!
-//! [`load`] gives the document's settings, or the first fault in the order in which keys are read: the table `global`, then each
-//! `[[tenant]]` with its `name`, its own keys and its tables `tail_sampling`, `batch`, `sending_queue` and `retry_on_failure`. Keys
-//! that no setting has are ignored. The names are those of the OpenTelemetry Collector's `tail_sampling` and `batch` processors and
-//! of its `exporterhelper`; durations are whole milliseconds. docs/SETTINGS.md has every key.
+//! [`load`] gives the document's settings, or the first fault in the order in which keys are read: the table
+//! `global`, then each `[[tenant]]` with its `name`, its own keys and its tables `tail_sampling`, `batch`,
+//! `sending_queue` and `retry_on_failure`. Keys that no setting has are ignored. The names are those of the
+//! OpenTelemetry Collector's `tail_sampling` and `batch` processors and of its `exporterhelper`; durations are whole
+//! milliseconds. docs/SETTINGS.md has every key.
 //!
-//! Settings that load are sound: every number is in its range, which the types say, and what many tenants add up to is bounded.
+//! Settings that load are sound: every number is in its range, which the types say, and what many tenants add up to is
+//! bounded.
 //!
 //! It stands on the library's `toml` and `indexmap`.
 #![tactic(auto)]
@@ -26,7 +28,7 @@ mod texts;
 
 pub use batch::Batch;
 pub use document::load;
-pub use fault::SettingsFault;
+pub use fault::{SettingsFault, equal_faults};
 pub use global::GlobalSettings;
 pub use policy::{
     LeafPolicy, PolicySpec, StatusCode, copied_policies, equal_policies, same_policies,
@@ -36,14 +38,3 @@ pub use section::Section;
 pub use sending_queue::SendingQueue;
 pub use settings::Settings;
 pub use tail_sampling::TailSampling;
-
-#[cfg(test)]
-mod definition_tests;
-#[cfg(test)]
-mod example_tests;
-#[cfg(test)]
-mod key_tests;
-#[cfg(test)]
-mod policy_tests;
-#[cfg(test)]
-mod tests;

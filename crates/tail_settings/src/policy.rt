@@ -52,12 +52,15 @@ pub enum PolicySpec {
 }
 
 ghost use Rattle.std.specs.Prelude.{◌≡◌, ◌↔◌, true, map, IsTrue, IfOk};
-ghost use Rattle.tail_settings.specs.Policy.{leaf_view, policy_view};
+ghost use Rattle.tail_settings.specs.Policy.{status_view, leaf_view, policy_view};
 
 /// Policies are equal where they say the same, and a copy says the same.
 pub fn equal_policies()
+    ensures status { (a b : StatusCode) → (⟦<StatusCode as PartialEq>⟧.eq a b ≡ true)
+        ↔ (status_view a ≡ status_view b) }
     ensures leaf { (a b : LeafPolicy) → (⟦<LeafPolicy as PartialEq>⟧.eq a b ≡ true) ↔ (leaf_view a ≡ leaf_view b) }
-    ensures policy { (a b : PolicySpec) → (⟦<PolicySpec as PartialEq>⟧.eq a b ≡ true) ↔ (policy_view a ≡ policy_view b) }
+    ensures policy { (a b : PolicySpec) → (⟦<PolicySpec as PartialEq>⟧.eq a b ≡ true)
+        ↔ (policy_view a ≡ policy_view b) }
     ensures leaf_copy { (a b : LeafPolicy) → ⟦<LeafPolicy as Clone>⟧.is_clone a b → leaf_view b ≡ leaf_view a }
     ensures policy_copy { (a b : PolicySpec) → ⟦<PolicySpec as Clone>⟧.is_clone a b → policy_view b ≡ policy_view a }
 {}

@@ -1,8 +1,8 @@
 //! The table of one policy, and the array of them.
 
-ghost use Rattle.std.specs.Prelude.{◌≡◌, ◌≤◌, ◌<◌, ◌∷◌, ◌++◌, [], IfOk, map, vec_len, string_bytes, nat_le, length, Ok};
+ghost use Rattle.std.specs.Prelude.{◌≡◌, ◌≤◌, ◌<◌, ◌∷◌, ◌++◌, [], IfOk, IfErr, map, vec_len, string_bytes, nat_le, length, Ok};
 ghost use Rattle.toml.specs.View.{items_view};
-ghost use Rattle.tail_settings.specs.Fault.{Tells};
+ghost use Rattle.tail_settings.specs.Fault.{Tells, IsOfDocument};
 ghost use Rattle.tail_settings.specs.Keys.{keys_of, each, tables_in, texts_in};
 ghost use Rattle.tail_settings.specs.Policy.{status_view, leaf_view, policy_view, latency_of, status_of, status_code_of, values_of, string_attribute_of, numeric_attribute_of, leaf_of_type, leaf_of, and_of, policy_of, leaf_count, leaves_of, policies_of};
 
@@ -21,7 +21,8 @@ const MAX_VALUES: usize = 64;
 /// The policy `latency`.
 #[tactic(auto, using(crate::proofs::Told::tells_more))]
 fn latency(table: Option<&Table>) -> Result<LeafPolicy, SettingsFault>
-    ensures { Tells leaf_view result (latency_of (keys_of table.entry)) }
+    ensures meaning { Tells leaf_view result (latency_of (keys_of table.entry)) }
+    ensures no_memory { IfErr result IsOfDocument }
 {
     let threshold_ms = keys::required_number(table, "threshold_ms", 0, 1 << 40)?;
     Ok(LeafPolicy::Latency { threshold_ms })
@@ -29,7 +30,8 @@ fn latency(table: Option<&Table>) -> Result<LeafPolicy, SettingsFault>
 
 /// The status code of this name.
 fn status(name: &str) -> Result<StatusCode, SettingsFault>
-    ensures { Tells status_view result (status_of name.now) }
+    ensures meaning { Tells status_view result (status_of name.now) }
+    ensures no_memory { IfErr result IsOfDocument }
 {
     match name {
         "UNSET" => Ok(StatusCode::Unset),
@@ -41,7 +43,8 @@ fn status(name: &str) -> Result<StatusCode, SettingsFault>
 
 /// The status codes of an array of texts.
 fn each_status(alloc: Global, names: &[Value]) -> Result<Vec<StatusCode>, SettingsFault>
-    ensures { Tells (λ v. map status_view v.items) result (each (λ _. status_of) [] (texts_in (items_view names.now))) }
+    ensures { Tells (λ v. map status_view v.items) result
+        (each (λ _. status_of) [] (texts_in (items_view names.now))) }
 {
     let mut codes = Vec::new(alloc);
     for value in names {
@@ -197,7 +200,8 @@ fn are_few(policies: &[PolicySpec]) -> bool
 
 /// The policies of an array of tables.
 fn each_policy(alloc: Global, tables: &[Value]) -> Result<Vec<PolicySpec>, SettingsFault>
-    ensures meaning { Tells (λ v. map policy_view v.items) result (each (λ _. policy_of) [] (tables_in (items_view tables.now))) }
+    ensures meaning { Tells (λ v. map policy_view v.items) result
+        (each (λ _. policy_of) [] (tables_in (items_view tables.now))) }
     ensures len { IfOk result (λ v. vec_len v ≡ length tables.now) }
 {
     let mut policies = Vec::new(alloc);

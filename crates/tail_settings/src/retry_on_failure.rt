@@ -28,14 +28,16 @@ pub struct RetryOnFailure {
 }
 
 impl RetryOnFailure {
-    ghost use Rattle.tail_settings.specs.Fault.{Tells};
+    ghost use Rattle.std.specs.Prelude.{IfErr};
+    ghost use Rattle.tail_settings.specs.Fault.{Tells, IsOfDocument};
     ghost use Rattle.tail_settings.specs.Keys.{keys_of};
     ghost use Rattle.tail_settings.specs.RetryOnFailure.{retry_view, retry_of};
 
     /// The table of a tenant.
     #[tactic(auto, using(crate::proofs::Told::tells_more), unfolding(crate::specs::RetryOnFailure::retry_of))]
     pub(crate) fn read(tenant: Option<&Table>) -> Result<RetryOnFailure, SettingsFault>
-        ensures { Tells retry_view result (retry_of (keys_of tenant.entry)) }
+        ensures meaning { Tells retry_view result (retry_of (keys_of tenant.entry)) }
+        ensures no_memory { IfErr result IsOfDocument }
     {
         let retry = keys::table(tenant, "retry_on_failure")?;
         let initial_interval = keys::number(retry, "initial_interval_ms", 1, 86_400_000, 5000)?;

@@ -16,7 +16,8 @@ use toml::Table;
 /// What a tenant's table says beside its name.
 #[derive(Debug, Drop)]
 pub struct Section {
-    /// Where the tenant's batches are sent: a host and a port, as `127.0.0.1:4319`. 1 to 255 printable bytes of ASCII without the space.
+    /// Where the tenant's batches are sent: a host and a port, as `127.0.0.1:4319`. 1 to 255 printable bytes of ASCII
+    /// without the space.
     pub endpoint: String,
     /// How many spans may wait for decisions and batches, 1 to 2,147,483,648.
     pub max_spans: u32,

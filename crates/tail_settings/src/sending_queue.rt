@@ -18,14 +18,16 @@ pub struct SendingQueue {
 }
 
 impl SendingQueue {
-    ghost use Rattle.tail_settings.specs.Fault.{Tells};
+    ghost use Rattle.std.specs.Prelude.{IfErr};
+    ghost use Rattle.tail_settings.specs.Fault.{Tells, IsOfDocument};
     ghost use Rattle.tail_settings.specs.Keys.{keys_of};
     ghost use Rattle.tail_settings.specs.SendingQueue.{sending_queue_view, sending_queue_of};
 
     /// The table of a tenant.
     #[tactic(auto, using(crate::proofs::Told::tells_more), unfolding(crate::specs::SendingQueue::sending_queue_of))]
     pub(crate) fn read(tenant: Option<&Table>) -> Result<SendingQueue, SettingsFault>
-        ensures { Tells sending_queue_view result (sending_queue_of (keys_of tenant.entry)) }
+        ensures meaning { Tells sending_queue_view result (sending_queue_of (keys_of tenant.entry)) }
+        ensures no_memory { IfErr result IsOfDocument }
     {
         let queue = keys::table(tenant, "sending_queue")?;
         let queue_size = keys::number(queue, "queue_size", 1, 100_000, 1000)?;

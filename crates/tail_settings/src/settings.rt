@@ -36,7 +36,8 @@ impl Settings {
 
     /// The section of the tenant with this number, or `None` where there are no more than so many tenants.
     pub fn section(&self, number: u32) -> Option<&Section>
-        ensures { option_map (λ s. section_view s.now) result ≡ option_map (λ t. t.section) (slice_get (settings_view self.now).tenants number) }
+        ensures { option_map (λ s. section_view s.now) result
+            ≡ option_map (λ t. t.section) (slice_get (settings_view self.now).tenants number) }
     {
         match self.tenants.get_index(number as usize) {
             Some((_, section)) => Some(section),
@@ -46,7 +47,8 @@ impl Settings {
 
     /// The name of the tenant with this number, or `None` where there are no more than so many tenants.
     pub fn name(&self, number: u32) -> Option<&str>
-        ensures { option_map (λ s. s.now) result ≡ option_map (λ t. t.name) (slice_get (settings_view self.now).tenants number) }
+        ensures { option_map (λ s. s.now) result
+            ≡ option_map (λ t. t.name) (slice_get (settings_view self.now).tenants number) }
     {
         match self.tenants.get_index(number as usize) {
             Some((name, _)) => Some(name.as_str()),

@@ -10,4 +10,4 @@ pub returns-clause-meaning : goal.returns-clause-meaning
 unfolding some_tables_at
 returns-clause-meaning c =
     let some : 0 < length c.in_ok-values.values.now = grind (arith, nat_tests, c.if-is_empty.ensures) in
-    rw c.in_ok-values.ensures (not_empty-some as_table no_members (out_of_range c.args.key.now) c.in_ok-values.values.now some)
+    rw c.in_ok-values.ensures.meaning (not_empty-some as_table no_members (out_of_range c.args.key.now) c.in_ok-values.values.now some)

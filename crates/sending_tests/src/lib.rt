@@ -1,0 +1,13 @@
+//! Tests of what becomes of spans that are sent: the ledger that counts them (`drop_ledger`), and what a back end's
+//! answer means for their batch (`send_retry`).
+//!
+//! Expected values were worked out by hand, from OTLP/HTTP's specification and the documents of the OpenTelemetry
+//! Collector's exporterhelper.
+#![tactic(auto)]
+
+#[cfg(test)]
+mod definition_tests;
+#[cfg(test)]
+mod ledger_tests;
+#[cfg(test)]
+mod retry_tests;
