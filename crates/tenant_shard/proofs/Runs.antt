@@ -12,25 +12,30 @@ use Rattle.tenant_pipeline.specs.Own as own
 use Rattle.tenant_pipeline.specs.State.{State, Answers, state}
 use Rattle.tenant_pipeline.specs.Equal.{same_policies}
 use Rattle.tenant_pipeline.specs.Ready.{ready}
+use Rattle.tenant_pipeline.specs.Timers.{effective}
 use Rattle.tenant_shard.specs.declared.step.Step.{Step}
 use Rattle.tenant_shard.specs.declared.step.Step.TheVariants.{Post, Turn}
 use Rattle.tenant_shard.specs.declared.step.Outcome.{Outcome}
 use Rattle.tenant_shard.specs.declared.step.Outcome.TheVariants.{Idle, Refused}
 use Rattle.tenant_shard.specs.View.{View, kept_of}
-use Rattle.tenant_shard.specs.Lists.{Lists, MemberStands, ShardStands}
+use Rattle.tenant_shard.specs.Lists.{Lists, KeepsSection, MemberStands, ShardStands}
 use Rattle.tenant_shard.specs.Outcomes.{OwnStep, Posted, Turned, own_step, piped, is_taken, not_member, other_policies, Answer, Answered, NotTaken, named, told_whom, is_own}
 use Rattle.tenant_shard.specs.Pick.{ready_in, ready_after, ready_at, IsPick}
 use Rattle.tenant_shard.specs.Run.{IsTakenOrNot, IsAnswered, IsAnswerTo, IsOutcome, recorded, AllKnown, OthersStay, ShardSteps, after}
-use Rattle.tenant_shard.specs.Refusal.{IsStepFor, ReachesNone, ShardRefuses}
-use Rattle.tenant_shard.specs.GoesOn.{ShardGoesOn}
+use Rattle.tenant_shard.specs.Refusal.{IsStepFor, Reaches, ReachesNone, ShardRefuses}
+use Rattle.tenant_shard.specs.GoesOn.{refusal_number, ShardGoesOn}
 use Rattle.tenant_shard.specs.Steps.{AreFor, IsStepOf, IsLossOf}
 use Rattle.tenant_shard.proofs.Picks.{same_or_other}
+use Rattle.tenant_shard.proofs.Sections.{SectionStays, front_stays, step_stays}
 
--- what is kept of a member has its section's policies
-section_policies : (section : SectionData) (past : List Own) (known : Bool) (kept : State) → MemberStands (Some section) past known (Some kept) → kept.policies ≡ section.tail_sampling.policies
+-- what is kept of a member says of its section what a step of it needs
+keeps_section : (section : SectionData) (past : List Own) (known : Bool) (kept : State) → MemberStands (Some section) past known (Some kept) → KeepsSection section kept
 unfolding state
-section_policies section past true kept stands = ap (λ (s : State). s.policies) stands
-section_policies section past false kept stands = stands
+keeps_section section past true kept stands = (ap (λ (s : State). s.wait) stands, ap (λ (s : State). s.policies) stands)
+keeps_section section past false kept stands = stands
+
+still_keeps : (section : SectionData) (before after : State) → KeepsSection section before → SectionStays before after → KeepsSection section after
+still_keeps section before after keeps stays = (stays.0 ∙ keeps.0, stays.1 ∙ keeps.1)
 
 -- whether a step reaches a pipeline with these policies
 abbrev pub takes : List PolicyData → OwnStep → Bool
@@ -43,7 +48,7 @@ is_taken-takes section policies (Turned now) same = refl
 
 -- a member's own step that reaches its pipeline
 own_answer : (t : ℕ) (section : Option SectionData) (past : List Own) (known : Bool) (kept : Option State) (step : OwnStep) (before after : State) (said : Told) →
-    MemberStands section past known kept → kept ≡ Some before → takes before.policies step ≡ true → Answers (piped step) before said after → after.policies ≡ before.policies →
+    MemberStands section past known kept → kept ≡ Some before → takes before.policies step ≡ true → Answers (piped step) before said after → SectionStays before after →
     IsAnswered t section past known step (named t (Answered said)) × MemberStands section (recorded section step past) known (Some after)
 own_answer t None past known kept step before after said stands is takes_it answers stay = absurd (let stands' : MemberStands None past known (Some before) = rw is at stands in stands')
 own_answer t (Some section) past known kept step before after said stands is takes_it answers stay = by_known known stands'
@@ -51,22 +56,22 @@ own_answer t (Some section) past known kept step before after said stands is tak
     stands' : MemberStands (Some section) past known (Some before)
     stands' = rw is at stands
 
-    policies : before.policies ≡ section.tail_sampling.policies
-    policies = section_policies section past known before stands'
+    keeps : KeepsSection section before
+    keeps = keeps_section section past known before stands'
 
     test : is_taken section step ≡ true
-    test = is_taken-takes section before.policies step policies ∙ takes_it
+    test = is_taken-takes section before.policies step keeps.1 ∙ takes_it
 
     by_known : (k : Bool) → MemberStands (Some section) past k (Some before) →
         IsTakenOrNot (is_taken section step) t section past k (piped step) (named t (Answered said)) × MemberStands (Some section) (if is_taken section step then piped step ∷ past else past) k (Some after)
     by_known true known_stands = let both = answers section past known_stands in rw test (ap (λ told. named t (Answered told)) both.0, both.1)
-    by_known false known_stands = rw test ((said, refl), stay ∙ policies)
+    by_known false known_stands = rw test ((said, refl), still_keeps section before after keeps stay)
 
 -- every tenant after a member's own step
 all_stand : (t : ℕ) (s : Step) (old new : List View) (outcome : Outcome) (lists : Lists) → ((u : ℕ) → is_own u s outcome ≡ eqb t u) → (is : IsStepOf t (piped (own_step s)) old outcome new) → takes is.before.policies (own_step s) ≡ true →
     ShardStands lists old → IsAnswerTo t lists (own_step s) outcome × ShardStands (after s outcome lists) new
 all_stand t s old new outcome lists whose is takes_it stands =
-    let own = own_answer t (lists.sections t) (lists.pasts t) (lists.known t) (kept_of t old) (own_step s) is.before is.after is.said (stands t) is.change.was takes_it is.answers is.policies_stay in (
+    let own = own_answer t (lists.sections t) (lists.pasts t) (lists.known t) (kept_of t old) (own_step s) is.before is.after is.said (stands t) is.change.was takes_it is.answers (step_stays (piped (own_step s)) is.before is.said is.after is.goes_on) in (
       rw is.outcome_is own.0,
       λ u. elim (same_or_other t u) [
         | inl same ↦ let test : is_own u s outcome ≡ true = whose u ∙ grind (arith, nat_tests) in rw test (rw (← same) (rw is.change.is_now own.1))
@@ -95,7 +100,7 @@ ready_same (Some section) past true (Some kept) stands = ap ready (sym stands)
 ready_same (Some section) past false None stands = absurd stands
 ready_same (Some section) past false (Some kept) stands = refl
 
-IsPick-same : (f g : ℕ → Option ℕ) (now : ℕ) (picked : Option ℕ) → ((t : ℕ) → g t ≡ f t) → IsPick f now picked → IsPick g now picked
+pub IsPick-same : (f g : ℕ → Option ℕ) (now : ℕ) (picked : Option ℕ) → ((t : ℕ) → g t ≡ f t) → IsPick f now picked → IsPick g now picked
 IsPick-same f g now None same is = λ t m h. is t m (sym (same t) ∙ h)
 IsPick-same f g now (Some t) same is = (is.0, same t ∙ is.1, is.2, λ u m h. is.3 u m (sym (same u) ∙ h))
 
@@ -158,7 +163,7 @@ other_answer : (t now : ℕ) (prepared : PreparedData) (section : Option Section
 other_answer t now prepared section past known None for stands = absurd for
 other_answer t now prepared None past known (Some kept) for stands = absurd stands
 other_answer t now prepared (Some section) past known (Some kept) for stands =
-    let test : is_taken section (own_step (Post now prepared)) ≡ false = is_taken-takes section kept.policies (own_step (Post now prepared)) (section_policies section past known kept stands) ∙ sym for in
+    let test : is_taken section (own_step (Post now prepared)) ≡ false = is_taken-takes section kept.policies (own_step (Post now prepared)) (keeps_section section past known kept stands).1 ∙ sym for in
     (rw test refl, rw test refl)
 
 pub other_steps : (now : ℕ) (prepared : PreparedData) (old : List View) → AreFor prepared.policies (kept_of prepared.tenant old) false → ShardSteps (Post now prepared) old (Refused prepared.tenant other_policies) old
@@ -195,27 +200,48 @@ own_goes_on t step old new outcome whose is = inr (
     goes_on = is.goes_on;
     outcome_is = is.outcome_is;
     is_now = is.change.is_now;
+    others = is.change.others;
   },
 )
 
-pub stranger_goes_on : (now : ℕ) (prepared : PreparedData) (old new : List View) (outcome : Outcome) → kept_of prepared.tenant old ≡ None → ShardGoesOn (Post now prepared) old outcome new
-stranger_goes_on now prepared old new outcome none = inl (rw none tt)
+-- a body for the member's policies is its tenant's step
+reaches : (policies : List PolicyData) (kept : Option State) → AreFor policies kept true → Reaches policies kept
+reaches policies None for = for
+reaches policies (Some kept) for = sym for
+
+pub post_is_for : (now : ℕ) (prepared : PreparedData) (views : List View) → AreFor prepared.policies (kept_of prepared.tenant views) true → IsStepFor prepared.tenant (Post now prepared) views
+post_is_for now prepared views for = (refl, reaches prepared.policies (kept_of prepared.tenant views) for)
+
+-- a step that is nobody's
+pub stranger_goes_on : (now : ℕ) (prepared : PreparedData) (old : List View) → kept_of prepared.tenant old ≡ None → ShardGoesOn (Post now prepared) old (Refused prepared.tenant not_member) old
+stranger_goes_on now prepared old none = inl (record { whose = rw none tt; outcome_is = rw none refl; new_is = refl })
 
 reaches_none : (policies : List PolicyData) (kept : Option State) → AreFor policies kept false → ReachesNone policies kept
 reaches_none policies None for = tt
 reaches_none policies (Some kept) for = sym for
 
-pub other_goes_on : (now : ℕ) (prepared : PreparedData) (old new : List View) (outcome : Outcome) → AreFor prepared.policies (kept_of prepared.tenant old) false → ShardGoesOn (Post now prepared) old outcome new
-other_goes_on now prepared old new outcome for = inl (reaches_none prepared.policies (kept_of prepared.tenant old) for)
+other_number : (policies : List PolicyData) (kept : Option State) → AreFor policies kept false → refusal_number kept ≡ other_policies
+other_number policies None for = absurd for
+other_number policies (Some kept) for = refl
+
+pub other_goes_on : (now : ℕ) (prepared : PreparedData) (old : List View) → AreFor prepared.policies (kept_of prepared.tenant old) false → ShardGoesOn (Post now prepared) old (Refused prepared.tenant other_policies) old
+other_goes_on now prepared old for = inl (record {
+  whose = reaches_none prepared.policies (kept_of prepared.tenant old) for;
+  outcome_is = ap (Refused prepared.tenant) (sym (other_number prepared.policies (kept_of prepared.tenant old) for));
+  new_is = refl;
+})
+
+pub idle_goes_on : (now : ℕ) (old : List View) → IsPick (ready_in old) (own.moment_of (own.Turn now)) None → ShardGoesOn (Turn now) old Idle old
+idle_goes_on now old pick = inl (record { whose = pick; outcome_is = refl; new_is = refl })
 
 -- no member is ready where one is
 pub not_both : (f : ℕ → Option ℕ) (now t : ℕ) → IsPick f now (Some t) → IsPick f now None → ⊥
 not_both f now t some none = let later : now < some.0 = none t some.0 some.1 in omega (arith, later, some.2)
 
 -- after a refusal
-lost_stands : (section : Option SectionData) (past : List Own) (known : Bool) (kept : Option State) (before after : State) → MemberStands section past known kept → kept ≡ Some before → after.policies ≡ before.policies → MemberStands section past false (Some after)
+lost_stands : (section : Option SectionData) (past : List Own) (known : Bool) (kept : Option State) (before after : State) → MemberStands section past known kept → kept ≡ Some before → SectionStays before after → MemberStands section past false (Some after)
 lost_stands None past known kept before after stands is stay = absurd (let stands' : MemberStands None past known (Some before) = rw is at stands in stands')
-lost_stands (Some section) past known kept before after stands is stay = stay ∙ section_policies section past known before (rw is at stands)
+lost_stands (Some section) past known kept before after stands is stay = still_keeps section before after (keeps_section section past known before (rw is at stands)) stay
 
 pub loss_refuses : (t : ℕ) (step : Step) (old new : List View) → IsStepFor t step old → IsLossOf t (piped (own_step step)) old new → ShardRefuses step old new
 loss_refuses t step old new whose is = (
@@ -231,7 +257,7 @@ loss_refuses t step old new whose is = (
     stands = λ lists stands u. elim (same_or_other u t) [
       | inl same ↦
           let test : eqb u t ≡ true = grind (arith, nat_tests) in
-          rw test (rw same (rw is.change.is_now (lost_stands (lists.sections t) (lists.pasts t) (lists.known t) (kept_of t old) is.before is.after (stands t) is.change.was is.policies_stay)))
+          rw test (rw same (rw is.change.is_now (lost_stands (lists.sections t) (lists.pasts t) (lists.known t) (kept_of t old) is.before is.after (stands t) is.change.was (front_stays (effective (piped (own_step step)) is.before) is.before is.after is.front))))
       | inr other ↦ let test : eqb u t ≡ false = grind (arith, nat_tests) in rw test (rw (is.change.others u other) (stands u))
     ];
   },

@@ -12,47 +12,35 @@ use Rattle.tenant_shard.specs.declared.step.Outcome.{Outcome}
 use Rattle.tenant_shard.specs.View.{View}
 use Rattle.tenant_shard.specs.Lists.{Lists, ShardStands}
 use Rattle.tenant_shard.specs.Outcomes.{OwnStep, Turned, own_step, piped, is_taken, other_policies, Answer, Answered, NotTaken, named, told_whom, is_tenant, is_own}
-use Rattle.tenant_shard.specs.Run.{IsTakenOrNot, IsAnswered, recorded, IsTurned, IsOutcome, AllKnown, OthersStay, after, after_all, Run, RunFrom, ShardSteps, ShardRuns}
+use Rattle.tenant_shard.specs.Run.{IsTakenOrNot, IsAnswered, recorded, IsTurned, IsOutcome, AllKnown, after, after_all, Run}
+use Rattle.tenant_shard.specs.Chain.{Chain, ShardDoes, ShardRuns, RunsByOwnSteps, StandsAfter}
 use Rattle.tenant_shard.specs.Alone.{alone, own_steps, told_to, EachAlone, OwnStepsDecide}
 use Rattle.tenant_shard.specs.Refusal.{ShardRefuses}
 use Rattle.tenant_shard.specs.Stop.{IsStopped}
-use Rattle.tenant_shard.proofs.Runs.{told_whom-named, IsOutcome-unseen}
+use Rattle.tenant_shard.proofs.Runs.{told_whom-named}
 
 -- one step more at the end
-after_all-push : (ss : List Step) (os : List Outcome) (s : Step) (o : Outcome) (lists : Lists) (old new : List View) → RunFrom lists old ss os new → after_all (ss ++ s ∷ []) (os ++ o ∷ []) lists ≡ after s o (after_all ss os lists)
-after_all-push [] [] s o lists old new run = refl
-after_all-push [] (o' ∷ os) s o lists old new run = absurd run
-after_all-push (s' ∷ ss) [] s o lists old new run = absurd run
-after_all-push (s' ∷ ss) (o' ∷ os) s o lists old new run = after_all-push ss os s o (after s' o' lists) run.1 new run.3
-
-pub RunFrom-push : (ss : List Step) (os : List Outcome) (s : Step) (o : Outcome) (lists : Lists) (old middle new : List View) → RunFrom lists old ss os middle → IsOutcome (after_all ss os lists) middle s o → OthersStay o middle new →
-    RunFrom lists old (ss ++ s ∷ []) (os ++ o ∷ []) new
-RunFrom-push [] [] s o lists old middle new run is others = (rw run at is, new, rw run at others, refl)
-RunFrom-push [] (o' ∷ os) s o lists old middle new run is others = absurd run
-RunFrom-push (s' ∷ ss) [] s o lists old middle new run is others = absurd run
-RunFrom-push (s' ∷ ss) (o' ∷ os) s o lists old middle new run is others = (run.0, run.1, run.2, RunFrom-push ss os s o (after s' o' lists) run.1 middle new run.3 is others)
+pub Chain-push : (D : Step → List View → Outcome → List View → Type 0) (ss : List Step) (os : List Outcome) (s : Step) (o : Outcome) (old middle new : List View) → Chain D ss old os middle → D s middle o new → Chain D (ss ++ s ∷ []) old (os ++ o ∷ []) new
+Chain-push D [] [] s o old middle new run is = (new, rw run at is, refl)
+Chain-push D [] (o' ∷ os) s o old middle new run is = absurd run
+Chain-push D (s' ∷ ss) [] s o old middle new run is = absurd run
+Chain-push D (s' ∷ ss) (o' ∷ os) s o old middle new run is = (run.0, run.1, Chain-push D ss os s o run.0 middle new run.2 is)
 
 -- where every member's own steps are known, what is kept doesn't count
-known_run : (ss : List Step) (os : List Outcome) (lists : Lists) (old new : List View) → AllKnown lists → RunFrom lists old ss os new → Run lists ss os
-known_run [] [] lists old new all run = tt
-known_run [] (o ∷ os) lists old new all run = absurd run
-known_run (s ∷ ss) [] lists old new all run = absurd run
-known_run (s ∷ ss) (o ∷ os) lists old new all run = (IsOutcome-unseen lists old [] s o all run.0, known_run ss os (after s o lists) run.1 new all run.3)
+pub by_own_steps : (steps : List Step) (old : List View) (outcomes : List Outcome) (new : List View) → ShardRuns steps old outcomes new → RunsByOwnSteps steps old outcomes
+by_own_steps [] old [] new run = λ lists stands all. tt
+by_own_steps [] old (o ∷ os) new run = absurd run
+by_own_steps (s ∷ ss) old [] new run = absurd run
+by_own_steps (s ∷ ss) old (o ∷ os) new run = λ lists stands all. (
+  run.1.by_own_steps.by_own_steps lists stands all,
+  by_own_steps ss run.0 os new run.2 (after s o lists) (run.1.by_own_steps.stands lists stands).1 all,
+)
 
-done : (ss : List Step) (old : List View) (os : List Outcome) (new : List View) → ((lists : Lists) → ShardStands lists old → RunFrom lists old ss os new × ShardStands (after_all ss os lists) new) → ShardRuns ss old os new
-done ss old os new stands = record { stands = stands; by_own_steps = λ lists before all. known_run ss os lists old new all (stands lists before).0 }
-
-pub ShardRuns-none : (views : List View) → ShardRuns [] views [] views
-ShardRuns-none views = done [] views [] views (λ lists stands. (refl, stands))
-
-pub ShardRuns-push : (ss : List Step) (os : List Outcome) (s : Step) (o : Outcome) (old middle new : List View) → ShardRuns ss old os middle → ShardSteps s middle o new → ShardRuns (ss ++ s ∷ []) old (os ++ o ∷ []) new
-ShardRuns-push ss os s o old middle new runs steps = done (ss ++ s ∷ []) old (os ++ o ∷ []) new all
-  where
-    all : (lists : Lists) → ShardStands lists old → RunFrom lists old (ss ++ s ∷ []) (os ++ o ∷ []) new × ShardStands (after_all (ss ++ s ∷ []) (os ++ o ∷ []) lists) new
-    all lists stands =
-        let before = runs.stands lists stands in
-        let next = steps.stands (after_all ss os lists) before.1 in
-        (RunFrom-push ss os s o lists old middle new before.0 next.0 steps.others, rw (after_all-push ss os s o lists old middle before.0) next.1)
+pub stands_after : (steps : List Step) (old : List View) (outcomes : List Outcome) (new : List View) → ShardRuns steps old outcomes new → StandsAfter steps old outcomes new
+stands_after [] old [] new run = λ lists stands. rw run stands
+stands_after [] old (o ∷ os) new run = absurd run
+stands_after (s ∷ ss) old [] new run = absurd run
+stands_after (s ∷ ss) old (o ∷ os) new run = λ lists stands. stands_after ss run.0 os new run.2 (after s o lists) (run.1.by_own_steps.stands lists stands).1
 
 -- an outcome names the tenant whose step it answers
 whom_taken : (t : ℕ) (taken : Bool) (section : SectionData) (past : List Own) (known : Bool) (step : Own) (o : Outcome) → IsTakenOrNot taken t section past known step o → told_whom o ≡ Some t
@@ -110,33 +98,36 @@ tells_own t section lists views (Post now p) o member sure is holds =
     answered_known t section (lists.sections t) (lists.pasts t) (lists.known t) (own_step (Post now p)) o member sure is'
 tells_own t section lists views (Turn now) o member sure is holds = turn_tells t section lists now is.0 o member sure is.2 holds
 
-pub Run-alone : (ss : List Step) (os : List Outcome) (lists : Lists) (old new : List View) (t : ℕ) (section : SectionData) → RunFrom lists old ss os new → lists.sections t ≡ Some section → lists.known t ≡ true →
+Run-alone : (ss : List Step) (os : List Outcome) (lists : Lists) (old new : List View) (t : ℕ) (section : SectionData) → ShardRuns ss old os new → ShardStands lists old → lists.sections t ≡ Some section → lists.known t ≡ true →
     told_to t os ≡ map (named t) (alone section (lists.pasts t) (own_steps t ss os))
-Run-alone [] [] lists old new t section run member sure = refl
-Run-alone [] (o ∷ os) lists old new t section run member sure = absurd run
-Run-alone (s ∷ ss) [] lists old new t section run member sure = absurd run
-Run-alone (s ∷ ss) (o ∷ os) lists old new t section run member sure = by_own (is_own t s o) refl (Run-alone ss os (after s o lists) run.1 new t section run.3 member sure)
+Run-alone [] [] lists old new t section run stands member sure = refl
+Run-alone [] (o ∷ os) lists old new t section run stands member sure = absurd run
+Run-alone (s ∷ ss) [] lists old new t section run stands member sure = absurd run
+Run-alone (s ∷ ss) (o ∷ os) lists old new t section run stands member sure = by_own (is_own t s o) refl (Run-alone ss os (after s o lists) run.0 new t section run.2 next.1 member sure)
   where
+    next : IsOutcome lists old s o × ShardStands (after s o lists) run.0
+    next = run.1.by_own_steps.stands lists stands
+
     by_own : (b : Bool) → is_own t s o ≡ b → told_to t os ≡ map (named t) (alone section ((after s o lists).pasts t) (own_steps t ss os)) →
         told_to t (o ∷ os) ≡ map (named t) (alone section (lists.pasts t) (own_steps t (s ∷ ss) (o ∷ os)))
     by_own true e rest =
-        let names : is_tenant t (told_whom o) ≡ true = names_own t lists old s o run.0 ∙ e in
-        let first = tells_own t section lists old s o member sure run.0 e in
+        let names : is_tenant t (told_whom o) ≡ true = names_own t lists old s o next.0 ∙ e in
+        let first = tells_own t section lists old s o member sure next.0 e in
         let rest' : told_to t os ≡ map (named t) (alone section (recorded (Some section) (own_step s) (lists.pasts t)) (own_steps t ss os)) = rw (e, member) at rest in
         rw (names, e) (ap (λ x. x ∷ told_to t os) first ∙ ap (λ xs. named t (next_alone section (lists.pasts t) (own_step s)) ∷ xs) rest' ∙ ap (map (named t)) (sym (alone-step section (lists.pasts t) (own_step s) (own_steps t ss os))))
     by_own false e rest =
-        let names : is_tenant t (told_whom o) ≡ false = names_own t lists old s o run.0 ∙ e in
+        let names : is_tenant t (told_whom o) ≡ false = names_own t lists old s o next.0 ∙ e in
         let rest' : told_to t os ≡ map (named t) (alone section (lists.pasts t) (own_steps t ss os)) = rw e at rest in
         rw (names, e) rest'
 
 pub each_alone : (steps : List Step) (old : List View) (outcomes : List Outcome) (new : List View) → ShardRuns steps old outcomes new → EachAlone steps old outcomes
-each_alone steps old outcomes new runs = λ lists stands t section member sure. Run-alone steps outcomes lists old new t section (runs.stands lists stands).0 member sure
+each_alone steps old outcomes new run = λ lists stands t section member sure. Run-alone steps outcomes lists old new t section run stands member sure
 
 pub own_steps_decide : OwnStepsDecide
 own_steps_decide = λ section past steps. (
   alone section past steps,
   λ t told is.
-      let told_is : told_to t is.outcomes ≡ map (named t) (alone section (is.lists.pasts t) (own_steps t is.all_steps is.outcomes)) = Run-alone is.all_steps is.outcomes is.lists is.old is.new t section is.runs is.section_is is.is_known in
+      let told_is : told_to t is.outcomes ≡ map (named t) (alone section (is.lists.pasts t) (own_steps t is.all_steps is.outcomes)) = Run-alone is.all_steps is.outcomes is.lists is.old is.new t section is.runs is.stands is.section_is is.is_known in
       sym is.told_is ∙ rw (is.past_is, is.steps_are) at told_is,
 )
 
@@ -144,8 +135,9 @@ own_steps_decide = λ section past steps. (
 pub stopped_at_start : (steps : List Step) (views : List View) → IsStopped steps views [] views
 stopped_at_start steps views = record {
   middle = views;
-  runs = ShardRuns-none views;
-  each_alone = each_alone [] views [] views (ShardRuns-none views);
+  runs = refl;
+  by_own_steps = by_own_steps [] views [] views refl;
+  each_alone = each_alone [] views [] views refl;
   whose = None;
   refused = (refl, refl);
   stands = λ lists stands. stands;
@@ -159,8 +151,9 @@ stopped_at steps old middle new outcomes i step count within is runs refuses =
     record {
       middle = middle;
       runs = runs';
+      by_own_steps = by_own_steps (take (length outcomes) steps) old outcomes middle runs';
       each_alone = each_alone (take (length outcomes) steps) old outcomes middle runs';
       whose = Some refuses.0;
       refused = rw (count, slice_get_read steps (length steps) i step refl within is) refuses.1;
-      stands = λ lists stands. refuses.1.stands (after_all (take (length outcomes) steps) outcomes lists) (runs'.stands lists stands).1;
+      stands = λ lists stands. refuses.1.stands (after_all (take (length outcomes) steps) outcomes lists) (stands_after (take (length outcomes) steps) old outcomes middle runs' lists stands);
     }

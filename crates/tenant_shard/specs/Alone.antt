@@ -8,10 +8,10 @@ use Rattle.tenant_shard.specs.declared.step.Outcome.{Outcome}
 use Rattle.tenant_shard.specs.View.{View}
 use Rattle.tenant_shard.specs.Lists.{Lists, ShardStands}
 use Rattle.tenant_shard.specs.Outcomes.{OwnStep, own_step, piped, is_taken, other_policies, Answer, Answered, NotTaken, named, told_whom, is_tenant, is_own}
-use Rattle.tenant_shard.specs.Run.{RunFrom}
+use Rattle.tenant_shard.specs.Chain.{ShardRuns}
 
--- what a pipeline alone answers to these steps, after its past. A body that was prepared for other policies is refused, and
--- the pipeline's past is as if it had not come
+-- what a pipeline alone answers to these steps, after its past. A body that was prepared for other policies is refused,
+-- and the pipeline's past is as if it had not come
 abbrev pub alone : SectionData → List Own → List OwnStep → List Answer
 alone section past [] = []
 alone section past (step ∷ steps) =
@@ -37,13 +37,15 @@ EachAlone steps old outcomes = (lists : Lists) → ShardStands lists old →
     told_to tenant outcomes ≡ map (named tenant) (alone section (lists.pasts tenant) (own_steps tenant steps outcomes))
 
 -- in some run the tenant has this section, these own steps before and these in the run, and these outcomes
-pub record IsToldIn (tenant : ℕ) (section : SectionData) (past : List Own) (steps : List OwnStep) (told : List Outcome) : Type 0 where
+pub record IsToldIn (tenant : ℕ) (section : SectionData) (past : List Own) (steps : List OwnStep) (told : List Outcome)
+    : Type 0 where
   pub lists : Lists
   pub old : List View
   pub all_steps : List Step
   pub outcomes : List Outcome
   pub new : List View
-  pub runs : RunFrom lists old all_steps outcomes new
+  pub stands : ShardStands lists old
+  pub runs : ShardRuns all_steps old outcomes new
   pub section_is : lists.sections tenant ≡ Some section
   pub is_known : lists.known tenant ≡ true
   pub past_is : lists.pasts tenant ≡ past

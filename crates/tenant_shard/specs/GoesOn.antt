@@ -1,16 +1,36 @@
 -- What a step gives, whatever is kept before it: also where no own steps leave that, as after refused memory.
-use Rattle.std.specs.Prelude.{◌≡◌, ◌⊎◌, ℕ, List, Some}
+use Rattle.std.specs.Prelude.{◌≡◌, ◌≢◌, ◌⊎◌, ℕ, List, Option, Some, None}
 use Rattle.tenant_pipeline.specs.declared.told.Told.{Told}
 use Rattle.tenant_pipeline.specs.State.{State}
 use Rattle.tenant_pipeline.specs.Machine.{GoesOnFrom}
 use Rattle.tenant_shard.specs.declared.step.Step.{Step}
+use Rattle.tenant_shard.specs.declared.step.Step.TheVariants.{Post, Turn}
 use Rattle.tenant_shard.specs.declared.step.Outcome.{Outcome}
+use Rattle.tenant_shard.specs.declared.step.Outcome.TheVariants.{Idle, Refused}
 use Rattle.tenant_shard.specs.View.{View, kept_of}
-use Rattle.tenant_shard.specs.Outcomes.{own_step, piped, Answered, named}
+use Rattle.tenant_shard.specs.Outcomes.{own_step, piped, not_member, other_policies, Answered, named}
 use Rattle.tenant_shard.specs.Refusal.{IsStepFor, IsNobodys}
 
--- a member's step was done: what the member is told and what is kept of it follow from what was kept of it
-pub record MemberGoesOn (tenant : ℕ) (step : Step) (old : List View) (outcome : Outcome) (new : List View) : Type 0 where
+-- the number of the refusal of a body that reaches no pipeline, by what is kept of its tenant
+abbrev pub refusal_number : Option State → ℕ
+refusal_number None = not_member
+refusal_number (Some kept) = other_policies
+
+-- what is told of a step that reaches no member's pipeline
+abbrev pub told_of_nobodys : Step → List View → Outcome
+told_of_nobodys (Post now prepared) views = Refused prepared.tenant (refusal_number (kept_of prepared.tenant views))
+told_of_nobodys (Turn now) views = Idle
+
+-- a step that reaches no member's pipeline was done: the post is refused, or the turn is idle, and nothing changes
+pub record NobodyGoesOn (step : Step) (old : List View) (outcome : Outcome) (new : List View) : Type 0 where
+  pub whose : IsNobodys step old
+  pub outcome_is : outcome ≡ told_of_nobodys step old
+  pub new_is : new ≡ old
+
+-- a member's step was done: what the member is told and what is kept of it follow from what was kept of it, and what is
+-- kept of every other tenant stays
+pub record MemberGoesOn (tenant : ℕ) (step : Step) (old : List View) (outcome : Outcome) (new : List View)
+    : Type 0 where
   pub whose : IsStepFor tenant step old
   pub before : State
   pub said : Told
@@ -19,7 +39,9 @@ pub record MemberGoesOn (tenant : ℕ) (step : Step) (old : List View) (outcome 
   pub goes_on : GoesOnFrom (piped (own_step step)) before said after
   pub outcome_is : outcome ≡ named tenant (Answered said)
   pub is_now : kept_of tenant new ≡ Some after
+  pub others : (other : ℕ) → other ≢ tenant → kept_of other new ≡ kept_of other old
 
--- each step that isn't nobody's was done so
+-- a step was done, by what was kept before it alone: it is nobody's or a member's
 abbrev pub ShardGoesOn : Step → List View → Outcome → List View → Type 0
-ShardGoesOn step old outcome new = IsNobodys step old ⊎ ((tenant : ℕ) × MemberGoesOn tenant step old outcome new)
+ShardGoesOn step old outcome new =
+    NobodyGoesOn step old outcome new ⊎ ((tenant : ℕ) × MemberGoesOn tenant step old outcome new)

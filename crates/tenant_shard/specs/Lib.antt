@@ -5,6 +5,7 @@ pub mod Pick
 pub mod Run
 pub mod Refusal
 pub mod GoesOn
+pub mod Chain
 pub mod Alone
 pub mod Stop
 pub mod Table
@@ -12,4 +13,3 @@ pub mod Members
 pub mod Places
 pub mod Steps
 pub mod Least
-pub mod Examples

@@ -18,6 +18,7 @@ pub data OwnStep : Type 0 where
   Posted : ℕ → List PolicyData → List Arrival → OwnStep
   Turned : ℕ → OwnStep
 
+-- a step of a shard as the step of the tenant whose it is
 abbrev pub own_step : Step → OwnStep
 own_step (Post now prepared) = Posted now prepared.policies prepared.arrivals
 own_step (Turn now) = Turned now
@@ -60,6 +61,7 @@ told_whom (Worked tenant) = Some tenant
 told_whom Idle = None
 told_whom (Refused tenant number) = Some tenant
 
+-- whether it is this tenant
 abbrev pub is_tenant : ℕ → Option ℕ → Bool
 is_tenant tenant None = false
 is_tenant tenant (Some other) = other == tenant

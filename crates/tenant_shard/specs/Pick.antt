@@ -17,6 +17,7 @@ ready_after None past known seen = None
 ready_after (Some section) past true seen = ready (state section past)
 ready_after (Some section) past false seen = seen
 
+-- the same of each tenant
 abbrev pub ready_at : Lists → List View → ℕ → Option ℕ
 ready_at lists views tenant =
     ready_after (lists.sections tenant) (lists.pasts tenant) (lists.known tenant) (ready_in views tenant)

@@ -1,5 +1,5 @@
 -- What a shard is after a step was refused memory, and which steps take none.
-use Rattle.std.specs.Prelude.{◌≡◌, ◌≢◌, ℕ, false, List, Option, Some, None, if◌then◌else◌, ◌==◌}
+use Rattle.std.specs.Prelude.{◌≡◌, ◌≢◌, ℕ, true, false, List, Option, Some, None, if◌then◌else◌, ◌==◌}
 use Rattle.tail_settings.specs.Policy.{PolicyData}
 use Rattle.tenant_pipeline.specs.Equal.{same_policies}
 use Rattle.tenant_pipeline.specs.Own as own
@@ -12,9 +12,16 @@ use Rattle.tenant_shard.specs.Lists.{Lists, ShardStands}
 use Rattle.tenant_shard.specs.Outcomes.{own_step, piped}
 use Rattle.tenant_shard.specs.Pick.{ready_in, IsPick}
 
--- whose step it is: the tenant's that it names, for a turn the one's whom it goes to
+-- a body that was prepared for these policies reaches the tenant's pipeline: the tenant is a member that has them
+abbrev pub Reaches : List PolicyData → Option State → Type 0
+Reaches policies None = ⊥
+Reaches policies (Some kept) = same_policies policies kept.policies ≡ true
+
+-- whose step it is, where it reaches a member's pipeline: the tenant's that it names, for a turn the one's whom it goes
+-- to
 abbrev pub IsStepFor : ℕ → Step → List View → Type 0
-IsStepFor tenant (Post now prepared) views = prepared.tenant ≡ tenant
+IsStepFor tenant (Post now prepared) views =
+    (prepared.tenant ≡ tenant) × Reaches prepared.policies (kept_of prepared.tenant views)
 IsStepFor tenant (Turn now) views = IsPick (ready_in views) (own.moment_of (own.Turn now)) (Some tenant)
 
 -- a body that was prepared for these policies reaches no pipeline: its tenant is no member, or has other policies
@@ -29,11 +36,7 @@ IsNobodys (Turn now) views = IsPick (ready_in views) (own.moment_of (own.Turn no
 
 -- the lists without what is known of a tenant
 abbrev pub without : ℕ → Lists → Lists
-without tenant lists = record {
-  sections = lists.sections;
-  pasts = lists.pasts;
-  known = λ other. if other == tenant then false else lists.known other;
-}
+without tenant lists = record lists { known = λ other. if other == tenant then false else lists.known other }
 
 -- a member's step was refused memory: some first timers of the member that were due have run, each at its own moment,
 -- and nothing else has changed
@@ -47,5 +50,6 @@ pub record IsRefused (tenant : ℕ) (step : Step) (old new : List View) : Type 0
   pub others : (other : ℕ) → other ≢ tenant → kept_of other new ≡ kept_of other old
   pub stands : (lists : Lists) → ShardStands lists old → ShardStands (without tenant lists) new
 
+-- a step was refused memory: it was a member's
 abbrev pub ShardRefuses : Step → List View → List View → Type 0
 ShardRefuses step old new = (tenant : ℕ) × IsRefused tenant step old new

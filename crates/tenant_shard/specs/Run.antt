@@ -31,6 +31,7 @@ IsAnswered tenant None past known step outcome = outcome ≡ Refused tenant not_
 IsAnswered tenant (Some section) past known step outcome =
     IsTakenOrNot (is_taken section step) tenant section past known (piped step) outcome
 
+-- the same by the tenant's section and own steps in the lists
 abbrev pub IsAnswerTo : ℕ → Lists → OwnStep → Outcome → Type 0
 IsAnswerTo tenant lists step outcome =
     IsAnswered tenant (lists.sections tenant) (lists.pasts tenant) (lists.known tenant) step outcome
@@ -62,7 +63,7 @@ past_after step outcome lists tenant =
 
 -- the lists after one step more
 abbrev pub after : Step → Outcome → Lists → Lists
-after step outcome lists = record { sections = lists.sections; pasts = past_after step outcome lists; known = lists.known }
+after step outcome lists = record lists { pasts = past_after step outcome lists }
 
 -- every member's own steps are known: none was refused memory
 abbrev pub AllKnown : Lists → Type 0
@@ -84,16 +85,6 @@ Run lists (step ∷ steps) [] = ⊥
 abbrev pub OthersStay : Outcome → List View → List View → Type 0
 OthersStay outcome old new = (other : ℕ) → told_whom outcome ≢ Some other → kept_of other new ≡ kept_of other old
 
--- the outcomes of a list of steps, from what is kept before to what is kept afterwards, whether or not the own steps of
--- every member are known
-abbrev pub RunFrom : Lists → List View → List Step → List Outcome → List View → Type 0
-RunFrom lists old [] [] new = new ≡ old
-RunFrom lists old (step ∷ steps) (outcome ∷ outcomes) new =
-    IsOutcome lists old step outcome × (middle : List View) × OthersStay outcome old middle
-    × RunFrom (after step outcome lists) middle steps outcomes new
-RunFrom lists old [] (outcome ∷ outcomes) new = ⊥
-RunFrom lists old (step ∷ steps) [] new = ⊥
-
 -- the lists after a list of steps
 abbrev pub after_all : List Step → List Outcome → Lists → Lists
 after_all [] outcomes lists = lists
@@ -107,9 +98,3 @@ pub record ShardSteps (step : Step) (old : List View) (outcome : Outcome) (new :
       IsOutcome lists old step outcome × ShardStands (after step outcome lists) new
   pub others : OthersStay outcome old new
   pub by_own_steps : (lists : Lists) → ShardStands lists old → AllKnown lists → IsNext lists step outcome
-
--- whatever own steps the shard stands for, the outcomes are a run from them, and it stands for them with the run's
-pub record ShardRuns (steps : List Step) (old : List View) (outcomes : List Outcome) (new : List View) : Type 0 where
-  pub stands : (lists : Lists) → ShardStands lists old →
-      RunFrom lists old steps outcomes new × ShardStands (after_all steps outcomes lists) new
-  pub by_own_steps : (lists : Lists) → ShardStands lists old → AllKnown lists → Run lists steps outcomes

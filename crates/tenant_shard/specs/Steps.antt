@@ -30,7 +30,6 @@ pub record IsStepOf (tenant : ℕ) (step : Own) (old : List View) (outcome : Out
   pub said : Told
   pub answers : Answers step before said after
   pub goes_on : GoesOnFrom step before said after
-  pub policies_stay : after.policies ≡ before.policies
   pub outcome_is : outcome ≡ named tenant (Answered said)
 
 -- the member is refused memory
@@ -39,4 +38,3 @@ pub record IsLossOf (tenant : ℕ) (step : Own) (old new : List View) : Type 0 w
   pub after : State
   pub change : IsChangeOf tenant before after old new
   pub front : IsFront (effective step before) before after
-  pub policies_stay : after.policies ≡ before.policies

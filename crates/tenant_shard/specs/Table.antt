@@ -16,4 +16,8 @@ section_of settings members tenant =
 
 -- a shard that was opened stands for no steps
 abbrev pub opened : SettingsData → List ℕ → Lists
-opened settings members = record { sections = section_of settings members; pasts = λ tenant. []; known = λ tenant. true }
+opened settings members = record {
+  sections = section_of settings members;
+  pasts = λ tenant. [];
+  known = λ tenant. true;
+}

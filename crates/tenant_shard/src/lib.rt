@@ -4,7 +4,7 @@
 //! lower number first where several are ready at one moment. `Shard::run` promises what the whole
 //! collector is for: whatever the other tenants' settings and steps, each member is told exactly
 //! what a pipeline of its own answers to the steps that were its own. `Shard::step` promises it one
-//! step at a time, and says what is left where memory was refused, and what follows from that.
+//! step at a time. Both say what is left where memory was refused, and what follows from that.
 //!
 //! A body is prepared before it is posted, for the policies that its tenant has then. One that was prepared for other
 //! policies than the member's is refused with the number 23, and a post of a tenant that is no member with 22: neither
@@ -13,7 +13,9 @@
 //! It stands on `tenant_pipeline` and on `tail_settings`. Its own rules come from no public text.
 #![tactic(auto)]
 
+ghost use Rattle.std.specs.Prelude.{◌≡◌, ◌↔◌, true};
 ghost use Rattle.tenant_shard.specs.Alone.{OwnStepsDecide};
+ghost use Rattle.tenant_shard.specs.Chain.{KeptDecides};
 
 mod member;
 mod pick;
@@ -29,7 +31,13 @@ pub fn own_steps_decide()
     ensures { OwnStepsDecide }
 {}
 
-#[cfg(test)]
-mod definition_tests;
-#[cfg(test)]
-mod tests;
+/// What is kept of the tenants decides what they are told and whose turn each one is, also where a step was refused
+/// memory: a law over runs.
+pub fn what_is_kept_decides()
+    ensures { KeptDecides }
+{}
+
+/// Outcomes are equal exactly where contracts see the same: a law over `==`.
+pub fn equal_outcomes_are_the_same()
+    ensures { (a b : Outcome) → (⟦<Outcome as PartialEq>⟧.eq a b ≡ true) ↔ (a ≡ b) }
+{}

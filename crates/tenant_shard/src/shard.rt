@@ -5,7 +5,7 @@ ghost use Rattle.tail_settings.specs.Settings.{settings_view};
 ghost use Rattle.tenant_shard.specs.View.{View, AreInOrder};
 ghost use Rattle.tenant_shard.specs.Lists.{ShardStands};
 ghost use Rattle.tenant_shard.specs.Members.{views};
-ghost use Rattle.tenant_shard.specs.Run.{ShardSteps, ShardRuns};
+ghost use Rattle.tenant_shard.specs.Run.{ShardSteps};
 ghost use Rattle.tenant_shard.specs.Refusal.{ShardRefuses, IsNobodys};
 ghost use Rattle.tenant_shard.specs.GoesOn.{ShardGoesOn};
 ghost use Rattle.tenant_shard.specs.Table.{opened};
@@ -34,8 +34,7 @@ pub struct Shard {
 }
 
 /// Memory was refused: for the outcomes' room before the first step, or at a step, after the
-/// outcomes of those before it. The shard goes on with any steps. What the refused step's own tenant
-/// is told from then on is promised by `Shard::step` alone (`goes_on`).
+/// outcomes of those before it. The shard goes on with any steps, from what was left.
 #[derive(Debug, Drop, Error)]
 #[error("out of memory")]
 pub struct Stopped {
@@ -57,6 +56,7 @@ impl Model for Shard {
 
 impl Shard {
     ghost use Rattle.tenant_shard.specs.Alone.{EachAlone};
+    ghost use Rattle.tenant_shard.specs.Chain.{ShardRuns, RunsByOwnSteps, StandsAfter};
     ghost use Rattle.tenant_shard.specs.Stop.{IsStopped};
 
     /// Opens a shard of the tenants of the settings whose numbers stand in `members`, with no steps
@@ -78,8 +78,8 @@ impl Shard {
     /// have run, and all else is as before. A step that reaches no member's pipeline takes no memory
     /// and changes nothing: no timer runs, and no clock goes on.
     pub fn step(&mut self, step: &Step) -> Result<Outcome, AllocError>
-        // The outcome is what the members' own steps say. Where no own steps leave what is kept of the step's tenant, as after
-        // refused memory, it follows from that.
+        // The outcome is what the members' own steps say. Where no own steps leave what is kept of the step's tenant,
+        // as after refused memory, it follows from that.
         ensures ok { IfOk result (λ outcome. ShardSteps step.now self.old outcome self.new) }
         ensures goes_on { IfOk result (λ outcome. ShardGoesOn step.now self.old outcome self.new) }
 
@@ -96,8 +96,15 @@ impl Shard {
     /// Does the steps one after the other: each member is told exactly what a pipeline of its own
     /// answers to the steps that were its own. An error carries the outcomes so far.
     pub fn run(&mut self, steps: &[Step]) -> Result<Vec<Outcome>, Stopped>
+        // Each step goes on from what the one before it left, in one chain.
         ensures ok { IfOk result (λ outcomes. ShardRuns steps.now self.old outcomes.items self.new) }
+
+        // What follows from the chain for the own steps that the shard stands for.
         ensures each_alone { IfOk result (λ outcomes. EachAlone steps.now self.old outcomes.items) }
+        ensures by_own_steps { IfOk result (λ outcomes. RunsByOwnSteps steps.now self.old outcomes.items) }
+        ensures stands { IfOk result (λ outcomes. StandsAfter steps.now self.old outcomes.items self.new) }
+
+        // What was done where memory is refused.
         ensures stopped { IfErr result (λ stopped.
             IsStopped steps.now self.old stopped.outcomes.items self.new) }
     {

@@ -10,7 +10,6 @@ returns-in_err-reply-clause-refused c = on_err c.from_residual.result (record {
   after = c.post.new.self;
   change = change_at c.args.prepared.now.tenant c.args.members.now.items c.args.i c.index_mut-member.result.now c.requires.place c.index_mut-member.ensures.value c.post.new.self;
   front = c.in_err-reply.ensures.refused;
-  policies_stay = c.post.ensures.policies;
 })
 
 pub returns-in_err-reply-clause-order : goal.returns-in_err-reply-clause-order
@@ -24,7 +23,6 @@ returns-clause-ok c = record {
   said = told.Reply c.in_ok-reply.reply;
   answers = c.in_ok-reply.ensures.ok;
   goes_on = c.in_ok-reply.ensures.goes_on;
-  policies_stay = c.post.ensures.policies;
   outcome_is = ap (λ tenant. Reply tenant c.in_ok-reply.reply) c.tenant.ensures;
 }
 

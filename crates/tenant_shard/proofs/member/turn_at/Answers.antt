@@ -7,7 +7,6 @@ returns-in_err-told-clause-refused c = on_err c.from_residual.result (record {
   after = c.turn.new.self;
   change = change_at c.args.tenant c.args.members.now.items c.args.i c.index_mut-member.result.now c.requires.place c.index_mut-member.ensures.value c.turn.new.self;
   front = c.in_err-told.ensures.refused;
-  policies_stay = c.turn.ensures.policies;
 })
 
 pub returns-in_err-told-clause-order : goal.returns-in_err-told-clause-order
@@ -21,7 +20,6 @@ returns-clause-ok c = record {
   said = c.in_ok-told.told;
   answers = c.in_ok-told.ensures.ok;
   goes_on = c.in_ok-told.ensures.goes_on;
-  policies_stay = c.turn.ensures.policies;
   outcome_is = c.named.ensures;
 }
 

@@ -1,4 +1,4 @@
-use Rattle.std.proofs.Common.{◌≡◌, ℕ, List, Option, Some, None, min, ◌∙◌, sym, ap, inl}
+use Rattle.std.proofs.Common.{◌≡◌, ℕ, List, Option, Some, None, min, ◌∙◌, sym, ap}
 use Rattle.tenant_pipeline.specs.Own.{latest_moment}
 use Rattle.tenant_shard.specs.declared.step.Step.TheVariants.{Turn}
 use Rattle.tenant_shard.specs.declared.member.Member.{Member}
@@ -8,7 +8,7 @@ use Rattle.tenant_shard.specs.Least.{least, named_by}
 use Rattle.tenant_shard.specs.View.{AreInOrder}
 use Rattle.tenant_shard.proofs.Picks.{least_is_pick, pick_is_kept}
 use Rattle.tenant_shard.proofs.Places.{kept_of-gap, on_err}
-use Rattle.tenant_shard.proofs.Runs.{turn_steps, idle_steps, own_goes_on, loss_refuses, not_both}
+use Rattle.tenant_shard.proofs.Runs.{turn_steps, idle_steps, idle_goes_on, own_goes_on, loss_refuses, not_both}
 use Rattle.tenant_shard.proofs.shard.turn.Goals as goal
 
 -- what the call finds is the pick
@@ -24,7 +24,8 @@ returns-in_default-clause-ok c =
 
 pub returns-in_default-clause-goes_on : goal.returns-in_default-clause-goes_on
 returns-in_default-clause-goes_on c =
-    inl (found c.args.now c.min.result c.args.members.now.items c.deref.result.now c.least.result None c.requires c.least.ensures c.min.ensures c.deref.ensures.value c.in_default.is)
+    let pick = found c.args.now c.min.result c.args.members.now.items c.deref.result.now c.least.result None c.requires c.least.ensures c.min.ensures c.deref.ensures.value c.in_default.is in
+    idle_goes_on c.args.now (views c.args.members.now.items) pick
 
 pub unreachable-requires : goal.unreachable-requires
 unreachable-requires c =

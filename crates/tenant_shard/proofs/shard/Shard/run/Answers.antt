@@ -1,7 +1,7 @@
 use Rattle.std.proofs.Common.{◌≡◌, ◌≤◌, length, take, arith}
 use Rattle.std.proofs.lemmas.List.{take_more, take_all}
-use Rattle.tenant_shard.specs.Run.{ShardRuns}
-use Rattle.tenant_shard.proofs.Wholes.{ShardRuns-push, each_alone, stopped_at_start, stopped_at}
+use Rattle.tenant_shard.specs.Chain.{ShardDoes, ShardRuns}
+use Rattle.tenant_shard.proofs.Wholes.{Chain-push, by_own_steps, stands_after, each_alone, stopped_at_start, stopped_at}
 use Rattle.tenant_shard.proofs.shard.Shard.run.Goals as goal
 
 pub returns-in_default-clause-stopped : goal.returns-in_default-clause-stopped
@@ -15,7 +15,8 @@ returns-in_default-step-clause-stopped c =
 pub loop-step-preserved : goal.loop-step-preserved
 loop-step-preserved c =
     let i = c.loop-step.step-index in
-    let runs = ShardRuns-push (take i c.args.steps.now) c.loop-step.outcomes.items c.step-item.result c.in-Ok-step.outcome c.args.self.now c.loop-step.self c.step.new.self c.loop-step.invariant.runs c.in-Ok-step.ensures.ok in
+    let does : ShardDoes c.step-item.result c.loop-step.self c.in-Ok-step.outcome c.step.new.self = record { by_own_steps = c.in-Ok-step.ensures.ok; goes_on = c.in-Ok-step.ensures.goes_on } in
+    let runs = Chain-push ShardDoes (take i c.args.steps.now) c.loop-step.outcomes.items c.step-item.result c.in-Ok-step.outcome c.args.self.now c.loop-step.self c.step.new.self c.loop-step.invariant.runs does in
     record {
       runs = rw (take_more c.args.steps.now i c.step-item.result c.loop-step-test.true, ← c.step-item.is, c.in-Ok-push.ensures.items) runs;
       count = omega (arith, c.in-Ok-push.ensures.len, c.loop-step.invariant.count);
@@ -32,3 +33,15 @@ returns-clause-each_alone c =
     let all : length c.args.steps.now ≤ c.loop-step.step-index = c.loop-step-test.false in
     let runs : ShardRuns c.args.steps.now c.args.self.now c.loop-step.outcomes.items c.loop-step.self = rw take_all at c.loop-step.invariant.runs in
     each_alone c.args.steps.now c.args.self.now c.loop-step.outcomes.items c.loop-step.self runs
+
+pub returns-clause-by_own_steps : goal.returns-clause-by_own_steps
+returns-clause-by_own_steps c =
+    let all : length c.args.steps.now ≤ c.loop-step.step-index = c.loop-step-test.false in
+    let runs : ShardRuns c.args.steps.now c.args.self.now c.loop-step.outcomes.items c.loop-step.self = rw take_all at c.loop-step.invariant.runs in
+    by_own_steps c.args.steps.now c.args.self.now c.loop-step.outcomes.items c.loop-step.self runs
+
+pub returns-clause-stands : goal.returns-clause-stands
+returns-clause-stands c =
+    let all : length c.args.steps.now ≤ c.loop-step.step-index = c.loop-step-test.false in
+    let runs : ShardRuns c.args.steps.now c.args.self.now c.loop-step.outcomes.items c.loop-step.self = rw take_all at c.loop-step.invariant.runs in
+    stands_after c.args.steps.now c.args.self.now c.loop-step.outcomes.items c.loop-step.self runs

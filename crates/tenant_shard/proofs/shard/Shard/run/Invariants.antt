@@ -1,6 +1,6 @@
 use Rattle.std.proofs.Common.{◌≡◌, ◌≤◌, length, take, vec_len}
 use Rattle.std.specs.Prelude.{vec_capacity}
-use Rattle.tenant_shard.specs.Run.{ShardRuns}
+use Rattle.tenant_shard.specs.Chain.{ShardRuns}
 use Rattle.tenant_shard.proofs.shard.Shard.run.Given as goal
 
 abbrev pub invariant-loop-step : goal.invariant-loop-step
