@@ -1,13 +1,19 @@
-.PHONY: test replay
+.PHONY: test checks replay
 
 PROGRAM = crates/trace_collector_program
 
-# The gate: compares the definitions that docs/ quotes with their files, proves
-# every crate and its tests from nothing, tries the edits that must be refused,
-# and runs the tests and the programs.
-test:
-	@python3 tests/quoted_definitions.py
+# The gate: the checks of the repository's own, and then every crate and its tests
+# proved from nothing, the edits that must be refused, the tests and the programs.
+test: checks
+	@command -v rt > /dev/null || { echo 'make test: there is no command rt: README.md names the toolchain' >&2; exit 1; }
 	@rt ci
+
+# Seconds, with Python alone: the definitions that docs/ quotes stand so in their
+# files, each public definition has its comment, and want of memory is made only
+# where it is known to be.
+checks:
+	@python3 tests/quotes.py
+	@python3 tests/refusals.py
 
 # Proves and builds the program, and replays a script of three lines: a body is
 # posted, and a worker asks for a job twice, one millisecond too early and in time.
