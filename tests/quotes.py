@@ -109,7 +109,8 @@ def main(words):
     if faults:
         print(f"quotes: {len(faults)} things to mend")
         return 1
-    print(f"quotes: {quotes} texts of {PAGE.name} stand so in their files" + ("" if "--plain" in words else ", and each public definition has its comment"))
+    comments = "" if "--plain" in words else ", and each public definition has its comment"
+    print(f"quotes: {quotes} texts of {PAGE.name} stand so in their files{comments}")
     return 0
 
 

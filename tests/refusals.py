@@ -189,31 +189,31 @@ def within_angles(code, first, last):
     return False
 
 
-def arm_of_pattern(code, i):
-    """The `=>` of the arm in whose pattern the word stands, if it stands in one."""
+def is_named(code, opener):
+    """Whether braces hold the parts of what a pattern names, and no block."""
+    if opener is None or code.words[opener] != "{" or not re.match(r"[A-Z]", code.word(opener - 1)):
+        return False
+    return code.word(path_start(code, opener - 1) - 1) in ("{", "}", ",", "|", "(", "[", "&", "let")
+
+
+def is_in_pattern(code, i):
+    """Whether the word stands in the pattern of an arm, so that `=>` follows at the end of it."""
     at, opener = i + 1, code.inside[i]
     while at < len(code.words):
-        word = code.words[at]
+        word, is_block = code.words[at], opener is None or code.words[opener] == "{" and not is_named(code, opener)
         if word == "=>":
-            return at
-        if word in ("(", "[", "{") and at in code.match:
-            # what a pattern names has its parts in these; a guard has no braces
-            if word == "{" and not re.match(r"[A-Z]", code.word(at - 1)):
-                return None
-            at = code.match[at] + 1
-        elif word in (")", "]") or word == "}" and opener is not None and re.match(r"[A-Z]", code.word(opener - 1)):
-            if opener is None or code.match.get(opener) != at:
-                return None
-            if word == ")" and code.word(opener - 1) == "!":
-                return None
+            return True
+        if word in (";", "return", "=") or word == "{" and not is_named(code, at) or word in (",", "}") and is_block:
+            return False
+        if word in ("(", "[", "{"):
+            at = code.match.get(at, at) + 1
+        elif word in (")", "]", "}"):
+            if opener is None or code.match.get(opener) != at or code.word(opener - 1) == "!":
+                return False
             at, opener = at + 1, code.inside[opener]
-        elif word in (";", "}") or word == "," and (opener is None or code.words[opener] == "{" and not re.match(r"[A-Z]", code.word(opener - 1))):
-            return None
-        elif word == "return" or word == "=":
-            return None
         else:
             at += 1
-    return None
+    return False
 
 
 def is_let(code, i):
@@ -246,39 +246,49 @@ def is_compared(code, i):
     return False
 
 
+def end_of_attribute(code, i):
+    """Behind the attribute that begins here, or None."""
+    opener = i + 2 if code.word(i + 1) == "!" else i + 1
+    return code.match.get(opener, opener) + 1 if code.word(i) == "#" and code.word(opener) == "[" else None
+
+
+def is_definition(code, i):
+    """Whether an import, a type's other name, a struct or an enum begins here, none of which makes a value."""
+    if code.words[i] in ("struct", "enum", "union"):
+        return bool(re.match(r"[A-Z]", code.word(i + 1)))
+    return code.words[i] == "use" or code.words[i] == "type" and code.word(i - 1) not in ("::", ".")
+
+
+def other_names(code, i, end):
+    """Where an import or a type gives one of our words another name."""
+    inside = [k for k in range(i, end) if code.words[k] in WORDS]
+    if code.words[i] == "use":
+        return [k for k in inside if code.word(k + 1) == "as"]
+    return [k for k in inside if code.words[i] == "type" and code.word(k - 1) == "="]
+
+
 def passed_over(code):
-    """The tokens of attributes, imports, and the definitions of structs and enums; those of test modules; and what is
-    wrong there: a name that hides one of ours. Test modules in files of their own are named."""
+    """The tokens of attributes, definitions and tests; where one of our words gets another name; and the modules of tests
+    that are files of their own."""
     skip, wrong, tests, i, is_test = set(), [], [], 0, False
     while i < len(code.words):
-        word, end = code.words[i], i + 1
-        if word == "#" and code.word(i + 1) in ("[", "!"):
-            opener = i + 1 if code.word(i + 1) == "[" else i + 2
-            if code.word(opener) == "[":
-                end = code.match.get(opener, opener) + 1
-                body = code.words[opener + 1 : end - 1]
-                is_test = is_test or body == ["cfg", "(", "test", ")"] or body == ["test"]
-                skip |= set(range(i, end))
-                i = end
-                continue
-        if word == "use" or word in ("struct", "enum", "union") and re.match(r"[A-Z]", code.word(i + 1)) or word == "type" and code.word(i - 1) not in ("::", "."):
-            end = i
-            while end < len(code.words) and code.words[end] != ";" and (word in ("use", "type") or code.words[end] != "{"):
-                end += 1
-            if word == "use":
-                wrong += [k for k in range(i, end) if code.words[k] in WORDS and code.word(k + 1) == "as"]
-            if word == "type":
-                wrong += [k for k in range(i, end) if code.words[k] in WORDS and code.word(k - 1) == "="]
-            end = (code.match.get(end, end) if code.word(end) == "{" else end) + 1
+        end = end_of_attribute(code, i)
+        if end:
+            is_test = is_test or code.words[i + 2 : end - 1] in (["cfg", "(", "test", ")"], ["test"])
             skip |= set(range(i, end))
-            is_test = False
-        elif is_test and word in ("mod", "fn", "impl", "const", "static"):
-            if word == "mod" and code.word(i + 2) == ";":
-                tests.append(code.word(i + 1))
+        elif is_definition(code, i):
             end = code.end_of_item(i)
+            while code.words[i] == "use" and code.word(end - 1) == "}":
+                end = code.end_of_item(end)
+            wrong += other_names(code, i, end)
             skip |= set(range(i, end))
             is_test = False
-        i = end
+        elif is_test and code.words[i] in ("mod", "fn", "impl", "const", "static"):
+            end = code.end_of_item(i)
+            tests += [code.words[i + 1]] if code.words[i] == "mod" and code.word(i + 2) == ";" else []
+            skip |= set(range(i, end))
+            is_test = False
+        i = end or i + 1
     return skip, wrong, tests
 
 
@@ -316,24 +326,35 @@ def is_conversion(code, function, i):
     return bool(re.search(r"\bFrom < (AllocError|AllocFailed < \w+ >) > for \w+", header))
 
 
+def arrow_before(code, i):
+    """The `=>` of the arm in whose answer the word stands, if that isn't inside further brackets."""
+    at, level = i - 1, code.inside[i]
+    while at >= 0 and code.inside[at] == level and code.words[at] not in (",", ";"):
+        if code.words[at] == "=>":
+            return at
+        at = code.match.get(at, at) - 1 if code.words[at] in (")", "]", "}") else at - 1
+    return None
+
+
+def pattern_before(code, arrow):
+    """The words of an arm's pattern, with its guard."""
+    at, level = arrow - 1, code.inside[arrow]
+    while at >= 0 and code.inside[at] == level and code.words[at] not in (",", "}", "=>"):
+        at = code.match.get(at, at) - 1 if code.words[at] in (")", "]") else at - 1
+    return " ".join(code.words[at + 1 : arrow])
+
+
 def is_mapped(code, i):
-    """Whether the word is made in an arm whose one pattern is a want of memory, and that has no guard."""
+    """Whether the word is made in an arm whose one pattern is a want of memory, and that has no guard. A word that isn't
+    imported would be a name for anything."""
     at = i
     while at is not None:
-        arrow = at - 1
-        level = code.inside[at]
-        while arrow >= 0 and code.inside[arrow] == level and code.words[arrow] not in ("=>", ";"):
-            if code.words[arrow] == "," and code.inside[arrow] == level:
-                break
-            arrow = code.match[arrow] - 1 if code.words[arrow] in (")", "]", "}") and arrow in code.match else arrow - 1
-        if arrow >= 0 and code.words[arrow] == "=>" and code.inside[arrow] == level:
-            start = arrow - 1
-            while start >= 0 and code.inside[start] == level and code.words[start] not in (",", "}", "=>"):
-                start = code.match[start] - 1 if code.words[start] in (")", "]") and start in code.match else start - 1
-            pattern = code.words[start + 1 : arrow]
-            pattern = pattern[1:] if pattern[:1] == ["{"] else pattern
-            return re.fullmatch(r"(?:\w+ :: )*(?:\w+ \( )*(?:\w+ :: )*(?:AllocError|OutOfMemory)(?: \))*", " ".join(pattern)) is not None
-        at = level
+        arrow = arrow_before(code, at)
+        if arrow is not None:
+            named = re.fullmatch(r"(?:\w+ \( )*((?:\w+ :: )*)(AllocError|OutOfMemory)(?: \))*", pattern_before(code, arrow))
+            imports = re.search(r"\buse std :: [^;]*\bAllocError\b", " ".join(code.words))
+            return bool(named and (named[1] or named[2] == "AllocError" and imports))
+        at = code.inside[at]
     return False
 
 
@@ -349,10 +370,11 @@ def made_in(text):
             continue
         if word == "Stopped" and code.word(i + 1) not in ("{", "("):
             continue
-        if is_type(code, i) or arm_of_pattern(code, i) is not None or is_let(code, i) or is_compared(code, i):
+        if is_type(code, i) or is_in_pattern(code, i) or is_let(code, i) or is_compared(code, i):
             continue
         function = function_at(functions, i)
-        why = "a conversion" if is_conversion(code, function, i) else "one want of memory becomes another" if is_mapped(code, i) else ""
+        why = "a conversion" if is_conversion(code, function, i) else ""
+        why = why or ("one want of memory becomes another" if is_mapped(code, i) else "")
         if word == "Stopped" and function[0] == "" and code.word(i - 1) in ("impl", "for"):
             continue
         found.append((code.lines[i], function[0], word, why, "is made"))
@@ -377,23 +399,26 @@ def files():
 
 
 def check(shows):
-    faults, counts, all_made = [], {}, 0
+    """What is wrong, and how many places there are."""
+    faults, counts, number = [], {}, 0
     for file in files():
         short = str(file.relative_to(ROOT / "crates"))
         for line, function, word, why, how in made_in(file.read_text())[0]:
-            all_made += 1
-            known = [it for it in KNOWN if it[0] == short and it[1] == function] if not why and how == "is made" else []
-            if known:
-                counts[known[0][:2]] = counts.get(known[0][:2], 0) + 1
-                why = known[0][3]
+            number += 1
+            known = next((it for it in KNOWN if it[:2] == (short, function)), None)
+            if known and not why and how == "is made":
+                counts[known[:2]] = counts.get(known[:2], 0) + 1
+                why = known[3]
+            place = f"in `{function}`" if function else "in no function"
             if shows:
-                print(f"crates/{short}:{line}: {word} in {function or 'no function'}: {why or 'NOT KNOWN'}")
+                print(f"crates/{short}:{line}: {word} {place}: {why or 'NOT KNOWN'}")
             if not why:
-                faults.append(f"crates/{short}:{line}: {word} {how}, in {'`' + function + '`' if function else 'no function'}")
-    for path, function, number, _ in KNOWN:
-        if counts.get((path, function), 0) != number:
-            faults.append(f"crates/{path}: `{function}` makes {counts.get((path, function), 0)} wants of memory that aren't conversions, and KNOWN says {number}")
-    return faults, all_made
+                faults.append(f"crates/{short}:{line}: {word} {how} {place}")
+    for path, function, wanted, _ in KNOWN:
+        seen = counts.get((path, function), 0)
+        if seen != wanted:
+            faults.append(f"crates/{path}: `{function}` makes {seen} beside conversions, and KNOWN says {wanted}")
+    return faults, number
 
 
 FOUND = [
@@ -416,6 +441,10 @@ FOUND = [
     "fn f() -> Option<Refusal> { let quote = '\"'; Some(Refusal::OutOfMemory) }",
     "fn f() -> bool { let fault = Refusal::OutOfMemory; fault == other() }",
     "fn f(x: bool) -> Refusal { if x { Refusal::Bad } else { Refusal::OutOfMemory } }",
+    "fn f(n: u64) -> R { match n { 1 => match STATE { _ => Err(AllocError) } B => g() } }",
+    "fn f(e: Fault) -> Refusal { match e { OutOfMemory => Refusal::OutOfMemory } }",
+    "fn f(e: Fault) -> Refusal { match e { Fault::OutOfMemory => match g() { _ => Refusal::OutOfMemory } } }",
+    "const GONE: Refusal = Refusal::OutOfMemory; fn f(x: Option<u8>) -> Result<u8, AllocError> { x.ok_or_else(|| AllocError) }",
     "fn f(n: u64) -> R { let Some(x) = n else { return Err(AllocError) }; match x { A => 1, B => 2 } }",
 ]
 PASSED = [
@@ -433,6 +462,7 @@ PASSED = [
     "#[cfg(test)]\nmod tests { fn f() -> Result<(), AllocError> { Err(AllocError) } }",
     "impl From<AllocError> for Fault {\n    ghost from_gives = { λ _ e. e ≡ OutOfMemory };\n    fn from(_error: AllocError) -> Fault { Fault::OutOfMemory }\n}",
     "impl<T: Drop> From<AllocFailed<T>> for Fault { fn from(_e: AllocFailed<T>) -> Fault { Fault::Replay(Other::OutOfMemory) } }",
+    "use std::alloc::{AllocError, Global}; fn f(x: R) -> Q { match x { Ok(y) => Ok(y), Err(AllocError) => Err(Q::OutOfMemory) } }",
     "fn f(x: R) -> Q { match x { Ok(y) => Ok(y), Err(FromHexError::OutOfMemory) => Err(AllocError), Err(_) => Ok(z) } }",
     "fn f(x: R) -> Q { match x { Fault::Deep { at } => Q::Deep { at }, Fault::OutOfMemory => Q::OutOfMemory } }",
     "fn f(x: R) -> Q { match x { Ok(y) => { g(y) } Err(Refusal::OutOfMemory) => { Err(Q::OutOfMemory) } } }",
@@ -449,17 +479,19 @@ def self_test():
     for file in files():
         text = file.read_text()
         at = re.search(r"\bfn \w+[^;{}]*-> Result<[^{;]*AllocError>[^;]*?\n\{\n", text)
-        if at and not unknown(text[: at.end()] + "    if busy() {\n        return Err(AllocError);\n    }\n" + text[at.end() :]):
+        if at and not unknown(text[: at.end()] + "    if busy() { return Err(AllocError); }\n" + text[at.end() :]):
             wrong.append(f"a line planted in a copy of {file.relative_to(ROOT)} is not found")
     return wrong
 
 
 def main(words):
     faults, number = check("--list" in words)
-    for fault in faults + self_test():
+    faults += self_test()
+    for fault in faults:
         print(fault)
-    if faults or self_test():
-        print("refusals: want of memory may be made only in a conversion, in an arm that maps one to another, or where KNOWN in tests/refusals.py says so")
+    if faults:
+        print("refusals: want of memory may be made only in a conversion, in an arm that maps one to another, or where")
+        print("KNOWN in tests/refusals.py says so")
         return 1
     print(f"refusals: want of memory is made in {number} places, and each is known")
     return 0
