@@ -6,6 +6,7 @@ value that says so is made: `AllocError`, `AllocFailed`, a variant `OutOfMemory`
 value may be made
 - in `from` of a conversion from `AllocError` or `AllocFailed`, where it is all that stands there;
 - in an arm of a `match` whose one pattern is itself a want of memory, and so in what maps one to another;
+- in the block of an `if` that asks only whether an error's kind is `ErrorKind::OutOfMemory`;
 - in the places of KNOWN below, so many times in that function.
 Types, patterns, comparisons, contracts, comments and tests make no value and are passed over. docs/TESTING.md says what
 this can't see.
@@ -24,8 +25,6 @@ WORDS = TYPES | {"OutOfMemory"}
 # the file under crates/, the function, how often, and why
 KNOWN = [
     ("tail_settings/src/document.rt", "load", 1, "the TOML reader's error says that it is want of memory"),
-    ("codec_bench/src/fault.rt", "from", 1, "std's error of a file has the kind OutOfMemory"),
-    ("trace_collector_program/src/main.rt", "from", 1, "std's error of a file has the kind OutOfMemory"),
     ("tenant_shard/src/shard.rt", "run", 2, "room for the outcomes was refused, or a step was"),
 ]
 
@@ -358,6 +357,17 @@ def is_mapped(code, i):
     return False
 
 
+def is_asked(code, i):
+    """Whether the word is made in the block of an `if` that asks only whether an error's kind is want of memory."""
+    at = code.inside[i]
+    while at is not None:
+        asked = " ".join(code.words[max(at - 10, 0) : at])
+        if code.words[at] == "{" and re.fullmatch(r"if \w+ \. kind \( \) == ErrorKind :: OutOfMemory", asked):
+            return True
+        at = code.inside[at]
+    return False
+
+
 def made_in(text):
     """Each place where a want of memory is made: the line, the function, the word, and why it may be, if it may."""
     code = Code(text)
@@ -375,6 +385,7 @@ def made_in(text):
         function = function_at(functions, i)
         why = "a conversion" if is_conversion(code, function, i) else ""
         why = why or ("one want of memory becomes another" if is_mapped(code, i) else "")
+        why = why or ("std's error is want of memory" if is_asked(code, i) else "")
         if word == "Stopped" and function[0] == "" and code.word(i - 1) in ("impl", "for"):
             continue
         found.append((code.lines[i], function[0], word, why, "is made"))
@@ -441,6 +452,9 @@ FOUND = [
     "fn f() -> Option<Refusal> { let quote = '\"'; Some(Refusal::OutOfMemory) }",
     "fn f() -> bool { let fault = Refusal::OutOfMemory; fault == other() }",
     "fn f(x: bool) -> Refusal { if x { Refusal::Bad } else { Refusal::OutOfMemory } }",
+        "fn f(e: Error) -> Q { if e.kind() == ErrorKind::OutOfMemory { Q::Line } else { Q::OutOfMemory } }",
+    "fn f(e: Error) -> Q { if g() || e.kind() == ErrorKind::OutOfMemory { Q::OutOfMemory } else { Q::Line } }",
+    "fn f(e: Error) -> Q { if e.kind() == ErrorKind::OutOfMemory || g() { Q::OutOfMemory } else { Q::Line } }",
     "fn f(n: u64) -> R { match n { 1 => match STATE { _ => Err(AllocError) } B => g() } }",
     "fn f(e: Fault) -> Refusal { match e { OutOfMemory => Refusal::OutOfMemory } }",
     "fn f(e: Fault) -> Refusal { match e { Fault::OutOfMemory => match g() { _ => Refusal::OutOfMemory } } }",
@@ -462,6 +476,7 @@ PASSED = [
     "#[cfg(test)]\nmod tests { fn f() -> Result<(), AllocError> { Err(AllocError) } }",
     "impl From<AllocError> for Fault {\n    ghost from_gives = { λ _ e. e ≡ OutOfMemory };\n    fn from(_error: AllocError) -> Fault { Fault::OutOfMemory }\n}",
     "impl<T: Drop> From<AllocFailed<T>> for Fault { fn from(_e: AllocFailed<T>) -> Fault { Fault::Replay(Other::OutOfMemory) } }",
+        "fn f(e: Error) -> Q { if e.kind() == ErrorKind::OutOfMemory { Q::Gone(P::OutOfMemory) } else { Q::Line } }",
     "use std::alloc::{AllocError, Global}; fn f(x: R) -> Q { match x { Ok(y) => Ok(y), Err(AllocError) => Err(Q::OutOfMemory) } }",
     "fn f(x: R) -> Q { match x { Ok(y) => Ok(y), Err(FromHexError::OutOfMemory) => Err(AllocError), Err(_) => Ok(z) } }",
     "fn f(x: R) -> Q { match x { Fault::Deep { at } => Q::Deep { at }, Fault::OutOfMemory => Q::OutOfMemory } }",
