@@ -1,22 +1,19 @@
-# (a pipe fails where a part of it does)
-SHELL = /bin/bash
-.SHELLFLAGS = -o pipefail -c
-
-.PHONY: test checks replay
+.PHONY: test replay
 
 PROGRAM = crates/trace_collector_program
-LOG = $(PROGRAM)/out/build.log
-NEEDS_RT = command -v rt > /dev/null || { echo 'There is no command rt: README.md names the toolchain.' >&2; exit 1; }
 
-# The gate: the checks of the repository's own, and then every crate and its tests
-# proved from nothing, the edits that must be refused, the tests and the programs.
+# The gate: what needs no toolchain, and then every crate and its tests proved from
+# nothing, the edits that must be refused, the tests and the programs; last what the
+# program that was built there prints.
 test: checks
-	@$(NEEDS_RT)
+	@command -v rt > /dev/null || { echo 'make: there is no command rt: README.md names the toolchain' >&2; exit 1; }
 	@rt ci
+	@said=$$(python3 tests/program.py $(PROGRAM)/out/trace_collector_program) || { echo "$$said"; exit 1; }
 
 # Seconds, with Python alone: the definitions that docs/ quotes stand so in their
 # files, each public definition has its comment, and want of memory is made only
 # where it is known to be.
+.PHONY: checks
 checks:
 	@python3 tests/quotes.py
 	@python3 tests/refusals.py
@@ -31,11 +28,6 @@ replay: trace_collector
 
 .PHONY: trace_collector
 trace_collector:
-	@$(NEEDS_RT)
 	@mkdir -p $(PROGRAM)/out
-	@echo 'Proving and building ./trace_collector and the crates that it stands on: some 20 minutes'
-	@echo 'the first time, seconds when nothing changed. The log is $(LOG).'
-	@(cd $(PROGRAM) && rt run -- replay data/settings.toml < stdin) 2>&1 | tee $(LOG) \
-	    | sed -un 's/^rt: chose --jobs [0-9]* for \([a-z_]*\)$$/  \1 .../p' \
-	    || { echo 'It failed. The end of the log:'; tail -n 20 $(LOG); exit 1; }
+	@cd $(PROGRAM) && rt run -- replay data/settings.toml < stdin > out/build.log 2>&1 || { cat out/build.log; exit 1; }
 	@cp $(PROGRAM)/out/trace_collector_program $@
