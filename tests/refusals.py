@@ -29,9 +29,8 @@ KNOWN = [
 ]
 
 CLAUSE = re.compile(r"(?:ensures|requires|decreases|invariant|variant)\b\*?\s*(?:[a-z_]\w*\s*)?\{")
-TOKEN = re.compile(
-    r"""[A-Za-z_]\w*|\d[\w.]*|::|->|=>|==|!=|<=|>=|&&|\|\||\.\.=|\.\.|<<|[^\s]""", re.X
-)
+TOKEN = re.compile(r"[A-Za-z_]\w*|\d\w*|::|->|=>|==|!=|<=|>=|&&|\|\||\.\.=|\.\.|<<|\S")
+GHOST = re.compile(r"ghost\b")
 LIFETIME = re.compile(r"'[A-Za-z_]\w*(?!')")
 CHARACTER = re.compile(r"b?'(?:\\.[^']*|[^'\\])'")
 RAW = re.compile(r'b?r(#*)"')
@@ -98,7 +97,7 @@ def tokens_of(text):
             at += 1
         elif text.startswith(("//", "/*"), at):
             at = end_of_comment(text, at)
-        elif RAW.match(text, at) and not found[-1:] == ["."]:
+        elif RAW.match(text, at):
             raw = RAW.match(text, at)
             at = text.find('"' + raw[1], raw.end()) + 1 + len(raw[1])
         elif text[at] == '"' or text.startswith('b"', at):
@@ -111,7 +110,7 @@ def tokens_of(text):
             at = LIFETIME.match(text, at).end()
         elif CLAUSE.match(text, at) and not text[at - 1 : at].isalnum():
             at = end_of_braces(text, CLAUSE.match(text, at).end() - 1)
-        elif re.compile(r"ghost\b").match(text, at):
+        elif GHOST.match(text, at):
             at = end_of_ghost(text, at)
         else:
             token = TOKEN.match(text, at)
@@ -282,7 +281,7 @@ def passed_over(code):
             wrong += other_names(code, i, end)
             skip |= set(range(i, end))
             is_test = False
-        elif is_test and code.words[i] in ("mod", "fn", "impl", "const", "static"):
+        elif is_test and code.words[i] in ("mod", "fn", "impl", "trait", "const", "static", "macro_rules"):
             end = code.end_of_item(i)
             tests += [code.words[i + 1]] if code.words[i] == "mod" and code.word(i + 2) == ";" else []
             skip |= set(range(i, end))
@@ -386,8 +385,6 @@ def made_in(text):
         why = "a conversion" if is_conversion(code, function, i) else ""
         why = why or ("one want of memory becomes another" if is_mapped(code, i) else "")
         why = why or ("std's error is want of memory" if is_asked(code, i) else "")
-        if word == "Stopped" and function[0] == "" and code.word(i - 1) in ("impl", "for"):
-            continue
         found.append((code.lines[i], function[0], word, why, "is made"))
     return found, tests
 
@@ -448,11 +445,13 @@ FOUND = [
     "type Gone = AllocError; fn f() -> Result<(), Gone> { Err(Gone {}) }",
     "fn f(a: u64, b: u64) -> bool { g(a < b, AllocError) }",
     "fn f() -> Wrapped { Wrapped { error: AllocError } }",
+    "#[cfg(test)] trait T { fn g(); } fn f() -> Result<(), AllocError> { Err(AllocError) }",
+    "#[cfg(test)] mod tests; fn f() -> Result<(), AllocError> { Err(AllocError) }",
     "fn f() -> Result<(), Stopped> { Err(Stopped { outcomes: none() }) }",
     "fn f() -> Option<Refusal> { let quote = '\"'; Some(Refusal::OutOfMemory) }",
     "fn f() -> bool { let fault = Refusal::OutOfMemory; fault == other() }",
     "fn f(x: bool) -> Refusal { if x { Refusal::Bad } else { Refusal::OutOfMemory } }",
-        "fn f(e: Error) -> Q { if e.kind() == ErrorKind::OutOfMemory { Q::Line } else { Q::OutOfMemory } }",
+    "fn f(e: Error) -> Q { if e.kind() == ErrorKind::OutOfMemory { Q::Line } else { Q::OutOfMemory } }",
     "fn f(e: Error) -> Q { if g() || e.kind() == ErrorKind::OutOfMemory { Q::OutOfMemory } else { Q::Line } }",
     "fn f(e: Error) -> Q { if e.kind() == ErrorKind::OutOfMemory || g() { Q::OutOfMemory } else { Q::Line } }",
     "fn f(n: u64) -> R { match n { 1 => match STATE { _ => Err(AllocError) } B => g() } }",
