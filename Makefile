@@ -2,12 +2,21 @@
 
 PROGRAM = crates/trace_collector_program
 
-# The gate: compares the definitions that docs/ quotes with their files, proves
-# every crate and its tests from nothing, tries the edits that must be refused,
-# and runs the tests and the programs.
-test:
-	@python3 tests/quoted_definitions.py
+# The gate: what needs no toolchain, and then every crate and its tests proved from
+# nothing, the edits that must be refused, the tests and the programs; last what the
+# program that was built there prints.
+test: checks
+	@command -v rt > /dev/null || { echo 'make: there is no command rt: README.md names the toolchain' >&2; exit 1; }
 	@rt ci
+	@said=$$(python3 tests/program.py $(PROGRAM)/out/trace_collector_program) || { echo "$$said"; exit 1; }
+
+# Seconds, with Python alone: the definitions that docs/ quotes stand so in their
+# files, each public definition has its comment, and want of memory is made only
+# where it is known to be.
+.PHONY: checks
+checks:
+	@python3 tests/quotes.py
+	@python3 tests/refusals.py
 
 # Proves and builds the program, and replays a script of three lines: a body is
 # posted, and a worker asks for a job twice, one millisecond too early and in time.
