@@ -3,11 +3,10 @@
 ghost use Rattle.wire_tests.specs.MessageExamples.{ExampleTrace, Values, Messages, Replies};
 
 use otlp_trace::{
-    AnyValue, AnyValueKind, ArrayValue, DoubleBits, Event, ExportTracePartialSuccess,
-    ExportTraceServiceRequest, ExportTraceServiceResponse, InstrumentationScope, KeyValue,
-    KeyValueList, Link, Octets, Repeated, Resource, ResourceSpans, ScopeSpans, Span, Status,
-    put_bytes_field, put_some_bytes, wrap_in_field, write_request, write_resource, write_response,
-    write_scope, write_span, write_status,
+    AnyValue, AnyValueKind, ArrayValue, ExportTracePartialSuccess, ExportTraceServiceRequest,
+    ExportTraceServiceResponse, InstrumentationScope, KeyValue, Octets, Repeated, Resource,
+    ResourceSpans, ScopeSpans, Span, put_bytes_field, put_some_bytes, wrap_in_field, write_request,
+    write_resource, write_response, write_scope, write_span, write_status,
 };
 use std::alloc::Global;
 use std::test::Fail;
@@ -63,107 +62,27 @@ fn empty_span(alloc: Global) -> Span {
     }
 }
 
-fn event(alloc: Global) -> Result<Event, Fail> {
-    Ok(Event {
-        time_unix_nano: 1,
-        name: string(alloc, "e")?,
-        attributes: repeated(alloc, attribute(alloc, "k", None)?)?,
-        dropped_attributes_count: 2,
-        unknown: octets(alloc, b"\x38\x07")?,
-    })
-}
-
-fn link(alloc: Global) -> Result<Link, Fail> {
-    let unset = any(alloc, AnyValueKind::Unset);
-    Ok(Link {
-        trace_id: octets(alloc, b"\x01")?,
-        span_id: octets(alloc, b"\x02")?,
-        trace_state: string(alloc, "s")?,
-        attributes: repeated(alloc, attribute(alloc, "", Some(unset))?)?,
-        dropped_attributes_count: 3,
-        flags: 1,
-        unknown: octets(alloc, b"\x38\x08")?,
-    })
-}
-
-fn status(alloc: Global) -> Result<Status, Fail> {
-    Ok(Status {
-        message: string(alloc, "no")?,
-        code: 2,
-        unknown: octets(alloc, b"\x20\x01")?,
-    })
-}
-
-fn fill_names(alloc: Global, span: &mut Span) -> Result<(), Fail> {
-    span.trace_id = octets(alloc, &[0x11; 16])?;
-    span.span_id = octets(alloc, &[0x21; 8])?;
-    span.trace_state = string(alloc, "a=b")?;
-    span.parent_span_id = octets(alloc, &[0x31; 8])?;
-    span.name = string(alloc, "get")?;
-    Ok(())
-}
-
-fn fill_lists(alloc: Global, span: &mut Span) -> Result<(), Fail> {
-    let value = any(alloc, AnyValueKind::Int(150));
-    span.attributes = repeated(alloc, attribute(alloc, "k", Some(value))?)?;
-    span.events = repeated(alloc, event(alloc)?)?;
-    span.links = repeated(alloc, link(alloc)?)?;
-    span.status = Some(status(alloc)?);
-    span.unknown = octets(alloc, b"\xc0\x3e\x05")?;
-    Ok(())
-}
-
-fn fill_numbers(span: &mut Span) {
-    span.kind = 2;
-    span.start_time_unix_nano = 0x0102_0304_0506_0708;
-    span.end_time_unix_nano = 256;
-    span.dropped_attributes_count = 1;
-    span.dropped_events_count = 300;
-    span.dropped_links_count = 128;
-    span.flags = 0x101;
-}
-
 #[test]
-fn span_with_all_fields(rt: HostRuntime) -> Result<(), Fail> {
+fn span_is_written(rt: HostRuntime) -> Result<(), Fail> {
     let alloc = rt.alloc();
     let mut span = empty_span(alloc);
-    fill_names(alloc, &mut span)?;
-    fill_numbers(&mut span);
-    fill_lists(alloc, &mut span)?;
-    let text = b"\x0a\x10\x11\x11\x11\x11\x11\x11\x11\x11\x11\x11\x11\x11\x11\x11\x11\x11\
-        \x12\x08\x21\x21\x21\x21\x21\x21\x21\x21\
-        \x1a\x03a=b\
-        \x22\x08\x31\x31\x31\x31\x31\x31\x31\x31\
-        \x2a\x03get\
-        \x30\x02\
-        \x39\x08\x07\x06\x05\x04\x03\x02\x01\
+    span.name = string(alloc, "get")?;
+    span.kind = -1;
+    span.end_time_unix_nano = 256;
+    span.attributes = repeated(alloc, attribute(alloc, "k", None)?)?;
+    span.dropped_events_count = 300;
+    span.flags = 0x101;
+    span.unknown = octets(alloc, b"\xc0\x3e\x05")?;
+    let text = b"\x2a\x03get\
+        \x30\xff\xff\xff\xff\xff\xff\xff\xff\xff\x01\
         \x41\x00\x01\x00\x00\x00\x00\x00\x00\
-        \x4a\x08\x0a\x01k\x12\x03\x18\x96\x01\
-        \x50\x01\
-        \x5a\x15\x09\x01\x00\x00\x00\x00\x00\x00\x00\x12\x01e\x1a\x03\x0a\x01k\x20\x02\x38\x07\
+        \x4a\x03\x0a\x01k\
         \x60\xac\x02\
-        \x6a\x16\x0a\x01\x01\x12\x01\x02\x1a\x01s\x22\x02\x12\x00\x28\x03\x35\x01\x00\x00\x00\x38\x08\
-        \x70\x80\x01\
-        \x7a\x08\x12\x02no\x18\x02\x20\x01\
         \x85\x01\x01\x01\x00\x00\
         \xc0\x3e\x05";
     let mut out = Vec::new(alloc);
     write_span(alloc, &mut out, &span)?;
     assert_eq!(rt; out.as_slice(), text.as_slice());
-    Ok(())
-}
-
-#[test]
-fn negative_kind_has_ten_bytes(rt: HostRuntime) -> Result<(), Fail> {
-    let alloc = rt.alloc();
-    let mut span = empty_span(alloc);
-    span.kind = -1;
-    let mut out = Vec::new(alloc);
-    write_span(alloc, &mut out, &span)?;
-    assert_eq!(rt;
-        out.as_slice(),
-        b"\x30\xff\xff\xff\xff\xff\xff\xff\xff\xff\x01".as_slice()
-    );
     Ok(())
 }
 
@@ -177,82 +96,16 @@ fn array(alloc: Global) -> Result<ArrayValue, Fail> {
     })
 }
 
-/// A list of one key, with a field that isn't known.
-fn list(alloc: Global) -> Result<KeyValueList, Fail> {
-    let mut values = Vec::new(alloc);
-    values.push(attribute(alloc, "k", None)?)?;
-    Ok(KeyValueList {
-        values,
-        unknown: octets(alloc, b"\x10\x09")?,
-    })
-}
-
-/// An attribute with fields that aren't known, of its own and of its value.
-fn attribute_of_list(alloc: Global) -> Result<KeyValue, Fail> {
-    let value = AnyValue {
-        kind: AnyValueKind::KeyValueList(list(alloc)?),
-        unknown: octets(alloc, b"\x48\x01")?,
-    };
-    Ok(KeyValue {
-        key: string(alloc, "l")?,
-        value: Some(value),
-        unknown: octets(alloc, b"\x18\x02")?,
-    })
-}
-
-fn push(
-    alloc: Global,
-    attributes: &mut Vec<KeyValue>,
-    key: &str,
-    kind: AnyValueKind,
-) -> Result<(), Fail> {
-    attributes.push(attribute(alloc, key, Some(any(alloc, kind)))?)?;
-    Ok(())
-}
-
-/// A value of each kind.
-fn push_values(alloc: Global, attributes: &mut Vec<KeyValue>) -> Result<(), Fail> {
-    // 1.0
-    let double = DoubleBits(*b"\x00\x00\x00\x00\x00\x00\xf0\x3f");
-    let empty = String::new(alloc);
-    push(alloc, attributes, "u", AnyValueKind::Unset)?;
-    push(alloc, attributes, "s", AnyValueKind::String(empty))?;
-    push(alloc, attributes, "b", AnyValueKind::Bool(false))?;
-    push(alloc, attributes, "i", AnyValueKind::Int(-1))?;
-    push(alloc, attributes, "d", AnyValueKind::Double(double))?;
-    push(alloc, attributes, "a", AnyValueKind::Array(array(alloc)?))?;
-    push(
-        alloc,
-        attributes,
-        "y",
-        AnyValueKind::Bytes(octets(alloc, b"\xff")?),
-    )?;
-    attributes.push(attribute_of_list(alloc)?)?;
-    attributes.push(attribute(alloc, "n", None)?)?;
-    Ok(())
-}
-
 #[test]
 fn attribute_values(rt: HostRuntime) -> Result<(), Fail> {
     let alloc = rt.alloc();
-    let mut attributes = Vec::new(alloc);
-    push_values(alloc, &mut attributes)?;
+    let value = any(alloc, AnyValueKind::Array(array(alloc)?));
     let resource = Resource {
-        attributes: Repeated::from_vec(attributes),
+        attributes: repeated(alloc, attribute(alloc, "a", Some(value))?)?,
         dropped_attributes_count: 1,
         unknown: octets(alloc, b"\x78\x01")?,
     };
-    let text = b"\x0a\x05\x0a\x01u\x12\x00\
-        \x0a\x07\x0a\x01s\x12\x02\x0a\x00\
-        \x0a\x07\x0a\x01b\x12\x02\x10\x00\
-        \x0a\x10\x0a\x01i\x12\x0b\x18\xff\xff\xff\xff\xff\xff\xff\xff\xff\x01\
-        \x0a\x0e\x0a\x01d\x12\x09\x21\x00\x00\x00\x00\x00\x00\xf0\x3f\
-        \x0a\x0d\x0a\x01a\x12\x08\x2a\x06\x0a\x02\x10\x01\x18\x01\
-        \x0a\x08\x0a\x01y\x12\x03\x3a\x01\xff\
-        \x0a\x12\x0a\x01l\x12\x0b\x32\x07\x0a\x03\x0a\x01k\x10\x09\x48\x01\x18\x02\
-        \x0a\x03\x0a\x01n\
-        \x10\x01\
-        \x78\x01";
+    let text = b"\x0a\x0d\x0a\x01a\x12\x08\x2a\x06\x0a\x02\x10\x01\x18\x01\x10\x01\x78\x01";
     let mut out = Vec::new(alloc);
     write_resource(alloc, &mut out, &resource)?;
     assert_eq!(rt; out.as_slice(), text.as_slice());
