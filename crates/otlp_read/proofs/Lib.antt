@@ -1,5 +1,6 @@
 pub mod Answered
 pub mod Back
+pub mod Inside
 pub mod Laws
 pub mod Leaves
 pub mod MessageSound

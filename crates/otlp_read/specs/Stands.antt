@@ -14,6 +14,10 @@ pub record Makes {A : Type 0} (step : Step A) (d : ℕ) (a : A) (text : List ℕ
 
 -- After fields that are sound stands no field, or one that can't be taken.
 pub data Stands {A : Type 0} (step : Step A) (d : ℕ) : A → List ℕ → ReadFault → Type 0 where
-  no_field : {a : A} {text : List ℕ} {wire : WireFault} {fault : ReadFault} → Fault d text wire → fault ≡ of_wire wire → Stands step d a text fault
-  unsound : {a : A} {text : List ℕ} {field : Entry} {fault : ReadFault} (rest : List ℕ) → IsField d text field → step a field text ≡ Err fault → Stands step d a (text ++ rest) fault
-  behind : {a b : A} {text rest : List ℕ} {field : Entry} {fault : ReadFault} → IsField d text field → step a field text ≡ Ok b → Stands step d b rest fault → Stands step d a (text ++ rest) fault
+  no_field : {a : A} {text : List ℕ} {wire : WireFault} {fault : ReadFault}
+      → Fault d text wire → fault ≡ of_wire wire → Stands step d a text fault
+  unsound : {a : A} {text : List ℕ} {field : Entry} {fault : ReadFault} (rest : List ℕ)
+      → IsField d text field → step a field text ≡ Err fault → Stands step d a (text ++ rest) fault
+  behind : {a b : A} {text rest : List ℕ} {field : Entry} {fault : ReadFault}
+      → IsField d text field → step a field text ≡ Ok b → Stands step d b rest fault
+      → Stands step d a (text ++ rest) fault

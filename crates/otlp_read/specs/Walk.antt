@@ -1,5 +1,5 @@
 -- The fields of a text, taken one after the other into a message.
-use Rattle.std.specs.Prelude.{ℕ, zero, suc, ◌-◌, List, [], ◌∷◌, ◌++◌, length, take, Option, Some, None, unwrap_or, Result, Ok, Err}
+use Rattle.std.specs.Prelude.{◌≡◌, ℕ, zero, suc, ◌-◌, List, [], ◌∷◌, ◌++◌, length, take, Option, Some, None, unwrap_or, Result, Ok, Err}
 use Rattle.pb_wire.specs.declared.field.WireFault.{WireFault}
 use Rattle.pb_wire.specs.Grammar.{Entry, Datum, IsField}
 use Rattle.pb_wire.specs.Reading.{next_at}
@@ -7,6 +7,7 @@ use Rattle.otlp_read.specs.declared.fault.ReadFault.{ReadFault}
 use Rattle.otlp_read.specs.declared.fault.ReadFault.TheVariants.{TooDeep}
 use Rattle.otlp_read.specs.Fault.{of_wire}
 
+-- what is read of the value before, unless that is a fault
 infixl 10 ◌>>=◌
 abbrev pub ◌>>=◌ : {A B : Type 0} → Result A ReadFault → (A → Result B ReadFault) → Result B ReadFault
 (Ok x) >>= f = f x
@@ -16,6 +17,10 @@ abbrev pub ◌>>=◌ : {A B : Type 0} → Result A ReadFault → (A → Result B
 abbrev pub Step : Type 0 → Type 0
 Step A = A → Entry → List ℕ → Result A ReadFault
 
+-- a reader of a message's bytes, which goes on from an earlier value
+abbrev pub Reader : Type 0 → Type 0
+Reader A = A → List ℕ → Result A ReadFault
+
 -- a field, and its bytes as they are spelled
 pub record Piece : Type 0 where
   pub field : Entry
@@ -24,7 +29,9 @@ pub record Piece : Type 0 where
 -- Pieces d text pieces: at depth d the text is these fields so spelled, one after another.
 pub data Pieces : ℕ → List ℕ → List Piece → Type 0 where
   no_pieces : {d : ℕ} → Pieces d [] []
-  more_pieces : {d : ℕ} {front rest : List ℕ} {field : Entry} {pieces : List Piece} → IsField d front field → Pieces d rest pieces → Pieces d (front ++ rest) (record { field = field; spelled = front } ∷ pieces)
+  more_pieces : {d : ℕ} {front rest : List ℕ} {field : Entry} {pieces : List Piece}
+      → IsField d front field → Pieces d rest pieces
+      → Pieces d (front ++ rest) (record { field = field; spelled = front } ∷ pieces)
 
 -- the message after all fields of a list
 abbrev pub fold_fields : {A : Type 0} → Step A → A → List Piece → Result A ReadFault
@@ -35,12 +42,18 @@ fold_fields step a (p ∷ ps) = step a p.field p.spelled >>= λ b. fold_fields s
 abbrev pub with_more : {A : Type 0} → Step A → Result A ReadFault → List Piece → Result A ReadFault
 with_more step before ps = before >>= λ b. fold_fields step b ps
 
+-- the fields of two lists make what the first list's make, and then the other's
+abbrev pub MergesLists : {A : Type 0} → Step A → Type 0
+MergesLists {A} step =
+    (a : A) (xs ys : List Piece) → fold_fields step a (xs ++ ys) ≡ with_more step (fold_fields step a xs) ys
+
 -- what stands before the rest
 abbrev pub before : List ℕ → List ℕ → List ℕ
 before bytes rest = take (length bytes - length rest) bytes
 
 -- the first field is taken, and then the rest
-abbrev pub onward : {A : Type 0} → Step A → (A → List ℕ → Result A ReadFault) → A → List ℕ → Result (Option (Entry × List ℕ)) WireFault → Result A ReadFault
+abbrev pub onward : {A : Type 0}
+    → Step A → Reader A → A → List ℕ → Result (Option (Entry × List ℕ)) WireFault → Result A ReadFault
 onward step others a bytes (Ok None) = Ok a
 onward step others a bytes (Ok (Some x)) = step a x.0 (before bytes x.1) >>= λ b. others b x.1
 onward step others a bytes (Err fault) = Err (of_wire fault)
@@ -63,6 +76,10 @@ read_with step (suc room) a bytes = walk (step room) (100 - room) a bytes
 -- a repeated field with one more message, where that can be read
 abbrev pub with_another : {A : Type 0} → List A → Result A ReadFault → Result (List A) ReadFault
 with_another others read = read >>= λ x. Ok (others ++ x ∷ [])
+
+-- a field of this number
+abbrev pub numbered : ℕ → Datum → Entry
+numbered n datum = record { number = n; value = datum }
 
 -- what a known field makes of a message; none where the message has no field of this number and wire type
 abbrev pub Known : Type 0 → Type 0

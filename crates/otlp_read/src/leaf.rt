@@ -11,22 +11,22 @@ use std::alloc::Global;
 
 /// A string where it stands, which has to be UTF-8.
 #[tactic(auto, using(crate::proofs::Leaves::utf8_yes, crate::proofs::Leaves::utf8_no))]
-pub fn borrowed_text(bytes: &[u8]) -> Result<&str, ReadFault>
-    ensures exact { Gives (λ text. text.now) result (utf8 bytes.now) }
+pub fn borrowed_string(bytes: &[u8]) -> Result<&str, ReadFault>
+    ensures exact { Gives (λ found. found.now) result (utf8 bytes.now) }
     ensures memory { IfErr result (λ fault. fault ≢ ReadFault.OutOfMemory) }
 {
     match str::from_utf8(bytes) {
-        Ok(text) => Ok(text),
+        Ok(found) => Ok(found),
         Err(_) => Err(ReadFault::NotUtf8),
     }
 }
 
 /// A copy of a string, which has to be UTF-8.
-pub fn text(alloc: Global, bytes: &[u8]) -> Result<String, ReadFault>
+pub fn string(alloc: Global, bytes: &[u8]) -> Result<String, ReadFault>
     ensures { Gives string_bytes result (utf8 bytes.now) }
 {
-    let text = borrowed_text(bytes)?;
-    Ok(String::from_str(alloc, text)?)
+    let found = borrowed_string(bytes)?;
+    Ok(String::from_str(alloc, found)?)
 }
 
 /// The low 32 bits of a varint.

@@ -4,11 +4,11 @@
 //! that isn't repeated takes its last value, an embedded message that stands again is merged, repeated fields keep
 //! their order, and fields that aren't known, and known ones with another wire type, are kept as they were spelled, or
 //! dropped in a message that keeps none. `read_request` answers the value exactly where the body has one. Otherwise it
-//! answers a fault that stands in the body, or `OutOfMemory` where a growth was refused. What `otlp_trace` wrote reads back
-//! ([`written_reads_back`]).
+//! answers a fault that stands in the body, or `OutOfMemory` where a growth was refused. What `otlp_trace` wrote reads
+//! back ([`written_reads_back`]).
 //!
-//! It stands on `pb_wire` and `otlp_trace`. The rules are those of the proto3 language guide and the Protocol Buffers encoding
-//! guide, over the messages of OTLP 1.x.
+//! It stands on `pb_wire` and `otlp_trace`. The rules are those of the proto3 language guide and the Protocol Buffers
+//! encoding guide, over the messages of OTLP 1.x.
 #![tactic(auto)]
 
 mod fault;
@@ -24,7 +24,7 @@ mod value;
 pub use fault::ReadFault;
 pub use message::messages_inside;
 pub use request::{read_request, values_or_faults};
-pub use response::{Partial, read_response};
+pub use response::{Partial, read_response, responses_or_faults};
 pub use round_trip::{
     values_are_sound, written_reads_back, written_request_reads_back, written_resource_reads_back,
     written_response_reads_back, written_scope_reads_back, written_span_reads_back,
@@ -32,6 +32,4 @@ pub use round_trip::{
 pub use typed::{
     request_is_typed, resource_is_typed, response_is_typed, scope_is_typed, span_is_typed,
 };
-
-#[cfg(test)]
-mod tests;
+pub use value::attribute_values_inside;

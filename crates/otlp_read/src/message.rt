@@ -1,11 +1,9 @@
 //! Reading a message field by field.
 
-ghost use Rattle.std.specs.Prelude.{◌≡◌, ◌≤◌, ◌↔◌, ◌-◌, ℕ, suc, List, Ok, Err, map, option_map, unwrap_or};
+ghost use Rattle.std.specs.Prelude.{◌≡◌, ◌≤◌, ℕ, map, option_map, unwrap_or};
 ghost use Rattle.pb_wire.specs.Grammar.{entry};
 ghost use Rattle.otlp_read.specs.Fault.{Gives};
-ghost use Rattle.otlp_read.specs.declared.fault.ReadFault.{ReadFault};
-ghost use Rattle.otlp_read.specs.declared.fault.ReadFault.TheVariants.{TooDeep};
-ghost use Rattle.otlp_read.specs.Stands.{Makes, Stands};
+ghost use Rattle.otlp_read.specs.Inside.{ReadsByFields};
 ghost use Rattle.otlp_read.specs.Walk.{Step, read_with, with_another};
 
 use crate::fault::ReadFault;
@@ -30,8 +28,8 @@ pub trait Message: Drop {
     fn empty(alloc: Global) -> Self
         ensures { view result ≡ empty };
 
-    /// The message after one more field. Messages in the field have room for so many levels. The field's bytes are given
-    /// as they are spelled, with its tag.
+    /// The message after one more field. Messages in the field have room for so many levels. The field's bytes are
+    /// given as they are spelled, with its tag.
     fn field(
         self,
         alloc: Global,
@@ -69,7 +67,8 @@ pub fn merged_into<M: Message>(
     room: u32,
 ) -> Result<M, ReadFault>
     requires room { room ≤ 101 }
-    ensures exact { Gives M.view result (read_with M.step room (unwrap_or (option_map M.view before) M.empty) bytes.now) }
+    ensures exact { Gives M.view result
+        (read_with M.step room (unwrap_or (option_map M.view before) M.empty) bytes.now) }
 {
     let start = match before {
         Some(message) => message,
@@ -86,7 +85,8 @@ pub fn read_on<M: Message>(
     room: u32,
 ) -> Result<Repeated<M>, ReadFault>
     requires room { room ≤ 101 }
-    ensures exact { Gives (map M.view) result (with_another (map M.view before) (read_with M.step room M.empty bytes.now)) }
+    ensures exact { Gives (map M.view) result
+        (with_another (map M.view before) (read_with M.step room M.empty bytes.now)) }
 {
     let message = merged(alloc, M::empty(alloc), bytes, room)?;
     let mut messages = before.into_vec();
@@ -98,9 +98,8 @@ pub fn read_on<M: Message>(
     Ok(Repeated::from_vec(messages))
 }
 
-/// A known message has its value and its faults by the same rules as a body, one level deeper. At depth 101 it is refused.
+/// A known message has its value and its faults by the same rules as a body, one level deeper. At depth 101 it is
+/// refused. What is inside an attribute's value has a law of its own ([`crate::attribute_values_inside`]).
 pub fn messages_inside<M: Message>()
-    ensures value { (room : ℕ) (a b : M.Data) (bytes : List ℕ) → (read_with M.step (suc room) a bytes ≡ Ok b) ↔ Makes (M.step room) (100 - room) a bytes b }
-    ensures fault { (room : ℕ) (a : M.Data) (bytes : List ℕ) (fault : ReadFault) → read_with M.step (suc room) a bytes ≡ Err fault → Stands (M.step room) (100 - room) a bytes fault }
-    ensures deep { (a : M.Data) (bytes : List ℕ) → read_with M.step 0 a bytes ≡ Err TooDeep }
+    ensures { ReadsByFields M.step (read_with M.step) }
 {}

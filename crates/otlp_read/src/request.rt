@@ -1,15 +1,15 @@
 //! Requests, and the groups of spans in them.
 
-ghost use Rattle.std.specs.Prelude.{◌≡◌, ◌≢◌, ◌↔◌, ◌++◌, ℕ, List, Ok, Err, IfOk, IfErr};
+ghost use Rattle.std.specs.Prelude.{◌≡◌, ◌≢◌, ◌↔◌, ℕ, List, Ok, Err, IfOk, IfErr};
 ghost use Rattle.otlp_trace.specs.Data.{ResourceData, ScopeData, ScopeSpansData, ResourceSpansData, RequestData};
 ghost use Rattle.otlp_trace.specs.View.{resource_view, scope_view, scope_spans_view, resource_spans_view, request_view};
 ghost use Rattle.otlp_read.specs.declared.fault.ReadFault.{ReadFault};
 ghost use Rattle.otlp_read.specs.Fault.{Gives};
-ghost use Rattle.otlp_read.specs.Walk.{Piece, fold_fields, with_more};
+ghost use Rattle.otlp_read.specs.Walk.{MergesLists};
 ghost use Rattle.otlp_read.specs.Value.{no_resource, no_scope, no_scope_spans, no_resource_spans, no_request, resource_step, scope_step, scope_spans_step, resource_spans_step, request_step, value_of, IsValue, IsFault};
 
 use crate::fault::ReadFault;
-use crate::leaf::{keep, low32, text};
+use crate::leaf::{keep, low32, string};
 use crate::message::{LEVELS, Message, merged, merged_into, read_on};
 use otlp_trace::{
     ExportTraceServiceRequest, InstrumentationScope, Octets, Repeated, Resource, ResourceSpans,
@@ -43,22 +43,13 @@ impl Message for Resource {
         room: u32,
     ) -> Result<Resource, ReadFault> {
         let mut resource = self;
-        match field.value {
-            Value::Varint(n) => {
-                if field.number == 2 {
-                    resource.dropped_attributes_count = low32(n);
-                    return Ok(resource);
-                }
+        match (field.number, field.value) {
+            (1, Value::Bytes(bytes)) => {
+                resource.attributes = read_on(alloc, resource.attributes, bytes, room)?;
             }
-            Value::Bytes(bytes) => {
-                if field.number == 1 {
-                    resource.attributes = read_on(alloc, resource.attributes, bytes, room)?;
-                    return Ok(resource);
-                }
-            }
-            _ => {}
+            (2, Value::Varint(n)) => resource.dropped_attributes_count = low32(n),
+            _ => resource.unknown = keep(resource.unknown, spelled)?,
         }
-        resource.unknown = keep(resource.unknown, spelled)?;
         Ok(resource)
     }
 }
@@ -90,30 +81,15 @@ impl Message for InstrumentationScope {
         room: u32,
     ) -> Result<InstrumentationScope, ReadFault> {
         let mut scope = self;
-        match field.value {
-            Value::Varint(n) => {
-                if field.number == 4 {
-                    scope.dropped_attributes_count = low32(n);
-                    return Ok(scope);
-                }
+        match (field.number, field.value) {
+            (1, Value::Bytes(bytes)) => scope.name = string(alloc, bytes)?,
+            (2, Value::Bytes(bytes)) => scope.version = string(alloc, bytes)?,
+            (3, Value::Bytes(bytes)) => {
+                scope.attributes = read_on(alloc, scope.attributes, bytes, room)?;
             }
-            Value::Bytes(bytes) => {
-                if field.number == 1 {
-                    scope.name = text(alloc, bytes)?;
-                    return Ok(scope);
-                }
-                if field.number == 2 {
-                    scope.version = text(alloc, bytes)?;
-                    return Ok(scope);
-                }
-                if field.number == 3 {
-                    scope.attributes = read_on(alloc, scope.attributes, bytes, room)?;
-                    return Ok(scope);
-                }
-            }
-            _ => {}
+            (4, Value::Varint(n)) => scope.dropped_attributes_count = low32(n),
+            _ => scope.unknown = keep(scope.unknown, spelled)?,
         }
-        scope.unknown = keep(scope.unknown, spelled)?;
         Ok(scope)
     }
 }
@@ -143,19 +119,15 @@ impl Message for ScopeSpans {
         room: u32,
     ) -> Result<ScopeSpans, ReadFault> {
         let mut scope_spans = self;
-        if let Value::Bytes(bytes) = field.value {
-            if field.number == 1 {
+        match (field.number, field.value) {
+            (1, Value::Bytes(bytes)) => {
                 scope_spans.scope = Some(merged_into(alloc, scope_spans.scope, bytes, room)?);
-                return Ok(scope_spans);
             }
-            if field.number == 2 {
+            (2, Value::Bytes(bytes)) => {
                 scope_spans.spans = read_on(alloc, scope_spans.spans, bytes, room)?;
-                return Ok(scope_spans);
             }
-            if field.number == 3 {
-                scope_spans.schema_url = text(alloc, bytes)?;
-                return Ok(scope_spans);
-            }
+            (3, Value::Bytes(bytes)) => scope_spans.schema_url = string(alloc, bytes)?,
+            _ => {}
         }
         Ok(scope_spans)
     }
@@ -186,19 +158,15 @@ impl Message for ResourceSpans {
         room: u32,
     ) -> Result<ResourceSpans, ReadFault> {
         let mut group = self;
-        if let Value::Bytes(bytes) = field.value {
-            if field.number == 1 {
+        match (field.number, field.value) {
+            (1, Value::Bytes(bytes)) => {
                 group.resource = Some(merged_into(alloc, group.resource, bytes, room)?);
-                return Ok(group);
             }
-            if field.number == 2 {
+            (2, Value::Bytes(bytes)) => {
                 group.scope_spans = read_on(alloc, group.scope_spans, bytes, room)?;
-                return Ok(group);
             }
-            if field.number == 3 {
-                group.schema_url = text(alloc, bytes)?;
-                return Ok(group);
-            }
+            (3, Value::Bytes(bytes)) => group.schema_url = string(alloc, bytes)?,
+            _ => {}
         }
         Ok(group)
     }
@@ -227,11 +195,8 @@ impl Message for ExportTraceServiceRequest {
         room: u32,
     ) -> Result<ExportTraceServiceRequest, ReadFault> {
         let mut request = self;
-        if let Value::Bytes(bytes) = field.value {
-            if field.number == 1 {
-                request.resource_spans = read_on(alloc, request.resource_spans, bytes, room)?;
-                return Ok(request);
-            }
+        if let (1, Value::Bytes(bytes)) = (field.number, field.value) {
+            request.resource_spans = read_on(alloc, request.resource_spans, bytes, room)?;
         }
         Ok(request)
     }
@@ -249,7 +214,7 @@ fn body(alloc: Global, bytes: &[u8]) -> Result<ExportTraceServiceRequest, ReadFa
     )
 }
 
-/// The request that a body is. The bytes aren't kept: what is read has copies. After a fault nothing is left of what was read.
+/// The request that a body is. It borrows nothing of the bytes. After a fault nothing is left of what was read.
 pub fn read_request(alloc: Global, bytes: &[u8]) -> Result<ExportTraceServiceRequest, ReadFault>
     // What is read is the value of the body.
     ensures value { IfOk result (λ request. IsValue bytes.now (request_view request)) }
@@ -266,8 +231,9 @@ pub fn read_request(alloc: Global, bytes: &[u8]) -> Result<ExportTraceServiceReq
 /// Each body has a value or a fault that stands in it, and none has both. What the fields of a body make is what the
 /// fields of its first part make, and then those of the other.
 pub fn values_or_faults()
-    ensures apart { (bytes : List ℕ) (v : RequestData) (fault : ReadFault) → IsFault bytes fault → IsValue bytes v → ⊥ }
+    ensures apart { (bytes : List ℕ) (v : RequestData) (fault : ReadFault) →
+        IsFault bytes fault → IsValue bytes v → ⊥ }
     ensures exact { (bytes : List ℕ) (v : RequestData) → (value_of bytes ≡ Ok v) ↔ IsValue bytes v }
     ensures fault { (bytes : List ℕ) (fault : ReadFault) → value_of bytes ≡ Err fault → IsFault bytes fault }
-    ensures merge { (v : RequestData) (xs ys : List Piece) → fold_fields (request_step 100) v (xs ++ ys) ≡ with_more (request_step 100) (fold_fields (request_step 100) v xs) ys }
+    ensures merge { MergesLists (request_step 100) }
 {}

@@ -1,16 +1,17 @@
 //! Replies, read without memory of their own.
 
-ghost use Rattle.std.specs.Prelude.{◌≡◌, ◌≢◌, ◌≤◌, ℕ, List, IfOk, IfErr, IsOkAnd};
+ghost use Rattle.std.specs.Prelude.{◌≡◌, ◌≢◌, ◌≤◌, ◌↔◌, ℕ, List, Ok, Err, IfOk, IfErr, IsOkAnd};
 ghost use Rattle.pb_wire.specs.Grammar.{entry};
 ghost use Rattle.otlp_trace.specs.Data.{PartialSuccessData, ResponseData};
 ghost use Rattle.otlp_read.specs.declared.fault.ReadFault.{ReadFault};
 ghost use Rattle.otlp_read.specs.Fault.{Gives};
+ghost use Rattle.otlp_read.specs.Inside.{ReadsByFields};
 ghost use Rattle.otlp_read.specs.Reply.{partial_view, reply_view};
-ghost use Rattle.otlp_read.specs.Response.{partial_success_step, response_step, IsResponse, IsResponseFault};
-ghost use Rattle.otlp_read.specs.Walk.{Step, read_with};
+ghost use Rattle.otlp_read.specs.Response.{partial_success_step, response_step, response_value_of, IsResponse, IsResponseFault};
+ghost use Rattle.otlp_read.specs.Walk.{Step, MergesLists, read_with};
 
 use crate::fault::ReadFault;
-use crate::leaf::borrowed_text;
+use crate::leaf::borrowed_string;
 use crate::message::LEVELS;
 use pb_wire::{Field, Value, next_field};
 
@@ -34,7 +35,8 @@ trait Borrowed<'a>: Copy {
     /// The message after one more field. Messages in the field have room for so many levels.
     fn field(self, field: Field<'a>, room: u32) -> Result<Self, ReadFault>
         requires room { room ≤ 100 }
-        ensures exact { (spelled : List ℕ) → Gives view result (step room (view self) (entry field.entry) spelled) }
+        ensures exact { (spelled : List ℕ) →
+            Gives view result (step room (view self) (entry field.entry) spelled) }
         ensures memory { IfErr result (λ fault. fault ≢ ReadFault.OutOfMemory) };
 }
 
@@ -47,25 +49,12 @@ impl<'a> Borrowed<'a> for Partial<'a> {
 
     fn field(self, field: Field<'a>, _room: u32) -> Result<Partial<'a>, ReadFault> {
         let mut partial = self;
-        match field.value {
-            Value::Varint(n) => {
-                if field.number == 1 {
-                    partial.rejected_spans = n.cast_signed();
-                    Ok(partial)
-                } else {
-                    Ok(partial)
-                }
-            }
-            Value::Bytes(bytes) => {
-                if field.number == 2 {
-                    partial.error_message = borrowed_text(bytes)?;
-                    Ok(partial)
-                } else {
-                    Ok(partial)
-                }
-            }
-            _ => Ok(partial),
+        match (field.number, field.value) {
+            (1, Value::Varint(n)) => partial.rejected_spans = n.cast_signed(),
+            (2, Value::Bytes(bytes)) => partial.error_message = borrowed_string(bytes)?,
+            _ => {}
         }
+        Ok(partial)
     }
 }
 
@@ -77,20 +66,16 @@ impl<'a> Borrowed<'a> for Option<Partial<'a>> {
     ghost step = { response_step };
 
     fn field(self, field: Field<'a>, room: u32) -> Result<Option<Partial<'a>>, ReadFault> {
-        match field.value {
-            Value::Bytes(bytes) => {
-                if field.number == 1 {
-                    let start = match self {
-                        Some(partial) => partial,
-                        None => Partial {
-                            rejected_spans: 0,
-                            error_message: "",
-                        },
-                    };
-                    Ok(Some(lent(start, bytes, room)?))
-                } else {
-                    Ok(self)
-                }
+        match (field.number, field.value) {
+            (1, Value::Bytes(bytes)) => {
+                let start = match self {
+                    Some(partial) => partial,
+                    None => Partial {
+                        rejected_spans: 0,
+                        error_message: "",
+                    },
+                };
+                Ok(Some(lent(start, bytes, room)?))
             }
             _ => Ok(self),
         }
@@ -132,3 +117,16 @@ pub fn read_response(bytes: &[u8]) -> Result<Option<Partial<'_>>, ReadFault>
 {
     lent(None, bytes, LEVELS)
 }
+
+/// Each reply's body has a value or a fault that stands in it, and none has both. What the fields of a body make is
+/// what the fields of its first part make, and then those of the other. A partial success is read by the same rules, one
+/// level deeper.
+pub fn responses_or_faults()
+    ensures apart { (bytes : List ℕ) (v : ResponseData) (fault : ReadFault) →
+        IsResponseFault bytes fault → IsResponse bytes v → ⊥ }
+    ensures exact { (bytes : List ℕ) (v : ResponseData) → (response_value_of bytes ≡ Ok v) ↔ IsResponse bytes v }
+    ensures fault { (bytes : List ℕ) (fault : ReadFault) →
+        response_value_of bytes ≡ Err fault → IsResponseFault bytes fault }
+    ensures merge { MergesLists (response_step 100) }
+    ensures partial_success { ReadsByFields partial_success_step (read_with partial_success_step) }
+{}

@@ -2,15 +2,16 @@
 //!
 //! A message is taken and given back by value. What takes one field is inlined, so that a span isn't copied for each.
 
-ghost use Rattle.std.specs.Prelude.{◌≡◌, ◌≤◌, ◌<◌, ℕ};
+ghost use Rattle.std.specs.Prelude.{◌≡◌, ◌≤◌, ◌<◌, ◌⊎◌, ℕ, List};
 ghost use Rattle.pb_wire.specs.Grammar.{Varint, Eight, Bytes};
 ghost use Rattle.otlp_trace.specs.Data.{StatusData, EventData, LinkData, SpanData};
 ghost use Rattle.otlp_trace.specs.View.{status_view, event_view, link_view, span_view};
 ghost use Rattle.otlp_read.specs.Fault.{Gives};
+ghost use Rattle.otlp_read.specs.Walk.{numbered};
 ghost use Rattle.otlp_read.specs.Value.{no_status, no_event, no_link, no_span, status_step, event_step, link_step, span_step};
 
 use crate::fault::ReadFault;
-use crate::leaf::{keep, low32, text};
+use crate::leaf::{keep, low32, string};
 use crate::message::{Message, merged_into, read_on};
 use otlp_trace::{Event, Link, Octets, Repeated, Span, Status};
 use pb_wire::{Field, Value};
@@ -41,22 +42,11 @@ impl Message for Status {
         _room: u32,
     ) -> Result<Status, ReadFault> {
         let mut status = self;
-        match field.value {
-            Value::Varint(n) => {
-                if field.number == 3 {
-                    status.code = low32(n).cast_signed();
-                    return Ok(status);
-                }
-            }
-            Value::Bytes(bytes) => {
-                if field.number == 2 {
-                    status.message = text(alloc, bytes)?;
-                    return Ok(status);
-                }
-            }
-            _ => {}
+        match (field.number, field.value) {
+            (2, Value::Bytes(bytes)) => status.message = string(alloc, bytes)?,
+            (3, Value::Varint(n)) => status.code = low32(n).cast_signed(),
+            _ => status.unknown = keep(status.unknown, spelled)?,
         }
-        status.unknown = keep(status.unknown, spelled)?;
         Ok(status)
     }
 }
@@ -88,32 +78,15 @@ impl Message for Event {
         room: u32,
     ) -> Result<Event, ReadFault> {
         let mut event = self;
-        match field.value {
-            Value::Varint(n) => {
-                if field.number == 4 {
-                    event.dropped_attributes_count = low32(n);
-                    return Ok(event);
-                }
+        match (field.number, field.value) {
+            (1, Value::Eight(bytes)) => event.time_unix_nano = u64::from_le_bytes(bytes),
+            (2, Value::Bytes(bytes)) => event.name = string(alloc, bytes)?,
+            (3, Value::Bytes(bytes)) => {
+                event.attributes = read_on(alloc, event.attributes, bytes, room)?;
             }
-            Value::Eight(bytes) => {
-                if field.number == 1 {
-                    event.time_unix_nano = u64::from_le_bytes(bytes);
-                    return Ok(event);
-                }
-            }
-            Value::Bytes(bytes) => {
-                if field.number == 2 {
-                    event.name = text(alloc, bytes)?;
-                    return Ok(event);
-                }
-                if field.number == 3 {
-                    event.attributes = read_on(alloc, event.attributes, bytes, room)?;
-                    return Ok(event);
-                }
-            }
-            _ => {}
+            (4, Value::Varint(n)) => event.dropped_attributes_count = low32(n),
+            _ => event.unknown = keep(event.unknown, spelled)?,
         }
-        event.unknown = keep(event.unknown, spelled)?;
         Ok(event)
     }
 }
@@ -147,61 +120,17 @@ impl Message for Link {
         room: u32,
     ) -> Result<Link, ReadFault> {
         let mut link = self;
-        match field.value {
-            Value::Varint(n) => {
-                if field.number == 5 {
-                    link.dropped_attributes_count = low32(n);
-                    return Ok(link);
-                }
+        match (field.number, field.value) {
+            (1, Value::Bytes(bytes)) => link.trace_id = Octets::from_slice(alloc, bytes)?,
+            (2, Value::Bytes(bytes)) => link.span_id = Octets::from_slice(alloc, bytes)?,
+            (3, Value::Bytes(bytes)) => link.trace_state = string(alloc, bytes)?,
+            (4, Value::Bytes(bytes)) => {
+                link.attributes = read_on(alloc, link.attributes, bytes, room)?;
             }
-            Value::Four(bytes) => {
-                if field.number == 6 {
-                    link.flags = u32::from_le_bytes(bytes);
-                    return Ok(link);
-                }
-            }
-            Value::Bytes(bytes) => return link_bytes(
-                alloc,
-                link,
-                field.number,
-                bytes,
-                spelled,
-                room,
-            ),
-            _ => {}
+            (5, Value::Varint(n)) => link.dropped_attributes_count = low32(n),
+            (6, Value::Four(bytes)) => link.flags = u32::from_le_bytes(bytes),
+            _ => link.unknown = keep(link.unknown, spelled)?,
         }
-        link.unknown = keep(link.unknown, spelled)?;
-        Ok(link)
-    }
-}
-
-/// The link after one more field that holds these bytes.
-fn link_bytes(
-    alloc: Global,
-    before: Link,
-    number: u32,
-    bytes: &[u8],
-    spelled: &[u8],
-    room: u32,
-) -> Result<Link, ReadFault>
-    requires room { room ≤ 100 }
-    ensures { Gives link_view result (link_step room (link_view before) (record { number = number; value = Bytes bytes.now }) spelled.now) }
-{
-    let mut link = before;
-    if number == 1 {
-        link.trace_id = Octets::from_slice(alloc, bytes)?;
-        Ok(link)
-    } else if number == 2 {
-        link.span_id = Octets::from_slice(alloc, bytes)?;
-        Ok(link)
-    } else if number == 3 {
-        link.trace_state = text(alloc, bytes)?;
-        Ok(link)
-    } else if number == 4 {
-        link.attributes = read_on(alloc, link.attributes, bytes, room)?;
-        Ok(link)
-    } else {
-        link.unknown = keep(link.unknown, spelled)?;
         Ok(link)
     }
 }
@@ -248,17 +177,12 @@ impl Message for Span {
         match field.value {
             Value::Varint(n) => span_number(span, field.number, n, spelled),
             Value::Eight(bytes) => span_time(span, field.number, bytes, spelled),
-            Value::Four(bytes) => {
-                if field.number == 16 {
-                    span.flags = u32::from_le_bytes(bytes);
-                    Ok(span)
-                } else {
-                    span.unknown = keep(span.unknown, spelled)?;
-                    Ok(span)
-                }
-            }
             Value::Bytes(bytes) => span_bytes(alloc, span, field.number, bytes, spelled, room),
-            Value::Group(_) => {
+            Value::Four(bytes) if field.number == 16 => {
+                span.flags = u32::from_le_bytes(bytes);
+                Ok(span)
+            }
+            Value::Four(_) | Value::Group(_) => {
                 span.unknown = keep(span.unknown, spelled)?;
                 Ok(span)
             }
@@ -269,43 +193,33 @@ impl Message for Span {
 /// The span after one more field that holds a varint.
 #[inline(always)]
 fn span_number(before: Span, number: u32, n: u64, spelled: &[u8]) -> Result<Span, ReadFault>
-    ensures exact { (room : ℕ) → Gives span_view result (span_step room (span_view before) (record { number = number; value = Varint n }) spelled.now) }
+    ensures exact { (room : ℕ) →
+        Gives span_view result (span_step room (span_view before) (numbered number (Varint n)) spelled.now) }
 {
     let mut span = before;
-    if number == 6 {
-        span.kind = low32(n).cast_signed();
-        Ok(span)
-    } else if number == 10 {
-        span.dropped_attributes_count = low32(n);
-        Ok(span)
-    } else if number == 12 {
-        span.dropped_events_count = low32(n);
-        Ok(span)
-    } else if number == 14 {
-        span.dropped_links_count = low32(n);
-        Ok(span)
-    } else {
-        span.unknown = keep(span.unknown, spelled)?;
-        Ok(span)
+    match number {
+        6 => span.kind = low32(n).cast_signed(),
+        10 => span.dropped_attributes_count = low32(n),
+        12 => span.dropped_events_count = low32(n),
+        14 => span.dropped_links_count = low32(n),
+        _ => span.unknown = keep(span.unknown, spelled)?,
     }
+    Ok(span)
 }
 
 /// The span after one more field of eight bytes.
 #[inline(always)]
 fn span_time(before: Span, number: u32, bytes: [u8; 8], spelled: &[u8]) -> Result<Span, ReadFault>
-    ensures exact { (room : ℕ) → Gives span_view result (span_step room (span_view before) (record { number = number; value = Eight bytes }) spelled.now) }
+    ensures exact { (room : ℕ) →
+        Gives span_view result (span_step room (span_view before) (numbered number (Eight bytes)) spelled.now) }
 {
     let mut span = before;
-    if number == 7 {
-        span.start_time_unix_nano = u64::from_le_bytes(bytes);
-        Ok(span)
-    } else if number == 8 {
-        span.end_time_unix_nano = u64::from_le_bytes(bytes);
-        Ok(span)
-    } else {
-        span.unknown = keep(span.unknown, spelled)?;
-        Ok(span)
+    match number {
+        7 => span.start_time_unix_nano = u64::from_le_bytes(bytes),
+        8 => span.end_time_unix_nano = u64::from_le_bytes(bytes),
+        _ => span.unknown = keep(span.unknown, spelled)?,
     }
+    Ok(span)
 }
 
 /// The span after one more field that holds these bytes.
@@ -319,34 +233,50 @@ fn span_bytes(
     room: u32,
 ) -> Result<Span, ReadFault>
     requires room { room ≤ 100 }
-    ensures { Gives span_view result (span_step room (span_view before) (record { number = number; value = Bytes bytes.now }) spelled.now) }
+    ensures { Gives span_view result
+        (span_step room (span_view before) (numbered number (Bytes bytes.now)) spelled.now) }
 {
-    if number > 5 {
-        return span_message(alloc, before, number, bytes, spelled, room);
-    }
-    let mut span = before;
-    if number == 1 {
-        span.trace_id = Octets::from_slice(alloc, bytes)?;
-        Ok(span)
-    } else if number == 2 {
-        span.span_id = Octets::from_slice(alloc, bytes)?;
-        Ok(span)
-    } else if number == 3 {
-        span.trace_state = text(alloc, bytes)?;
-        Ok(span)
-    } else if number == 4 {
-        span.parent_span_id = Octets::from_slice(alloc, bytes)?;
-        Ok(span)
-    } else if number == 5 {
-        span.name = text(alloc, bytes)?;
-        Ok(span)
-    } else {
-        span.unknown = keep(span.unknown, spelled)?;
-        Ok(span)
+    match number {
+        1 | 2 | 4 => span_id(alloc, before, number, bytes),
+        3 | 5 => span_string(alloc, before, number, bytes),
+        _ => span_message(alloc, before, number, bytes, spelled, room),
     }
 }
 
-/// The span after one more field that holds these bytes, with a number above those of ids and texts.
+/// The span after one more id.
+#[inline(always)]
+fn span_id(alloc: Global, before: Span, number: u32, bytes: &[u8]) -> Result<Span, ReadFault>
+    requires number { (number ≡ 1) ⊎ ((number ≡ 2) ⊎ (number ≡ 4)) }
+    ensures exact { (room : ℕ) (spelled : List ℕ) →
+        Gives span_view result (span_step room (span_view before) (numbered number (Bytes bytes.now)) spelled) }
+{
+    let mut span = before;
+    let id = Octets::from_slice(alloc, bytes)?;
+    match number {
+        1 => span.trace_id = id,
+        2 => span.span_id = id,
+        _ => span.parent_span_id = id,
+    }
+    Ok(span)
+}
+
+/// The span after one more string.
+#[inline(always)]
+fn span_string(alloc: Global, before: Span, number: u32, bytes: &[u8]) -> Result<Span, ReadFault>
+    requires number { (number ≡ 3) ⊎ (number ≡ 5) }
+    ensures exact { (room : ℕ) (spelled : List ℕ) →
+        Gives span_view result (span_step room (span_view before) (numbered number (Bytes bytes.now)) spelled) }
+{
+    let mut span = before;
+    let found = string(alloc, bytes)?;
+    match number {
+        3 => span.trace_state = found,
+        _ => span.name = found,
+    }
+    Ok(span)
+}
+
+/// The span after one more message, or one more field of bytes that isn't known.
 #[inline(always)]
 fn span_message(
     alloc: Global,
@@ -356,25 +286,18 @@ fn span_message(
     spelled: &[u8],
     room: u32,
 ) -> Result<Span, ReadFault>
-    requires number { 5 < number }
+    requires number { (number ≡ 0) ⊎ (5 < number) }
     requires room { room ≤ 100 }
-    ensures { Gives span_view result (span_step room (span_view before) (record { number = number; value = Bytes bytes.now }) spelled.now) }
+    ensures { Gives span_view result
+        (span_step room (span_view before) (numbered number (Bytes bytes.now)) spelled.now) }
 {
     let mut span = before;
-    if number == 9 {
-        span.attributes = read_on(alloc, span.attributes, bytes, room)?;
-        Ok(span)
-    } else if number == 11 {
-        span.events = read_on(alloc, span.events, bytes, room)?;
-        Ok(span)
-    } else if number == 13 {
-        span.links = read_on(alloc, span.links, bytes, room)?;
-        Ok(span)
-    } else if number == 15 {
-        span.status = Some(merged_into(alloc, span.status, bytes, room)?);
-        Ok(span)
-    } else {
-        span.unknown = keep(span.unknown, spelled)?;
-        Ok(span)
+    match number {
+        9 => span.attributes = read_on(alloc, span.attributes, bytes, room)?,
+        11 => span.events = read_on(alloc, span.events, bytes, room)?,
+        13 => span.links = read_on(alloc, span.links, bytes, room)?,
+        15 => span.status = Some(merged_into(alloc, span.status, bytes, room)?),
+        _ => span.unknown = keep(span.unknown, spelled)?,
     }
+    Ok(span)
 }

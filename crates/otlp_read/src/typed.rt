@@ -1,7 +1,7 @@
 //! What the types of the code give of a message: strings are UTF-8, and numbers fit their widths.
 //!
-//! A message behind a reference is known to be typed once its parts have been gone over, and a number in it to fit once it
-//! has been read. So the functions below do nothing else.
+//! A message behind a reference is known to be typed once its parts have been gone over, and a number in it to fit once
+//! it has been read. So the functions below do nothing else.
 
 ghost use Rattle.std.specs.Prelude.{◌≡◌, length, map, option_map, IfSome};
 ghost use Rattle.std.specs.List.{AllByRecursion};

@@ -1,14 +1,16 @@
 //! Attribute values, which may hold others. What takes one field is inlined, as for spans.
 
-ghost use Rattle.std.specs.Prelude.{◌≡◌, ◌≤◌, ℕ};
+ghost use Rattle.std.specs.Prelude.{◌≡◌, ◌≤◌, ℕ, List};
 ghost use Rattle.pb_wire.specs.Grammar.{entry, Bytes};
 ghost use Rattle.otlp_trace.specs.Data.{KeyValueData};
-ghost use Rattle.otlp_trace.specs.View.{any_view, array_view, list_view, key_value_view};
-ghost use Rattle.otlp_read.specs.AnyValue.{no_value, no_array, no_list, no_key_value, any_step, array_step, list_step, key_value_step_of, key_value_step, read_any, read_array, read_list, read_key_value};
+ghost use Rattle.otlp_trace.specs.View.{any_view, kind_view, array_view, list_view, key_value_view};
+ghost use Rattle.otlp_read.specs.AnyValue.{no_value, no_array, no_list, no_key_value, array_in, list_in, any_step_in, array_step_in, list_step_in, key_value_step, read_any, read_array, read_list, read_key_value};
 ghost use Rattle.otlp_read.specs.Fault.{Gives};
+ghost use Rattle.otlp_read.specs.Inside.{ReadsByFields};
+ghost use Rattle.otlp_read.specs.Walk.{read_with, numbered};
 
 use crate::fault::ReadFault;
-use crate::leaf::{keep, text};
+use crate::leaf::{keep, string};
 use crate::message::Message;
 use otlp_trace::{AnyValue, AnyValueKind, ArrayValue, DoubleBits, KeyValue, KeyValueList, Octets};
 use pb_wire::{Field, Value, next_field};
@@ -38,6 +40,26 @@ fn empty_list(alloc: Global) -> KeyValueList
     KeyValueList {
         values: Vec::new(alloc),
         unknown: Octets::new(alloc),
+    }
+}
+
+/// The array that is chosen, or one of no values.
+fn chosen_array(alloc: Global, kind: AnyValueKind) -> ArrayValue
+    ensures { array_view result ≡ array_in (kind_view kind) }
+{
+    match kind {
+        AnyValueKind::Array(array) => array,
+        _ => empty_array(alloc),
+    }
+}
+
+/// The list that is chosen, or one of no keys.
+fn chosen_list(alloc: Global, kind: AnyValueKind) -> KeyValueList
+    ensures { list_view result ≡ list_in (kind_view kind) }
+{
+    match kind {
+        AnyValueKind::KeyValueList(list) => list,
+        _ => empty_list(alloc),
     }
 }
 
@@ -86,33 +108,22 @@ fn any_field(
     room: u32,
 ) -> Result<AnyValue, ReadFault>
     requires room { room ≤ 100 }
-    ensures exact { Gives any_view result (any_step (read_array room) (read_list room) (any_view before) (entry field.entry) spelled.now) }
+    ensures exact { Gives any_view result
+        (any_step_in room (any_view before) (entry field.entry) spelled.now) }
 {
-    let AnyValue { kind, unknown } = before;
-    match field.value {
-        Value::Varint(n) => {
-            if field.number == 2 {
-                let kind = AnyValueKind::Bool(n != 0);
-                return Ok(AnyValue { kind, unknown });
-            }
-            if field.number == 3 {
-                let kind = AnyValueKind::Int(n.cast_signed());
-                return Ok(AnyValue { kind, unknown });
-            }
-        }
-        Value::Eight(bits) => {
-            if field.number == 4 {
-                let kind = AnyValueKind::Double(DoubleBits(bits));
-                return Ok(AnyValue { kind, unknown });
-            }
-        }
-        Value::Bytes(bytes) => {
-            let before = AnyValue { kind, unknown };
-            return any_bytes(alloc, before, field.number, bytes, spelled, room);
-        }
-        _ => {}
+    if let Value::Bytes(bytes) = field.value {
+        return any_bytes(alloc, before, field.number, bytes, spelled, room);
     }
-    let unknown = keep(unknown, spelled)?;
+    let AnyValue { kind, unknown } = before;
+    let kind = match (field.number, field.value) {
+        (2, Value::Varint(n)) => AnyValueKind::Bool(n != 0),
+        (3, Value::Varint(n)) => AnyValueKind::Int(n.cast_signed()),
+        (4, Value::Eight(bits)) => AnyValueKind::Double(DoubleBits(bits)),
+        _ => {
+            let unknown = keep(unknown, spelled)?;
+            return Ok(AnyValue { kind, unknown });
+        }
+    };
     Ok(AnyValue { kind, unknown })
 }
 
@@ -128,33 +139,27 @@ fn any_bytes(
     room: u32,
 ) -> Result<AnyValue, ReadFault>
     requires room { room ≤ 100 }
-    ensures exact { Gives any_view result (any_step (read_array room) (read_list room) (any_view before) (record { number = number; value = Bytes bytes.now }) spelled.now) }
+    ensures exact { Gives any_view result
+        (any_step_in room (any_view before) (numbered number (Bytes bytes.now)) spelled.now) }
 {
     let AnyValue { kind, unknown } = before;
-    if number == 1 {
-        let kind = AnyValueKind::String(text(alloc, bytes)?);
-        Ok(AnyValue { kind, unknown })
-    } else if number == 5 {
-        let start = match kind {
-            AnyValueKind::Array(array) => array,
-            _ => empty_array(alloc),
-        };
-        let kind = AnyValueKind::Array(array_value(alloc, start, bytes, room)?);
-        Ok(AnyValue { kind, unknown })
-    } else if number == 6 {
-        let start = match kind {
-            AnyValueKind::KeyValueList(list) => list,
-            _ => empty_list(alloc),
-        };
-        let kind = AnyValueKind::KeyValueList(key_value_list(alloc, start, bytes, room)?);
-        Ok(AnyValue { kind, unknown })
-    } else if number == 7 {
-        let kind = AnyValueKind::Bytes(Octets::from_slice(alloc, bytes)?);
-        Ok(AnyValue { kind, unknown })
-    } else {
-        let unknown = keep(unknown, spelled)?;
-        Ok(AnyValue { kind, unknown })
-    }
+    let kind = match number {
+        1 => AnyValueKind::String(string(alloc, bytes)?),
+        5 => {
+            let start = chosen_array(alloc, kind);
+            AnyValueKind::Array(array_value(alloc, start, bytes, room)?)
+        }
+        6 => {
+            let start = chosen_list(alloc, kind);
+            AnyValueKind::KeyValueList(key_value_list(alloc, start, bytes, room)?)
+        }
+        7 => AnyValueKind::Bytes(Octets::from_slice(alloc, bytes)?),
+        _ => {
+            let unknown = keep(unknown, spelled)?;
+            return Ok(AnyValue { kind, unknown });
+        }
+    };
+    Ok(AnyValue { kind, unknown })
 }
 
 /// Goes on reading an array, with room for so many levels, its own among them.
@@ -191,7 +196,8 @@ fn array_field(
     room: u32,
 ) -> Result<ArrayValue, ReadFault>
     requires room { room ≤ 100 }
-    ensures exact { Gives array_view result (array_step (read_any room) (array_view before) (entry field.entry) spelled.now) }
+    ensures exact { Gives array_view result
+        (array_step_in room (array_view before) (entry field.entry) spelled.now) }
 {
     let ArrayValue { values, unknown } = before;
     if let Value::Bytes(bytes) = field.value {
@@ -240,7 +246,8 @@ fn list_field(
     room: u32,
 ) -> Result<KeyValueList, ReadFault>
     requires room { room ≤ 100 }
-    ensures exact { Gives list_view result (list_step (read_key_value room) (list_view before) (entry field.entry) spelled.now) }
+    ensures exact { Gives list_view result
+        (list_step_in room (list_view before) (entry field.entry) spelled.now) }
 {
     let KeyValueList { values, unknown } = before;
     if let Value::Bytes(bytes) = field.value {
@@ -290,25 +297,28 @@ fn key_value_field(
     room: u32,
 ) -> Result<KeyValue, ReadFault>
     requires room { room ≤ 100 }
-    ensures exact { Gives key_value_view result (key_value_step_of (read_any room) (key_value_view before) (entry field.entry) spelled.now) }
+    ensures exact { Gives key_value_view result
+        (key_value_step room (key_value_view before) (entry field.entry) spelled.now) }
 {
-    if let Value::Bytes(bytes) = field.value {
-        if field.number == 1 {
-            let key = text(alloc, bytes)?;
-            return Ok(KeyValue { key, ..before });
+    match (field.number, field.value) {
+        (1, Value::Bytes(bytes)) => {
+            let key = string(alloc, bytes)?;
+            Ok(KeyValue { key, ..before })
         }
-        if field.number == 2 {
+        (2, Value::Bytes(bytes)) => {
             let old = before.value;
             let start = match old {
                 Some(value) => value,
                 None => empty_value(alloc),
             };
             let value = Some(any_value(alloc, start, bytes, room)?);
-            return Ok(KeyValue { value, ..before });
+            Ok(KeyValue { value, ..before })
+        }
+        _ => {
+            let unknown = keep(before.unknown, spelled)?;
+            Ok(KeyValue { unknown, ..before })
         }
     }
-    let unknown = keep(before.unknown, spelled)?;
-    Ok(KeyValue { unknown, ..before })
 }
 
 impl Message for KeyValue {
@@ -334,3 +344,14 @@ impl Message for KeyValue {
         key_value_field(alloc, self, field, spelled, room)
     }
 }
+
+/// What is inside an attribute has its values and faults by the same rules as a body: an attribute's value, the arrays
+/// and the lists in it, and their keys with values. A message's attribute is read as any message is.
+pub fn attribute_values_inside()
+    ensures value { ReadsByFields any_step_in read_any }
+    ensures array { ReadsByFields array_step_in read_array }
+    ensures list { ReadsByFields list_step_in read_list }
+    ensures key_value { ReadsByFields key_value_step read_key_value }
+    ensures attribute { (room : ℕ) (p : KeyValueData) (bytes : List ℕ) →
+        read_with key_value_step room p bytes ≡ read_key_value room p bytes }
+{}

@@ -24,7 +24,7 @@ use Rattle.otlp_read.specs.Value.{no_span, no_resource_spans, no_request, reques
 use Rattle.otlp_read.specs.Nested.{Kept, IsUnknown}
 use Rattle.otlp_read.proofs.Answered.{whole}
 use Rattle.otlp_read.proofs.Laws.{pieces_fields, makes, made, apart}
-use Rattle.otlp_read.proofs.tests.definitions_on_small_inputs.Goals as goal
+use Rattle.otlp_read_tests.proofs.definitions.definitions_on_small_inputs.Goals as goal
 
 -- ---- functions
 

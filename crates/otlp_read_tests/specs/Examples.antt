@@ -1,7 +1,7 @@
--- What the definitions of reading say of small bodies. Bodies are by hand, in hexadecimal, from the Protocol Buffers encoding
--- guide (https://protobuf.dev/programming-guides/encoding/; "the guide", whose section "Last One Wins" says what becomes of
--- fields that stand again) and the field numbers of opentelemetry-proto. A line that ends in → ⊥ says that the relation
--- doesn't hold there. `pos n` is n, and `negsuc n` is minus n minus 1.
+-- What the definitions of reading say of small bodies. Bodies are by hand, in hexadecimal, from the Protocol Buffers
+-- encoding guide (https://protobuf.dev/programming-guides/encoding/; "the guide", whose section "Last One Wins" says
+-- what becomes of fields that stand again) and the field numbers of opentelemetry-proto. A line that ends in → ⊥ says
+-- that the relation doesn't hold there. `pos n` is n, and `negsuc n` is minus n minus 1.
 use Rattle.std.specs.Prelude.{◌≡◌, ℕ, ◌+◌, ◌-◌, ◌^◌, ℤ, pos, negsuc, true, false, List, [], ◌∷◌, ◌++◌, replicate, Some, None, Ok, Err, codes}
 use Rattle.otlp_trace.specs.Data.{any_value, KindData, unset, string, boolean, int, double, array, kvlist, bytes, array_value, no_values, a_value, key_value_list, bare_key, key_value, no_key_values, a_key_value, StatusData, SpanData, RequestData, ResponseData}
 use Rattle.otlp_trace.specs.Examples.{example_bytes, example_request}
@@ -9,7 +9,7 @@ use Rattle.otlp_read.specs.declared.fault.ReadFault.{ReadFault}
 use Rattle.otlp_read.specs.declared.fault.ReadFault.TheVariants as faults
 use Rattle.otlp_read.specs.Numbers.{utf8, int32, uint32, int64, bool, fixed64, fixed32}
 use Rattle.otlp_read.specs.AnyValue.{no_value, no_array, read_any}
-use Rattle.otlp_read.specs.Value.{no_resource, no_scope, no_span, no_scope_spans, no_resource_spans, span_known, value_of, IsValue, IsFault}
+use Rattle.otlp_read.specs.Value.{no_resource, no_scope, no_event, no_link, no_span, no_scope_spans, no_resource_spans, span_known, value_of, IsValue, IsFault}
 use Rattle.otlp_read.specs.Nested.{Kept, NestedAny, NestedRequest}
 use Rattle.otlp_read.specs.Typed.{TypedStatus}
 use Rattle.otlp_read.specs.Response.{response_value_of, IsResponse, IsResponseFault}
@@ -46,7 +46,13 @@ body_of size text = 0x0a ∷ (size + 4) ∷ 0x12 ∷ (size + 2) ∷ 0x12 ∷ siz
 
 -- the request that has this span alone
 abbrev pub request_of : SpanData → RequestData
-request_of span = record { resource_spans = record no_resource_spans { scope_spans = record no_scope_spans { spans = span ∷ [] } ∷ [] } ∷ [] }
+request_of span = record {
+  resource_spans = record no_resource_spans {
+    scope_spans = record no_scope_spans {
+      spans = span ∷ [];
+    } ∷ [];
+  } ∷ [];
+}
 
 abbrev pub status_of : List ℕ → ℤ → StatusData
 status_of message code = record { message = message; code = code; unknown = [] }
@@ -54,16 +60,21 @@ status_of message code = record { message = message; code = code; unknown = [] }
 pub record Spans : Type 0 where
   pub plain : value_of (body_of 0 []) ≡ Ok (request_of no_span)
   -- the last kind: 1, and then 2
-  pub last_number : value_of (body_of 4 (0x30 ∷ 0x01 ∷ 0x30 ∷ 0x02 ∷ [])) ≡ Ok (request_of (record no_span { kind = pos 2 }))
+  pub last_number : value_of (body_of 4 (0x30 ∷ 0x01 ∷ 0x30 ∷ 0x02 ∷ []))
+      ≡ Ok (request_of (record no_span { kind = pos 2 }))
   -- the last name: "a", and then an empty one
   pub last_string : value_of (body_of 5 (0x2a ∷ 0x01 ∷ 0x61 ∷ 0x2a ∷ 0x00 ∷ [])) ≡ Ok (request_of no_span)
   -- a kind of minus one, in ten bytes and in five
-  pub ten_bytes : value_of (body_of 11 (0x30 ∷ 0xff ∷ 0xff ∷ 0xff ∷ 0xff ∷ 0xff ∷ 0xff ∷ 0xff ∷ 0xff ∷ 0xff ∷ 0x01 ∷ [])) ≡ Ok (request_of (record no_span { kind = negsuc 0 }))
-  pub five_bytes : value_of (body_of 6 (0x30 ∷ 0xff ∷ 0xff ∷ 0xff ∷ 0xff ∷ 0x0f ∷ [])) ≡ Ok (request_of (record no_span { kind = negsuc 0 }))
+  pub ten_bytes : value_of (body_of 11 (0x30 ∷ 0xff ∷ 0xff ∷ 0xff ∷ 0xff ∷ 0xff ∷ 0xff ∷ 0xff ∷ 0xff ∷ 0xff ∷ 0x01
+      ∷ [])) ≡ Ok (request_of (record no_span { kind = negsuc 0 }))
+  pub five_bytes : value_of (body_of 6 (0x30 ∷ 0xff ∷ 0xff ∷ 0xff ∷ 0xff ∷ 0x0f ∷ []))
+      ≡ Ok (request_of (record no_span { kind = negsuc 0 }))
   -- a status of code 2, and then one of message "m": both are merged
-  pub merged : value_of (body_of 9 (0x7a ∷ 0x02 ∷ 0x18 ∷ 0x02 ∷ 0x7a ∷ 0x03 ∷ 0x12 ∷ 0x01 ∷ 0x6d ∷ [])) ≡ Ok (request_of (record no_span { status = Some (status_of (codes "m") (pos 2)) }))
+  pub merged : value_of (body_of 9 (0x7a ∷ 0x02 ∷ 0x18 ∷ 0x02 ∷ 0x7a ∷ 0x03 ∷ 0x12 ∷ 0x01 ∷ 0x6d ∷ []))
+      ≡ Ok (request_of (record no_span { status = Some (status_of (codes "m") (pos 2)) }))
   -- the times 5 and 2^63 + 6, the flags 9, and three counts
-  pub numbers : value_of (body_of 30 (0x39 ∷ 0x05 ∷ 0 ∷ 0 ∷ 0 ∷ 0 ∷ 0 ∷ 0 ∷ 0 ∷ 0x41 ∷ 0x06 ∷ 0 ∷ 0 ∷ 0 ∷ 0 ∷ 0 ∷ 0 ∷ 0x80
+  pub numbers : value_of (body_of 30 (0x39 ∷ 0x05 ∷ 0 ∷ 0 ∷ 0 ∷ 0 ∷ 0 ∷ 0 ∷ 0 ∷ 0x41 ∷ 0x06 ∷ 0 ∷ 0 ∷ 0 ∷ 0 ∷ 0
+      ∷ 0 ∷ 0x80
       ∷ 0x85 ∷ 0x01 ∷ 0x09 ∷ 0 ∷ 0 ∷ 0 ∷ 0x50 ∷ 0x01 ∷ 0x60 ∷ 0x02 ∷ 0x70 ∷ 0x03 ∷ []))
       ≡ Ok (request_of (record no_span {
         start_time_unix_nano = 5;
@@ -73,18 +84,23 @@ pub record Spans : Type 0 where
         dropped_events_count = 2;
         dropped_links_count = 3;
       }))
-  -- Kept as spelled, in order: 1000: 1, with its 1 in two bytes; 1 as a number; the group 20 that holds 1: 5. The name "n"
-  -- between them is read, though its length has two bytes.
-  pub kept : value_of (body_of 18 (0xc0 ∷ 0x3e ∷ 0x81 ∷ 0x00 ∷ 0x08 ∷ 0x05 ∷ 0x2a ∷ 0x81 ∷ 0x00 ∷ 0x6e ∷ 0xa3 ∷ 0x01 ∷ 0x08 ∷ 0x05 ∷ 0xa4 ∷ 0x01 ∷ 0x30 ∷ 0x02 ∷ []))
-      ≡ Ok (request_of (record no_span { name = codes "n"; kind = pos 2; unknown = 0xc0 ∷ 0x3e ∷ 0x81 ∷ 0x00 ∷ 0x08 ∷ 0x05 ∷ 0xa3 ∷ 0x01 ∷ 0x08 ∷ 0x05 ∷ 0xa4 ∷ 0x01 ∷ [] }))
+  -- Kept as spelled, in order: 1000: 1, with its 1 in two bytes; 1 as a number; the group 20 that holds 1: 5. The name
+  -- "n" between them is read, though its length has two bytes.
+  pub kept : value_of (body_of 18 (0xc0 ∷ 0x3e ∷ 0x81 ∷ 0x00 ∷ 0x08 ∷ 0x05 ∷ 0x2a ∷ 0x81 ∷ 0x00 ∷ 0x6e ∷ 0xa3
+      ∷ 0x01 ∷ 0x08 ∷ 0x05 ∷ 0xa4 ∷ 0x01 ∷ 0x30 ∷ 0x02 ∷ []))
+      ≡ Ok (request_of (record no_span {
+        name = codes "n";
+        kind = pos 2;
+        unknown = 0xc0 ∷ 0x3e ∷ 0x81 ∷ 0x00 ∷ 0x08 ∷ 0x05 ∷ 0xa3 ∷ 0x01 ∷ 0x08 ∷ 0x05 ∷ 0xa4 ∷ 0x01 ∷ [];
+      }))
   -- two attributes, keys "a" and "b"; two events, the second one at 1; a link of trace id 0102
-  pub repeated : value_of (body_of 29 (0x4a ∷ 0x03 ∷ 0x0a ∷ 0x01 ∷ 0x61 ∷ 0x5a ∷ 0x00 ∷ 0x4a ∷ 0x03 ∷ 0x0a ∷ 0x01 ∷ 0x62 ∷ 0x6a ∷ 0x04 ∷ 0x0a ∷ 0x02 ∷ 0x01 ∷ 0x02
+  pub repeated : value_of (body_of 29 (0x4a ∷ 0x03 ∷ 0x0a ∷ 0x01 ∷ 0x61 ∷ 0x5a ∷ 0x00 ∷ 0x4a ∷ 0x03 ∷ 0x0a ∷ 0x01
+      ∷ 0x62 ∷ 0x6a ∷ 0x04 ∷ 0x0a ∷ 0x02 ∷ 0x01 ∷ 0x02
       ∷ 0x5a ∷ 0x09 ∷ 0x09 ∷ 0x01 ∷ 0 ∷ 0 ∷ 0 ∷ 0 ∷ 0 ∷ 0 ∷ 0 ∷ []))
       ≡ Ok (request_of (record no_span {
         attributes = bare_key (codes "a") [] ∷ bare_key (codes "b") [] ∷ [];
-        events = record { time_unix_nano = 0; name = []; attributes = []; dropped_attributes_count = 0; unknown = [] }
-            ∷ record { time_unix_nano = 1; name = []; attributes = []; dropped_attributes_count = 0; unknown = [] } ∷ [];
-        links = record { trace_id = 1 ∷ 2 ∷ []; span_id = []; trace_state = []; attributes = []; dropped_attributes_count = 0; flags = 0; unknown = [] } ∷ [];
+        events = no_event ∷ record no_event { time_unix_nano = 1 } ∷ [];
+        links = record no_link { trace_id = 1 ∷ 2 ∷ [] } ∷ [];
       }))
 
 -- ---- whole bodies, resources and scopes
@@ -94,13 +110,28 @@ pub record Groups : Type 0 where
   -- the example trace of opentelemetry-proto
   pub example : value_of example_bytes ≡ Ok example_request
   -- two resource spans stay two
-  pub two : value_of (0x0a ∷ 0x00 ∷ 0x0a ∷ 0x03 ∷ 0x1a ∷ 0x01 ∷ 0x75 ∷ []) ≡ Ok (record { resource_spans = no_resource_spans ∷ record no_resource_spans { schema_url = codes "u" } ∷ [] })
+  pub two : value_of (0x0a ∷ 0x00 ∷ 0x0a ∷ 0x03 ∷ 0x1a ∷ 0x01 ∷ 0x75 ∷ [])
+      ≡ Ok (record { resource_spans = no_resource_spans ∷ record no_resource_spans { schema_url = codes "u" } ∷ [] })
   -- a resource with a count of 3, and then one with the key "k": both are merged
-  pub merged : value_of (0x0a ∷ 0x0b ∷ 0x0a ∷ 0x02 ∷ 0x10 ∷ 0x03 ∷ 0x0a ∷ 0x05 ∷ 0x0a ∷ 0x03 ∷ 0x0a ∷ 0x01 ∷ 0x6b ∷ [])
-      ≡ Ok (record { resource_spans = record no_resource_spans { resource = Some (record no_resource { attributes = bare_key (codes "k") [] ∷ []; dropped_attributes_count = 3 }) } ∷ [] })
+  pub merged : value_of (0x0a ∷ 0x0b ∷ 0x0a ∷ 0x02 ∷ 0x10 ∷ 0x03 ∷ 0x0a ∷ 0x05 ∷ 0x0a ∷ 0x03 ∷ 0x0a ∷ 0x01 ∷ 0x6b
+      ∷ [])
+      ≡ Ok (record {
+        resource_spans = record no_resource_spans {
+          resource = Some (record no_resource {
+            attributes = bare_key (codes "k") [] ∷ [];
+            dropped_attributes_count = 3;
+          });
+        } ∷ [];
+      })
   -- a scope "n", kept 15: 1, and before it in the scope spans 4: 1, which is dropped
   pub scope : value_of (0x0a ∷ 0x0b ∷ 0x12 ∷ 0x09 ∷ 0x20 ∷ 0x01 ∷ 0x0a ∷ 0x05 ∷ 0x0a ∷ 0x01 ∷ 0x6e ∷ 0x78 ∷ 0x01 ∷ [])
-      ≡ Ok (record { resource_spans = record no_resource_spans { scope_spans = record no_scope_spans { scope = Some (record no_scope { name = codes "n"; unknown = 0x78 ∷ 0x01 ∷ [] }) } ∷ [] } ∷ [] })
+      ≡ Ok (record {
+        resource_spans = record no_resource_spans {
+          scope_spans = record no_scope_spans {
+            scope = Some (record no_scope { name = codes "n"; unknown = 0x78 ∷ 0x01 ∷ [] });
+          } ∷ [];
+        } ∷ [];
+      })
   -- a field 2 of a request, which no request has, is dropped, and nothing is looked at inside
   pub dropped : value_of (0x12 ∷ 0x01 ∷ 0x00 ∷ []) ≡ Ok (record { resource_spans = [] })
 
@@ -114,23 +145,35 @@ pub record Members : Type 0 where
   pub no_member : MakesMember [] unset
   pub empty_string : MakesMember (0x0a ∷ 0x00 ∷ []) (string [])
   pub two_is_true : MakesMember (0x10 ∷ 0x02 ∷ []) (boolean true)
-  pub minus_two : MakesMember (0x18 ∷ 0xfe ∷ 0xff ∷ 0xff ∷ 0xff ∷ 0xff ∷ 0xff ∷ 0xff ∷ 0xff ∷ 0xff ∷ 0x01 ∷ []) (int (negsuc 1))
+  pub minus_two : MakesMember (0x18 ∷ 0xfe ∷ 0xff ∷ 0xff ∷ 0xff ∷ 0xff ∷ 0xff ∷ 0xff ∷ 0xff ∷ 0xff ∷ 0x01
+      ∷ []) (int (negsuc 1))
   -- 1.0
-  pub of_double : MakesMember (0x21 ∷ 0x00 ∷ 0x00 ∷ 0x00 ∷ 0x00 ∷ 0x00 ∷ 0x00 ∷ 0xf0 ∷ 0x3f ∷ []) (double (0x00 ∷ 0x00 ∷ 0x00 ∷ 0x00 ∷ 0x00 ∷ 0x00 ∷ 0xf0 ∷ 0x3f ∷ []))
+  pub of_double : MakesMember (0x21 ∷ 0x00 ∷ 0x00 ∷ 0x00 ∷ 0x00 ∷ 0x00 ∷ 0x00 ∷ 0xf0 ∷ 0x3f ∷ []) (double (0x00
+      ∷ 0x00 ∷ 0x00 ∷ 0x00 ∷ 0x00 ∷ 0x00 ∷ 0xf0 ∷ 0x3f ∷ []))
   pub of_bytes : MakesMember (0x3a ∷ 0x01 ∷ 0xff ∷ []) (bytes (0xff ∷ []))
   -- {"k": 1}
-  pub of_list : MakesMember (0x32 ∷ 0x09 ∷ 0x0a ∷ 0x07 ∷ 0x0a ∷ 0x01 ∷ 0x6b ∷ 0x12 ∷ 0x02 ∷ 0x18 ∷ 0x01 ∷ []) (kvlist (key_value_list (a_key_value (key_value (codes "k") (any_value (int (pos 1)) []) []) no_key_values) []))
+  pub of_list : MakesMember (0x32 ∷ 0x09 ∷ 0x0a ∷ 0x07 ∷ 0x0a ∷ 0x01 ∷ 0x6b ∷ 0x12 ∷ 0x02 ∷ 0x18 ∷ 0x01
+      ∷ []) (kvlist (key_value_list (a_key_value (key_value (codes "k")
+      (any_value (int (pos 1)) []) []) no_key_values) []))
   -- the last of three members: 7, "s", and then true
   pub last : MakesMember (0x18 ∷ 0x07 ∷ 0x0a ∷ 0x01 ∷ 0x73 ∷ 0x10 ∷ 0x01 ∷ []) (boolean true)
   -- an array of one value, and one of a second: both are merged
-  pub merged : MakesMember (0x2a ∷ 0x02 ∷ 0x0a ∷ 0x00 ∷ 0x2a ∷ 0x04 ∷ 0x0a ∷ 0x02 ∷ 0x18 ∷ 0x01 ∷ []) (array (array_value (a_value no_value (a_value (any_value (int (pos 1)) []) no_values)) []))
+  pub merged : MakesMember (0x2a ∷ 0x02 ∷ 0x0a ∷ 0x00 ∷ 0x2a ∷ 0x04 ∷ 0x0a ∷ 0x02 ∷ 0x18 ∷ 0x01
+      ∷ []) (array (array_value (a_value no_value (a_value (any_value (int (pos 1)) []) no_values)) []))
   -- not so with another member between
-  pub parted : MakesMember (0x2a ∷ 0x02 ∷ 0x0a ∷ 0x00 ∷ 0x10 ∷ 0x01 ∷ 0x2a ∷ 0x04 ∷ 0x0a ∷ 0x02 ∷ 0x18 ∷ 0x01 ∷ []) (array (array_value (a_value (any_value (int (pos 1)) []) no_values) []))
+  pub parted : MakesMember (0x2a ∷ 0x02 ∷ 0x0a ∷ 0x00 ∷ 0x10 ∷ 0x01 ∷ 0x2a ∷ 0x04 ∷ 0x0a ∷ 0x02 ∷ 0x18 ∷ 0x01
+      ∷ []) (array (array_value (a_value (any_value (int (pos 1)) []) no_values) []))
   -- kept: 1 as a number, which isn't the member 1
   pub kept : read_any 97 no_value (0x08 ∷ 0x05 ∷ 0x10 ∷ 0x01 ∷ []) ≡ Ok (any_value (boolean true) (0x08 ∷ 0x05 ∷ []))
   -- an attribute of a resource, with no key: its value stands at depth 4, where 97 levels are left
   pub in_a_body : value_of (0x0a ∷ 0x08 ∷ 0x0a ∷ 0x06 ∷ 0x0a ∷ 0x04 ∷ 0x12 ∷ 0x02 ∷ 0x10 ∷ 0x02 ∷ [])
-      ≡ Ok (record { resource_spans = record no_resource_spans { resource = Some (record no_resource { attributes = key_value [] (any_value (boolean true) []) [] ∷ [] }) } ∷ [] })
+      ≡ Ok (record {
+        resource_spans = record no_resource_spans {
+          resource = Some (record no_resource {
+            attributes = key_value [] (any_value (boolean true) []) [] ∷ [];
+          });
+        } ∷ [];
+      })
   -- at depth 99 an array has room, at depth 100 it would be at 101
   pub room : read_any 2 no_value (0x2a ∷ 0x00 ∷ []) ≡ Ok (any_value (array no_array) [])
   pub no_room : read_any 1 no_value (0x2a ∷ 0x00 ∷ []) ≡ Err faults.TooDeep
@@ -169,7 +212,8 @@ pub record Relations : Type 0 where
 -- ---- what has to hold so that a text that was written reads back
 
 pub record Conditions : Type 0 where
-  -- A span, whose own depth is 3, may keep 1 as a number. It may not keep 6 as a number, which is its kind, nor half a field.
+  -- A span, whose own depth is 3, may keep 1 as a number. It may not keep 6 as a number, which is its kind, nor half
+  -- a field.
   pub kept : Kept span_known 97 (0x08 ∷ 0x05 ∷ [])
   pub known : Kept span_known 97 (0x30 ∷ 0x02 ∷ []) → ⊥
   pub cut : Kept span_known 97 (0x08 ∷ []) → ⊥
@@ -185,15 +229,22 @@ pub record Conditions : Type 0 where
 -- ---- replies
 
 abbrev pub partial : ℤ → List ℕ → ResponseData
-partial rejected message = record { partial_success = Some (record { rejected_spans = rejected; error_message = message }) }
+partial rejected message = record {
+  partial_success = Some (record {
+    rejected_spans = rejected;
+    error_message = message;
+  });
+}
 
 pub record Replies : Type 0 where
   pub full_success : response_value_of [] ≡ Ok (record { partial_success = None })
   pub empty_partial : response_value_of (0x0a ∷ 0x00 ∷ []) ≡ Ok (partial (pos 0) [])
   -- two spans were refused, because of "a"
-  pub refused : response_value_of (0x0a ∷ 0x05 ∷ 0x08 ∷ 0x02 ∷ 0x12 ∷ 0x01 ∷ 0x61 ∷ []) ≡ Ok (partial (pos 2) (codes "a"))
+  pub refused : response_value_of (0x0a ∷ 0x05 ∷ 0x08 ∷ 0x02 ∷ 0x12 ∷ 0x01 ∷ 0x61 ∷ [])
+      ≡ Ok (partial (pos 2) (codes "a"))
   -- in two pieces, of which the second has a field that isn't known
-  pub merged : response_value_of (0x0a ∷ 0x02 ∷ 0x08 ∷ 0x02 ∷ 0x0a ∷ 0x05 ∷ 0x18 ∷ 0x01 ∷ 0x12 ∷ 0x01 ∷ 0x61 ∷ []) ≡ Ok (partial (pos 2) (codes "a"))
+  pub merged : response_value_of (0x0a ∷ 0x02 ∷ 0x08 ∷ 0x02 ∷ 0x0a ∷ 0x05 ∷ 0x18 ∷ 0x01 ∷ 0x12 ∷ 0x01 ∷ 0x61 ∷ [])
+      ≡ Ok (partial (pos 2) (codes "a"))
   pub not_utf8 : response_value_of (0x0a ∷ 0x03 ∷ 0x12 ∷ 0x01 ∷ 0xff ∷ []) ≡ Err faults.NotUtf8
   pub is_full_success : IsResponse [] (record { partial_success = None })
   pub is_fault : IsResponseFault (0x0b ∷ []) faults.GroupMismatch
