@@ -1,5 +1,5 @@
--- What tables mean that leave all keys out, for examples here and in the crates above, by hand. Defaults are those of the
--- Collector's batchprocessor and exporterhelper, and 4318 is the port of OTLP over HTTP.
+-- What tables mean that leave all keys out, for examples here and in the crates above, by hand. Defaults are those of
+-- the Collector's batchprocessor and exporterhelper, and 4318 is the port of OTLP over HTTP.
 use Rattle.std.specs.Prelude.{codes}
 use Rattle.tail_settings.specs.Global.{GlobalData}
 use Rattle.tail_settings.specs.Batch.{BatchData}

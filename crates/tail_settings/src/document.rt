@@ -98,7 +98,7 @@ fn spans(tenants: &IndexMap<String, Section>) -> u64
 }
 
 /// The settings that a TOML document means, or the first fault in the order in which its keys are read.
-#[tactic(auto, using(crate::proofs::Told::tells_more), unfolding(crate::specs::Settings::settings_of, crate::specs::Settings::settings_of_table))]
+#[tactic(auto, using(crate::proofs::Told::tells_more), unfolding(crate::proofs::Told::documents))]
 pub fn load(alloc: Global, text: &str) -> Result<Settings, SettingsFault>
     // The document's settings exactly, or its first fault exactly; refused memory says nothing of it.
     ensures ok { IfOk result (λ s. settings_of text.now ≡ Ok (settings_view s)) }

@@ -317,7 +317,8 @@ roomy name max_spans = record { name = name; section = record default_section { 
 pub record Sections : Type 0 where
   -- decision_wait: 10s, num_traces: 100
   pub sampling : tail_sampling_of (only (codes "tail_sampling") (table (keys
-      ((codes "decision_wait_ms", whole 10000) ∷ (codes "num_traces", whole 100) ∷ (codes "policy", list (table key1 ∷ [])) ∷ []))))
+      ((codes "decision_wait_ms", whole 10000) ∷ (codes "num_traces", whole 100)
+      ∷ (codes "policy", list (table key1 ∷ [])) ∷ []))))
       ≡ Ok (record { decision_wait = 10000; num_traces = 100; policies = leaf between ∷ [] })
   pub section : section_of (tenant (codes "a")) ≡ Ok default_section
   -- a tenant without a table `tail_sampling` has no policy

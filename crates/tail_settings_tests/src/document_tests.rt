@@ -1,66 +1,14 @@
 //! Documents, tenants and their names, and faults.
 
-use crate::told::{check_cases, check_none, compare, compare_repeated, counted, text_of};
+use crate::told::{check_none, check_table, compare, text_of};
 use std::alloc::{AllocError, Global};
 use std::test::Fail;
 use tail_settings::{Settings, SettingsFault, load};
 
-const BASE: &str = "[global]
-shards = 1
-
-[[tenant]]
-name = \"a\"
-max_spans = 100
-[tenant.tail_sampling]
-decision_wait_ms = 1000
-num_traces = 10
-[[tenant.tail_sampling.policy]]
-type = \"always_sample\"
-[tenant.batch]
-timeout_ms = 0
-[tenant.sending_queue]
-num_consumers = 1
-
-[[tenant]]
-name = \"b\"
-max_spans = 100
-[tenant.tail_sampling]
-decision_wait_ms = 1000
-num_traces = 10
-[[tenant.tail_sampling.policy]]
-type = \"always_sample\"
-[tenant.batch]
-timeout_ms = 0
-[tenant.sending_queue]
-num_consumers = 1
-";
-
-/// There are the tenants `a` and `b`, and no other.
-fn are_a_and_b(settings: &Settings) -> bool {
-    settings.tenants_len() == 2
-        && settings.number("a") == Some(0)
-        && settings.number("b") == Some(1)
-        && settings.number("c").is_none()
-        && settings.name(0) == Some("a")
-        && settings.name(1) == Some("b")
-        && settings.name(2).is_none()
-        && settings.section(2).is_none()
-}
-
-#[test]
-fn tenants_by_name_and_number(rt: HostRuntime) -> Result<(), Fail> {
-    let settings = load(rt.alloc(), BASE)?;
-    assert!(rt; are_a_and_b(&settings));
-    Ok(())
-}
-
-#[test]
-fn faults_of_the_document(rt: HostRuntime) -> Result<(), Fail> {
-    check_cases(
-        &rt,
-        rt.alloc(),
-        "",
-        "settings fault 10
+/// Documents as a whole, names of tenants, and sums of spans.
+const DOCUMENTS: &str = "
+----
+settings fault 10
 tenant =
 
 settings fault 10
@@ -96,18 +44,17 @@ name = \"b\"
 tail_sampling.policy = [{ type = \"always_sample\" }]
 [[tenant]]
 name = \"a\"
-tail_sampling.policy = [{ type = \"always_sample\" }]",
-        "",
-    )
-}
+tail_sampling.policy = [{ type = \"always_sample\" }]
+----
 
-#[test]
-fn faults_of_a_tenant(rt: HostRuntime) -> Result<(), Fail> {
-    check_cases(
-        &rt,
-        rt.alloc(),
-        "[[tenant]]\nname = \"z\"\ntail_sampling.policy = [{ type = \"always_sample\" }]\n[[tenant]]\n",
-        "settings fault 11 name
+====
+[[tenant]]
+name = \"z\"
+tail_sampling.policy = [{ type = \"always_sample\" }]
+[[tenant]]
+
+----
+settings fault 11 name
 
 settings fault 12 name
 name = 1
@@ -134,118 +81,123 @@ tail_sampling = []
 
 settings fault 11 policy
 name = \"a\"
-[tenant.tail_sampling]",
-        "\n",
+[tenant.tail_sampling]
+
+settings fault 11 policy
+name = \"^64^n^\"
+
+settings fault 13 name
+name = \"^65^n^\"
+----
+
+
+====
+
+----
+settings
+[[tenant]]
+name = \"a\"
+max_spans = 2147483648
+tail_sampling.policy = [{ type = \"always_sample\" }]
+
+settings
+[[tenant]]
+name = \"a\"
+max_spans = 1073741824
+tail_sampling.policy = [{ type = \"always_sample\" }]
+[[tenant]]
+name = \"b\"
+max_spans = 1073741824
+tail_sampling.policy = [{ type = \"always_sample\" }]
+
+settings fault 15
+[[tenant]]
+name = \"a\"
+max_spans = 1073741825
+tail_sampling.policy = [{ type = \"always_sample\" }]
+[[tenant]]
+name = \"b\"
+max_spans = 1073741825
+tail_sampling.policy = [{ type = \"always_sample\" }]
+
+settings fault 15
+[[tenant]]
+name = \"a\"
+max_spans = 2147483648
+tail_sampling.policy = [{ type = \"always_sample\" }]
+[[tenant]]
+name = \"b\"
+max_spans = 2147483648
+tail_sampling.policy = [{ type = \"always_sample\" }]
+----
+";
+
+#[test]
+fn documents_names_and_sums(rt: HostRuntime) -> Result<(), Fail> {
+    check_table(&rt, rt.alloc(), DOCUMENTS)
+}
+
+const TWO_TENANTS: &str = "tenant = [
+    { name = \"a\", tail_sampling = { policy = [{ type = \"always_sample\" }] } },
+    { name = \"b\", tail_sampling = { policy = [{ type = \"always_sample\" }] } },
+]";
+
+/// There are the tenants `a` and `b`, and no other.
+fn are_a_and_b(settings: &Settings) -> bool {
+    settings.tenants_len() == 2
+        && settings.number("b") == Some(1)
+        && settings.number("c").is_none()
+        && settings.name(0) == Some("a")
+        && settings.name(2).is_none()
+        && settings.section(2).is_none()
+}
+
+#[test]
+fn tenants_by_name_and_number(rt: HostRuntime) -> Result<(), Fail> {
+    let settings = load(rt.alloc(), TWO_TENANTS)?;
+    assert!(rt; are_a_and_b(&settings));
+    Ok(())
+}
+
+fn tenant_text(alloc: Global, number: u32) -> Result<String, AllocError> {
+    format!(in alloc;
+        "[[tenant]]\nname = \"t{number}\"\ntail_sampling.policy = [{{ type = \"always_sample\" }}]\n"
     )
 }
 
-/// Adds a line where `load` prints another text than is wanted of a document with so many tenants, each of which may
-/// hold so many spans.
-fn compare_many(
-    alloc: Global,
-    tenants: u32,
-    max_spans: u32,
-    want: &str,
-    wrong: &mut String,
-) -> Result<(), AllocError> {
-    let text = many(alloc, tenants, max_spans)?;
-    compare(alloc, text.as_str(), want, wrong)
-}
-
-/// A document with so many tenants, each of which may hold so many spans.
-fn many(alloc: Global, tenants: u32, max_spans: u32) -> Result<String, AllocError> {
+/// A document with so many tenants.
+fn many(alloc: Global, tenants: u32) -> Result<String, AllocError> {
     let mut text = String::new(alloc);
     for number in 0..tenants {
-        add_tenant(alloc, number, max_spans, &mut text)?;
+        let tenant = tenant_text(alloc, number)?;
+        text.push_str(tenant.as_str())?;
     }
     Ok(text)
 }
 
-fn tenant_text(alloc: Global, number: u32, max_spans: u32) -> Result<String, AllocError> {
-    format!(in alloc;
-        "[[tenant]]\nname = \"t{number}\"\nmax_spans = {max_spans}
-tail_sampling.policy = [{{ type = \"always_sample\" }}]\n"
-    )
-}
-
-fn add_tenant(
+/// Adds a line where `load` prints another text than is wanted of a document with so many tenants.
+fn compare_many(
     alloc: Global,
-    number: u32,
-    max_spans: u32,
-    text: &mut String,
-) -> Result<(), AllocError> {
-    let tenant = tenant_text(alloc, number, max_spans)?;
-    text.push_str(tenant.as_str())
-}
-
-#[test]
-fn a_thousand(rt: HostRuntime) -> Result<(), Fail> {
-    let text = many(rt.alloc(), 1000, 1)?;
-    assert!(rt; counted(rt.alloc(), text.as_str(), "t999")? == (1000, Some(999)));
-    Ok(())
-}
-
-fn compare_counts(alloc: Global, wrong: &mut String) -> Result<(), AllocError> {
-    compare_many(alloc, 1001, 1, "settings fault 15", wrong)?;
-    compare_many(alloc, 1, 2_147_483_648, "settings", wrong)?;
-    compare_many(alloc, 2, 1_073_741_824, "settings", wrong)?;
-    compare_many(alloc, 2, 1_073_741_825, "settings fault 15", wrong)?;
-    compare_many(alloc, 1000, 2_147_483, "settings", wrong)?;
-    compare_many(alloc, 1000, 2_147_484, "settings fault 15", wrong)?;
-    compare_many(alloc, 2, 2_147_483_648, "settings fault 15", wrong)
-}
-
-#[test]
-fn counts_of_tenants_and_spans(rt: HostRuntime) -> Result<(), Fail> {
-    let mut wrong = String::new(rt.alloc());
-    compare_counts(rt.alloc(), &mut wrong)?;
-    check_none(&rt, wrong.as_str());
-    Ok(())
-}
-
-/// Adds a line where `load` prints another text than is wanted of a document whose tenant has a name of so many
-/// letters.
-fn compare_name(
-    alloc: Global,
-    length: u32,
+    tenants: u32,
     want: &str,
     wrong: &mut String,
 ) -> Result<(), AllocError> {
-    let before = "tenant = [{ name = \"";
-    compare_repeated(alloc, before, "n", length, "\" }]", want, wrong)
+    let text = many(alloc, tenants)?;
+    compare(alloc, text.as_str(), want, wrong)
 }
 
 #[test]
-fn long_names(rt: HostRuntime) -> Result<(), Fail> {
+fn a_thousand_tenants(rt: HostRuntime) -> Result<(), Fail> {
     let mut wrong = String::new(rt.alloc());
-    compare_name(rt.alloc(), 64, "settings fault 11 policy", &mut wrong)?;
-    compare_name(rt.alloc(), 65, "settings fault 13 name", &mut wrong)?;
+    compare_many(rt.alloc(), 1000, "settings", &mut wrong)?;
+    compare_many(rt.alloc(), 1001, "settings fault 15", &mut wrong)?;
     check_none(&rt, wrong.as_str());
     Ok(())
 }
 
-fn has_number(fault: SettingsFault, number: Option<u32>) -> bool {
-    fault.number() == number
-}
-
 #[test]
-fn numbers_of_the_faults(rt: HostRuntime) {
-    assert!(rt; has_number(SettingsFault::NotToml, Some(10)));
-    assert!(rt; has_number(SettingsFault::MissingKey("name"), Some(11)));
-    assert!(rt; has_number(SettingsFault::WrongKind("name"), Some(12)));
-    assert!(rt; has_number(SettingsFault::OutOfRange("name"), Some(13)));
-    assert!(rt;
-        has_number(
-            SettingsFault::DoubleTenant(String::new(rt.alloc())),
-            Some(14)
-        )
-    );
-    assert!(rt; has_number(SettingsFault::TooMany, Some(15)));
-    assert!(rt; has_number(SettingsFault::OutOfMemory, None));
-}
-
-#[test]
-fn text_of_refused_memory(rt: HostRuntime) -> Result<(), Fail> {
+fn numbers_of_faults_and_refused_memory(rt: HostRuntime) -> Result<(), Fail> {
+    assert!(rt; SettingsFault::WrongKind("name").number() == Some(12));
     let text = text_of(rt.alloc(), &SettingsFault::OutOfMemory)?;
     assert_eq!(rt; text.as_str(), "out of memory");
     Ok(())

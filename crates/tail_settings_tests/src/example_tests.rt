@@ -1,7 +1,9 @@
 //! The documents of examples/, and what they are read to.
 
-use crate::told::{check_printed, counted};
+use crate::told::{check_none, compare_texts, text_of};
+use std::alloc::{AllocError, Global};
 use std::test::Fail;
+use tail_settings::{GlobalSettings, Section, Settings, load};
 
 /// The text of `examples/two-tenants.toml`.
 const TWO_TENANTS: &str =
@@ -135,12 +137,6 @@ sending_queue: SendingQueue { queue_size: 1000, num_consumers: 10 }, \
 retry_on_failure: RetryOnFailure { initial_interval: 5000, max_interval: 30000, max_elapsed_time: 300000, \
 multiplier: 1500, randomization_factor: 500 } }";
 
-#[test]
-fn two_tenants(rt: HostRuntime) -> Result<(), Fail> {
-    assert!(rt; counted(rt.alloc(), TWO_TENANTS, "search")? == (2, Some(1)));
-    check_printed(&rt, rt.alloc(), TWO_TENANTS, 1, SEARCH)
-}
-
 const SHOP: &str =
     "GlobalSettings { shards: 1, parts: 2, receivers: 4, senders: 4, lane_size: 64, listen: \"127.0.0.1:4318\", \
 tenant_header: \"x-scope-orgid\" }
@@ -154,11 +150,6 @@ batch: Batch { send_batch_size: 8192, timeout: 200, send_batch_max_size: 0 }, \
 sending_queue: SendingQueue { queue_size: 1000, num_consumers: 10 }, \
 retry_on_failure: RetryOnFailure { initial_interval: 5000, max_interval: 30000, max_elapsed_time: 300000, \
 multiplier: 1500, randomization_factor: 500 } }";
-
-#[test]
-fn errors_and_slow_traces(rt: HostRuntime) -> Result<(), Fail> {
-    check_printed(&rt, rt.alloc(), ERRORS_AND_SLOW_TRACES, 0, SHOP)
-}
 
 const ALL_POLICIES: &str =
     "GlobalSettings { shards: 1, parts: 2, receivers: 4, senders: 4, lane_size: 64, listen: \"127.0.0.1:4318\", \
@@ -176,7 +167,59 @@ sending_queue: SendingQueue { queue_size: 1000, num_consumers: 10 }, \
 retry_on_failure: RetryOnFailure { initial_interval: 5000, max_interval: 30000, max_elapsed_time: 300000, \
 multiplier: 1500, randomization_factor: 500 } }";
 
+const NO_KEYS: &str =
+    "tenant = [{ name = \"Az09_-.\", tail_sampling = { policy = [{ type = \"always_sample\" }] } }]";
+
+const DEFAULTS: &str =
+    "GlobalSettings { shards: 1, parts: 2, receivers: 4, senders: 4, lane_size: 64, listen: \"127.0.0.1:4318\", \
+tenant_header: \"x-scope-orgid\" }
+Section { endpoint: \"127.0.0.1:4319\", max_spans: 100000, seed: 0, \
+tail_sampling: TailSampling { decision_wait: 30000, num_traces: 50000, policies: [Leaf(AlwaysSample)] }, \
+batch: Batch { send_batch_size: 8192, timeout: 200, send_batch_max_size: 0 }, \
+sending_queue: SendingQueue { queue_size: 1000, num_consumers: 10 }, \
+retry_on_failure: RetryOnFailure { initial_interval: 5000, max_interval: 30000, max_elapsed_time: 300000, \
+multiplier: 1500, randomization_factor: 500 } }";
+
+/// What settings say of all tenants, and of one.
+fn print(alloc: Global, global: &GlobalSettings, section: &Section) -> Result<String, AllocError> {
+    format!(in alloc; "{global:?}\n{section:?}")
+}
+
+/// What the settings say of all tenants, and of the one with this number.
+fn printed(alloc: Global, settings: &Settings, number: u32) -> Result<String, AllocError> {
+    match settings.section(number) {
+        Some(section) => print(alloc, &settings.global, section),
+        None => String::from_str(alloc, "no such tenant"),
+    }
+}
+
+/// Adds a line where a document is read to other settings than are wanted, of all tenants and of the one with this
+/// number.
+fn compare_printed(
+    alloc: Global,
+    text: &str,
+    number: u32,
+    want: &str,
+    wrong: &mut String,
+) -> Result<(), AllocError> {
+    let told = match load(alloc, text) {
+        Ok(settings) => printed(alloc, &settings, number)?,
+        Err(fault) => text_of(alloc, &fault)?,
+    };
+    compare_texts(alloc, told.as_str(), want, text, wrong)
+}
+
+fn compare_examples(alloc: Global, wrong: &mut String) -> Result<(), AllocError> {
+    compare_printed(alloc, TWO_TENANTS, 1, SEARCH, wrong)?;
+    compare_printed(alloc, ERRORS_AND_SLOW_TRACES, 0, SHOP, wrong)?;
+    compare_printed(alloc, EVERYTHING, 0, ALL_POLICIES, wrong)?;
+    compare_printed(alloc, NO_KEYS, 0, DEFAULTS, wrong)
+}
+
 #[test]
-fn everything(rt: HostRuntime) -> Result<(), Fail> {
-    check_printed(&rt, rt.alloc(), EVERYTHING, 0, ALL_POLICIES)
+fn examples_and_defaults(rt: HostRuntime) -> Result<(), Fail> {
+    let mut wrong = String::new(rt.alloc());
+    compare_examples(rt.alloc(), &mut wrong)?;
+    check_none(&rt, wrong.as_str());
+    Ok(())
 }

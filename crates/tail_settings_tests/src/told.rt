@@ -1,9 +1,13 @@
-//! How the tests tell what a document was read to.
+//! How the tests tell what documents are read to: tables of cases, and what `load` prints of each.
+//!
+//! A line `====` parts the sections of a table, and a line `----` the three parts of a section: what stands before
+//! each of its cases in the document, the cases, and what stands behind. An empty line parts the cases. A case is the
+//! text that is wanted, in a line, and below it what stands in the document.
 
 use std::alloc::{AllocError, Global};
 use std::process::Abort;
 use std::test::Fail;
-use tail_settings::{GlobalSettings, Section, Settings, SettingsFault, load};
+use tail_settings::{SettingsFault, load};
 
 /// A fault's text.
 pub fn text_of(alloc: Global, fault: &SettingsFault) -> Result<String, AllocError> {
@@ -23,6 +27,21 @@ fn complaint(alloc: Global, told: &str, want: &str, text: &str) -> Result<String
     format!(in alloc; "{told}, not {want}, of {text}\n")
 }
 
+/// Adds a line where these two differ, which are of this document.
+pub fn compare_texts(
+    alloc: Global,
+    told: &str,
+    want: &str,
+    text: &str,
+    wrong: &mut String,
+) -> Result<(), AllocError> {
+    if told != want {
+        let line = complaint(alloc, told, want, text)?;
+        wrong.push_str(line.as_str())?;
+    }
+    Ok(())
+}
+
 /// Adds a line where `load` prints another text of this document than is wanted.
 pub fn compare(
     alloc: Global,
@@ -31,67 +50,24 @@ pub fn compare(
     wrong: &mut String,
 ) -> Result<(), AllocError> {
     let told = told(alloc, text)?;
-    if told.as_str() != want {
-        let line = complaint(alloc, told.as_str(), want, text)?;
-        wrong.push_str(line.as_str())?;
-    }
-    Ok(())
+    compare_texts(alloc, told.as_str(), want, text, wrong)
 }
 
 /// These three texts, one behind another.
-pub fn joined(alloc: Global, before: &str, part: &str, after: &str) -> Result<String, AllocError> {
+fn joined(alloc: Global, before: &str, part: &str, after: &str) -> Result<String, AllocError> {
     format!(in alloc; "{before}{part}{after}")
 }
 
-/// A case is the text that is wanted, in a line, and below it what stands in the document between these two.
-fn compare_case(
-    alloc: Global,
-    before: &str,
-    case: &str,
-    after: &str,
-    wrong: &mut String,
-) -> Result<(), AllocError> {
-    let (want, part) = match case.split_once('\n') {
+/// What stands before this text and behind it, or all and nothing.
+fn cut<'a>(text: &'a str, at: &str) -> (&'a str, &'a str) {
+    match text.split_once(at) {
         Some(parts) => parts,
-        None => (case, ""),
-    };
-    let text = joined(alloc, before, part, after)?;
-    compare(alloc, text.as_str(), want, wrong)
-}
-
-fn wrong_cases(
-    alloc: Global,
-    before: &str,
-    cases: &str,
-    after: &str,
-) -> Result<String, AllocError> {
-    let mut wrong = String::new(alloc);
-    for case in cases.split("\n\n") {
-        compare_case(alloc, before, case, after, &mut wrong)?;
+        None => (text, ""),
     }
-    Ok(wrong)
-}
-
-/// `load` prints what each of these cases wants. An empty line parts them.
-pub fn check_cases(
-    rt: &impl Abort,
-    alloc: Global,
-    before: &str,
-    cases: &str,
-    after: &str,
-) -> Result<(), Fail> {
-    let wrong = wrong_cases(alloc, before, cases, after)?;
-    check_none(rt, wrong.as_str());
-    Ok(())
-}
-
-/// Nothing is wrong.
-pub fn check_none(rt: &impl Abort, wrong: &str) {
-    assert_eq!(rt; wrong, "");
 }
 
 /// These two with so many times a part between them.
-pub fn repeated(
+fn repeated(
     alloc: Global,
     before: &str,
     part: &str,
@@ -106,53 +82,125 @@ pub fn repeated(
     Ok(text)
 }
 
-/// Adds a line where `load` prints another text than is wanted of these two with so many times a part between them.
-pub fn compare_repeated(
+/// A text in which what stands between the second `^` and the third is repeated as often as the number before it says:
+/// `a^3^b^c` is `abbbc`.
+fn expanded(alloc: Global, text: &str) -> Result<String, AllocError> {
+    let (before, rest) = cut(text, "^");
+    let (count, rest) = cut(rest, "^");
+    let (part, after) = cut(rest, "^");
+    let count = count.parse::<u32>().unwrap_or(0);
+    repeated(alloc, before, part, count, after)
+}
+
+/// The same of a text in which a value is chosen from those between `<` and `>`, which spaces part.
+fn compare_each(
     alloc: Global,
     before: &str,
-    part: &str,
-    count: u32,
-    after: &str,
+    rest: &str,
     want: &str,
     wrong: &mut String,
 ) -> Result<(), AllocError> {
-    let text = repeated(alloc, before, part, count, after)?;
-    compare(alloc, text.as_str(), want, wrong)
-}
-
-/// What settings say of all tenants, and of one.
-fn print(alloc: Global, global: &GlobalSettings, section: &Section) -> Result<String, AllocError> {
-    format!(in alloc; "{global:?}\n{section:?}")
-}
-
-/// What the settings say of all tenants, and of the one with this number.
-fn printed(alloc: Global, settings: &Settings, number: u32) -> Result<String, AllocError> {
-    match settings.section(number) {
-        Some(section) => print(alloc, &settings.global, section),
-        None => String::from_str(alloc, "no such tenant"),
+    let (values, after) = cut(rest, ">");
+    for value in values.split(' ') {
+        let text = joined(alloc, before, value, after)?;
+        compare(alloc, text.as_str(), want, wrong)?;
     }
-}
-
-fn check_same(rt: &impl Abort, told: &str, want: &str) {
-    assert_eq!(rt; told, want);
-}
-
-/// The settings of a document, of all tenants and of the one with this number, are printed so.
-pub fn check_printed(
-    rt: &impl Abort,
-    alloc: Global,
-    text: &str,
-    number: u32,
-    want: &str,
-) -> Result<(), Fail> {
-    let settings = load(alloc, text)?;
-    let printed = printed(alloc, &settings, number)?;
-    check_same(rt, printed.as_str(), want);
     Ok(())
 }
 
-/// How many tenants a document has, and the number of the one of this name.
-pub fn counted(alloc: Global, text: &str, name: &str) -> Result<(u32, Option<u32>), Fail> {
-    let settings = load(alloc, text)?;
-    Ok((settings.tenants_len(), settings.number(name)))
+/// The same of a case between these two.
+fn compare_case(
+    alloc: Global,
+    before: &str,
+    case: &str,
+    after: &str,
+    wrong: &mut String,
+) -> Result<(), AllocError> {
+    let (want, part) = cut(case, "\n");
+    let text = joined(alloc, before, part, after)?;
+    let text = expanded(alloc, text.as_str())?;
+    let (before, rest) = cut(text.as_str(), "<");
+    compare_each(alloc, before, rest, want, wrong)
+}
+
+fn compare_cases(
+    alloc: Global,
+    before: &str,
+    cases: &str,
+    after: &str,
+    wrong: &mut String,
+) -> Result<(), AllocError> {
+    for case in cases.split("\n\n") {
+        compare_case(alloc, before, case, after, wrong)?;
+    }
+    Ok(())
+}
+
+fn compare_section(alloc: Global, section: &str, wrong: &mut String) -> Result<(), AllocError> {
+    let (before, rest) = cut(section, "\n----\n");
+    let (cases, after) = cut(rest, "\n----\n");
+    compare_cases(alloc, before, cases, after, wrong)
+}
+
+/// The cases of a key whose value is a number: its least and its greatest one, and those next to them, which it can't
+/// be.
+fn number_cases(alloc: Global, key: &str, fine: &str, out: &str) -> Result<String, AllocError> {
+    format!(in alloc;
+        "settings\n{key} = <{fine}>\n
+settings fault 13 {key}\n{key} = <{out} -9223372036854775808 9223372036854775807>\n
+settings fault 12 {key}\n{key} = <\"1\" 1.0 true [1] {{}} 2026-11-22>"
+    )
+}
+
+/// The same of a row: a key and its numbers.
+fn compare_numbers(
+    alloc: Global,
+    before: &str,
+    row: &str,
+    after: &str,
+    wrong: &mut String,
+) -> Result<(), AllocError> {
+    let (key, rest) = cut(row, " ");
+    let (fine, out) = cut(rest, " not ");
+    let cases = number_cases(alloc, key, fine, out)?;
+    compare_cases(alloc, before, cases.as_str(), after, wrong)
+}
+
+/// The same of a section whose cases are such rows.
+fn compare_rows(alloc: Global, section: &str, wrong: &mut String) -> Result<(), AllocError> {
+    let (before, rest) = cut(section, "\n----\n");
+    let (rows, after) = cut(rest, "\n----\n");
+    for row in rows.lines() {
+        compare_numbers(alloc, before, row, after, wrong)?;
+    }
+    Ok(())
+}
+
+fn wrong_sections(alloc: Global, table: &str) -> Result<String, AllocError> {
+    let mut wrong = String::new(alloc);
+    for section in table.split("\n====\n") {
+        compare_section(alloc, section, &mut wrong)?;
+    }
+    Ok(wrong)
+}
+
+/// What is wrong with a table of keys and their numbers.
+pub fn wrong_numbers(alloc: Global, table: &str) -> Result<String, AllocError> {
+    let mut wrong = String::new(alloc);
+    for section in table.split("\n====\n") {
+        compare_rows(alloc, section, &mut wrong)?;
+    }
+    Ok(wrong)
+}
+
+/// Nothing is wrong.
+pub fn check_none(rt: &impl Abort, wrong: &str) {
+    assert_eq!(rt; wrong, "");
+}
+
+/// `load` prints what each case of a table wants.
+pub fn check_table(rt: &impl Abort, alloc: Global, table: &str) -> Result<(), Fail> {
+    let wrong = wrong_sections(alloc, table)?;
+    check_none(rt, wrong.as_str());
+    Ok(())
 }
