@@ -1,17 +1,18 @@
 //! Spans as they are kept.
 //!
-//! A [`StoredSpan`] is a span's canonical text with the texts of its resource and scope, the URLs of their schemas, and
-//! the number of the tenant whose span it is. The texts are `Bytes`: a clone, and [`share`], share them and copy none, so
-//! that the spans of one resource can have one text of it between them. Whether two spans have one resource or one scope
-//! is found by the bytes, wherever these lie; the canonical text is one for each value, so equal bytes are equal values.
+//! A [`StoredSpan`] is a span's canonical text with the texts of its resource and scope, the URLs of their schemas,
+//! and the number of the tenant whose span it is. The texts are `Bytes`: a clone, and [`share`], share them and copy
+//! none, so that the spans of one resource can have one text of it between them. Whether two spans have one resource
+//! or one scope is found by the bytes, wherever these lie; the canonical text is one for each value, so equal bytes
+//! are equal values.
 //!
 //! Resources and scopes can have [`Numbers`], so that most often no byte is looked at: spans with one number of a
 //! resource have one resource. Whoever hands numbers out sees to that, and what compares spans asks for it
 //! (`specs/Named`); what is found is the same with numbers as without.
 //!
 //! [`StoredSpan::view`] borrows from the texts what sampling policies ask. It needs keys and strings that are UTF-8,
-//! which each stored span has. The canonical texts of a span that was read and of its resource are such, and a view over
-//! them tells what the two are ([`read_spans_are_viewed`]).
+//! which each stored span has. The canonical texts of a span that was read and of its resource are such, and a view
+//! over them tells what the two are ([`read_spans_are_viewed`]).
 //!
 //! It stands on `span_view` and the library's `bytes`, and for what a span that was read is on `otlp_read` and those
 //! below it.

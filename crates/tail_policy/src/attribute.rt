@@ -4,8 +4,18 @@ ghost use Rattle.std.specs.Prelude.{◌≡◌, map, string_bytes};
 ghost use Rattle.std.specs.List.{list_any};
 ghost use Rattle.span_view.specs.Shown.{value_shown};
 ghost use Rattle.tail_policy.specs.Meaning.{is_one_of, is_within, has_attribute};
+ghost use Rattle.tail_policy.specs.Wanted.{is_wanted};
 
 use span_view::{SpanRef, ValueRef};
+
+/// What an attribute's value has to be.
+#[derive(Clone, Copy)]
+pub enum Wanted<'a> {
+    /// One of these texts, byte for byte.
+    OneOf(&'a [String]),
+    /// A whole number from the first to the second, both included.
+    Within(i64, i64),
+}
 
 /// Whether a value is one of these texts, byte for byte.
 fn is_one_of(texts: &[String], value: ValueRef<'_>) -> bool
@@ -27,37 +37,27 @@ fn is_within(low: i64, high: i64, value: ValueRef<'_>) -> bool
     }
 }
 
-/// Whether an attribute of this key is one of these texts.
-fn has_text(key: &str, texts: &[String], span: &SpanRef<'_>) -> bool
-    ensures { result ≡ has_attribute key.now (is_one_of (map string_bytes texts.now)) span.now }
+/// Whether a value is such a one.
+fn is_wanted(wanted: Wanted<'_>, value: ValueRef<'_>) -> bool
+    ensures { result ≡ is_wanted wanted.entry (value_shown value.entry) }
 {
-    span.attributes()
-        .any(|(name, value)| name == key && is_one_of(texts, value))
-}
-
-/// Whether an attribute of this key is a whole number from `low` to `high`, both included.
-fn has_number(key: &str, low: i64, high: i64, span: &SpanRef<'_>) -> bool
-    ensures { result ≡ has_attribute key.now (is_within low high) span.now }
-{
-    span.attributes()
-        .any(|(name, value)| name == key && is_within(low, high, value))
-}
-
-/// Whether one of the spans, or its resource, has an attribute of this key that is one of these texts.
-pub fn any_has_text(key: &str, texts: &[String], spans: &[SpanRef<'_>]) -> bool
-    ensures { result ≡ list_any (has_attribute key.now (is_one_of (map string_bytes texts.now))) spans.now }
-{
-    spans.iter().any(|span| has_text(key, texts, span))
-}
-
-/// Whether one of the spans, or its resource, has an attribute of this key that is a whole number from `low` to `high`.
-pub fn any_has_number(key: &str, low: i64, high: i64, spans: &[SpanRef<'_>]) -> bool
-    ensures { result ≡ list_any (has_attribute key.now (is_within low high)) spans.now }
-{
-    for span in spans {
-        if has_number(key, low, high, span) {
-            return true;
-        }
+    match wanted {
+        Wanted::OneOf(texts) => is_one_of(texts, value),
+        Wanted::Within(low, high) => is_within(low, high, value),
     }
-    false
+}
+
+/// Whether an attribute of this key has such a value.
+fn has_attribute(key: &str, wanted: Wanted<'_>, span: &SpanRef<'_>) -> bool
+    ensures { result ≡ has_attribute key.now (is_wanted wanted.entry) span.now }
+{
+    span.attributes()
+        .any(|(name, value)| name == key && is_wanted(wanted, value))
+}
+
+/// Whether one of the spans, or its resource, has an attribute of this key with such a value.
+pub fn any_has_attribute(key: &str, wanted: Wanted<'_>, spans: &[SpanRef<'_>]) -> bool
+    ensures { result ≡ list_any (has_attribute key.now (is_wanted wanted.entry)) spans.now }
+{
+    spans.iter().any(|span| has_attribute(key, wanted, span))
 }

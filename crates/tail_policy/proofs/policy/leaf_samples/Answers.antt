@@ -7,4 +7,4 @@ pub returns-in-NumericAttribute : goal.returns-in-NumericAttribute
 returns-in-NumericAttribute c =
     let low : FitsSigned w64 c.in-NumericAttribute.min_value = search rules in
     let high : FitsSigned w64 c.in-NumericAttribute.max_value = search rules in
-    rw (c.in-NumericAttribute.is, ← c.deref-in-NumericAttribute.ensures) (simp to_z-of_z at c.any_has_number.ensures)
+    rw (c.in-NumericAttribute.is, ← c.deref-in-NumericAttribute.ensures) (simp to_z-of_z at c.any_has_attribute-in-NumericAttribute.ensures)
