@@ -5,7 +5,7 @@ use Rattle.tail_settings.specs.Section.{SectionData}
 use Rattle.tail_settings.specs.Examples.{default_global}
 use Rattle.tail_settings.specs.Settings.{SettingsData}
 use Rattle.tenant_pipeline.specs.declared.told.Told.TheVariants as tell
-use Rattle.tenant_pipeline.specs.Examples.{one_second, span, body, waiting, decided_row, half_decided, half_handed}
+use Rattle.tenant_pipeline_tests.specs.Examples.{one_second, span, body, waiting, decided_row, half_decided, half_handed}
 use Rattle.tenant_pipeline.specs.Prepared.{PreparedData}
 use Rattle.tenant_pipeline.specs.State.{State, accepted}
 use Rattle.tenant_shard.specs.declared.step.Step.{Step}
@@ -182,7 +182,7 @@ pub record Skipped : Type 0 where
 abbrev pub waits : State
 waits = record fresh {
   clock = 500;
-  rows = record { trace = replicate 16 18; due = 1500; spans = span 18 34 ∷ []; kept = false } ∷ [];
+  rows = record { trace = replicate 16 18; due = 1500; spans = span 18 34 ∷ []; sampled = false } ∷ [];
 }
 
 pub record Nobodys : Type 0 where
@@ -196,7 +196,7 @@ pub record Nobodys : Type 0 where
 abbrev pub decided : State
 decided = record fresh {
   clock = 1500;
-  rows = record { trace = replicate 16 18; due = 1500; spans = []; kept = true } ∷ [];
+  rows = record { trace = replicate 16 18; due = 1500; spans = []; sampled = true } ∷ [];
   decided = 1;
   queue = record { moment = 1500; spans = span 18 34 ∷ [] } ∷ [];
 }

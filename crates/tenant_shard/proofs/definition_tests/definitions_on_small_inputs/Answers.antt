@@ -11,7 +11,7 @@ use Rattle.tenant_pipeline.specs.State.{State}
 use Rattle.tenant_pipeline.specs.Ready.{ready}
 use Rattle.tenant_pipeline.specs.Timers.{ran, effective}
 use Rattle.tenant_pipeline.specs.Machine.{next, told}
-use Rattle.tenant_pipeline.specs.Examples.{body, half_decided, half_handed}
+use Rattle.tenant_pipeline_tests.specs.Examples.{body, half_decided, half_handed}
 use Rattle.tenant_pipeline.proofs.OnLiterals.{pipelines_on_literals}
 use Rattle.tenant_shard.specs.declared.step.Outcome.{Outcome}
 use Rattle.tenant_shard.specs.declared.step.Outcome.TheVariants.{Job, Idle, Refused, Worked}
