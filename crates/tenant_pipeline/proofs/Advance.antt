@@ -7,7 +7,7 @@ use Rattle.tail_settings.specs.Policy.{PolicyData}
 use Rattle.tail_settings.specs.Section.{SectionData}
 use Rattle.tenant_pipeline.specs.Arrivals.{Arrival}
 use Rattle.tenant_pipeline.specs.Rows.{Taken, Opened, Seated, opened, seated}
-use Rattle.tenant_pipeline.specs.Groups.{GroupData, on_time, are_kept, is_kept, decided, late, by_moment, groups}
+use Rattle.tenant_pipeline.specs.Groups.{GroupData, on_time, are_sampled, is_sampled, decided, late, by_moment, groups}
 use Rattle.tenant_pipeline.specs.State.{RowData, kept_rows, decided_count, state_at}
 use Rattle.tenant_pipeline.specs.Timers.{groups_of}
 use Rattle.tenant_pipeline.specs.Machine.{advanced}
@@ -43,7 +43,7 @@ AllUpTo-decided w e N [] = tt
 AllUpTo-decided w e N (r ∷ R) =
     let due = r.moment + w.tail_sampling.decision_wait in
     let g : GroupData = record { moment = due; spans = on_time w (length R + 1) N } in
-    AllUpTo-append e (decided w e N R) _ (AllUpTo-decided w e N R) (AllUpTo_if e g (leb due e && is_kept w (length R + 1) N) (λ both. by_test (leb due e) (is_kept w (length R + 1) N) refl both))
+    AllUpTo-append e (decided w e N R) _ (AllUpTo-decided w e N R) (AllUpTo_if e g (leb due e && is_sampled w (length R + 1) N) (λ both. by_test (leb due e) (is_sampled w (length R + 1) N) refl both))
   where
     by_test : (a b : Bool) → leb (r.moment + w.tail_sampling.decision_wait) e ≡ a → a && b ≡ true → r.moment + w.tail_sampling.decision_wait ≤ e
     by_test true b is both = grind (arith, nat_tests)
@@ -56,7 +56,7 @@ AllUpTo-late w e (x ∷ A) r =
 
 -- the group of a row that fires
 AllUpTo_group : (p : List PolicyData) (m : ℕ) (row : RowData) → row.due ≤ m → AllUpTo m (groups_of p row)
-AllUpTo_group p m row le = AllUpTo_if m (record { moment = row.due; spans = row.spans }) (are_kept p row.spans) (λ _. le)
+AllUpTo_group p m row le = AllUpTo_if m (record { moment = row.due; spans = row.spans }) (are_sampled p row.spans) (λ _. le)
 
 AllFrom_if : (m : ℕ) (g : GroupData) (b : Bool) → m ≤ g.moment → AllFrom m (cond b (g ∷ []) [])
 AllFrom_if m g true le = (le, tt)
@@ -66,7 +66,7 @@ AllFrom_if m g false le = tt
 AllFrom_fired : (p : List PolicyData) (d e : ℕ) (row : RowData) (gs : List GroupData) (b : Bool) → (ltb d row.due && leb row.due e) ≡ b → AllFrom (d + 1) gs → AllFrom (d + 1) (cond b (groups_of p row ++ gs) gs)
 AllFrom_fired p d e row gs true t all =
     let later : d + 1 ≤ row.due = grind (arith, nat_tests) in
-    AllFrom-append (d + 1) (groups_of p row) gs (AllFrom_if (d + 1) (record { moment = row.due; spans = row.spans }) (are_kept p row.spans) later) all
+    AllFrom-append (d + 1) (groups_of p row) gs (AllFrom_if (d + 1) (record { moment = row.due; spans = row.spans }) (are_sampled p row.spans) later) all
 AllFrom_fired p d e row gs false t all = all
 
 pub AllFrom-fired : (p : List PolicyData) (d e : ℕ) (rows : List RowData) → AllFrom (d + 1) (fired p d e rows)
@@ -86,7 +86,7 @@ kept_row w d r xs = record {
   trace = r.trace;
   due = r.moment + w.tail_sampling.decision_wait;
   spans = if leb (r.moment + w.tail_sampling.decision_wait) d then [] else xs;
-  kept = leb (r.moment + w.tail_sampling.decision_wait) d && are_kept w.tail_sampling.policies xs;
+  sampled = leb (r.moment + w.tail_sampling.decision_wait) d && are_sampled w.tail_sampling.policies xs;
 }
 
 pub AllUpTo-fired : (w : SectionData) (d e m : ℕ) (N : List Seated) (R : List Opened) → OpenedBy m R → AllUpTo (m + w.tail_sampling.decision_wait) (fired w.tail_sampling.policies d e (kept_rows w d N R))
@@ -96,7 +96,7 @@ AllUpTo-fired w d e m N (r ∷ R) by =
     rw fired-append (AllUpTo-append (m + w.tail_sampling.decision_wait) (fired p d e (kept_rows w d N R)) _ (AllUpTo_more (r.moment + w.tail_sampling.decision_wait) (m + w.tail_sampling.decision_wait) _ (omega (arith, by.0)) (AllUpTo-fired w d e r.moment N R by.1)) (AllUpTo_fired p d e (m + w.tail_sampling.decision_wait) (kept_row w d r (on_time w (length R + 1) N)) (omega (arith, by.0))))
 
 Ascending_fired : (p : List PolicyData) (d e : ℕ) (row : RowData) (gs : List GroupData) → Ascending gs → AllUpTo row.due gs → Ascending (gs ++ fired p d e (row ∷ []))
-Ascending_fired p d e row gs a up = by_test (ltb d row.due && leb row.due e) (are_kept p row.spans)
+Ascending_fired p d e row gs a up = by_test (ltb d row.due && leb row.due e) (are_sampled p row.spans)
   where
     by_test : (b k : Bool) → Ascending (gs ++ cond b (cond k (record { moment = row.due; spans = row.spans } ∷ []) [] ++ []) [])
     by_test true true = Ascending-push gs _ a up

@@ -6,7 +6,7 @@ use Rattle.std.proofs.lemmas.List.{drop-append-le}
 use Rattle.tenant_pipeline.specs.Arrivals.{Arrival}
 use Rattle.tail_settings.specs.Section.{SectionData}
 use Rattle.tenant_pipeline.specs.Rows.{Taken, Opened, Seat, Seated, opened, seated, latest, trace_of, is_same}
-use Rattle.tenant_pipeline.specs.Groups.{GroupData, on_time, are_kept, is_kept, decided, late, by_moment, groups}
+use Rattle.tenant_pipeline.specs.Groups.{GroupData, on_time, are_sampled, is_sampled, decided, late, by_moment, groups}
 use Rattle.tenant_pipeline.specs.State.{RowData, kept_rows, decided_count, state_at}
 use Rattle.tenant_pipeline.specs.Machine.{joined, late_of, rows_with, late_with, placed}
 use Rattle.tenant_pipeline.proofs.Traces.{same_is}
@@ -60,7 +60,7 @@ on_time_own w k n N own lt = grind (arith, nat_tests)
 
 -- the group of a row, with these spans on time
 abbrev decided_row : SectionData → ℕ → Opened → List Arrival → List GroupData
-decided_row w e r xs = if leb (r.moment + w.tail_sampling.decision_wait) e && are_kept w.tail_sampling.policies xs then record { moment = r.moment + w.tail_sampling.decision_wait; spans = xs } ∷ [] else []
+decided_row w e r xs = if leb (r.moment + w.tail_sampling.decision_wait) e && are_sampled w.tail_sampling.policies xs then record { moment = r.moment + w.tail_sampling.decision_wait; spans = xs } ∷ [] else []
 
 -- one more row with the same spans on time
 kept_more : (w : SectionData) (e : ℕ) (M N : List Seated) (r : Opened) (R : List Opened) → kept_rows w e M R ≡ kept_rows w e N R → on_time w (length R + 1) M ≡ on_time w (length R + 1) N → kept_rows w e M (r ∷ R) ≡ kept_rows w e N (r ∷ R)
@@ -146,9 +146,9 @@ kept_there w e n N (r ∷ R) a now l =
         ap (λ rows. rows ++ kept_row w e r (on_time w (length R + 1) (n ∷ N)) ∷ []) (ih is)
         ∙ (ap (λ xs. rows_with w.tail_sampling.decision_wait e x (kept_rows w e N R) ++ kept_row w e r xs ∷ []) (on_time_other w (length R + 1) n N (λ same. omega arith)) ∙ sym (rows_with-there w e x (kept_rows w e N R) (kept_row w e r (on_time w (length R + 1) N) ∷ []) there))
 
--- the group of a span at a moment, where it is late in a kept row
+-- the group of a span at a moment, where it is late in a sampled row
 abbrev late_group : SectionData → ℕ → Arrival → List Seated → Seat → List GroupData
-late_group w e x N s = if leb (s.opening + w.tail_sampling.decision_wait) e && is_kept w s.row N then record { moment = e; spans = x ∷ [] } ∷ [] else []
+late_group w e x N s = if leb (s.opening + w.tail_sampling.decision_wait) e && is_sampled w s.row N then record { moment = e; spans = x ∷ [] } ∷ [] else []
 
 late_test : (due e : ℕ) (k : Bool) (g : GroupData) → cond (ltb e due) [] (cond (leb due e && k) (g ∷ []) []) ≡ cond (leb due e && k) (g ∷ []) []
 late_test due e k g = grind (arith, nat_tests)
@@ -165,7 +165,7 @@ late_there w e x s N (r ∷ R) a l = by_test (is_same (trace_of x) r.trace) refl
         let not_there : has (trace_of x) (kept_rows w e N R) ≡ false = has-kept_rows (trace_of x) w e N R ∙ apart in
         let last : late_with e x (kept_row w e r (on_time w (length R + 1) N) ∷ []) ≡ late_of e x (kept_row w e r (on_time w (length R + 1) N)) = rw same refl in
         late_with-not_there e x (kept_rows w e N R) (kept_row w e r (on_time w (length R + 1) N) ∷ []) not_there
-        ∙ (last ∙ (late_test (r.moment + w.tail_sampling.decision_wait) e (is_kept w (length R + 1) N) (record { moment = e; spans = x ∷ [] }) ∙ ap (late_group w e x N) seat))
+        ∙ (last ∙ (late_test (r.moment + w.tail_sampling.decision_wait) e (is_sampled w (length R + 1) N) (record { moment = e; spans = x ∷ [] }) ∙ ap (late_group w e x N) seat))
     by_test false same is ih =
         let there : has (trace_of x) (kept_rows w e N R) ≡ true = has-kept_rows (trace_of x) w e N R ∙ ap is_some is in
         late_with-there e x (kept_rows w e N R) (kept_row w e r (on_time w (length R + 1) N) ∷ []) there ∙ ih is
@@ -225,7 +225,7 @@ groups_placed w e x A (Some s) l pos r =
     let R = opened A in
     let g : GroupData = record { moment = e; spans = x ∷ [] } in
     let made = late_there w e x s N R (Apart-opened A) l in
-    rw l (rw (decided_there w e x s N R l) (rw made (groups_late (leb (s.opening + w.tail_sampling.decision_wait) e && is_kept w s.row N) g (decided w e N R) (late w N) (AllUpTo-decided w e N R) (AllUpTo-late w e A r))))
+    rw l (rw (decided_there w e x s N R l) (rw made (groups_late (leb (s.opening + w.tail_sampling.decision_wait) e && is_sampled w s.row N) g (decided w e N R) (late w N) (AllUpTo-decided w e N R) (AllUpTo-late w e A r))))
 
 -- a span that opens a row decides none
 count_by : (w : SectionData) (e : ℕ) (b : Bool) (trace : List ℕ) (R : List Opened) → 0 < w.tail_sampling.decision_wait → decided_count w e (cond b R (record { trace = trace; moment = e } ∷ R)) ≡ decided_count w e R

@@ -16,7 +16,7 @@ use Rattle.tenant_pipeline.specs.declared.place.Addition.{Addition}
 use Rattle.tenant_pipeline.specs.declared.place.Addition.TheVariants.{Joined, Late, NotSampled}
 use Rattle.tenant_pipeline.specs.declared.rows.Row.{Row}
 use Rattle.tenant_pipeline.specs.Arrivals.{Arrival, arrivals_in, valid, is_valid}
-use Rattle.tenant_pipeline.specs.Groups.{GroupData, are_kept}
+use Rattle.tenant_pipeline.specs.Groups.{GroupData, are_sampled}
 use Rattle.tenant_pipeline.specs.State.{RowData}
 use Rattle.tenant_pipeline.specs.Rows.{trace_of, is_same}
 use Rattle.tenant_pipeline.specs.Timers.{settled}
@@ -88,29 +88,29 @@ but_last-map f xs = sym (ap (λ n. take (n - 1) (map f xs)) (length-map xs f) �
 
 -- a row that was decided
 pub decided_at : (policies : List PolicyData) (es : List (List ℕ × Row)) (i : ℕ) (v w : Row) (queue new_queue : List GroupData) → slice_get (values_of es) i ≡ Some v → w.due ≡ v.due → w.spans.items ≡ [] →
-    w.kept ≡ are_kept policies (arrivals_in v.spans.items) → new_queue ≡ queue ++ cond (are_kept policies (arrivals_in v.spans.items)) (record { moment = v.due; spans = arrivals_in v.spans.items } ∷ []) [] →
+    w.sampled ≡ are_sampled policies (arrivals_in v.spans.items) → new_queue ≡ queue ++ cond (are_sampled policies (arrivals_in v.spans.items)) (record { moment = v.due; spans = arrivals_in v.spans.items } ∷ []) [] →
     IsDecided policies i w.due (row_views es) queue (row_views (set_value_at es i w)) new_queue
-decided_at policies es i v w queue new_queue is due spans kept queued =
+decided_at policies es i v w queue new_queue is due spans sampled queued =
     let at = row_at es i v is in
     let none = ap arrivals_in spans in
-    let row : row_view (at.trace, w) ≡ settled policies (row_view (at.trace, v)) = λ j. record { trace = at.trace; due = due j; spans = none j; kept = kept j } in
+    let row : row_view (at.trace, w) ≡ settled policies (row_view (at.trace, v)) = λ j. record { trace = at.trace; due = due j; spans = none j; sampled = sampled j } in
     record { row = row_view (at.trace, v); is_there = at.view; is_due = sym due; rows_are = set_row es i at.trace v w at.entry ∙ ap (set (row_views es) i) row; queue_is = queued }
 
 -- a row that stayed as it was
-pub kept_at : (es : List (List ℕ × Row)) (i : ℕ) (v w : Row) → slice_get (values_of es) i ≡ Some v → w.due ≡ v.due → w.spans.items ≡ v.spans.items → w.kept ≡ v.kept → row_views (set_value_at es i w) ≡ row_views es
-kept_at es i v w is due spans kept =
+pub unchanged_at : (es : List (List ℕ × Row)) (i : ℕ) (v w : Row) → slice_get (values_of es) i ≡ Some v → w.due ≡ v.due → w.spans.items ≡ v.spans.items → w.sampled ≡ v.sampled → row_views (set_value_at es i w) ≡ row_views es
+unchanged_at es i v w is due spans sampled =
     let at = row_at es i v is in
     let same = ap arrivals_in spans in
-    let row : row_view (at.trace, w) ≡ row_view (at.trace, v) = λ j. record { trace = at.trace; due = due j; spans = same j; kept = kept j } in
+    let row : row_view (at.trace, w) ≡ row_view (at.trace, v) = λ j. record { trace = at.trace; due = due j; spans = same j; sampled = sampled j } in
     set_row es i at.trace v w at.entry ∙ (ap (set (row_views es) i) row ∙ set_same (row_views es) i (row_view (at.trace, v)) at.view)
 
 -- a row that lost its last span
-pub popped_at : (es : List (List ℕ × Row)) (i : ℕ) (v w : Row) → slice_get (values_of es) i ≡ Some v → w.due ≡ v.due → w.spans.items ≡ but_last v.spans.items → w.kept ≡ v.kept →
+pub popped_at : (es : List (List ℕ × Row)) (i : ℕ) (v w : Row) → slice_get (values_of es) i ≡ Some v → w.due ≡ v.due → w.spans.items ≡ but_last v.spans.items → w.sampled ≡ v.sampled →
     row_views (set_value_at es i w) ≡ shortened i (row_views es)
-popped_at es i v w is due spans kept =
+popped_at es i v w is due spans sampled =
     let at = row_at es i v is in
     let fewer : arrivals_in w.spans.items ≡ but_last (arrivals_in v.spans.items) = ap arrivals_in spans ∙ but_last-map _ v.spans.items in
-    let row : row_view (at.trace, w) ≡ without_last (row_view (at.trace, v)) = λ j. record { trace = at.trace; due = due j; spans = fewer j; kept = kept j } in
+    let row : row_view (at.trace, w) ≡ without_last (row_view (at.trace, v)) = λ j. record { trace = at.trace; due = due j; spans = fewer j; sampled = sampled j } in
     set_row es i at.trace v w at.entry ∙ (ap (set (row_views es) i) row ∙ sym (shortened_at (row_views es) i (row_view (at.trace, v)) at.view))
 
 -- what the map knows of a trace's place
@@ -134,9 +134,9 @@ rows_with-at wait moment x [] r at = absurd (cc)
 rows_with-at wait moment x (e ∷ es) r at = at_by wait moment x e es r (position_or_len (is_same (trace_of x)) (keys_of es)) (is_same (trace_of x) e.0) (rows_with-at wait moment x es r) at
 
 end_by : (wait moment : ℕ) (x : Arrival) (e : List ℕ × Row) (es : List (List ℕ × Row)) (n : ℕ) (b : Bool) →
-    (length (keys_of es) ≤ n → (rows_with wait moment x (row_views es) ≡ row_views es ++ record { trace = trace_of x; due = moment + wait; spans = x ∷ []; kept = false } ∷ []) × (late_with moment x (row_views es) ≡ [])) →
+    (length (keys_of es) ≤ n → (rows_with wait moment x (row_views es) ≡ row_views es ++ record { trace = trace_of x; due = moment + wait; spans = x ∷ []; sampled = false } ∷ []) × (late_with moment x (row_views es) ≡ [])) →
     1 + length (keys_of es) ≤ cond (not b) (1 + n) 0 →
-    (cond b (joined moment x (row_view e) ∷ row_views es) (row_view e ∷ rows_with wait moment x (row_views es)) ≡ row_view e ∷ (row_views es ++ record { trace = trace_of x; due = moment + wait; spans = x ∷ []; kept = false } ∷ []))
+    (cond b (joined moment x (row_view e) ∷ row_views es) (row_view e ∷ rows_with wait moment x (row_views es)) ≡ row_view e ∷ (row_views es ++ record { trace = trace_of x; due = moment + wait; spans = x ∷ []; sampled = false } ∷ []))
     × (cond b (late_of moment x (row_view e)) (late_with moment x (row_views es)) ≡ [])
 end_by wait moment x e es n true ih all = absurd (omega arith)
 end_by wait moment x e es n false ih all =
@@ -144,7 +144,7 @@ end_by wait moment x e es n false ih all =
     (ap (λ ys. row_view e ∷ ys) rest.0, rest.1)
 
 pub rows_with-end : (wait moment : ℕ) (x : Arrival) (es : List (List ℕ × Row)) → length (keys_of es) ≤ position_or_len (is_same (trace_of x)) (keys_of es) →
-    (rows_with wait moment x (row_views es) ≡ row_views es ++ record { trace = trace_of x; due = moment + wait; spans = x ∷ []; kept = false } ∷ []) × (late_with moment x (row_views es) ≡ [])
+    (rows_with wait moment x (row_views es) ≡ row_views es ++ record { trace = trace_of x; due = moment + wait; spans = x ∷ []; sampled = false } ∷ []) × (late_with moment x (row_views es) ≡ [])
 rows_with-end wait moment x [] all = (refl, refl)
 rows_with-end wait moment x (e ∷ es) all = end_by wait moment x e es (position_or_len (is_same (trace_of x)) (keys_of es)) (is_same (trace_of x) e.0) (rows_with-end wait moment x es) (omega arith)
 
@@ -166,47 +166,47 @@ missing p ks e = missing_by (position_or_len p ks) (length ks) (ltb (position_or
 -- a span that comes to the row at a place: it joins the row, or is late
 pub record JoinedAt (wait moment : ℕ) (x : Arrival) (es : List (List ℕ × Row)) (i : ℕ) (v w : Row) : Type 0 where
   pub rows : row_views (set_value_at es i w) ≡ rows_with wait moment x (row_views es)
-  pub late : late_with moment x (row_views es) ≡ cond (ltb moment v.due) [] (cond v.kept (record { moment = moment; spans = x ∷ [] } ∷ []) [])
-  pub back : rows_before (addition_to i moment v.due v.kept) (row_views (set_value_at es i w)) ≡ row_views es
+  pub late : late_with moment x (row_views es) ≡ cond (ltb moment v.due) [] (cond v.sampled (record { moment = moment; spans = x ∷ [] } ∷ []) [])
+  pub back : rows_before (addition_to i moment v.due v.sampled) (row_views (set_value_at es i w)) ≡ row_views es
 
-rows_late : (kept : Bool) (rows : List RowData) → rows_before (cond kept Late NotSampled) rows ≡ rows
+rows_late : (sampled : Bool) (rows : List RowData) → rows_before (cond sampled Late NotSampled) rows ≡ rows
 rows_late true rows = refl
 rows_late false rows = refl
 
 joined_by : (wait moment : ℕ) (x : Arrival) (es : List (List ℕ × Row)) (i : ℕ) (v w : Row) (b : Bool) (at : RowAt es i v) →
     (rows_with wait moment x (row_views es) ≡ set (row_views es) i (joined moment x (row_view (at.trace, v)))) → (late_with moment x (row_views es) ≡ late_of moment x (row_view (at.trace, v))) →
-    ltb moment v.due ≡ b → w.due ≡ v.due → w.kept ≡ v.kept → arrivals_in w.spans.items ≡ cond b (arrivals_in v.spans.items ++ x ∷ []) (arrivals_in v.spans.items) → JoinedAt wait moment x es i v w
-joined_by wait moment x es i v w true at with late test due kept spans =
-    let grown : RowData = record { trace = at.trace; due = v.due; spans = arrivals_in v.spans.items ++ x ∷ []; kept = v.kept } in
-    let row : row_view (at.trace, w) ≡ grown = λ j. record { trace = at.trace; due = due j; spans = spans j; kept = kept j } in
+    ltb moment v.due ≡ b → w.due ≡ v.due → w.sampled ≡ v.sampled → arrivals_in w.spans.items ≡ cond b (arrivals_in v.spans.items ++ x ∷ []) (arrivals_in v.spans.items) → JoinedAt wait moment x es i v w
+joined_by wait moment x es i v w true at with late test due sampled spans =
+    let grown : RowData = record { trace = at.trace; due = v.due; spans = arrivals_in v.spans.items ++ x ∷ []; sampled = v.sampled } in
+    let row : row_view (at.trace, w) ≡ grown = λ j. record { trace = at.trace; due = due j; spans = spans j; sampled = sampled j } in
     let join : joined moment x (row_view (at.trace, v)) ≡ grown = rw test refl in
     let written : row_views (set_value_at es i w) ≡ set (row_views es) i grown = set_row es i at.trace v w at.entry ∙ ap (set (row_views es) i) row in
-    let short : without_last grown ≡ row_view (at.trace, v) = ap (λ (xs : List Arrival). record { trace = at.trace; due = v.due; spans = xs; kept = v.kept }) (but_last-push (arrivals_in v.spans.items) x) in
+    let short : without_last grown ≡ row_view (at.trace, v) = ap (λ (xs : List Arrival). record { trace = at.trace; due = v.due; spans = xs; sampled = v.sampled }) (but_last-push (arrivals_in v.spans.items) x) in
     let back : shortened i (row_views (set_value_at es i w)) ≡ row_views es = ap (shortened i) written ∙ shortened-set (row_views es) i (row_view (at.trace, v)) _ at.view short in
     record { rows = written ∙ (sym (ap (set (row_views es) i) join) ∙ sym with); late = late; back = rw test back }
-joined_by wait moment x es i v w false at with late test due kept spans =
-    let row : row_view (at.trace, w) ≡ row_view (at.trace, v) = λ j. record { trace = at.trace; due = due j; spans = spans j; kept = kept j } in
+joined_by wait moment x es i v w false at with late test due sampled spans =
+    let row : row_view (at.trace, w) ≡ row_view (at.trace, v) = λ j. record { trace = at.trace; due = due j; spans = spans j; sampled = sampled j } in
     let join : joined moment x (row_view (at.trace, v)) ≡ row_view (at.trace, v) = rw test refl in
     let same : row_views (set_value_at es i w) ≡ row_views es = set_row es i at.trace v w at.entry ∙ (ap (set (row_views es) i) row ∙ set_same (row_views es) i (row_view (at.trace, v)) at.view) in
     let as_before : rows_with wait moment x (row_views es) ≡ row_views es = with ∙ (ap (set (row_views es) i) join ∙ set_same (row_views es) i (row_view (at.trace, v)) at.view) in
-    record { rows = same ∙ sym as_before; late = late; back = rw test (rows_late v.kept _ ∙ same) }
+    record { rows = same ∙ sym as_before; late = late; back = rw test (rows_late v.sampled _ ∙ same) }
 
 pub joined_at : (wait moment : ℕ) (x : Arrival) (es : List (List ℕ × Row)) (i : ℕ) (v w : Row) → position (is_same (trace_of x)) (keys_of es) ≡ Some i → slice_get (values_of es) i ≡ Some v →
-    w.due ≡ v.due → w.kept ≡ v.kept → arrivals_in w.spans.items ≡ cond (ltb moment v.due) (arrivals_in v.spans.items ++ x ∷ []) (arrivals_in v.spans.items) → JoinedAt wait moment x es i v w
-joined_at wait moment x es i v w found is due kept spans =
+    w.due ≡ v.due → w.sampled ≡ v.sampled → arrivals_in w.spans.items ≡ cond (ltb moment v.due) (arrivals_in v.spans.items ++ x ∷ []) (arrivals_in v.spans.items) → JoinedAt wait moment x es i v w
+joined_at wait moment x es i v w found is due sampled spans =
     let at = row_at es i v is in
     let n = found_at (is_same (trace_of x)) (keys_of es) i found in
     let there : slice_get (row_views es) (position_or_len (is_same (trace_of x)) (keys_of es)) ≡ Some (row_view (at.trace, v)) = ap (slice_get (row_views es)) n ∙ at.view in
     let parts = rows_with-at wait moment x es (row_view (at.trace, v)) there in
-    joined_by wait moment x es i v w (ltb moment v.due) at (parts.0 ∙ ap (λ k. set (row_views es) k (joined moment x (row_view (at.trace, v)))) n) parts.1 refl due kept spans
+    joined_by wait moment x es i v w (ltb moment v.due) at (parts.0 ∙ ap (λ k. set (row_views es) k (joined moment x (row_view (at.trace, v)))) n) parts.1 refl due sampled spans
 
 -- and how its group is taken back
-pub queue_back : (i moment due : ℕ) (kept : Bool) (queue : List GroupData) (group : GroupData) →
-    queue_before (addition_to i moment due kept) (queue ++ cond (ltb moment due) [] (cond kept (group ∷ []) [])) ≡ queue
-queue_back i moment due kept queue group = by (ltb moment due) kept
+pub queue_back : (i moment due : ℕ) (sampled : Bool) (queue : List GroupData) (group : GroupData) →
+    queue_before (addition_to i moment due sampled) (queue ++ cond (ltb moment due) [] (cond sampled (group ∷ []) [])) ≡ queue
+queue_back i moment due sampled queue group = by (ltb moment due) sampled
   where
-    by : (in_time kept : Bool) → queue_before (cond in_time (Joined i) (cond kept Late NotSampled)) (queue ++ cond in_time [] (cond kept (group ∷ []) [])) ≡ queue
-    by true kept = append-nil queue
+    by : (in_time sampled : Bool) → queue_before (cond in_time (Joined i) (cond sampled Late NotSampled)) (queue ++ cond in_time [] (cond sampled (group ∷ []) [])) ≡ queue
+    by true sampled = append-nil queue
     by false true = but_last-push queue group
     by false false = append-nil queue
 
@@ -226,12 +226,12 @@ pub record OpenedAt (wait moment : ℕ) (x : Arrival) (es new : List (List ℕ �
   pub back : but_last (row_views new) ≡ row_views es
 
 pub opened_at : (wait moment : ℕ) (x : Arrival) (es new : List (List ℕ × Row)) (w : Row) → position (is_same (trace_of x)) (keys_of es) ≡ None → new ≡ insert_entry is_same es (trace_of x) w →
-    w.due ≡ moment + wait → w.kept ≡ false → arrivals_in w.spans.items ≡ x ∷ [] → OpenedAt wait moment x es new
-opened_at wait moment x es new w found is due kept spans =
+    w.due ≡ moment + wait → w.sampled ≡ false → arrivals_in w.spans.items ≡ x ∷ [] → OpenedAt wait moment x es new
+opened_at wait moment x es new w found is due sampled spans =
     let past = missing (is_same (trace_of x)) (keys_of es) found in
     let parts = rows_with-end wait moment x es past in
-    let opening : RowData = record { trace = trace_of x; due = moment + wait; spans = x ∷ []; kept = false } in
-    let row : row_view (trace_of x, w) ≡ opening = λ j. record { trace = trace_of x; due = due j; spans = spans j; kept = kept j } in
+    let opening : RowData = record { trace = trace_of x; due = moment + wait; spans = x ∷ []; sampled = false } in
+    let row : row_view (trace_of x, w) ≡ opening = λ j. record { trace = trace_of x; due = due j; spans = spans j; sampled = sampled j } in
     let added : row_views new ≡ row_views es ++ opening ∷ [] =
     ap row_views (is ∙ insert_entry-end (trace_of x) w es past) ∙ (map-append row_view es ((trace_of x, w) ∷ []) ∙ ap (λ (r : RowData). row_views es ++ r ∷ []) row) in
     record { rows = added ∙ sym parts.0; late = parts.1; back = ap but_last added ∙ but_last-push (row_views es) _ }

@@ -1,15 +1,17 @@
 -- Bodies are equal where what they are is.
-use Rattle.std.proofs.Common.{◌≡◌, ℕ, ℤ, pos, negsuc, List, [], ◌∷◌, map, refl, ap, ◌∙◌, Bool, true, false, eqb, arith}
-use Rattle.std.proofs.lemmas.Bool.Decides.{nat_tests}
+use Rattle.std.proofs.Common.{◌≡◌, ℕ, ℤ, pos, negsuc, List, [], ◌∷◌, map, refl, sym, ap, subst, ◌∙◌, Bool, true, false, eqb, arith, Option, Some, None}
+use Rattle.std.proofs.lemmas.Bool.Decides.{nat_tests, Decides-eqb}
 use Rattle.std.specs.Bool.{one_answer}
 use Rattle.std.specs.Prelude.{◌&&◌, Decides}
 use Rattle.std.specs.Cmp.Lexicographic.{pointwise, pointwise_decides, bytes_decides}
 use Rattle.tail_settings.specs.Policy.{StatusData, unset, ok, error, LeafData, always_sample, latency, status_code, string_attribute, numeric_attribute, PolicyData, leaf, and, policy_view}
 use Rattle.tail_settings.specs.declared.policy.PolicySpec.{PolicySpec}
-use Rattle.span_pool.specs.Stored.{StoredData, same_bytes}
+use Rattle.span_view.specs.Reading.{facts_of}
+use Rattle.span_pool.specs.Stored.{Origin, StoredData, bytes_of, same_bytes, same_text}
 use Rattle.span_pool.specs.Equal.{origin_eq, stored_eq}
-use Rattle.tenant_pipeline.specs.Arrivals.{arrival_in, arrivals_in}
-use Rattle.tenant_pipeline.specs.Equal.{arrival_eq, status_number, signed, leaf_parts, policy_parts, policy_eq, same_policies}
+use Rattle.tenant_pipeline.specs.Arrivals.{Arrival, arrival_in, arrivals_in}
+use Rattle.tenant_pipeline.specs.Equal.{arrival_eq, status_number, signed, leaf_parts, policy_parts, policy_eq, same_policies, prepared_eq}
+use Rattle.tenant_pipeline.specs.Prepared.{PreparedData}
 use Rattle.tenant_pipeline.specs.Texts.{AreOwned}
 
 -- lists that a function takes to one list are one where it takes no two members to one
@@ -92,3 +94,55 @@ same_spans m n (x ∷ xs) (y ∷ ys) one other same =
     let first = same_span m n x y one.0 other.0 same in
     let rest = same_spans m n xs ys one.1 other.1 same in
     ap (λ b. b && pointwise stored_eq xs ys) first ∙ ap (λ b. arrival_eq (arrival_in x) (arrival_in y) && b) rest
+
+-- ---- equal bodies are the same
+
+and_decides : {P Q : Type 0} → (a b : Bool) → Decides a P → Decides b Q → Decides (a && b) (P × Q)
+and_decides true b p q = (λ h. (p.0 refl, q.0 h), λ h. q.1 h.1)
+and_decides false b p q = (λ h. absurd (cc), λ h. p.1 h.0)
+
+text_decides : (a b : Option (List ℕ)) → Decides (same_text a b) (a ≡ b)
+text_decides None None = (λ h. refl, λ h. refl)
+text_decides None (Some y) = (λ h. absurd (cc), λ h. absurd (cc))
+text_decides (Some x) None = (λ h. absurd (cc), λ h. absurd (cc))
+text_decides (Some x) (Some y) = (λ h. ap Some ((bytes_decides x y).0 h), λ h. let same : x ≡ y = cc in (bytes_decides x y).1 same)
+
+origin_decides : (a b : Origin) → Decides (origin_eq a b) (a ≡ b)
+origin_decides a b =
+    let around = and_decides _ _ (text_decides a.resource b.resource) (bytes_decides a.resource_schema_url b.resource_schema_url) in
+    let within = and_decides _ _ (text_decides a.scope b.scope) (bytes_decides a.scope_schema_url b.scope_schema_url) in
+    let parts = and_decides _ _ around within in (
+      λ h. let all = parts.0 h in λ j. record { resource = all.0.0 j; resource_schema_url = all.0.1 j; scope = all.1.0 j; scope_schema_url = all.1.1 j },
+      λ h. parts.1 ((ap (λ (o : Origin). o.resource) h, ap (λ (o : Origin). o.resource_schema_url) h), (ap (λ (o : Origin). o.scope) h, ap (λ (o : Origin). o.scope_schema_url) h)),
+    )
+
+-- what policies ask of a span follows from its text and its resource's
+arrival_decides : (x y : StoredData) → Decides (arrival_eq (arrival_in x) (arrival_in y)) (arrival_in x ≡ arrival_in y)
+arrival_decides x y =
+    let parts = and_decides _ _ (bytes_decides x.text y.text) (origin_decides x.origin y.origin) in (
+      λ h. let all = parts.0 h in λ j. record { facts = facts_of (all.0 j) (bytes_of (all.1 j).resource); text = all.0 j; origin = all.1 j },
+      λ h. parts.1 (ap (λ (a : Arrival). a.text) h, ap (λ (a : Arrival). a.origin) h),
+    )
+
+arrivals_decide : (xs ys : List StoredData) → Decides (pointwise arrival_eq (arrivals_in xs) (arrivals_in ys)) (arrivals_in xs ≡ arrivals_in ys)
+arrivals_decide [] [] = (λ h. refl, λ h. refl)
+arrivals_decide [] (y ∷ ys) = (λ h. absurd (cc), λ h. absurd (cc))
+arrivals_decide (x ∷ xs) [] = (λ h. absurd (cc), λ h. absurd (cc))
+arrivals_decide (x ∷ xs) (y ∷ ys) =
+    let parts = and_decides _ _ (arrival_decides x y) (arrivals_decide xs ys) in (
+      λ h. let all = parts.0 h in λ j. all.0 j ∷ all.1 j,
+      λ h.
+          let first : arrival_in x ≡ arrival_in y = cc in
+          let rest : arrivals_in xs ≡ arrivals_in ys = cc in
+          parts.1 (first, rest),
+    )
+
+pub prepared_decides : (p q : PreparedData) (xs ys : List StoredData) → p.arrivals ≡ arrivals_in xs → q.arrivals ≡ arrivals_in ys → Decides (prepared_eq p q) (p ≡ q)
+prepared_decides p q xs ys mine theirs =
+    let stored = arrivals_decide xs ys in
+    let first = subst (λ (zs : List Arrival). Decides (pointwise arrival_eq (arrivals_in xs) zs) (arrivals_in xs ≡ zs)) (sym theirs) stored in
+    let arrivals = subst (λ (zs : List Arrival). Decides (pointwise arrival_eq zs q.arrivals) (zs ≡ q.arrivals)) (sym mine) first in
+    let parts = and_decides _ _ (and_decides _ _ (Decides-eqb p.tenant q.tenant) (same_policies_decides p.policies q.policies)) arrivals in (
+      λ h. let all = parts.0 h in λ j. record { tenant = all.0.0 j; policies = all.0.1 j; arrivals = all.1 j },
+      λ h. parts.1 ((ap (λ (d : PreparedData). d.tenant) h, ap (λ (d : PreparedData). d.policies) h), ap (λ (d : PreparedData). d.arrivals) h),
+    )

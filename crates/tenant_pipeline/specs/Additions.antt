@@ -5,16 +5,17 @@ use Rattle.tenant_pipeline.specs.declared.place.Addition.TheVariants.{Opened, Jo
 use Rattle.tenant_pipeline.specs.Groups.{GroupData}
 use Rattle.tenant_pipeline.specs.State.{RowData}
 
--- what a span adds that comes at a moment to the row at a place, by when that row is due and whether it is kept
+-- what a span adds that comes at a moment to the row at a place, by when that row is due and whether it is sampled
 abbrev pub addition_to : ℕ → ℕ → ℕ → Bool → Addition
-addition_to place moment due kept = if nat_lt moment due then Joined place else if kept then Late else NotSampled
+addition_to place moment due sampled = if nat_lt moment due then Joined place else if sampled then Late else NotSampled
 
 -- all but the last
 abbrev pub but_last : {A : Type 0} → List A → List A
 but_last xs = take (length xs - 1) xs
 
+-- a row without the span that came to it last
 abbrev pub without_last : RowData → RowData
-without_last row = record { trace = row.trace; due = row.due; spans = but_last row.spans; kept = row.kept }
+without_last row = record row { spans = but_last row.spans }
 
 -- the row at a place loses its last span
 abbrev pub shortened : ℕ → List RowData → List RowData
@@ -22,12 +23,14 @@ shortened i [] = []
 shortened zero (row ∷ rows) = without_last row ∷ rows
 shortened (suc i) (row ∷ rows) = row ∷ shortened i rows
 
+-- the rows as they were before an addition
 abbrev pub rows_before : Addition → List RowData → List RowData
 rows_before Opened rows = but_last rows
 rows_before (Joined place) rows = shortened place rows
 rows_before Late rows = rows
 rows_before NotSampled rows = rows
 
+-- the waiting groups as they were before an addition
 abbrev pub queue_before : Addition → List GroupData → List GroupData
 queue_before Opened queue = queue
 queue_before (Joined place) queue = queue
@@ -39,6 +42,7 @@ abbrev pub rows_without : List Addition → List RowData → List RowData
 rows_without [] rows = rows
 rows_without (addition ∷ additions) rows = rows_before addition (rows_without additions rows)
 
+-- the waiting groups without all these additions
 abbrev pub queue_without : List Addition → List GroupData → List GroupData
 queue_without [] queue = queue
 queue_without (addition ∷ additions) queue = queue_before addition (queue_without additions queue)

@@ -1,5 +1,5 @@
--- The spans of a body as they arrive, each with what stands round it as canonical text, and which of them are valid (the
--- trace data model of OpenTelemetry).
+-- The spans of a body as they arrive, each with what stands round it as canonical text, and which of them are valid
+-- (the trace data model of OpenTelemetry).
 use Rattle.std.specs.Prelude.{ℕ, Bool, List, Option, map, option_map, filter, flat_map, length, not, ◌==◌, ◌&&◌}
 use Rattle.std.specs.List.{list_all}
 use Rattle.otlp_trace.specs.Data.{SpanData, ResourceData, ScopeSpansData, ResourceSpansData, RequestData}
@@ -17,6 +17,7 @@ pub record Arrival : Type 0 where
 abbrev pub arrival_in : StoredData → Arrival
 arrival_in s = record { facts = stored_facts s; text = s.text; origin = s.origin }
 
+-- what arrived of spans that are kept
 abbrev pub arrivals_in : List StoredData → List Arrival
 arrivals_in spans = map arrival_in spans
 
@@ -29,15 +30,19 @@ origin_with resource schema_url scope = record {
   scope_schema_url = scope.schema_url;
 }
 
+-- of a scope's spans, in this resource spans (OTLP's ResourceSpans and ScopeSpans)
 abbrev pub origin_of : ResourceSpansData → ScopeSpansData → Origin
 origin_of resource scope = origin_with (option_map resource_text resource.resource) resource.schema_url scope
 
+-- a span of this origin, with its resource, from which policies read too
 abbrev pub arrival_of : Origin → Option ResourceData → SpanData → Arrival
 arrival_of origin resource span = record { facts = facts span resource; text = span_text span; origin = origin }
 
+-- the spans of one scope spans, in its order
 abbrev pub arrivals_of_scope : ResourceSpansData → ScopeSpansData → List Arrival
 arrivals_of_scope resource scope = map (arrival_of (origin_of resource scope) resource.resource) scope.spans
 
+-- the spans of one resource spans, in its order
 abbrev pub arrivals_of_resource : ResourceSpansData → List Arrival
 arrivals_of_resource resource = flat_map (arrivals_of_scope resource) resource.scope_spans
 

@@ -13,6 +13,7 @@ use Rattle.tenant_pipeline.specs.Prepared.{PreparedData}
 abbrev pub arrival_eq : Arrival → Arrival → Bool
 arrival_eq = eq_of_both (on (λ a. a.text) same_bytes) (on (λ a. a.origin) origin_eq)
 
+-- a status code's number in OTLP (Status.StatusCode)
 abbrev pub status_number : StatusData → ℕ
 status_number unset = 0
 status_number ok = 1
@@ -47,17 +48,22 @@ same_policies = pointwise policy_eq
 -- the same tenant, the same policies in the same order, and the same spans in the same order
 abbrev pub prepared_eq : PreparedData → PreparedData → Bool
 prepared_eq =
-    eq_of_both (eq_of_both (on (λ p. p.tenant) nat_eq) (on (λ p. p.policies) same_policies)) (on (λ p. p.arrivals) (pointwise arrival_eq))
+    eq_of_both (eq_of_both (on (λ p. p.tenant) nat_eq) (on (λ p. p.policies) same_policies))
+    (on (λ p. p.arrivals) (pointwise arrival_eq))
 
 bytes_laws : IsPartialEquivalence same_bytes
 bytes_laws = partial_equiv_from_equiv nat_list_eq_equiv
 
+-- which is symmetric and transitive
 pub arrival_laws : IsPartialEquivalence arrival_eq
 arrival_laws = and_per (on_per (λ a. a.text) bytes_laws) (on_per (λ a. a.origin) origin_laws)
 
 policy_laws : IsPartialEquivalence policy_eq
 policy_laws = on_per policy_parts (lists_per (lists_per bytes_laws))
 
+-- which is symmetric and transitive
 pub prepared_laws : IsPartialEquivalence prepared_eq
 prepared_laws =
-    and_per (and_per (on_per (λ p. p.tenant) (partial_equiv_from_equiv nat_eq_equiv)) (on_per (λ p. p.policies) (lists_per policy_laws))) (on_per (λ p. p.arrivals) (lists_per arrival_laws))
+    and_per (and_per (on_per (λ p. p.tenant) (partial_equiv_from_equiv nat_eq_equiv))
+    (on_per (λ p. p.policies) (lists_per policy_laws)))
+    (on_per (λ p. p.arrivals) (lists_per arrival_laws))

@@ -1,5 +1,5 @@
--- The groups that leave by a moment, oldest first. A row is decided when the tenant's wait is over: where the policies keep
--- its spans, they leave, and so do those that come late.
+-- The groups that leave by a moment, oldest first. A row is decided when the tenant's wait is over: where the policies
+-- sample it, its spans leave, and so do those that come late.
 use Rattle.std.specs.Prelude.{ℕ, ◌+◌, Bool, false, map, List, [], ◌∷◌, ◌++◌, length, if◌then◌else◌, ◌==◌, ◌&&◌, nat_lt, nat_le}
 use Rattle.tail_settings.specs.Policy.{PolicyData}
 use Rattle.tail_settings.specs.Section.{SectionData}
@@ -20,28 +20,32 @@ due_of section opening = opening + section.tail_sampling.decision_wait
 abbrev pub on_time : SectionData → ℕ → List Seated → List Arrival
 on_time section row [] = []
 on_time section row (x ∷ before) =
-    if x.row == row && nat_lt x.moment (due_of section x.opening) then on_time section row before ++ x.arrival ∷ [] else on_time section row before
+    if x.row == row && nat_lt x.moment (due_of section x.opening) then on_time section row before ++ x.arrival ∷ []
+    else on_time section row before
 
--- whether policies keep a row with these spans; every row has some
-abbrev pub are_kept : List PolicyData → List Arrival → Bool
-are_kept policies [] = false
-are_kept policies (x ∷ xs) = keeps policies (map (λ a. a.facts) (x ∷ xs))
+-- whether policies sample a row with these spans; every row has some
+abbrev pub are_sampled : List PolicyData → List Arrival → Bool
+are_sampled policies [] = false
+are_sampled policies (x ∷ xs) = keeps policies (map (λ a. a.facts) (x ∷ xs))
 
--- whether the row of this number is kept: what counts is its spans that came before its decision
-abbrev pub is_kept : SectionData → ℕ → List Seated → Bool
-is_kept section row spans = are_kept section.tail_sampling.policies (on_time section row spans)
+-- whether the row of this number is sampled: what counts is its spans that came before its decision
+abbrev pub is_sampled : SectionData → ℕ → List Seated → Bool
+is_sampled section row spans = are_sampled section.tail_sampling.policies (on_time section row spans)
 
--- the groups of the kept rows that are decided by the moment, by row number
+-- the groups of the sampled rows that are decided by the moment, by row number
 abbrev pub decided : SectionData → ℕ → List Seated → List Opened → List GroupData
 decided section reached spans [] = []
 decided section reached spans (row ∷ rows) =
-    decided section reached spans rows ++ (if nat_le (due_of section row.moment) reached && is_kept section (length rows + 1) spans then record { moment = due_of section row.moment; spans = on_time section (length rows + 1) spans } ∷ [] else [])
+    decided section reached spans rows ++
+    (if nat_le (due_of section row.moment) reached && is_sampled section (length rows + 1) spans
+    then record { moment = due_of section row.moment; spans = on_time section (length rows + 1) spans } ∷ [] else [])
 
--- each late span of a kept row alone, in order of arrival. All spans that were in time came before a late one
+-- each late span of a sampled row alone, in order of arrival. All spans that were in time came before a late one
 abbrev pub late : SectionData → List Seated → List GroupData
 late section [] = []
 late section (x ∷ before) =
-    late section before ++ (if nat_le (due_of section x.opening) x.moment && is_kept section x.row before then record { moment = x.moment; spans = x.arrival ∷ [] } ∷ [] else [])
+    late section before ++ (if nat_le (due_of section x.opening) x.moment && is_sampled section x.row before
+    then record { moment = x.moment; spans = x.arrival ∷ [] } ∷ [] else [])
 
 -- a group before the first one of its moment or of a later one
 abbrev pub put : GroupData → List GroupData → List GroupData
@@ -53,6 +57,8 @@ abbrev pub by_moment : List GroupData → List GroupData
 by_moment [] = []
 by_moment (group ∷ groups) = put group (by_moment groups)
 
--- all groups that the spans form by the moment: by moment, within a moment first decisions by row number, then late spans
+-- all groups that the spans form by the moment: by moment, within a moment first decisions by row number, then late
+-- spans
 unfoldable pub groups : SectionData → ℕ → List Taken → List GroupData
-groups section reached spans = by_moment (decided section reached (seated spans) (opened spans) ++ late section (seated spans))
+groups section reached spans = by_moment (decided section reached (seated spans) (opened spans) ++
+    late section (seated spans))

@@ -8,4 +8,6 @@ use Rattle.tenant_pipeline.specs.Machine.{next, told}
 -- the next state and answer follow from the state alone
 abbrev pub GoesOn : Type 0
 GoesOn =
-    (section : SectionData) → 0 < section.tail_sampling.decision_wait → (past : List Own) (step : Own) → (state section (step ∷ past) ≡ next step (state section past)) × (answer section past step ≡ told step (state section past))
+    (section : SectionData) → 0 < section.tail_sampling.decision_wait → (past : List Own) (step : Own) →
+    (state section (step ∷ past) ≡ next step (state section past)) ×
+    (answer section past step ≡ told step (state section past))

@@ -14,5 +14,5 @@ pub mod Numbered
 pub mod Prepared
 pub mod Texts
 pub mod Bounds
-pub mod Examples
 pub mod Equal
+pub mod Replies

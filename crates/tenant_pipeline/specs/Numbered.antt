@@ -17,9 +17,11 @@ pub record AreNumberedWith (last number : ℕ) (resource : Named) (spans : List 
   pub named : AreNamed names last spans
   pub is : IsNumber names.resource last number resource
 
+-- the numbers up to the last one name what the spans of all rows have
 abbrev pub AreRowsNamed : Names → ℕ → List (List ℕ × Row) → Type 0
 AreRowsNamed names last entries = AllByRecursion (λ (e : List ℕ × Row). AreNamed names last e.1.spans.items) entries
 
+-- and what those of all groups have
 abbrev pub AreGroupsNamed : Names → ℕ → List Group → Type 0
 AreGroupsNamed names last groups = AllByRecursion (λ (g : Group). AreNamed names last g.spans.items) groups
 

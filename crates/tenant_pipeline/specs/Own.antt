@@ -11,6 +11,7 @@ pub data Own : Type 0 where
 abbrev pub latest_moment : ℕ
 latest_moment = 2 ^ 62
 
+-- the moment that a step asks for, as it is taken
 abbrev pub moment_of : Own → ℕ
 moment_of (Post now arrivals) = min now latest_moment
 moment_of (Turn now) = min now latest_moment

@@ -10,13 +10,19 @@ use Rattle.tenant_pipeline.specs.declared.body.Refusal.{Refusal}
 use Rattle.tenant_pipeline.specs.declared.body.Refusal.TheVariants as refusal
 use Rattle.tenant_pipeline.specs.Arrivals.{Arrival, arrivals_of}
 
+-- a body that was read: whose it is, the policies that its tenant had then, and its spans
 pub record PreparedData : Type 0 where
   pub tenant : ℕ
   pub policies : List PolicyData
   pub arrivals : List Arrival
 
+-- what a request is made ready as, for the tenant of this number and section
 abbrev pub prepared_of : ℕ → SectionData → RequestData → PreparedData
-prepared_of tenant section request = record { tenant = tenant; policies = section.tail_sampling.policies; arrivals = arrivals_of request }
+prepared_of tenant section request = record {
+  tenant = tenant;
+  policies = section.tail_sampling.policies;
+  arrivals = arrivals_of request;
+}
 
 -- the tenant, the section's policies and the spans of the body's value
 abbrev pub IsPrepared : ℕ → SectionData → List ℕ → PreparedData → Type 0

@@ -24,8 +24,10 @@ ready s = lesser (next_timer s) (next_job s.tickets s.queue)
 -- the least of the due moments above the clock
 abbrev pub next_decision : ℕ → List RowData → Option ℕ
 next_decision clock [] = None
-next_decision clock (row ∷ rows) = if nat_lt clock row.due then lesser (Some row.due) (next_decision clock rows) else next_decision clock rows
+next_decision clock (row ∷ rows) = if nat_lt clock row.due then lesser (Some row.due) (next_decision clock rows)
+    else next_decision clock rows
 
 -- after every past the first timer is the least due moment of an undecided row
 abbrev pub FirstIsLeast : Type 0
-FirstIsLeast = (section : SectionData) (past : List Own) → next_timer (state section past) ≡ next_decision (clock past) (state section past).rows
+FirstIsLeast = (section : SectionData) (past : List Own) → next_timer (state section past) ≡
+    next_decision (clock past) (state section past).rows

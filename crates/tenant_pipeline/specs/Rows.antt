@@ -26,6 +26,7 @@ pub record Seated : Type 0 where
   pub moment : ℕ
   pub arrival : Arrival
 
+-- the trace of a span, by its id
 abbrev pub trace_of : Arrival → List ℕ
 trace_of arrival = arrival.facts.trace_id
 
@@ -36,7 +37,8 @@ is_same one other = pointwise nat_eq one other
 -- the spans of one post, in order, join those that were taken before
 abbrev pub taken_after : ℕ → List Arrival → List Taken → List Taken
 taken_after moment [] before = before
-taken_after moment (arrival ∷ arrivals) before = taken_after moment arrivals (record { moment = moment; arrival = arrival } ∷ before)
+taken_after moment (arrival ∷ arrivals) before =
+    taken_after moment arrivals (record { moment = moment; arrival = arrival } ∷ before)
 
 -- every span that was taken, at the effective moment of its post: an invalid one is left out
 abbrev pub taken : List Own → List Taken
@@ -47,13 +49,15 @@ taken (Turn now ∷ past) = taken past
 -- the latest row of a trace
 abbrev pub latest : List ℕ → List Opened → Option Seat
 latest trace [] = None
-latest trace (row ∷ rows) = if is_same trace row.trace then Some (record { row = length rows + 1; opening = row.moment }) else latest trace rows
+latest trace (row ∷ rows) = if is_same trace row.trace
+    then Some (record { row = length rows + 1; opening = row.moment }) else latest trace rows
 
 -- the rows that the spans open: a span opens one where its trace has none
 abbrev pub opened : List Taken → List Opened
 opened [] = []
 opened (x ∷ before) =
-    if is_some (latest (trace_of x.arrival) (opened before)) then opened before else record { trace = trace_of x.arrival; moment = x.moment } ∷ opened before
+    if is_some (latest (trace_of x.arrival) (opened before)) then opened before
+    else record { trace = trace_of x.arrival; moment = x.moment } ∷ opened before
 
 -- the seat of a span after these rows were opened: its trace's latest row, else the next row
 abbrev pub seat : Taken → List Opened → Seat
@@ -63,4 +67,9 @@ seat x rows = unwrap_or (latest (trace_of x.arrival) rows) (record { row = lengt
 abbrev pub seated : List Taken → List Seated
 seated [] = []
 seated (x ∷ before) =
-    record { row = (seat x (opened before)).row; opening = (seat x (opened before)).opening; moment = x.moment; arrival = x.arrival } ∷ seated before
+    record {
+      row = (seat x (opened before)).row;
+      opening = (seat x (opened before)).opening;
+      moment = x.moment;
+      arrival = x.arrival;
+    } ∷ seated before

@@ -7,15 +7,16 @@ use Rattle.tenant_pipeline.specs.declared.told.Told.TheVariants as tell
 use Rattle.tenant_pipeline.specs.Arrivals.{Arrival}
 use Rattle.tenant_pipeline.specs.Own.{Own, Post, Turn, clock}
 use Rattle.tenant_pipeline.specs.Rows.{Taken, Opened, Seated, opened, seated, taken}
-use Rattle.tenant_pipeline.specs.Groups.{GroupData, due_of, groups, on_time, is_kept}
+use Rattle.tenant_pipeline.specs.Groups.{GroupData, due_of, groups, on_time, is_sampled}
 use Rattle.tenant_pipeline.specs.ExportText.{export_text}
 
--- a trace's row: it is decided when it is due, and its spans wait until then. Afterwards it is known whether it is kept
+-- a trace's row: it is decided when it is due, and its spans wait until then. Afterwards it is known whether it is
+-- sampled
 pub record RowData : Type 0 where
   pub trace : List ℕ
   pub due : ℕ
   pub spans : List Arrival
-  pub kept : Bool
+  pub sampled : Bool
 
 -- what is kept of a tenant
 pub record State : Type 0 where
@@ -34,7 +35,8 @@ last_ticket = 2 ^ 62
 -- what is told of a turn, from the tickets handed out before and the groups that were not
 abbrev pub handed : ℕ → List GroupData → Told
 handed tickets [] = tell.Worked
-handed tickets (group ∷ rest) = if nat_lt tickets last_ticket then tell.Job (tickets + 1) (export_text group.spans) else tell.Worked
+handed tickets (group ∷ rest) = if nat_lt tickets last_ticket then tell.Job (tickets + 1) (export_text group.spans)
+    else tell.Worked
 
 -- the tickets handed out after a turn
 abbrev pub tickets_after : ℕ → List GroupData → ℕ
@@ -45,7 +47,9 @@ tickets_after tickets (group ∷ rest) = if nat_lt tickets last_ticket then tick
 abbrev pub tickets : SectionData → List Own → ℕ
 tickets section [] = 0
 tickets section (Post now arrivals ∷ past) = tickets section past
-tickets section (Turn now ∷ past) = tickets_after (tickets section past) (drop (tickets section past) (groups section (clock (Turn now ∷ past)) (taken past)))
+tickets section (Turn now ∷ past) =
+    tickets_after (tickets section past)
+    (drop (tickets section past) (groups section (clock (Turn now ∷ past)) (taken past)))
 
 -- the rows as they are kept
 abbrev pub kept_rows : SectionData → ℕ → List Seated → List Opened → List RowData
@@ -55,13 +59,14 @@ kept_rows section reached spans (row ∷ rows) =
       trace = row.trace;
       due = due_of section row.moment;
       spans = if nat_le (due_of section row.moment) reached then [] else on_time section (length rows + 1) spans;
-      kept = nat_le (due_of section row.moment) reached && is_kept section (length rows + 1) spans;
+      sampled = nat_le (due_of section row.moment) reached && is_sampled section (length rows + 1) spans;
     } ∷ []
 
 -- how many rows are decided by the moment
 abbrev pub decided_count : SectionData → ℕ → List Opened → ℕ
 decided_count section reached [] = 0
-decided_count section reached (row ∷ rows) = decided_count section reached rows + (if nat_le (due_of section row.moment) reached then 1 else 0)
+decided_count section reached (row ∷ rows) =
+    decided_count section reached rows + (if nat_le (due_of section row.moment) reached then 1 else 0)
 
 -- the state from the spans taken, the moment reached and the tickets handed out
 abbrev pub state_at : SectionData → List Taken → ℕ → ℕ → State
@@ -86,7 +91,8 @@ accepted = tell.Reply (record { status = 200; body = [] })
 -- what it is told of the next step
 unfoldable pub answer : SectionData → List Own → Own → Told
 answer section past (Post now arrivals) = accepted
-answer section past (Turn now) = handed (tickets section past) (drop (tickets section past) (groups section (clock (Turn now ∷ past)) (taken past)))
+answer section past (Turn now) =
+    handed (tickets section past) (drop (tickets section past) (groups section (clock (Turn now ∷ past)) (taken past)))
 
 -- what is kept is what those own steps leave
 abbrev pub StandsFor : SectionData → List Own → State → Type 0
@@ -95,4 +101,5 @@ StandsFor section past kept = kept ≡ state section past
 -- the step's answer is the next one, and what is kept afterwards is what the steps with this one leave
 abbrev pub Answers : Own → State → Told → State → Type 0
 Answers step old told new =
-    (section : SectionData) (past : List Own) → StandsFor section past old → (told ≡ answer section past step) × StandsFor section (step ∷ past) new
+    (section : SectionData) (past : List Own) → StandsFor section past old → (told ≡ answer section past step) ×
+    StandsFor section (step ∷ past) new

@@ -2,9 +2,10 @@
 use Rattle.std.specs.Prelude.{◌≡◌, ℕ, zero, suc, ◌+◌, Bool, false, max, List, [], ◌∷◌, ◌++◌, Option, Some, None, option_map, slice_get, set, if◌then◌else◌, nat_le}
 use Rattle.tenant_pipeline.specs.Own.{Own, moment_of}
 use Rattle.tail_settings.specs.Policy.{PolicyData}
-use Rattle.tenant_pipeline.specs.Groups.{GroupData, are_kept}
+use Rattle.tenant_pipeline.specs.Groups.{GroupData, are_sampled}
 use Rattle.tenant_pipeline.specs.State.{State, RowData}
 
+-- when a row is due
 abbrev pub due_row : RowData → ℕ
 due_row row = row.due
 
@@ -14,29 +15,28 @@ next_timer s = option_map due_row (slice_get s.rows s.decided)
 
 -- a row once it is decided
 abbrev pub settled : List PolicyData → RowData → RowData
-settled policies row = record { trace = row.trace; due = row.due; spans = []; kept = are_kept policies row.spans }
+settled policies row = record row { spans = []; sampled = are_sampled policies row.spans }
 
--- the group that it makes, where it is kept
+-- the group that it makes, where it is sampled
 abbrev pub groups_of : List PolicyData → RowData → List GroupData
-groups_of policies row = if are_kept policies row.spans then record { moment = row.due; spans = row.spans } ∷ [] else []
+groups_of policies row = if are_sampled policies row.spans then record { moment = row.due; spans = row.spans } ∷ []
+    else []
 
 -- this row is decided at its due moment
 abbrev pub decide : Option RowData → State → State
 decide None s = s
-decide (Some row) s = record {
-  wait = s.wait;
-  policies = s.policies;
+decide (Some row) s = record s {
   clock = row.due;
   rows = set s.rows s.decided (settled s.policies row);
   decided = s.decided + 1;
   queue = s.queue ++ groups_of s.policies row;
-  tickets = s.tickets;
 }
 
 -- the first timer runs
 abbrev pub one_run : State → State
 one_run s = decide (slice_get s.rows s.decided) s
 
+-- whether a timer is due by the moment; none never is
 abbrev pub is_due : Option ℕ → ℕ → Bool
 is_due None moment = false
 is_due (Some due) moment = nat_le due moment

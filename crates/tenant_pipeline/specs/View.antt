@@ -8,13 +8,21 @@ use Rattle.tenant_pipeline.specs.State.{RowData}
 
 -- an entry of the rows, named by its trace
 abbrev pub row_view : List ℕ × Row → RowData
-row_view entry = record { trace = entry.0; due = entry.1.due; spans = arrivals_in entry.1.spans.items; kept = entry.1.kept }
+row_view entry = record {
+  trace = entry.0;
+  due = entry.1.due;
+  spans = arrivals_in entry.1.spans.items;
+  sampled = entry.1.sampled;
+}
 
+-- all entries, in the order in which rows opened
 abbrev pub row_views : List (List ℕ × Row) → List RowData
 row_views entries = map row_view entries
 
+-- a group by its moment and what arrived of its spans
 abbrev pub group_view : Group → GroupData
 group_view group = record { moment = group.moment; spans = arrivals_in group.spans.items }
 
+-- all groups, the oldest first
 abbrev pub group_views : List Group → List GroupData
 group_views groups = map group_view groups

@@ -1,6 +1,6 @@
 //! Bodies are read for a tenant.
 
-ghost use Rattle.std.specs.Prelude.{◌≡◌, ◌<◌, ◌≤◌, ◌^◌, ◌++◌, [], length, map, Option, option_map, string_bytes, None, IfOk, IfErr, OnOk, MatchResult};
+ghost use Rattle.std.specs.Prelude.{◌≡◌, ◌↔◌, true, ◌<◌, ◌≤◌, ◌^◌, ◌++◌, [], length, map, Option, option_map, string_bytes, None, IfOk, IfErr, OnOk, MatchResult};
 ghost use Rattle.otlp_trace.specs.Data.{ResourceData, RequestData};
 ghost use Rattle.otlp_trace.specs.Text.{resource_text, scope_text};
 ghost use Rattle.otlp_trace.specs.View.{span_view, scope_view, resource_view, scope_spans_view, resource_spans_view, request_view};
@@ -12,6 +12,7 @@ ghost use Rattle.span_pool.specs.Stored.{bytes_of};
 ghost use Rattle.span_pool.specs.Named.{resource_of};
 ghost use Rattle.tail_settings.specs.Section.{section_view};
 ghost use Rattle.tenant_pipeline.specs.Arrivals.{arrival_in, arrivals_in, arrivals_of, arrivals_of_resource, arrival_of, origin_with};
+ghost use Rattle.tenant_pipeline.specs.Equal.{prepared_eq};
 ghost use Rattle.tenant_pipeline.specs.Prepared.{IsPrepared, prepared_of, refusal_of};
 ghost use Rattle.tenant_pipeline.specs.Texts.{IsTextOf, AreOwned};
 ghost use Rattle.tenant_pipeline.specs.Numbered.{AreNumbered, AreNumberedWith};
@@ -121,7 +122,8 @@ impl Prepared {
 
     /// Whether both are for one tenant with the same policies.
     fn is_for_same(&self, other: &Prepared) -> bool
-        ensures { result ≡ (nat_eq self.now.tenant other.now.tenant && same_policies self.now.policies other.now.policies) }
+        ensures { result ≡ (nat_eq self.now.tenant other.now.tenant &&
+            same_policies self.now.policies other.now.policies) }
     {
         self.tenant == other.tenant && self.has_policies(other.policies.as_slice())
     }
@@ -135,8 +137,15 @@ impl Prepared {
     }
 }
 
-/// Reads a body, a request in protobuf, for the tenant with this number and section. What is prepared names the tenant and
-/// the section's policies.
+/// Bodies that were prepared are equal exactly where contracts see the same: a law.
+pub fn equal_bodies_are_the_same(one: &Prepared, other: &Prepared)
+    ensures { (prepared_eq one.now other.now ≡ true) ↔ (one.now ≡ other.now) }
+{
+    let _both = one.spans.len() == other.spans.len();
+}
+
+/// Reads a body, a request in protobuf, for the tenant with this number and section. What is prepared names the tenant
+/// and the section's policies.
 pub fn prepare(
     alloc: Global,
     tenant: u32,
@@ -147,7 +156,9 @@ pub fn prepare(
     ensures value { IfOk result (λ prepared. IsPrepared tenant (section_view section.now) body.now prepared) }
 
     // A body with a value is prepared, unless memory runs out.
-    ensures only { (v : RequestData) → IsValue body.now v → MatchResult result (λ prepared. prepared ≡ prepared_of tenant (section_view section.now) v) (λ refused. refused ≡ refusal.OutOfMemory) }
+    ensures only { (v : RequestData) → IsValue body.now v →
+        MatchResult result (λ prepared. prepared ≡
+        prepared_of tenant (section_view section.now) v) (λ refused. refused ≡ refusal.OutOfMemory) }
 
     // The fault of a body that is bad stands in it.
     ensures bad { (fault : ReadFault) → IfErr result (λ refused. refused ≡ refusal.Bad fault → IsFault body.now fault) }
@@ -211,7 +222,8 @@ fn add_resource(
     requires nested { NestedResourceSpans 100 (resource_spans_view resource_spans) }
     requires owned { AreOwned tenant spans.old.items }
     requires numbered { AreNumbered last.old spans.old.items }
-    ensures arrivals { OnOk result (arrivals_in spans.new.items ≡ arrivals_in spans.old.items ++ arrivals_of_resource (resource_spans_view resource_spans)) }
+    ensures arrivals { OnOk result (arrivals_in spans.new.items ≡ arrivals_in spans.old.items ++
+        arrivals_of_resource (resource_spans_view resource_spans)) }
     ensures owned { OnOk result (AreOwned tenant spans.new.items) }
     ensures numbered { OnOk result (AreNumbered last.new spans.new.items) }
 {
@@ -240,7 +252,10 @@ fn add_scope(
     requires resource { (resource : Option ResourceData) × IsTextOf outer.now.resource resource }
     requires owned { AreOwned tenant spans.old.items }
     requires numbered { AreNumberedWith last.old number (resource_of outer.now) spans.old.items }
-    ensures arrivals { OnOk result ((resource : Option ResourceData) → IsTextOf outer.now.resource resource → arrivals_in spans.new.items ≡ arrivals_in spans.old.items ++ map (arrival_of (origin_with outer.now.resource outer.now.resource_schema_url (scope_spans_view scope_spans)) resource) (map span_view scope_spans.spans)) }
+    ensures arrivals { OnOk result ((resource : Option ResourceData) → IsTextOf outer.now.resource resource →
+        arrivals_in spans.new.items ≡ arrivals_in spans.old.items ++
+        map (arrival_of (origin_with outer.now.resource outer.now.resource_schema_url (scope_spans_view scope_spans))
+        resource) (map span_view scope_spans.spans)) }
     ensures owned { OnOk result (AreOwned tenant spans.new.items) }
     ensures numbered { OnOk result (AreNumberedWith last.new number (resource_of outer.now) spans.new.items) }
 {
@@ -284,7 +299,14 @@ fn of_resource(
     resource: &Option<Resource>,
     schema_url: String,
 ) -> Result<Origin, AllocError>
-    ensures origin { IfOk result (λ origin. origin ≡ record { resource = option_map resource_text (option_map resource_view resource.now); resource_schema_url = string_bytes schema_url; scope = None; scope_schema_url = [] }) }
+    ensures origin { IfOk result (λ origin. origin ≡
+        record {
+          resource = option_map resource_text (option_map resource_view resource.now);
+          resource_schema_url =
+              string_bytes schema_url;
+          scope = None;
+          scope_schema_url = [];
+        }) }
     ensures short { IfOk result (λ origin. length (bytes_of origin.resource) < 2 ^ 64) }
 {
     Ok(Origin {
@@ -304,7 +326,14 @@ fn with_scope(
     scope: &Option<InstrumentationScope>,
     schema_url: String,
 ) -> Result<Origin, AllocError>
-    ensures { IfOk result (λ origin. origin ≡ record { resource = outer.now.resource; resource_schema_url = outer.now.resource_schema_url; scope = option_map scope_text (option_map scope_view scope.now); scope_schema_url = string_bytes schema_url }) }
+    ensures { IfOk result (λ origin. origin ≡
+        record {
+          resource = outer.now.resource;
+          resource_schema_url = outer.now.resource_schema_url;
+          scope =
+              option_map scope_text (option_map scope_view scope.now);
+          scope_schema_url = string_bytes schema_url;
+        }) }
 {
     Ok(Origin {
         resource: share(&outer.resource)?,
@@ -327,7 +356,8 @@ fn written_span(
     requires typed { TypedSpan (span_view span) }
     requires nested { NestedSpan 98 (span_view span) }
     requires resource { (resource : Option ResourceData) × IsTextOf origin.now.resource resource }
-    ensures arrival { IfOk result (λ stored. (resource : Option ResourceData) → IsTextOf origin.now.resource resource → arrival_in stored ≡ arrival_of origin.now resource (span_view span)) }
+    ensures arrival { IfOk result (λ stored. (resource : Option ResourceData) → IsTextOf origin.now.resource resource →
+        arrival_in stored ≡ arrival_of origin.now resource (span_view span)) }
     ensures owner { IfOk result (λ stored. stored.owner ≡ tenant) }
     ensures origin { IfOk result (λ stored. stored.origin ≡ origin.now) }
     ensures numbers { IfOk result (λ stored. stored.numbers ≡ numbers) }

@@ -23,7 +23,7 @@ const INNER: u32 = 2;
 const SCHEMA_URL: u32 = 3;
 
 /// Appends the resource or the scope, where there is one.
-pub fn put_embedded(out: &mut Vec<u8>, text: &Option<Bytes>) -> Result<(), AllocError>
+fn put_embedded(out: &mut Vec<u8>, text: &Option<Bytes>) -> Result<(), AllocError>
     ensures { OnOk result (out.new.items ≡ out.old.items ++ embedded 1 text.now) }
 {
     match text {
@@ -33,7 +33,7 @@ pub fn put_embedded(out: &mut Vec<u8>, text: &Option<Bytes>) -> Result<(), Alloc
 }
 
 /// Appends the spans, each as a field of a `ScopeSpans`.
-pub fn put_spans(out: &mut Vec<u8>, spans: &[StoredSpan]) -> Result<(), AllocError>
+fn put_spans(out: &mut Vec<u8>, spans: &[StoredSpan]) -> Result<(), AllocError>
     ensures { OnOk result (out.new.items ≡ out.old.items ++ repeated 2 (λ a. a.text) (arrivals_in spans.now)) }
 {
     for span in spans {

@@ -1,9 +1,9 @@
 //! One tenant's pipeline.
 //!
 //! The spans of a body wait in their trace's row, each as its canonical text with its resource and its scope. A row is
-//! decided when the tenant's wait is over: where the tenant's policies keep its spans, they form a group, in order of
+//! decided when the tenant's wait is over: where the tenant's policies sample it, its spans form a group, in order of
 //! arrival, and else they are dropped. A span that comes after its row's decision forms a group alone where the row is
-//! kept, and else it is dropped. Each group is one batch, and a worker's turn hands out the oldest batch, with the
+//! sampled, and else it is dropped. Each group is one batch, and a worker's turn hands out the oldest batch, with the
 //! tenant's next ticket and its text in OTLP, in which neighbours of one resource, and of one scope, share it.
 //!
 //! What a tenant is told depends on its settings and its own steps alone: `specs/State` says what it is after any list
@@ -13,9 +13,9 @@
 //! Where memory is refused, some of those decisions may have been made, the clock then stands at the last one's moment,
 //! and nothing else has changed. What a tenant is told afterwards follows from that state (`specs/Machine`).
 //!
-//! It stands on `tail_settings`, `tail_policy` and `span_pool`, and on the crates that read and write OTLP. The rules are after
-//! the documents of the OpenTelemetry Collector's `tail_sampling` processor; a batch is an `ExportTraceServiceRequest` of
-//! OTLP 1.x.
+//! It stands on `tail_settings`, `tail_policy` and `span_pool`, and on the crates that read and write OTLP. The rules
+//! are after the documents of the OpenTelemetry Collector's `tail_sampling` processor; a batch is an
+//! `ExportTraceServiceRequest` of OTLP 1.x.
 #![tactic(auto)]
 
 ghost use Rattle.std.specs.Prelude.{◌≡◌, ◌↔◌, true, List};
@@ -31,9 +31,9 @@ mod place;
 mod rows;
 mod told;
 
-pub use body::{Prepared, Refusal, prepare};
+pub use body::{Prepared, Refusal, equal_bodies_are_the_same, prepare};
 pub use pipeline::{LATEST_MOMENT, Pipeline};
-pub use told::{Reply, Told};
+pub use told::{Reply, Told, are_same_answers, are_same_replies};
 
 /// What a tenant is after one more step, and what it is told of it, follows from what it was: a law over the
 /// definitions.
@@ -50,12 +50,3 @@ pub fn first_is_least()
 pub fn same_policies_are_equal()
     ensures { (a b : List PolicyData) → (same_policies a b ≡ true) ↔ (a ≡ b) }
 {}
-
-#[cfg(test)]
-mod definition_tests;
-#[cfg(test)]
-mod reference;
-#[cfg(test)]
-mod reference_tests;
-#[cfg(test)]
-mod tests;

@@ -69,7 +69,8 @@ impl Model for Pipeline {
       tickets = p.tickets;
     } };
 
-    ghost invariant = { λ p. IsBounded p.wait p.clock p.tickets × AreAllNumbered p.last_number p.rows.entries p.queue.items };
+    ghost invariant = { λ p. IsBounded p.wait p.clock p.tickets ×
+        AreAllNumbered p.last_number p.rows.entries p.queue.items };
 }
 
 impl Pipeline {
@@ -90,23 +91,27 @@ impl Pipeline {
         })
     }
 
-    /// Whether a body was prepared for this tenant's policies. `post` takes any body, so that its caller asks this first.
+    /// Whether a body was prepared for this tenant's policies. `post` takes any body, so that its caller asks this
+    /// first.
     pub fn is_for(&self, prepared: &Prepared) -> bool
         ensures { result ≡ same_policies prepared.now.policies self.now.policies }
     {
         prepared.has_policies(self.policies.as_slice())
     }
 
-    /// A body's spans come, at a moment in milliseconds, with numbers that are higher than those before. Where memory is
-    /// refused, decisions that were due may have been made, and no span has come.
+    /// A body's spans come, at a moment in milliseconds, with numbers that are higher than those before. Where memory
+    /// is refused, decisions that were due may have been made, and no span has come.
     pub fn post(&mut self, now: u64, prepared: &Prepared) -> Result<Reply, AllocError>
-        // The reply is what the settings and the own steps say, and the state is what they and this step give. Where no own
-        // steps leave the old state, as after refused memory, both follow from that state.
-        ensures ok { IfOk result (λ reply. Answers (Post now prepared.now.arrivals) self.old (tell.Reply reply) self.new) }
-        ensures goes_on { IfOk result (λ reply. GoesOnFrom (Post now prepared.now.arrivals) self.old (tell.Reply reply) self.new) }
+        // The reply is what the settings and the own steps say, and the state is what they and this step give. Where no
+        // own steps leave the old state, as after refused memory, both follow from that state.
+        ensures ok { IfOk result (λ reply.
+            Answers (Post now prepared.now.arrivals) self.old (tell.Reply reply) self.new) }
+        ensures goes_on { IfOk result (λ reply.
+            GoesOnFrom (Post now prepared.now.arrivals) self.old (tell.Reply reply) self.new) }
 
         // Some first due decisions have been made, and all else is as before.
-        ensures refused { OnErr result (IsFront (effective (Post now prepared.now.arrivals) self.old) self.old self.new) }
+        ensures refused { OnErr result (
+            IsFront (effective (Post now prepared.now.arrivals) self.old) self.old self.new) }
         ensures policies { self.new.policies ≡ self.old.policies }
     {
         let moment = self.effective(now);
@@ -133,8 +138,8 @@ impl Pipeline {
     /// A worker asks for a job, at a moment in milliseconds. Where memory is refused, decisions that were due may have
     /// been made, and no ticket is used up.
     pub fn turn(&mut self, now: u64) -> Result<Told, AllocError>
-        // The answer is what the settings and the own steps say, and the state is what they and this step give. Where no own
-        // steps leave the old state, as after refused memory, both follow from that state.
+        // The answer is what the settings and the own steps say, and the state is what they and this step give. Where
+        // no own steps leave the old state, as after refused memory, both follow from that state.
         ensures ok { IfOk result (λ told. Answers (Turn now) self.old told self.new) }
         ensures goes_on { IfOk result (λ told. GoesOnFrom (Turn now) self.old told self.new) }
 
@@ -149,8 +154,8 @@ impl Pipeline {
         Ok(told)
     }
 
-    /// When there is next something to do, in milliseconds: the moment of the next decision, or that at which the oldest
-    /// batch formed.
+    /// When there is next something to do, in milliseconds: the moment of the next decision, or that at which the
+    /// oldest batch formed.
     #[tactic(auto, unfolding(crate::specs::Ready::ready))]
     pub fn ready(&self) -> Option<u64>
         ensures { result ≡ ready self.now }

@@ -7,7 +7,7 @@ ghost use Rattle.span_pool.specs.Named.{Names, IsNamed, AreNamed, renumbered};
 ghost use Rattle.tenant_pipeline.specs.Arrivals.{arrival_in, arrivals_in, is_id, is_valid, valid};
 ghost use Rattle.tenant_pipeline.specs.View.{row_views, group_views};
 ghost use Rattle.tenant_pipeline.specs.Numbered.{AreGroupsNamed, AreAllNamed};
-ghost use Rattle.tenant_pipeline.specs.Machine.{rows_with, late_with, rows_with_all, late_with_all};
+ghost use Rattle.tenant_pipeline.specs.Machine.{group_if_late, rows_with, late_with, rows_with_all, late_with_all};
 ghost use Rattle.tenant_pipeline.specs.Additions.{addition_to, rows_before, queue_before, rows_without, queue_without};
 
 use crate::rows::{Group, Row, Rows};
@@ -24,7 +24,7 @@ pub enum Addition {
     Joined(usize),
     /// A group with this span alone, behind the others.
     Late,
-    /// Nothing: the span is late, and its row isn't kept.
+    /// Nothing: the span is late, and its row isn't sampled.
     NotSampled,
 }
 
@@ -74,8 +74,8 @@ fn one(alloc: Global, span: StoredSpan) -> Result<Vec<StoredSpan>, AllocError>
     Ok(spans)
 }
 
-/// The span joins the row, which is at this place. Where it is late, it leaves alone if the row is kept. Where memory is
-/// refused, nothing changes.
+/// The span joins the row, which is at this place. Where it is late, it leaves alone if the row is sampled. Where
+/// memory is refused, nothing changes.
 fn join(
     alloc: Global,
     row: &mut Row,
@@ -85,19 +85,23 @@ fn join(
     span: StoredSpan,
 ) -> Result<Addition, AllocError>
     ensures due { row.new.due ≡ row.old.due }
-    ensures kept { row.new.kept ≡ row.old.kept }
-    ensures addition { IfOk result (λ addition. addition ≡ addition_to place moment row.old.due row.old.kept) }
-    ensures row { OnOk result (row.new.spans.items ≡ (if nat_lt moment row.old.due then row.old.spans.items ++ span ∷ [] else row.old.spans.items)) }
-    ensures queue { OnOk result (group_views queue.new.items ≡ group_views queue.old.items ++ (if nat_lt moment row.old.due then [] else if row.old.kept then record { moment = moment; spans = arrival_in span ∷ [] } ∷ [] else [])) }
+    ensures sampled { row.new.sampled ≡ row.old.sampled }
+    ensures addition { IfOk result (λ addition. addition ≡ addition_to place moment row.old.due row.old.sampled) }
+    ensures row { OnOk result (row.new.spans.items ≡
+        (if nat_lt moment row.old.due then row.old.spans.items ++ span ∷ [] else row.old.spans.items)) }
+    ensures queue { OnOk result (group_views queue.new.items ≡ group_views queue.old.items ++
+        group_if_late moment (arrival_in span) row.old.due row.old.sampled) }
     ensures refused_row { OnErr result (row.new.spans.items ≡ row.old.spans.items) }
     ensures refused_queue { OnErr result (queue.new.items ≡ queue.old.items) }
-    ensures named { (names : Names) (last : ℕ) → AreNamed names last row.old.spans.items → AreGroupsNamed names last queue.old.items → IsNamed names last span → AreNamed names last row.new.spans.items × AreGroupsNamed names last queue.new.items }
+    ensures named { (names : Names) (last : ℕ) → AreNamed names last row.old.spans.items →
+        AreGroupsNamed names last queue.old.items → IsNamed names last span → AreNamed names last row.new.spans.items ×
+        AreGroupsNamed names last queue.new.items }
 {
     if moment < row.due {
         row.spans.push(span)?;
         return Ok(Addition::Joined(place));
     }
-    if !row.kept {
+    if !row.sampled {
         return Ok(Addition::NotSampled);
     }
     let spans = one(alloc, span)?;
@@ -117,13 +121,18 @@ fn place(
     requires wait { wait ≤ 2 ^ 32 }
     requires moment { moment ≤ 2 ^ 62 }
     requires id { length (stored_facts span).trace_id ≡ 16 }
-    ensures rows { OnOk result (row_views rows.new.entries ≡ rows_with wait moment (arrival_in span) (row_views rows.old.entries)) }
-    ensures queue { OnOk result (group_views queue.new.items ≡ group_views queue.old.items ++ late_with moment (arrival_in span) (row_views rows.old.entries)) }
-    ensures rows_back { IfOk result (λ addition. rows_before addition (row_views rows.new.entries) ≡ row_views rows.old.entries) }
-    ensures queue_back { IfOk result (λ addition. queue_before addition (group_views queue.new.items) ≡ group_views queue.old.items) }
+    ensures rows { OnOk result (row_views rows.new.entries ≡
+        rows_with wait moment (arrival_in span) (row_views rows.old.entries)) }
+    ensures queue { OnOk result (group_views queue.new.items ≡ group_views queue.old.items ++
+        late_with moment (arrival_in span) (row_views rows.old.entries)) }
+    ensures rows_back { IfOk result (λ addition. rows_before addition (row_views rows.new.entries) ≡
+        row_views rows.old.entries) }
+    ensures queue_back { IfOk result (λ addition. queue_before addition (group_views queue.new.items) ≡
+        group_views queue.old.items) }
     ensures refused_rows { OnErr result (row_views rows.new.entries ≡ row_views rows.old.entries) }
     ensures refused_queue { OnErr result (queue.new.items ≡ queue.old.items) }
-    ensures named { (names : Names) (last : ℕ) → AreAllNamed names last rows.old.entries queue.old.items → IsNamed names last span → AreAllNamed names last rows.new.entries queue.new.items }
+    ensures named { (names : Names) (last : ℕ) → AreAllNamed names last rows.old.entries queue.old.items →
+        IsNamed names last span → AreAllNamed names last rows.new.entries queue.new.items }
 {
     let key = trace_key(&span);
     match rows.get_index_of(&key) {
@@ -134,7 +143,7 @@ fn place(
             let row = Row {
                 due,
                 spans,
-                kept: false,
+                sampled: false,
             };
             rows.insert(key, row)?;
             Ok(Addition::Opened)
@@ -155,11 +164,16 @@ fn add(
 ) -> Result<(), AllocError>
     requires wait { wait ≤ 2 ^ 32 }
     requires moment { moment ≤ 2 ^ 62 }
-    ensures rows { OnOk result (row_views rows.new.entries ≡ rows_with_all wait moment (valid (arrival_in span.now ∷ [])) (row_views rows.old.entries)) }
-    ensures queue { OnOk result (group_views queue.new.items ≡ group_views queue.old.items ++ late_with_all wait moment (valid (arrival_in span.now ∷ [])) (row_views rows.old.entries)) }
-    ensures rows_back { rows_without additions.new.items (row_views rows.new.entries) ≡ rows_without additions.old.items (row_views rows.old.entries) }
-    ensures queue_back { queue_without additions.new.items (group_views queue.new.items) ≡ queue_without additions.old.items (group_views queue.old.items) }
-    ensures named { (names : Names) (last : ℕ) → AreAllNamed names last rows.old.entries queue.old.items → IsNamed names last (renumbered base span.now) → AreAllNamed names last rows.new.entries queue.new.items }
+    ensures rows { OnOk result (row_views rows.new.entries ≡
+        rows_with_all wait moment (valid (arrival_in span.now ∷ [])) (row_views rows.old.entries)) }
+    ensures queue { OnOk result (group_views queue.new.items ≡ group_views queue.old.items ++
+        late_with_all wait moment (valid (arrival_in span.now ∷ [])) (row_views rows.old.entries)) }
+    ensures rows_back { rows_without additions.new.items (row_views rows.new.entries) ≡
+        rows_without additions.old.items (row_views rows.old.entries) }
+    ensures queue_back { queue_without additions.new.items (group_views queue.new.items) ≡
+        queue_without additions.old.items (group_views queue.old.items) }
+    ensures named { (names : Names) (last : ℕ) → AreAllNamed names last rows.old.entries queue.old.items →
+        IsNamed names last (renumbered base span.now) → AreAllNamed names last rows.new.entries queue.new.items }
 {
     if !is_valid(span) {
         return Ok(());
@@ -175,7 +189,8 @@ fn add(
 fn take_back(rows: &mut Rows, queue: &mut VecDeque<Group>, addition: Addition)
     ensures rows { row_views rows.new.entries ≡ rows_before addition (row_views rows.old.entries) }
     ensures queue { group_views queue.new.items ≡ queue_before addition (group_views queue.old.items) }
-    ensures named { (names : Names) (last : ℕ) → AreAllNamed names last rows.old.entries queue.old.items → AreAllNamed names last rows.new.entries queue.new.items }
+    ensures named { (names : Names) (last : ℕ) → AreAllNamed names last rows.old.entries queue.old.items →
+        AreAllNamed names last rows.new.entries queue.new.items }
 {
     match addition {
         Addition::Opened => {
@@ -197,7 +212,8 @@ fn take_back(rows: &mut Rows, queue: &mut VecDeque<Group>, addition: Addition)
 fn take_all_back(rows: &mut Rows, queue: &mut VecDeque<Group>, additions: &mut Vec<Addition>)
     ensures rows { row_views rows.new.entries ≡ rows_without additions.old.items (row_views rows.old.entries) }
     ensures queue { group_views queue.new.items ≡ queue_without additions.old.items (group_views queue.old.items) }
-    ensures named { (names : Names) (last : ℕ) → AreAllNamed names last rows.old.entries queue.old.items → AreAllNamed names last rows.new.entries queue.new.items }
+    ensures named { (names : Names) (last : ℕ) → AreAllNamed names last rows.old.entries queue.old.items →
+        AreAllNamed names last rows.new.entries queue.new.items }
 {
     while let Some(addition) = additions.pop() {
         take_back(rows, queue, addition);
@@ -216,11 +232,15 @@ pub fn place_all(
 ) -> Result<(), AllocError>
     requires wait { wait ≤ 2 ^ 32 }
     requires moment { moment ≤ 2 ^ 62 }
-    ensures rows { OnOk result (row_views rows.new.entries ≡ rows_with_all wait moment (valid (arrivals_in spans.now)) (row_views rows.old.entries)) }
-    ensures queue { OnOk result (group_views queue.new.items ≡ group_views queue.old.items ++ late_with_all wait moment (valid (arrivals_in spans.now)) (row_views rows.old.entries)) }
+    ensures rows { OnOk result (row_views rows.new.entries ≡
+        rows_with_all wait moment (valid (arrivals_in spans.now)) (row_views rows.old.entries)) }
+    ensures queue { OnOk result (group_views queue.new.items ≡ group_views queue.old.items ++
+        late_with_all wait moment (valid (arrivals_in spans.now)) (row_views rows.old.entries)) }
     ensures refused_rows { OnErr result (row_views rows.new.entries ≡ row_views rows.old.entries) }
     ensures refused_queue { OnErr result (group_views queue.new.items ≡ group_views queue.old.items) }
-    ensures named { (names : Names) (last : ℕ) → AreAllNamed names last rows.old.entries queue.old.items → AreNamed names last (map (renumbered base) spans.now) → AreAllNamed names last rows.new.entries queue.new.items }
+    ensures named { (names : Names) (last : ℕ) → AreAllNamed names last rows.old.entries queue.old.items →
+        AreNamed names last (map (renumbered base) spans.now) →
+        AreAllNamed names last rows.new.entries queue.new.items }
 {
     let mut additions = Vec::new(alloc);
     for span in spans {

@@ -6,7 +6,7 @@ ghost use Rattle.tail_settings.specs.Policy.{policy_view};
 ghost use Rattle.span_pool.specs.Stored.{stored_facts};
 ghost use Rattle.span_pool.specs.Named.{Names, AreNamed};
 ghost use Rattle.tenant_pipeline.specs.Arrivals.{arrivals_in};
-ghost use Rattle.tenant_pipeline.specs.Groups.{are_kept};
+ghost use Rattle.tenant_pipeline.specs.Groups.{are_sampled};
 ghost use Rattle.tenant_pipeline.specs.Machine.{IsDecided};
 ghost use Rattle.tenant_pipeline.specs.View.{row_views, group_views};
 ghost use Rattle.tenant_pipeline.specs.Numbered.{AreGroupsNamed, AreAllNamed};
@@ -30,8 +30,8 @@ pub struct Row {
     pub due: u64,
     /// The spans that came in time, in order of arrival; none once the row is decided.
     pub spans: Vec<StoredSpan>,
-    /// Whether the policies keep the trace, once it is decided. Until then `false`.
-    pub kept: bool,
+    /// Whether the policies sample the trace, once it is decided. Until then `false`.
+    pub sampled: bool,
 }
 
 /// Spans that leave together, with the moment at which the group formed.
@@ -50,13 +50,13 @@ fn views_of<'a>(alloc: Global, spans: &'a [StoredSpan]) -> Result<Vec<SpanRef<'a
     spans.iter().map(|span| span.view()).collect(alloc)
 }
 
-/// Whether the policies keep a row with these spans. One without spans isn't kept.
-fn are_kept(
+/// Whether the policies sample a row with these spans. One without spans isn't sampled.
+fn are_sampled(
     alloc: Global,
     policies: &[PolicySpec],
     spans: &[StoredSpan],
 ) -> Result<bool, AllocError>
-    ensures { IfOk result (λ kept. kept ≡ are_kept (map policy_view policies.now) (arrivals_in spans.now)) }
+    ensures { IfOk result (λ sampled. sampled ≡ are_sampled (map policy_view policies.now) (arrivals_in spans.now)) }
 {
     if spans.is_empty() {
         return Ok(false);
@@ -65,7 +65,7 @@ fn are_kept(
     Ok(keeps(policies, views.as_slice()))
 }
 
-/// Decides a row: its spans become a group where the policies keep them, and else they are dropped.
+/// Decides a row: its spans become a group where the policies sample it, and else they are dropped.
 fn decide(
     alloc: Global,
     policies: &[PolicySpec],
@@ -74,24 +74,29 @@ fn decide(
 ) -> Result<(), AllocError>
     ensures due { row.new.due ≡ row.old.due }
 
-    // The spans leave the row, as a group where the policies keep them.
+    // The spans leave the row, as a group where the policies sample it.
     ensures spans { OnOk result (row.new.spans.items ≡ []) }
-    ensures kept { OnOk result (row.new.kept ≡ are_kept (map policy_view policies.now) (arrivals_in row.old.spans.items)) }
-    ensures queue { OnOk result (group_views queue.new.items ≡ group_views queue.old.items ++ (if are_kept (map policy_view policies.now) (arrivals_in row.old.spans.items) then record { moment = row.old.due; spans = arrivals_in row.old.spans.items } ∷ [] else [])) }
+    ensures sampled { OnOk result (row.new.sampled ≡
+        are_sampled (map policy_view policies.now) (arrivals_in row.old.spans.items)) }
+    ensures queue { OnOk result (group_views queue.new.items ≡ group_views queue.old.items ++
+        (if are_sampled (map policy_view policies.now) (arrivals_in row.old.spans.items)
+        then record { moment = row.old.due; spans = arrivals_in row.old.spans.items } ∷ [] else [])) }
 
     // Where memory is refused, nothing has changed.
     ensures refused_row { OnErr result (row.new.spans.items ≡ row.old.spans.items) }
-    ensures refused_kept { OnErr result (row.new.kept ≡ row.old.kept) }
+    ensures refused_sampled { OnErr result (row.new.sampled ≡ row.old.sampled) }
     ensures refused_queue { OnErr result (queue.new.items ≡ queue.old.items) }
 
     // Numbers go on naming what they named.
-    ensures named { (names : Names) (last : ℕ) → AreNamed names last row.old.spans.items → AreGroupsNamed names last queue.old.items → AreNamed names last row.new.spans.items × AreGroupsNamed names last queue.new.items }
+    ensures named { (names : Names) (last : ℕ) → AreNamed names last row.old.spans.items →
+        AreGroupsNamed names last queue.old.items → AreNamed names last row.new.spans.items ×
+        AreGroupsNamed names last queue.new.items }
 {
-    let kept = are_kept(alloc, policies, row.spans.as_slice())?;
+    let sampled = are_sampled(alloc, policies, row.spans.as_slice())?;
     queue.try_reserve(1)?;
     let spans = mem::replace(&mut row.spans, Vec::new(alloc));
-    row.kept = kept;
-    if kept {
+    row.sampled = sampled;
+    if sampled {
         queue.push_back_reserved(Group {
             moment: row.due,
             spans,
@@ -109,14 +114,17 @@ pub fn decide_at(
     queue: &mut VecDeque<Group>,
 ) -> Result<u64, AllocError>
     requires { place < index_map_len rows.old }
-    ensures ok { IfOk result (λ due. IsDecided (map policy_view policies.now) place due (row_views rows.old.entries) (group_views queue.old.items) (row_views rows.new.entries) (group_views queue.new.items)) }
+    ensures ok { IfOk result (λ due. IsDecided (map policy_view policies.now) place due
+        (row_views rows.old.entries) (group_views queue.old.items)
+        (row_views rows.new.entries) (group_views queue.new.items)) }
 
     // Where memory is refused, nothing has changed.
     ensures refused_rows { OnErr result (row_views rows.new.entries ≡ row_views rows.old.entries) }
     ensures refused_queue { OnErr result (group_views queue.new.items ≡ group_views queue.old.items) }
 
     // Numbers go on naming what they named.
-    ensures named { (names : Names) (last : ℕ) → AreAllNamed names last rows.old.entries queue.old.items → AreAllNamed names last rows.new.entries queue.new.items }
+    ensures named { (names : Names) (last : ℕ) → AreAllNamed names last rows.old.entries queue.old.items →
+        AreAllNamed names last rows.new.entries queue.new.items }
 {
     let row = &mut rows[place];
     decide(alloc, policies, row, queue)?;

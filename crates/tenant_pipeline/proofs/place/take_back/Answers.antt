@@ -16,7 +16,7 @@ returns-in-Some-clause-rows c =
     let there : slice_get (values_of es) c.in-Joined.place ≡ Some v = sym c.in-Some.ensures.value in
     let len : v.spans.len ≡ length v.spans.items = omega arith in
     let fewer : c.pop-in-Some.new.self.items ≡ but_last v.spans.items = c.pop-in-Some.ensures.rest ∙ ap (λ n. take (n - 1) v.spans.items) len in
-    popped_at es c.in-Joined.place v (record { due = v.due; spans = c.pop-in-Some.new.self; kept = v.kept }) there refl fewer refl ∙ ap (λ a. rows_before a (row_views es)) (sym c.in-Joined.is)
+    popped_at es c.in-Joined.place v (record { due = v.due; spans = c.pop-in-Some.new.self; sampled = v.sampled }) there refl fewer refl ∙ ap (λ a. rows_before a (row_views es)) (sym c.in-Joined.is)
 
 pub returns-in_default-clause-rows : goal.returns-in_default-clause-rows
 returns-in_default-clause-rows c =
@@ -35,7 +35,7 @@ returns-in-Some-clause-named c = λ names last all.
     let v = c.in-Some.row.now in
     let there : slice_get (values_of es) place ≡ Some v = sym c.in-Some.ensures.value in
     let fewer = every_left (IsNamed names last) v.spans.items c.pop-in-Some.new.self.items _ c.pop-in-Some.ensures.items (row_named names last es place v there all.rows) in
-    record { rows = set_named names last es place (record { due = v.due; spans = c.pop-in-Some.new.self; kept = v.kept }) all.rows fewer; groups = all.groups }
+    record { rows = set_named names last es place (record { due = v.due; spans = c.pop-in-Some.new.self; sampled = v.sampled }) all.rows fewer; groups = all.groups }
 
 pub returns-in-Late-clause-named : goal.returns-in-Late-clause-named
 returns-in-Late-clause-named c = λ names last all.
