@@ -1,14 +1,19 @@
--- Outcomes are equal where they are the same.
+-- Outcomes are equal where they are the same, and steps where their bodies are equal.
 use Rattle.std.proofs.Common.{◌≡◌, refl, ap, ◌∙◌, true, ◌&&◌}
 use Rattle.std.specs.Prelude.{◌↔◌, nat_eq}
 use Rattle.std.specs.Cmp.Lexicographic.{pointwise}
 use Rattle.std.proofs.lemmas.Bool.{and_parts, eq-eqb, eqb-true}
 use Rattle.std.proofs.lemmas.Slice.Eq.{bytes_eq-Decides}
+use Rattle.tenant_pipeline.specs.Equal.{prepared_eq}
 use Rattle.tenant_pipeline.specs.contracts.told.ReplyPartialEq.TheImpl as reply_equal
 use Rattle.tenant_pipeline.specs.declared.told.Reply.{Reply}
 use Rattle.tenant_shard.specs.contracts.step.OutcomePartialEq.TheImpl as outcome_equal
+use Rattle.tenant_shard.specs.contracts.step.StepPartialEq.TheImpl as step_equal
 use Rattle.tenant_shard.specs.declared.step.Outcome.{Outcome}
 use Rattle.tenant_shard.specs.declared.step.Outcome.TheVariants as outcomes
+use Rattle.tenant_shard.specs.declared.step.Step.{Step}
+use Rattle.tenant_shard.specs.declared.step.Step.TheVariants as steps
+use Rattle.tenant_shard.specs.Equal.{AreEqualSteps}
 
 replies_equal : (a b : Reply) → (reply_equal.eq-value.it a b ≡ true) ↔ (a ≡ b)
 replies_equal a b = (
@@ -66,3 +71,14 @@ outcomes_equal (outcomes.Refused t m) (outcomes.Refused u n) = (
       rw (eq-eqb t u tenant, eq-eqb m n number),
 )
 outcomes_equal _ _ = (λ h. cc, λ h. cc)
+
+pub steps_equal : (a b : Step) → (step_equal.eq-value.it a b ≡ true) ↔ AreEqualSteps a b
+steps_equal (steps.Post m a) (steps.Post n b) = (
+  λ h.
+      let parts = and_parts (nat_eq m n) (prepared_eq a b) h in
+      (eqb-true m n parts.0, parts.1),
+  λ h. rw (eq-eqb m n h.0, h.1),
+)
+steps_equal (steps.Turn m) (steps.Turn n) = (λ h. eqb-true m n h, λ h. eq-eqb m n h)
+steps_equal (steps.Post m a) (steps.Turn n) = (λ h. cc, λ h. absurd h)
+steps_equal (steps.Turn m) (steps.Post n b) = (λ h. cc, λ h. absurd h)

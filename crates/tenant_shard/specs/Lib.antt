@@ -13,3 +13,4 @@ pub mod Members
 pub mod Places
 pub mod Steps
 pub mod Least
+pub mod Equal

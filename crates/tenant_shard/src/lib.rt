@@ -16,6 +16,7 @@
 ghost use Rattle.std.specs.Prelude.{◌≡◌, ◌↔◌, true};
 ghost use Rattle.tenant_shard.specs.Alone.{OwnStepsDecide};
 ghost use Rattle.tenant_shard.specs.Chain.{KeptDecides};
+ghost use Rattle.tenant_shard.specs.Equal.{AreEqualSteps};
 
 mod member;
 mod pick;
@@ -37,7 +38,9 @@ pub fn what_is_kept_decides()
     ensures { KeptDecides }
 {}
 
-/// Outcomes are equal exactly where contracts see the same: a law over `==`.
-pub fn equal_outcomes_are_the_same()
-    ensures { (a b : Outcome) → (⟦<Outcome as PartialEq>⟧.eq a b ≡ true) ↔ (a ≡ b) }
+/// Outcomes are equal exactly where contracts see the same, and steps where their moments are the same and their bodies
+/// equal: laws over `==`.
+pub fn equal_outcomes_and_steps()
+    ensures outcomes { (a b : Outcome) → (⟦<Outcome as PartialEq>⟧.eq a b ≡ true) ↔ (a ≡ b) }
+    ensures steps { (a b : Step) → (⟦<Step as PartialEq>⟧.eq a b ≡ true) ↔ AreEqualSteps a b }
 {}
