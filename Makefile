@@ -18,16 +18,44 @@ checks:
 	@python3 tests/quotes.py
 	@python3 tests/refusals.py
 
-# Proves and builds the program, and replays a script of three lines: a body is
-# posted, and a worker asks for a job twice, one millisecond too early and in time.
+# Builds the program, makes a script of a body that is stored as a file, which is posted
+# before a worker asks for a job twice, one millisecond too early and in time, and replays it.
 replay: trace_collector
-	@echo '$$ cat $(PROGRAM)/stdin'
-	@cat $(PROGRAM)/stdin
-	@echo '$$ ./trace_collector replay $(PROGRAM)/data/settings.toml < $(PROGRAM)/stdin'
-	@./trace_collector replay $(PROGRAM)/data/settings.toml < $(PROGRAM)/stdin
+	@echo
+	@echo 'The script: a body is posted, and a worker asks for a job before its second of waiting is over, and then.'
+	@{ printf 'post a 0 %s\n' "$$(od -An -v -tx1 $(BODY) | tr -d ' \n')"; echo 'turn 0 999'; echo 'turn 0 1000'; } > $(SCRIPT)
+	@echo '$$ { printf '\''post a 0 %s\n'\'' "$$(od -An -v -tx1 $(BODY) | tr -d '\'' \n'\'')"; echo turn 0 999; echo turn 0 1000; } > $(SCRIPT)'
+	@echo '$$ cat $(SCRIPT)'
+	@cat $(SCRIPT)
+	@echo
+	@echo 'Its answers: the reply to the post, no job yet, and a job whose payload goes to the back end.'
+	@echo '$$ ./trace_collector replay $(PROGRAM)/data/settings.toml < $(SCRIPT)'
+	@./trace_collector replay $(PROGRAM)/data/settings.toml < $(SCRIPT)
+
+BODY = examples/trace.pb
+SCRIPT = $(PROGRAM)/out/script
+LOG = $(PROGRAM)/out/build.log
+
+# The program's crate and those that it stands on, the lowest first.
+BELOW = $(shell awk -F: '/^[a-z]/ { split($$1, w, " "); uses[w[1]] = $$2 } \
+	function put(c, d, n, i) { if (!(c in uses) || done[c]++) return; n = split(uses[c], d, " "); for (i = 1; i <= n; i++) put(d[i]); print c } \
+	END { put("$(notdir $(PROGRAM))") }' crates.txt)
 
 .PHONY: trace_collector
 trace_collector:
+	@command -v rt > /dev/null || { echo 'make: there is no command rt: README.md names the toolchain' >&2; exit 1; }
 	@mkdir -p $(PROGRAM)/out
-	@cd $(PROGRAM) && rt run -- replay data/settings.toml < stdin > out/build.log 2>&1 || { cat out/build.log; exit 1; }
-	@cp $(PROGRAM)/out/trace_collector_program $@
+	@: > $(LOG)
+	@echo 'Proving and building ./trace_collector, $(words $(BELOW)) crates, the lowest first: some 20 processor minutes'
+	@echo 'the first time, and seconds when nothing has changed. What the prover says is in $(LOG).'
+	@n=0; for crate in $(BELOW); do \
+	    n=$$((n + 1)); printf '%2d of %d  %s\n' $$n $(words $(BELOW)) $$crate; \
+	    case $$crate in \
+	        $(notdir $(PROGRAM))) (cd $(PROGRAM) && rt run $(BACKEND) -- replay data/settings.toml < stdin) ;; \
+	        *) (cd crates/$$crate && rt lib) ;; \
+	    esac >> $(LOG) 2>&1 || { tail -n 40 $(LOG); echo "make: $$crate was not built: $(LOG)" >&2; exit 1; }; \
+	done
+	@cp $(PROGRAM)/out/$(notdir $(PROGRAM)) $@
+
+# Of the two compilers the one whose program replays faster.
+BACKEND = --backend rattle

@@ -63,6 +63,7 @@ pub record Arguments : Type 0 where
 -- ---- faults
 
 pub record Faults : Type 0 where
-  pub statuses : map status_of (Usage ∷ Body read.Truncated ∷ NotCanonical ∷ InputOutput ∷ OutOfMemory ∷ []) ≡ 2 ∷ 1 ∷ 1 ∷ 1 ∷ 3 ∷ []
+  pub statuses : map status_of (Usage ∷ Body read.Truncated ∷ NotCanonical ∷ InputOutput ∷ OutOfMemory ∷ [])
+      ≡ 2 ∷ 1 ∷ 1 ∷ 1 ∷ 3 ∷ []
   pub of_memory : body_fault read.OutOfMemory ≡ OutOfMemory
   pub of_the_body : map body_fault (read.Truncated ∷ read.NotUtf8 ∷ []) ≡ Body read.Truncated ∷ Body read.NotUtf8 ∷ []

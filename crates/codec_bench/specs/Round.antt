@@ -9,9 +9,11 @@ use Rattle.otlp_read.specs.Value.{IsValue}
 use Rattle.codec_bench.specs.declared.fault.BenchFault.{BenchFault}
 use Rattle.codec_bench.specs.declared.fault.BenchFault.TheVariants.{Usage, Body, NotCanonical, InputOutput, OutOfMemory}
 
+-- how many spans a scope spans has
 abbrev pub spans_of_scope : ScopeSpansData → ℕ
 spans_of_scope scope = length scope.spans
 
+-- how many spans a resource spans has
 abbrev pub spans_of_resource : ResourceSpansData → ℕ
 spans_of_resource resource = sum_by spans_of_scope resource.scope_spans
 

@@ -4,12 +4,14 @@ use Rattle.std.specs.Str.Parse.{IsNumeral, digits_value, without_leading_plus}
 use Rattle.codec_bench.specs.declared.task.Task.{Task}
 use Rattle.codec_bench.specs.declared.task.Task.TheVariants.{CheckStored, Measure}
 
+-- what the program is to do
 pub data TaskData : Type 0 where
   -- one round on the stored body is checked
   check_stored : TaskData
   -- rounds on the body in a file are measured: the file's path and how many
   measure : List ℕ → ℕ → TaskData
 
+-- the task that a value of the code stands for
 abbrev pub task_view : Task → TaskData
 task_view CheckStored = check_stored
 task_view (Measure path rounds) = measure path.now rounds

@@ -1,10 +1,10 @@
-//! `codec_bench FILE ROUNDS`: reads and writes the request body in that file so many times, and prints how much of it is
-//! read, written, and read and written in a second. With no arguments it reads `request.pb` once, and checks that what it
-//! writes is that body. Statuses: 0 done; 1 a faulty body, or a fault of the file or the output; 2 wrong usage; 3 no
-//! memory. A fault is told in one line on standard error.
+//! `codec_bench FILE ROUNDS`: reads and writes the request body in that file so many times, and prints how much of it
+//! is read, written, and read and written in a second. With no arguments it reads `request.pb` once, and checks that
+//! what it writes is that body. Statuses: 0 done; 1 a faulty body, or a fault of the file or the output; 2 wrong
+//! usage; 3 no memory. A fault is told in one line on standard error.
 //!
-//! One round is proved to pass exactly on a body that is the canonical text of its value; nothing that is measured is proved.
-//! It stands on `otlp_read` and `otlp_trace`.
+//! One round is proved to pass exactly on a body that is the canonical text of its value; nothing that is measured is
+//! proved. It stands on `otlp_read` and `otlp_trace`.
 #![tactic(auto)]
 
 mod fault;
@@ -13,8 +13,6 @@ mod round;
 mod task;
 #[cfg(test)]
 mod tests;
-#[cfg(test)]
-mod vectors;
 
 ghost use Rattle.std.specs.Prelude.{◌≡◌};
 ghost use Rattle.std.specs.Process.{exit_status};

@@ -76,7 +76,8 @@ fn both_rounds(
     text: &mut Vec<u8>,
     rounds: u32,
 ) -> Result<(), BenchFault>
-    ensures both { OnOk result (0 < rounds → (v : RequestData) × IsValue body.now v × (text.new.items ≡ request_text v)) }
+    ensures both { OnOk result (0 < rounds → (v : RequestData) × IsValue body.now v
+        × (text.new.items ≡ request_text v)) }
     ensures of_round { IfErr result IsOfRound }
 {
     'each: for _round in 0..rounds {

@@ -37,14 +37,17 @@ fn resource_spans_len(resource: &ResourceSpans) -> usize
 /// Reads a body and writes it, which has to give that body again, and counts its spans.
 pub fn checked_round(alloc: Global, body: &[u8]) -> Result<usize, BenchFault>
     // The body has a value with so many spans, whose canonical text it is.
-    ensures value { IfOk result (λ len. (v : RequestData) × IsWrittenAgain body.now v × (len ≡ in_64_bits (spans_of v))) }
+    ensures value { IfOk result (λ len. (v : RequestData) × IsWrittenAgain body.now v
+        × (len ≡ in_64_bits (spans_of v))) }
 
     // Such a body passes, unless memory runs out.
-    ensures only { (v : RequestData) → IsWrittenAgain body.now v → MatchResult result (λ len. len ≡ in_64_bits (spans_of v)) (λ e. e ≡ fault.OutOfMemory) }
+    ensures only { (v : RequestData) → IsWrittenAgain body.now v
+        → MatchResult result (λ len. len ≡ in_64_bits (spans_of v)) (λ e. e ≡ fault.OutOfMemory) }
 
     // A fault stands in the body, or the canonical text of its value is another.
     ensures faulty { (f : ReadFault) → IfErr result (λ e. e ≡ fault.Body f → IsFault body.now f) }
-    ensures differs { IfErr result (λ e. e ≡ fault.NotCanonical → (v : RequestData) × IsValue body.now v × (request_text v ≢ body.now)) }
+    ensures differs { IfErr result (λ e. e ≡ fault.NotCanonical
+        → (v : RequestData) × IsValue body.now v × (request_text v ≢ body.now)) }
 
     // It is one of these, or memory ran out.
     ensures of_round { IfErr result IsOfRound }

@@ -5,5 +5,7 @@ pub mod Kept
 pub mod Lines
 pub mod Long
 pub mod Ran
+pub mod Sent
 pub mod Going
+pub mod Equal
 pub mod OnLiterals

@@ -1,7 +1,7 @@
 -- The lines of a text, read in parts.
-use Rattle.std.proofs.Common.{◌≡◌, ◌≢◌, ◌<◌, ◌≤◌, ◌==◌, ℕ, Bool, true, cond, not, List, [], ◌∷◌, ◌++◌, length, take, Option, Some, None, Result, Ok, IfSome, IfOk, OnSome, All, refl, ap, sym, subst, ◌∙◌, arith, lit<}
+use Rattle.std.proofs.Common.{◌≡◌, ◌≢◌, ◌+◌, ◌<◌, ◌≤◌, ◌==◌, ℕ, Bool, true, cond, not, List, [], ◌∷◌, ◌++◌, length, take, Option, Some, None, Result, Ok, IfSome, IfOk, OnSome, All, refl, ap, sym, subst, ◌∙◌, arith, lit<}
 use Rattle.std.specs.List.{onto_first}
-use Rattle.std.specs.Io.KnownBytes.{Consumes, IsAtEnd}
+use Rattle.std.specs.Io.KnownBytes.{Consumes, Keeps, IsAtEnd}
 use Rattle.std.proofs.lemmas.List.{append-nil, append_assoc}
 use Rattle.std.proofs.lemmas.List.Elements.{All-head, All-tail, All-append}
 use Rattle.std.proofs.lemmas.Bool.{ne_eqb}
@@ -9,7 +9,7 @@ use Rattle.std.proofs.lemmas.Bool.Decides.{nat_tests}
 use Rattle.replay_script.specs.declared.input.Part.{Part}
 use Rattle.replay_script.specs.declared.input.Part.TheVariants.{More, LineEnd, InputEnd}
 use Rattle.replay_script.specs.Line.{lines_of}
-use Rattle.replay_script.specs.Input.{TakesPart, TakesLine, line_room}
+use Rattle.replay_script.specs.Input.{TakesPart, TakesLine, ReadsOne, line_room}
 use Rattle.replay_script.proofs.Kept.{kept_parts, kept_some, take_none, kept_fits}
 
 pub line_ended : (bytes rest : List ℕ) → All (λ byte. byte ≢ 10) bytes → lines_of (bytes ++ 10 ∷ rest) ≡ bytes ∷ lines_of rest
@@ -24,6 +24,17 @@ line_last byte (next ∷ bytes) plain =
     let apart : byte ≢ 10 = All-head (λ b. b ≢ 10) byte (next ∷ bytes) plain in
     ap (λ lines. cond (byte == 10) ([] ∷ lines) (onto_first byte lines)) (line_last next bytes (All-tail (λ b. b ≢ 10) byte (next ∷ bytes) plain))
     ∙ rw (ne_eqb byte 10 apart) refl
+
+onto_few : (byte n : ℕ) (lines : List (List ℕ)) → length lines ≤ 1 + n → length (onto_first byte lines) ≤ 1 + n
+onto_few byte n [] few = omega arith
+onto_few byte n (line ∷ lines) few = few
+
+lines_few : (bytes rest : List ℕ) → All (λ byte. byte ≢ 10) bytes → length (lines_of (bytes ++ rest)) ≤ 1 + length (lines_of rest)
+lines_few [] rest plain = omega arith
+lines_few (byte ∷ bytes) rest plain =
+    let apart : byte ≢ 10 = All-head (λ b. b ≢ 10) byte bytes plain in
+    let few = onto_few byte (length (lines_of rest)) (lines_of (bytes ++ rest)) (lines_few bytes rest (All-tail (λ b. b ≢ 10) byte bytes plain)) in
+    rw (ne_eqb byte 10 apart) few
 
 -- so much of a line was read, and nothing behind it
 pub record Reading (before now : Option (List ℕ)) (kept : List ℕ) : Type 0 where
@@ -53,6 +64,18 @@ reading_more (Some text) now after old new reading part =
         kept_on so_far.0 part.0 old new so_far.5 part.2,
       );
     }
+
+kept_rest : (now after : Option (List ℕ)) (rest : List ℕ) → now ≡ Some rest → Keeps now after → after ≡ Some rest
+kept_rest (Some x) (Some y) rest is keeps = ap Some keeps ∙ is
+kept_rest (Some x) None rest is keeps = absurd keeps
+kept_rest None after rest is keeps = absurd (cc)
+
+pub reading_stops : (before now after : Option (List ℕ)) (kept : List ℕ) → Reading before now kept → Keeps now after → IfSome before (λ text. ReadsOne text after)
+reading_stops None now after kept reading keeps = tt
+reading_stops (Some text) now after kept reading keeps =
+    let so_far = reading.begun in
+    let few = lines_few so_far.0 so_far.1 so_far.4 in
+    (so_far.1, kept_rest now after so_far.1 so_far.2 keeps, subst (λ t. length (lines_of t) ≤ 1 + length (lines_of so_far.1)) (sym so_far.3) few)
 
 joined : (a b c : List ℕ) → a ++ ((b ++ 10 ∷ []) ++ c) ≡ (a ++ b) ++ 10 ∷ c
 joined a b c = simp append_assoc

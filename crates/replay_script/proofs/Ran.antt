@@ -1,11 +1,11 @@
 -- A script that was run so far, and what the next line adds.
-use Rattle.std.proofs.Common.{◌≡◌, ◌+◌, ℕ, List, [], ◌∷◌, ◌++◌, Option, Some, None, Result, Ok, Err, refl, ap, sym, subst, ◌∙◌}
+use Rattle.std.proofs.Common.{◌≡◌, ◌≤◌, ◌+◌, ℕ, List, [], ◌∷◌, ◌++◌, length, Option, Some, None, Result, Ok, Err, refl, ap, sym, subst, ◌∙◌}
 use Rattle.std.proofs.lemmas.List.{append-nil, append_assoc}
 use Rattle.replay_script.specs.declared.fault.ScriptFault.{ScriptFault}
 use Rattle.replay_script.specs.declared.fault.ScriptFault.TheVariants.{Script, Line, OutOfMemory}
 use Rattle.replay_script.specs.Command.{CommandData}
-use Rattle.replay_script.specs.Line.{Kind, Skipped, Says, Faulty, kind_of}
-use Rattle.replay_script.specs.Told.{Goes, Told, BeginsTold, Ends}
+use Rattle.replay_script.specs.Line.{Kind, Skipped, Says, Faulty, kind_of, lines_of}
+use Rattle.replay_script.specs.Told.{Goes, Told, BeginsTold, ToldSoFar, Ends}
 use Rattle.replay_script.specs.Step.{Adds, IsFaulty}
 
 module _ {S : Type 0} (answers : S → CommandData → Option (List ℕ) → S → Type 0) where
@@ -64,10 +64,24 @@ module _ {S : Type 0} (answers : S → CommandData → Option (List ℕ) → S �
     subst (λ l. Told answers l 1 start (text ++ []) None) (append-nil ran.done) (ran.goes [] [] None (refl, refl)),
   )
 
-  pub begins : (lines : List (List ℕ)) (start : S) (written left : List ℕ) (r : Result Unit ScriptFault) → Ends answers lines start (written ++ left) r → BeginsTold answers lines start written
-  begins lines start written left (Ok done) told = (lines, [], left, None, sym (append-nil lines), told)
-  begins lines start written left (Err (Script line)) told = (lines, [], left, Some line, sym (append-nil lines), told)
-  begins lines start written left (Err Line) told =
+  pub ran_so_far : (all : List (List ℕ)) (start : S) (left : List (List ℕ)) (number : ℕ) (state : S) (text : List ℕ) (unread : Option (List ℕ)) (rest : List ℕ)
+      → RanTo all start left number state text → unread ≡ Some rest → length left ≤ 1 + length (lines_of rest) → ToldSoFar answers all start unread text
+  ran_so_far all start left number state text unread rest ran is few =
+      record {
+        done = ran.done;
+        left = left;
+        rest = rest;
+        parted = ran.split;
+        told = subst (λ t. Told answers ran.done 1 start t None) (append-nil text)
+            (subst (λ l. Told answers l 1 start (text ++ []) None) (append-nil ran.done) (ran.goes [] [] None (refl, refl)));
+        to_read = is;
+        one_read = few;
+      }
+
+  pub begins : (lines : List (List ℕ)) (start : S) (unread : Option (List ℕ)) (written left : List ℕ) (r : Result Unit ScriptFault)
+      → Ends answers lines start unread (written ++ left) r → BeginsTold answers lines start written
+  begins lines start unread written left (Ok done) told = (lines, [], left, None, sym (append-nil lines), told)
+  begins lines start unread written left (Err (Script line)) told = (lines, [], left, Some line, sym (append-nil lines), told)
+  begins lines start unread written left (Err Line) told =
       (told.0, told.1, left ++ told.2, told.3, told.4, subst (λ t. Told answers told.0 1 start t told.3) (append_assoc written left told.2) told.5)
-  begins lines start written left (Err OutOfMemory) told =
-      (told.0, told.1, left ++ told.2, told.3, told.4, subst (λ t. Told answers told.0 1 start t told.3) (append_assoc written left told.2) told.5)
+  begins lines start unread written left (Err OutOfMemory) told = (told.done, told.left, left, None, told.parted, told.told)

@@ -10,11 +10,13 @@ hex_text (byte ∷ bytes) = encode_lower (byte ∷ bytes)
 
 -- the reply to a post: status and body
 abbrev pub reply_text : List ℕ → ℕ → List ℕ → List ℕ
-reply_text name status body = codes "reply " ++ name ++ codes " " ++ decimal status ++ codes " " ++ hex_text body ++ codes "\n"
+reply_text name status body =
+    codes "reply " ++ name ++ codes " " ++ decimal status ++ codes " " ++ hex_text body ++ codes "\n"
 
 -- a turn that handed out a job: its ticket and payload
 abbrev pub job_text : List ℕ → ℕ → List ℕ → List ℕ
-job_text name ticket payload = codes "job " ++ name ++ codes " " ++ decimal ticket ++ codes " " ++ hex_text payload ++ codes "\n"
+job_text name ticket payload =
+    codes "job " ++ name ++ codes " " ++ decimal ticket ++ codes " " ++ hex_text payload ++ codes "\n"
 
 -- a turn of that tenant that had no job
 abbrev pub worked_text : List ℕ → List ℕ

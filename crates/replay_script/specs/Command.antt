@@ -3,12 +3,14 @@ use Rattle.std.specs.Prelude.{ℕ, if◌then◌else◌, List, [], ◌∷◌, cod
 use Rattle.std.specs.Str.{bytes_eq}
 use Rattle.replay_script.specs.Word.{words_of, name_of, number_of, body_of}
 
+-- what a line asks for
 pub data CommandData : Type 0 where
   -- a body arrives: the tenant's name, the moment and the bytes
   Post : List ℕ → ℕ → List ℕ → CommandData
   -- a worker's turn: the shard and the moment
   Turn : ℕ → ℕ → CommandData
 
+-- a post from what its three words spell, where each of them spells something
 abbrev pub post_from : Option (List ℕ) → Option ℕ → Option (List ℕ) → Option CommandData
 post_from (Some name) (Some moment) (Some body) = Some (Post name moment body)
 post_from (Some name) (Some moment) None = None
@@ -23,6 +25,7 @@ post_of (name ∷ moment ∷ []) = None
 post_of (name ∷ []) = None
 post_of [] = None
 
+-- a turn from what its two words spell, where both spell a number
 abbrev pub turn_from : Option ℕ → Option ℕ → Option CommandData
 turn_from (Some shard) (Some moment) = Some (Turn shard moment)
 turn_from (Some shard) None = None
@@ -35,6 +38,7 @@ turn_of (shard ∷ moment ∷ word ∷ words) = None
 turn_of (shard ∷ []) = None
 turn_of [] = None
 
+-- by its first word a line is a post, a turn or no command
 abbrev pub command_from : List (List ℕ) → Option CommandData
 command_from [] = None
 command_from (verb ∷ words) =

@@ -1,5 +1,5 @@
 -- Reading a script's lines from a reader.
-use Rattle.std.specs.Prelude.{◌≡◌, ◌≢◌, ℕ, Bool, true, false, List, [], ◌∷◌, ◌++◌, take, Option, Some, All, OnSome}
+use Rattle.std.specs.Prelude.{◌≡◌, ◌≢◌, ◌≤◌, ◌+◌, ℕ, Bool, true, false, List, [], ◌∷◌, ◌++◌, length, take, Option, Some, All, OnSome}
 use Rattle.std.specs.Io.KnownBytes.{Consumes, IsAtEnd}
 use Rattle.replay_script.specs.declared.input.Part.{Part}
 use Rattle.replay_script.specs.declared.input.Part.TheVariants.{More, LineEnd, InputEnd}
@@ -7,8 +7,8 @@ use Rattle.replay_script.specs.declared.fault.ScriptFault.{ScriptFault}
 use Rattle.replay_script.specs.declared.fault.ScriptFault.TheVariants.{Script, Line, OutOfMemory}
 use Rattle.replay_script.specs.Line.{lines_of}
 
--- So much of a line is kept: one byte more than the longest command has, the words `post NAME MOMENT HEX` of a name of 64
--- bytes, a number of 19 digits and a body of 20,971,520 bytes.
+-- So much of a line is kept: one byte more than the longest command has, the words `post NAME MOMENT HEX` of a name of
+-- 64 bytes, a number of 19 digits and a body of 20,971,520 bytes.
 abbrev pub line_room : ℕ
 line_room = 41943131
 
@@ -20,13 +20,19 @@ with_end InputEnd bytes = bytes
 
 -- a part of a line was taken from a reader, and joined to what was kept of that line
 abbrev pub TakesPart : Option (List ℕ) → Option (List ℕ) → List ℕ → List ℕ → Part → Type 0
-TakesPart before after old new part = (bytes : List ℕ) × All (λ byte. byte ≢ 10) bytes × (new ≡ take line_room (old ++ bytes))
-    × Consumes before after (with_end part bytes) × (part ≡ InputEnd → (bytes ≡ []) × OnSome before (IsAtEnd after))
+TakesPart before after old new part = (bytes : List ℕ) × All (λ byte. byte ≢ 10) bytes
+    × (new ≡ take line_room (old ++ bytes)) × Consumes before after (with_end part bytes)
+    × (part ≡ InputEnd → (bytes ≡ []) × OnSome before (IsAtEnd after))
 
 -- of the text the next line was taken, of which so much was kept, or there was none
 abbrev pub TakesLine : List ℕ → Option (List ℕ) → Bool → List ℕ → Type 0
-TakesLine text after true kept = (line : List ℕ) × (rest : List ℕ) × (after ≡ Some rest) × (lines_of text ≡ line ∷ lines_of rest) × (kept ≡ take line_room line)
+TakesLine text after true kept = (line : List ℕ) × (rest : List ℕ) × (after ≡ Some rest)
+    × (lines_of text ≡ line ∷ lines_of rest) × (kept ≡ take line_room line)
 TakesLine text after false kept = lines_of text ≡ []
+
+-- of the text at most one line was read, in part or whole
+abbrev pub ReadsOne : List ℕ → Option (List ℕ) → Type 0
+ReadsOne text after = (rest : List ℕ) × (after ≡ Some rest) × (length (lines_of text) ≤ 1 + length (lines_of rest))
 
 -- a fault of the reader, the writer or the memory, and none of the script
 abbrev pub IsOutside : ScriptFault → Type 0

@@ -7,4 +7,3 @@ pub mod Told
 pub mod Input
 pub mod Output
 pub mod Step
-pub mod Examples

@@ -8,11 +8,13 @@ abbrev pub lines_of : List ℕ → List (List ℕ)
 lines_of [] = []
 lines_of (byte ∷ text) = if byte == 10 then [] ∷ lines_of text else onto_first byte (lines_of text)
 
+-- what a line is: skipped, a command or a fault
 pub data Kind : Type 0 where
   Skipped : Kind
   Says : CommandData → Kind
   Faulty : Kind
 
+-- a line that isn't skipped has to say a command
 abbrev pub said : Option CommandData → Kind
 said (Some command) = Says command
 said None = Faulty

@@ -4,6 +4,7 @@ use Rattle.replay_script.specs.declared.command.Command.TheVariants as variants
 use Rattle.replay_script.specs.Command.{CommandData}
 use Rattle.replay_script.specs.Command as data_of
 
+-- names and bodies as lists of bytes
 abbrev pub command_view : Command → CommandData
 command_view (variants.Post name moment body) = data_of.Post name.now moment body.items
 command_view (variants.Turn shard moment) = data_of.Turn shard moment

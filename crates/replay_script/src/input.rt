@@ -1,14 +1,17 @@
 //! Reading lines of which only so much is kept as a command can have.
 
-ghost use Rattle.std.specs.Prelude.{◌≡◌, ◌≢◌, ◌==◌, ℕ, ◌+◌, ◌<◌, ◌≤◌, ◌∷◌, [], ◌++◌, All, take, length, IfOk, IfErr, OnOk, IfSome};
+ghost use Rattle.std.specs.Prelude.{◌≡◌, ◌≢◌, ◌==◌, ℕ, ◌+◌, ◌<◌, ◌≤◌, ◌∷◌, [], ◌++◌, All, take, length, IfOk, IfErr, OnOk, OnErr, IfSome};
+ghost use Rattle.std.specs.Io.KnownBytes.{Keeps};
 ghost use Rattle.std.specs.List.{position};
 ghost use Rattle.replay_script.specs.declared.input.Part.TheVariants.{More, LineEnd, InputEnd};
-ghost use Rattle.replay_script.specs.Input.{TakesPart, TakesLine, line_room, with_end, IsOutside};
+ghost use Rattle.replay_script.specs.Input.{TakesPart, TakesLine, ReadsOne, line_room, with_end, IsOutside};
+ghost use Rattle.replay_script.specs.Output.{Sends};
 
 use crate::fault::ScriptFault;
+use crate::output::Output;
 use memchr::memchr;
 use std::alloc::AllocError;
-use std::io::{BufRead, ErrorKind};
+use std::io::{BufRead, ErrorKind, Write};
 
 /// A line of which so much is kept is longer than any command, so that it is refused, or skipped,
 /// like the whole line.
@@ -30,24 +33,42 @@ pub enum Part {
 struct Cut {
     len: usize,
     read: usize,
+    ahead: usize,
     part: Part,
 }
 
-/// Reads the next line, without its end. `false` where there is none.
-pub fn next_line<R: BufRead>(
+/// How far a reader was used.
+#[derive(Debug, Clone, Copy)]
+pub struct Input {
+    /// So many bytes it has shown that are yet to be taken: while there are some, it shows them again without a wait.
+    pub ahead: usize,
+    /// How many more calls of it there may be.
+    pub reads: u64,
+}
+
+/// Reads the next line, without its end. `false` where there is none. Before the reader may have to wait, what the
+/// output holds is written.
+#[tactic(auto, using(crate::proofs::Sent::sends_nothing))]
+pub fn next_line<R: BufRead, W: Write>(
     reader: &mut R,
-    reads: &mut u64,
+    input: &mut Input,
+    writer: &mut W,
+    output: &mut Output,
     line: &mut Vec<u8>,
 ) -> Result<bool, ScriptFault>
     ensures line { IfOk result (λ found. IfSome (R.remaining reader.old)
         (λ text. TakesLine text (R.remaining reader.new) found line.new.items)) }
-    ensures reads { OnOk result (reads.new < reads.old) }
+    ensures unread { OnErr result (IfSome (R.remaining reader.old) (λ text. ReadsOne text (R.remaining reader.new))) }
+    ensures sends { Sends (W.contents writer.old) (W.contents writer.new)
+        output.old.text.items [] output.new.text.items }
+    ensures reads { OnOk result (input.new.reads < input.old.reads) }
     ensures err { IfErr result IsOutside }
 {
     line.clear();
-    'parts: while *reads > 0 {
-        *reads -= 1;
-        match take_part(reader, line)? {
+    'parts: while input.reads > 0 {
+        input.reads -= 1;
+        output.send_before_wait(writer, input.ahead)?;
+        match take_part(reader, &mut input.ahead, output, line)? {
             Part::More => {}
             Part::LineEnd => return Ok(true),
             Part::InputEnd => return Ok(!line.is_empty()),
@@ -56,12 +77,21 @@ pub fn next_line<R: BufRead>(
     Err(ScriptFault::Line)
 }
 
-/// Takes what one read gives of the line.
-fn take_part<R: BufRead>(reader: &mut R, line: &mut Vec<u8>) -> Result<Part, ScriptFault>
-    requires { length line.old.items ≤ line_room }
-    ensures part { IfOk result (TakesPart (R.remaining reader.old) (R.remaining reader.new) line.old.items line.new.items) }
+/// Takes what one read gives of the line. Nothing is held back while the reader may have to wait.
+fn take_part<R: BufRead>(
+    reader: &mut R,
+    ahead: &mut usize,
+    held: &Output,
+    line: &mut Vec<u8>,
+) -> Result<Part, ScriptFault>
+    requires room { length line.old.items ≤ line_room }
+    requires nothing_held { ahead.old ≡ 0 → held.now.text.items ≡ [] }
+    ensures part { IfOk result
+        (TakesPart (R.remaining reader.old) (R.remaining reader.new) line.old.items line.new.items) }
+    ensures kept { OnErr result (Keeps (R.remaining reader.old) (R.remaining reader.new)) }
     ensures err { IfErr result IsOutside }
 {
+    prove!(*ahead > 0 || held.text.is_empty());
     let shown = match reader.fill_buf() {
         Ok(shown) => shown,
         Err(error) => {
@@ -75,13 +105,14 @@ fn take_part<R: BufRead>(reader: &mut R, line: &mut Vec<u8>) -> Result<Part, Scr
     let cut = find_part(shown);
     keep(line, &shown[..cut.len])?;
     reader.consume(cut.read);
+    *ahead = cut.ahead;
     Ok(cut.part)
 }
 
 /// The part of a line that bytes begin with.
 fn find_part(shown: &[u8]) -> Cut
     ensures len { result.len ≤ length shown.now }
-    ensures read { result.read ≤ length shown.now }
+    ensures read { result.read + result.ahead ≡ length shown.now }
     ensures inside { All (λ byte. byte ≢ 10) (take result.len shown.now) }
     ensures taken { take result.read shown.now ≡ with_end result.part (take result.len shown.now) }
     ensures end { result.part ≡ InputEnd → length shown.now ≡ 0 }
@@ -90,11 +121,13 @@ fn find_part(shown: &[u8]) -> Cut
         Some(at) => Cut {
             len: at,
             read: at + 1,
+            ahead: shown.len() - (at + 1),
             part: Part::LineEnd,
         },
         None => Cut {
             len: shown.len(),
             read: shown.len(),
+            ahead: 0,
             part: if shown.is_empty() {
                 Part::InputEnd
             } else {

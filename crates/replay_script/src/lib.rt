@@ -1,8 +1,9 @@
 //! Scripts of a replay.
 //!
-//! A script is a text of lines, each a command, a comment or nothing ([`parse_line`]), and each command is answered by a line.
-//! [`run_script`] reads a script from a reader, has each command done by a [`Session`], and writes the answers to a writer, a
-//! line at a time, up to the first faulty line. What is written is exactly the answers' text.
+//! A script is a text of lines, each a command, a comment or nothing ([`parse_line`]), and each command is answered by
+//! a line. [`run_script`] reads a script from a reader, has each command done by a [`Session`], and writes the answers
+//! to a writer, up to the first faulty line, and each before it waits for more of the script. What is written is
+//! exactly the answers' text.
 //!
 //! It stands on the library's `hex`. The grammar is its own, and the README has it.
 #![tactic(auto)]
@@ -11,6 +12,7 @@ mod answer;
 mod command;
 mod fault;
 mod input;
+mod law;
 mod output;
 mod run;
 mod session;
@@ -18,10 +20,6 @@ mod session;
 pub use answer::{put_idle, put_job, put_refused, put_reply, put_worked};
 pub use command::{Command, parse_line};
 pub use fault::ScriptFault;
+pub use law::equal_commands;
 pub use run::run_script;
 pub use session::{AnswerFault, Session};
-
-#[cfg(test)]
-mod definition_tests;
-#[cfg(test)]
-mod tests;

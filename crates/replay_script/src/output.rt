@@ -1,7 +1,7 @@
 //! Text on its way to a writer.
 
 ghost use Rattle.std.specs.Prelude.{◌≡◌, ◌<◌, ◌≤◌, [], length, take, drop, OnOk, IfErr};
-ghost use Rattle.std.specs.Io.KnownBytes.{Appends};
+ghost use Rattle.std.specs.Io.KnownBytes.{Appends, Keeps};
 ghost use Rattle.replay_script.specs.Output.{Sends};
 
 use crate::fault::ScriptFault;
@@ -34,7 +34,8 @@ impl Output {
 
     /// Writes the text if there is much of it.
     pub fn send_much<W: Write>(&mut self, writer: &mut W) -> Result<(), ScriptFault>
-        ensures sends { Sends (W.contents writer.old) (W.contents writer.new) self.old.text.items [] self.new.text.items }
+        ensures sends { Sends (W.contents writer.old) (W.contents writer.new)
+            self.old.text.items [] self.new.text.items }
         ensures little { OnOk result (length self.new.text.items < ENOUGH) }
         ensures err { IfErr result (λ fault. fault ≡ ScriptFault.Line) }
     {
@@ -44,15 +45,48 @@ impl Output {
         self.send(writer)
     }
 
-    /// Writes the text. What is left of it after an error is yet to be written.
+    /// Writes the text where a reader that has so many bytes ahead may have to wait for more.
+    pub fn send_before_wait<W: Write>(
+        &mut self,
+        writer: &mut W,
+        ahead: usize,
+    ) -> Result<(), ScriptFault>
+        ensures sends { Sends (W.contents writer.old) (W.contents writer.new)
+            self.old.text.items [] self.new.text.items }
+        ensures all { OnOk result (ahead ≡ 0 → self.new.text.items ≡ []) }
+        ensures err { IfErr result (λ fault. fault ≡ ScriptFault.Line) }
+    {
+        if ahead > 0 {
+            return Ok(());
+        }
+        self.send(writer)
+    }
+
+    /// Writes the text, and flushes the writer, so that whoever reads behind it sees the text at once. What is left of
+    /// it after an error is yet to be written.
     pub fn send<W: Write>(&mut self, writer: &mut W) -> Result<(), ScriptFault>
-        ensures sends { Sends (W.contents writer.old) (W.contents writer.new) self.old.text.items [] self.new.text.items }
+        ensures sends { Sends (W.contents writer.old) (W.contents writer.new)
+            self.old.text.items [] self.new.text.items }
         ensures all { OnOk result (self.new.text.items ≡ []) }
         ensures err { IfErr result (λ fault. fault ≡ ScriptFault.Line) }
     {
+        if self.text.is_empty() {
+            return Ok(());
+        }
         let (sent, result) = write_out(writer, self.text.as_slice(), &mut self.writes);
         remove_front(&mut self.text, sent);
-        result
+        result?;
+        flush(writer)
+    }
+}
+
+fn flush<W: Write>(writer: &mut W) -> Result<(), ScriptFault>
+    ensures keeps { Keeps (W.contents writer.old) (W.contents writer.new) }
+    ensures err { IfErr result (λ fault. fault ≡ ScriptFault.Line) }
+{
+    match writer.flush() {
+        Ok(()) => Ok(()),
+        Err(_) => Err(ScriptFault::Line),
     }
 }
 

@@ -9,7 +9,7 @@ ghost use Rattle.replay_script.specs.Output.{Sends};
 
 use crate::command::parse_line;
 use crate::fault::ScriptFault;
-use crate::input::next_line;
+use crate::input::{Input, next_line};
 use crate::output::Output;
 use crate::session::{AnswerFault, Session};
 use std::alloc::Global;
@@ -18,8 +18,10 @@ use std::io::{BufRead, Write};
 /// A replay ends after so many calls of its reader or its writer.
 const MAX_CALLS: u64 = 1 << 62;
 
-/// Runs the script that the reader gives, and writes the answers. Where a line is faulty, the answers to all lines before
-/// it were written; where the reader, the writer or memory failed, a beginning of the answers' text was.
+/// Runs the script that the reader gives, and writes the answers: before the reader may have to wait, all answers so
+/// far are written and the writer is flushed. Where a line is faulty, the answers to all lines before it were written;
+/// where memory was refused, the answers to all lines that were read, but to the last at most; where the reader or the
+/// writer failed, a beginning of the answers' text.
 pub fn run_script<S: Session, R: BufRead, W: Write>(
     alloc: Global,
     session: &mut S,
@@ -28,14 +30,11 @@ pub fn run_script<S: Session, R: BufRead, W: Write>(
 ) -> Result<(), ScriptFault>
     ensures told { IfSome (R.remaining reader.old) (λ script. (written : List ℕ)
         × Appends (W.contents writer.old) (W.contents writer.new) written
-        × Ends S.answers (lines_of script) session.old written result) }
+        × Ends S.answers (lines_of script) session.old (R.remaining reader.new) written result) }
 {
     let mut output = Output::new(alloc, MAX_CALLS);
     let told = answer_lines(alloc, session, reader, writer, &mut output);
     output.send(writer)?;
-    if writer.flush().is_err() {
-        return Err(ScriptFault::Line);
-    }
     told
 }
 
@@ -49,13 +48,16 @@ fn answer_lines<S: Session, R: BufRead, W: Write>(
 ) -> Result<(), ScriptFault>
     ensures told { IfSome (R.remaining reader.old) (λ script. (text : List ℕ)
         × Sends (W.contents writer.old) (W.contents writer.new) output.old.text.items text output.new.text.items
-        × Ends S.answers (lines_of script) session.old text result) }
+        × Ends S.answers (lines_of script) session.old (R.remaining reader.new) text result) }
     ensures little { OnOk result (length output.old.text.items < 65536 → length output.new.text.items < 65536) }
 {
     let mut line = Vec::new(alloc);
-    let mut reads = MAX_CALLS;
+    let mut input = Input {
+        ahead: 0,
+        reads: MAX_CALLS,
+    };
     let mut number = 0u64;
-    'lines: while next_line(reader, &mut reads, &mut line)? {
+    'lines: while next_line(reader, &mut input, writer, output, &mut line)? {
         number += 1;
         answer_line(alloc, session, line.as_slice(), number, &mut output.text)?;
         output.send_much(writer)?;

@@ -1,5 +1,5 @@
 -- A replay, from the run of its script.
-use Rattle.std.proofs.Common.{◌≡◌, ℕ, List, [], Option, Some, None, Result, Ok, Err, IfSome, refl, sym, subst, ◌∙◌}
+use Rattle.std.proofs.Common.{◌≡◌, ℕ, List, [], Option, Some, None, Result, Ok, Err, IfSome, refl, sym, subst, ◌∙◌, arith}
 use Rattle.std.proofs.lemmas.List.{append-nil}
 use Rattle.std.specs.Io.KnownBytes.{Appends}
 use Rattle.std.specs.Prelude.{string_bytes}
@@ -12,14 +12,16 @@ use Rattle.replay_script.specs.declared.fault.ScriptFault.{ScriptFault}
 use Rattle.replay_script.specs.declared.fault.ScriptFault.TheVariants.{Script, Line, OutOfMemory}
 use Rattle.replay_script.specs.Command.{CommandData}
 use Rattle.replay_script.specs.Line.{lines_of}
-use Rattle.replay_script.specs.Told.{Ends}
+use Rattle.replay_script.specs.Told.{Told, BeginsTold, ToldSoFar, Ends}
 use Rattle.trace_collector.specs.declared.shards.Shards.{Shards}
 use Rattle.trace_collector.specs.Fault.{script_fault, settings_fault}
 use Rattle.trace_collector.specs.Answered.{IsAnswered}
-use Rattle.trace_collector.specs.Script.{no_steps, BeginsScriptText}
+use Rattle.trace_collector.specs.declared.engine.ReplayFault.{ReplayFault}
+use Rattle.trace_collector.specs.declared.engine.ReplayFault.TheVariants as faults
+use Rattle.trace_collector.specs.Script.{no_steps, BeginsScriptText, ScriptToldSoFar}
 use Rattle.trace_collector.specs.Standing.{AllStand, Answers}
-use Rattle.trace_collector.specs.Replay.{IsReplay}
-use Rattle.trace_collector.proofs.Through.{told_through, begins_through}
+use Rattle.trace_collector.specs.Replay.{IsReplay, WritesSoFar}
+use Rattle.trace_collector.proofs.Through.{told_through, begins_through, so_far_through}
 
 pub record Along (settings : SettingsData) (shards : Shards) (pasts : ℕ → List Own) : Type 0 where
   pub same : settings_view shards.settings ≡ settings
@@ -37,25 +39,56 @@ goes_along settings old new pasts command line along answers =
 ok_same : {E : Type 0} (r : Result SettingsData E) (a b : SettingsData) → r ≡ Ok a → r ≡ Ok b → a ≡ b
 ok_same {E} r a b e f = let same : ◌≡◌ {A = Result SettingsData E} (Ok a) (Ok b) = sym e ∙ f in cc
 
-pub ran_replays : (text script written : List ℕ) (shards : Shards) (settings : SettingsData) (done : Unit) → settings_of text ≡ Ok settings → Along settings shards no_steps
-    → Ends Answers (lines_of script) shards written (Ok done) → IsReplay text script written (Ok done)
-ran_replays text script written shards settings done is along ends =
+pub ran_replays : (text script written : List ℕ) (unread : Option (List ℕ)) (shards : Shards) (settings : SettingsData) (done : Unit) → settings_of text ≡ Ok settings → Along settings shards no_steps
+    → Ends Answers (lines_of script) shards unread written (Ok done) → IsReplay text script written (Ok done)
+ran_replays text script written unread shards settings done is along ends =
     (settings, is, told_through Answers (IsAnswered settings) (Along settings) (goes_along settings) (lines_of script) 1 shards no_steps written None along ends)
 
-pub fault_replays : (text script written : List ℕ) (shards : Shards) (settings : SettingsData) (fault : ScriptFault) → settings_of text ≡ Ok settings → Along settings shards no_steps
-    → Ends Answers (lines_of script) shards written (Err fault) → IsReplay text script written (Err (script_fault fault))
-fault_replays text script written shards settings (Script line) is along ends =
+so_far_begins : (lines : List (List ℕ)) (shards : Shards) (unread : Option (List ℕ)) (written : List ℕ) → ToldSoFar Answers lines shards unread written → BeginsTold Answers lines shards written
+so_far_begins lines shards unread written told =
+    (told.done, told.left, [], None, told.parted, subst (λ t. Told Answers told.done 1 shards t None) (sym (append-nil written)) told.told)
+
+pub fault_replays : (text script written : List ℕ) (unread : Option (List ℕ)) (shards : Shards) (settings : SettingsData) (fault : ScriptFault) → settings_of text ≡ Ok settings → Along settings shards no_steps
+    → Ends Answers (lines_of script) shards unread written (Err fault) → IsReplay text script written (Err (script_fault fault))
+fault_replays text script written unread shards settings (Script line) is along ends =
     (settings, is, told_through Answers (IsAnswered settings) (Along settings) (goes_along settings) (lines_of script) 1 shards no_steps written (Some line) along ends)
-fault_replays text script written shards settings Line is along ends =
+fault_replays text script written unread shards settings Line is along ends =
     (settings, is, begins_through Answers (IsAnswered settings) (Along settings) (goes_along settings) (lines_of script) shards no_steps written along ends)
-fault_replays text script written shards settings OutOfMemory is along ends = (
+fault_replays text script written unread shards settings OutOfMemory is along ends = (
   λ s means.
       let same : ◌≡◌ {A = SettingsData} settings s = ok_same _ settings s is means in
       subst (λ t. BeginsScriptText t script written) same
-      (begins_through Answers (IsAnswered settings) (Along settings) (goes_along settings) (lines_of script) shards no_steps written along ends),
+      (begins_through Answers (IsAnswered settings) (Along settings) (goes_along settings) (lines_of script) shards no_steps written along
+      (so_far_begins (lines_of script) shards unread written ends)),
   λ f fails.
       absurd (let never : Ok settings ≡ Err f = sym is ∙ fails in cc),
 )
+
+memory_told : (fault : ScriptFault) → script_fault fault ≡ faults.OutOfMemory → fault ≡ OutOfMemory
+memory_told (Script line) is = absurd (cc)
+memory_told Line is = absurd (cc)
+memory_told OutOfMemory is = refl
+
+-- the fault was want of memory
+pub was_memory : (r : Result Unit ReplayFault) (given : ReplayFault) (fault : ScriptFault) → r ≡ Err given → given ≡ script_fault fault → r ≡ Err faults.OutOfMemory → fault ≡ OutOfMemory
+was_memory r given fault is from memory =
+    let same : given ≡ faults.OutOfMemory = cc in
+    memory_told fault (sym from ∙ same)
+
+pub memory_so_far : (old unread w w' : Option (List ℕ)) (text : List ℕ) (shards : Shards) (settings : SettingsData) (fault : ScriptFault) → settings_of text ≡ Ok settings
+    → Along settings shards no_steps → fault ≡ OutOfMemory
+    → IfSome old (λ script. (written : List ℕ) × Appends w w' written × Ends Answers (lines_of script) shards unread written (Err fault))
+    → IfSome old (λ script. WritesSoFar text script unread w w')
+memory_so_far None unread w w' text shards settings fault is along memory told = tt
+memory_so_far (Some script) unread w w' text shards settings fault is along memory told =
+    λ s means.
+    let ends = subst (λ f. Ends Answers (lines_of script) shards unread told.0 (Err f)) memory told.2 in
+    let same : ◌≡◌ {A = SettingsData} settings s = ok_same _ settings s is means in (
+      told.0,
+      told.1,
+      subst (λ t. ScriptToldSoFar t script unread told.0) same
+          (so_far_through Answers (IsAnswered settings) (Along settings) (goes_along settings) (lines_of script) shards no_steps unread told.0 along ends),
+    )
 
 pub some_told : (old : Option (List ℕ)) (P Q : List ℕ → List ℕ → Type 0) (w w' : Option (List ℕ)) → ((script written : List ℕ) → P script written → Q script written)
     → IfSome old (λ script. (written : List ℕ) × Appends w w' written × P script written)
@@ -85,3 +118,13 @@ pub nothing_told : (old : Option (List ℕ)) (Q : List ℕ → List ℕ → Type
     → IfSome old (λ script. (written : List ℕ) × Appends w w written × Q script written)
 nothing_told None Q w on = tt
 nothing_told (Some script) Q w on = ([], appends_nothing w, on script)
+
+-- where nothing was read, nothing was told
+pub nothing_so_far : (old w : Option (List ℕ)) (text : List ℕ) → IfSome old (λ script. WritesSoFar text script old w w)
+nothing_so_far None w text = tt
+nothing_so_far (Some script) w text =
+    λ s means. (
+      [],
+      appends_nothing w,
+      record { done = []; left = lines_of script; rest = script; parted = refl; told = (refl, refl); to_read = refl; one_read = omega arith },
+    )

@@ -2,7 +2,7 @@
 use Rattle.std.proofs.Common.{ℕ, ◌+◌, List, [], ◌∷◌, ◌++◌, Option, Some, None}
 use Rattle.replay_script.specs.Command.{CommandData}
 use Rattle.replay_script.specs.Line.{Kind, Skipped, Says, Faulty, kind_of}
-use Rattle.replay_script.specs.Told.{Answered, Goes, Told, BeginsTold}
+use Rattle.replay_script.specs.Told.{Answered, Goes, Told, BeginsTold, ToldSoFar}
 
 module _ {S H : Type 0} (told_by : S → CommandData → Option (List ℕ) → S → Type 0) (answers : H → CommandData → Option (List ℕ) → H → Type 0) (Along : S → H → Type 0)
     (each : (s t : S) (h : H) (command : CommandData) (line : Option (List ℕ)) → Along s h → told_by s command line t
@@ -31,3 +31,16 @@ module _ {S H : Type 0} (told_by : S → CommandData → Option (List ℕ) → S
   pub begins_through : (lines : List (List ℕ)) (s : S) (h : H) (text : List ℕ) → Along s h → BeginsTold told_by lines s text → BeginsTold answers lines h text
   begins_through lines s h text along told =
       (told.0, told.1, told.2, told.3, told.4, told_through told.0 1 s h (text ++ told.2) told.3 along told.5)
+
+  pub so_far_through : (lines : List (List ℕ)) (s : S) (h : H) (unread : Option (List ℕ)) (text : List ℕ) → Along s h
+      → ToldSoFar told_by lines s unread text → ToldSoFar answers lines h unread text
+  so_far_through lines s h unread text along told =
+      record {
+        done = told.done;
+        left = told.left;
+        rest = told.rest;
+        parted = told.parted;
+        told = told_through told.done 1 s h text None along told.told;
+        to_read = told.to_read;
+        one_read = told.one_read;
+      }

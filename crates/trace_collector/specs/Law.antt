@@ -1,5 +1,5 @@
--- The text that a script is told is one, what was written before a failure is a beginning of it, and each body that has a value is
--- taken.
+-- The text that a script is told is one, what was written before a failure is a beginning of it, and each body that
+-- has a value is taken.
 use Rattle.std.specs.Prelude.{◌≡◌, ◌⊎◌, ℕ, List, [], ◌∷◌, ◌++◌, Option, Some}
 use Rattle.otlp_trace.specs.Data.{RequestData}
 use Rattle.otlp_read.specs.Value.{IsValue}
@@ -12,18 +12,23 @@ use Rattle.trace_collector.specs.Outcomes.{name_at, bad_protobuf}
 use Rattle.trace_collector.specs.Answered.{HasNoValue, IsPosted}
 use Rattle.trace_collector.specs.Script.{ScriptText, BeginsScriptText}
 
+-- under the same settings a script is told one text and one fault
 abbrev pub TextIsOne : Type 0
 TextIsOne = (settings : SettingsData) (script text text' : List ℕ) (fault fault' : Option ℕ)
-    → ScriptText settings script text fault → ScriptText settings script text' fault' → (text ≡ text') × (fault ≡ fault')
+    → ScriptText settings script text fault → ScriptText settings script text' fault'
+    → (text ≡ text') × (fault ≡ fault')
 
+-- what begins some text of a script begins its one text
 abbrev pub BeginningsBegin : Type 0
 BeginningsBegin = (settings : SettingsData) (script begun text : List ℕ) (fault : Option ℕ)
-    → BeginsScriptText settings script begun → ScriptText settings script text fault → (rest : List ℕ) × (text ≡ begun ++ rest)
+    → BeginsScriptText settings script begun → ScriptText settings script text fault
+    → (rest : List ℕ) × (text ≡ begun ++ rest)
 
--- a body that has a value is answered 200, and its spans are its tenant's next own step; one that has none is answered 400. No body
--- is refused: each is prepared for its own tenant's policies, and posted to its tenant's shard
+-- a body that has a value is answered 200, and its spans are its tenant's next own step; one that has none is answered
+-- 400. No body is refused: each is prepared for its own tenant's policies, and posted to its tenant's shard
 abbrev pub ValuesAreTaken : Type 0
-ValuesAreTaken = (settings : SettingsData) (pasts later : ℕ → List Own) (tenant : ℕ) (name : List ℕ) (moment : ℕ) (body : List ℕ) (line : Option (List ℕ))
+ValuesAreTaken = (settings : SettingsData) (pasts later : ℕ → List Own) (tenant : ℕ) (name : List ℕ)
+    (moment : ℕ) (body : List ℕ) (line : Option (List ℕ))
     → IsPosted settings pasts tenant name moment body line later
     → ((v : RequestData) × IsValue body v × (line ≡ Some (reply_text (name_at settings tenant) 200 []))
     × (later tenant ≡ own.Post moment (arrivals_of v) ∷ pasts tenant))

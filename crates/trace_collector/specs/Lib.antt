@@ -6,4 +6,3 @@ pub mod Standing
 pub mod Replay
 pub mod Members
 pub mod Law
-pub mod Examples

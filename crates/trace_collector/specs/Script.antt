@@ -3,7 +3,7 @@ use Rattle.std.specs.Prelude.{ℕ, List, [], Option}
 use Rattle.tail_settings.specs.Settings.{SettingsData}
 use Rattle.tenant_pipeline.specs.Own.{Own}
 use Rattle.replay_script.specs.Line.{lines_of}
-use Rattle.replay_script.specs.Told.{Told, BeginsTold}
+use Rattle.replay_script.specs.Told.{Told, BeginsTold, ToldSoFar}
 use Rattle.trace_collector.specs.Answered.{IsAnswered}
 
 -- before the first step
@@ -17,3 +17,7 @@ ScriptText settings script text fault = Told (IsAnswered settings) (lines_of scr
 -- a beginning of it
 abbrev pub BeginsScriptText : SettingsData → List ℕ → List ℕ → Type 0
 BeginsScriptText settings script text = BeginsTold (IsAnswered settings) (lines_of script) no_steps text
+
+-- all that was told so far, by what is left to read of the script
+abbrev pub ScriptToldSoFar : SettingsData → List ℕ → Option (List ℕ) → List ℕ → Type 0
+ScriptToldSoFar settings script unread text = ToldSoFar (IsAnswered settings) (lines_of script) no_steps unread text

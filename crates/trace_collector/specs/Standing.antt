@@ -15,16 +15,19 @@ use Rattle.trace_collector.specs.Answered.{lists_of, IsAnswered}
 -- there are as many shards as the settings have, each standing for the own steps of its members
 pub record AllStand (settings : SettingsData) (shards : List (List View)) (pasts : ℕ → List Own) : Type 0 where
   pub count : length shards ≡ settings.global.shards
-  pub each : (shard : ℕ) (kept : List View) → slice_get shards shard ≡ Some kept → ShardStands (lists_of settings pasts shard) kept
+  pub each : (shard : ℕ) (kept : List View) → slice_get shards shard ≡ Some kept
+      → ShardStands (lists_of settings pasts shard) kept
 
 -- whatever own steps the shards stand for, the command is answered by them, and the shards stand for those afterwards
 pub record Answers (old : Shards) (command : CommandData) (line : Option (List ℕ)) (new : Shards) : Type 0 where
   pub same : settings_view new.settings ≡ settings_view old.settings
-  pub answers : (pasts : ℕ → List Own) → AllStand (settings_view old.settings) old.shards.items pasts → (later : ℕ → List Own)
-      × IsAnswered (settings_view old.settings) pasts command line later × AllStand (settings_view old.settings) new.shards.items later
+  pub answers : (pasts : ℕ → List Own) → AllStand (settings_view old.settings) old.shards.items pasts
+      → (later : ℕ → List Own) × IsAnswered (settings_view old.settings) pasts command line later
+      × AllStand (settings_view old.settings) new.shards.items later
 
 -- a step of a shard was done, and its line appended
-pub record IsDone (settings : SettingsData) (shard : ℕ) (step : Step) (old new : List (List View)) (before behind : List ℕ) : Type 0 where
+pub record IsDone (settings : SettingsData) (shard : ℕ) (step : Step) (old new : List (List View))
+    (before behind : List ℕ) : Type 0 where
   pub outcome : Outcome
   pub kept : List View
   pub left : List View

@@ -1,9 +1,9 @@
 //! Settings and a script, replayed.
 
-ghost use Rattle.std.specs.Prelude.{◌≡◌, ℕ, List, IfSome};
+ghost use Rattle.std.specs.Prelude.{◌≡◌, ℕ, List, IfSome, Err};
 ghost use Rattle.std.specs.Io.KnownBytes.{Appends};
 ghost use Rattle.trace_collector.specs.Fault.{settings_fault, script_fault};
-ghost use Rattle.trace_collector.specs.Replay.{IsReplay};
+ghost use Rattle.trace_collector.specs.Replay.{IsReplay, WritesSoFar};
 ghost use Rattle.trace_collector.specs.declared.engine.ReplayFault.TheVariants as faults;
 
 use crate::shards::Shards;
@@ -31,15 +31,20 @@ pub enum ReplayFault {
     OutOfMemory,
 }
 
-/// Does the commands of a script, one after another, under these settings, and writes what they are answered.
+/// Does the commands of a script, one after another, under these settings, and writes what they are answered, each
+/// answer before it waits for more of the script.
 pub fn replay<R: BufRead, W: Write>(
     alloc: Global,
     settings: &str,
     reader: &mut R,
     writer: &mut W,
 ) -> Result<(), ReplayFault>
-    ensures { IfSome (R.remaining reader.old) (λ script. (written : List ℕ)
-        × Appends (W.contents writer.old) (W.contents writer.new) written × IsReplay settings.now script written result) }
+    ensures told { IfSome (R.remaining reader.old) (λ script. (written : List ℕ)
+        × Appends (W.contents writer.old) (W.contents writer.new) written
+        × IsReplay settings.now script written result) }
+    // Where memory was refused, all answers so far were written.
+    ensures so_far { result ≡ Err ReplayFault.OutOfMemory → IfSome (R.remaining reader.old) (λ script.
+        WritesSoFar settings.now script (R.remaining reader.new) (W.contents writer.old) (W.contents writer.new)) }
 {
     let settings = load(alloc, settings)?;
     let mut shards = Shards::open(alloc, settings)?;

@@ -1,8 +1,8 @@
 //! The replay of a script by shards of tenants.
 //!
-//! Settings and a script come in as text, and what each step is answered goes out as text. [`replay`] promises, for every
-//! settings text and every script, what is written. There is at most one such text ([`text_is_one`]), and each body that has a
-//! value is taken ([`values_are_taken`]).
+//! Settings and a script come in as text, and what each step is answered goes out as text. [`replay`] promises, for
+//! every settings text and every script, what is written. There is at most one such text ([`text_is_one`]), and each
+//! body that has a value is taken ([`values_are_taken`]).
 //!
 //! It stands on `replay_script`, `tail_settings` and `tenant_shard`, and on those below them.
 #![tactic(auto)]
@@ -13,8 +13,3 @@ mod shards;
 
 pub use engine::{ReplayFault, replay};
 pub use law::{text_is_one, values_are_taken};
-
-#[cfg(test)]
-mod definition_tests;
-#[cfg(test)]
-mod tests;

@@ -58,7 +58,8 @@ impl Shards {
     ) -> Result<(), AnswerFault>
         ensures ok { OnOk result ((line : List ℕ) × (out.new.items ≡ out.old.items ++ line)
             × Answers self.old (data_of.Post name.now moment body.now) (Some line) self.new) }
-        ensures unknown { result ≡ Err AnswerFault.Unknown → Answers self.old (data_of.Post name.now moment body.now) None self.new }
+        ensures unknown { result ≡ Err AnswerFault.Unknown
+            → Answers self.old (data_of.Post name.now moment body.now) None self.new }
         ensures err { OnErr result (out.new.items ≡ out.old.items) }
     {
         let Some(tenant) = self.settings.number(name) else {
@@ -94,7 +95,8 @@ impl Shards {
     ) -> Result<(), AnswerFault>
         ensures ok { OnOk result ((line : List ℕ) × (out.new.items ≡ out.old.items ++ line)
             × Answers self.old (data_of.Turn shard moment) (Some line) self.new) }
-        ensures unknown { result ≡ Err AnswerFault.Unknown → Answers self.old (data_of.Turn shard moment) None self.new }
+        ensures unknown { result ≡ Err AnswerFault.Unknown
+            → Answers self.old (data_of.Turn shard moment) None self.new }
         ensures err { OnErr result (out.new.items ≡ out.old.items) }
     {
         if shard >= u64::from(self.settings.global.shards) {
@@ -113,7 +115,8 @@ impl Shards {
         out: &mut Vec<u8>,
     ) -> Result<(), AllocError>
         requires { shard < length self.old.shards.items }
-        ensures ok { OnOk result (IsDone (settings_view self.old.settings) shard step.now self.old.shards.items self.new.shards.items out.old.items out.new.items) }
+        ensures ok { OnOk result (IsDone (settings_view self.old.settings) shard step.now
+            self.old.shards.items self.new.shards.items out.old.items out.new.items) }
         ensures settings { self.new.settings ≡ self.old.settings }
         ensures err { OnErr result (out.new.items ≡ out.old.items) }
     {
@@ -145,7 +148,8 @@ impl Session for Shards {
 /// One step of the shard at a place.
 fn step_at(shards: &mut Vec<Shard>, place: usize, step: &Step) -> Result<Outcome, AllocError>
     requires { place < length shards.old.items }
-    ensures ok { IfOk result (λ outcome. (old : List View) × (new : List View) × (slice_get shards.old.items place ≡ Some old)
+    ensures ok { IfOk result (λ outcome. (old : List View) × (new : List View)
+        × (slice_get shards.old.items place ≡ Some old)
         × ShardSteps step.now old outcome new × (shards.new.items ≡ slice_set shards.old.items place new)) }
     ensures len { length shards.new.items ≡ length shards.old.items }
 {
@@ -162,7 +166,8 @@ fn put_outcome(
     shard: u64,
     outcome: &Outcome,
 ) -> Result<(), AllocError>
-    ensures ok { OnOk result (out.new.items ≡ out.old.items ++ outcome_text (settings_view settings.now) shard outcome.now) }
+    ensures ok { OnOk result
+        (out.new.items ≡ out.old.items ++ outcome_text (settings_view settings.now) shard outcome.now) }
     ensures err { OnErr result (out.new.items ≡ out.old.items) }
 {
     match outcome {
@@ -200,7 +205,8 @@ fn name_of(settings: &Settings, tenant: u32) -> &str
 
 /// The numbers of a shard's tenants.
 fn members_of(alloc: Global, settings: &Settings, shard: u32) -> Result<Vec<u32>, AllocError>
-    ensures { IfOk result (λ members. AreMembers (length (settings_view settings.now).tenants) (settings_view settings.now).global.shards shard members.items) }
+    ensures { IfOk result (λ members. AreMembers (length (settings_view settings.now).tenants)
+        (settings_view settings.now).global.shards shard members.items) }
 {
     let mut members = Vec::new(alloc);
     for tenant in 0..settings.tenants_len() {

@@ -2,12 +2,12 @@
 use Rattle.std.specs.Prelude.{◌≡◌, codes, ℕ, List, [], ◌∷◌, map, Some, None, Ok, Err}
 use Rattle.std.specs.declared.io.ErrorKind.TheVariants as kinds
 use Rattle.tail_settings.specs.declared.fault.SettingsFault.TheVariants as settings
-use Rattle.trace_collector.specs.declared.engine.ReplayFault.TheVariants as replay
+use Rattle.trace_collector.specs.declared.engine.ReplayFault.TheVariants as replay_faults
 use Rattle.trace_collector.specs.Replay.{IsReplay}
-use Rattle.trace_collector_program.specs.Arguments.{path_of}
-use Rattle.trace_collector_program.specs.Fault.{IsOfFile, IsOfText}
+use Rattle.trace_collector_program.specs.Fault.{IsOfFile, IsOfArguments, IsOfText}
 use Rattle.trace_collector_program.specs.Run.{IsRun}
 use Rattle.trace_collector_program.specs.Status.{status_of, end_status}
+use Rattle.trace_collector_program.specs.Task.{replay, help, version, task_of}
 use Rattle.trace_collector_program.specs.declared.ProgramFault.{ProgramFault}
 use Rattle.trace_collector_program.specs.declared.ProgramFault.TheVariants.{Usage, Replay}
 
@@ -20,42 +20,57 @@ abbrev pub path : List ℕ
 path = codes "settings.toml"
 
 pub record Arguments : Type 0 where
-  pub named : path_of (command ∷ path ∷ []) ≡ Some path
+  pub named : task_of (command ∷ path ∷ []) ≡ Some (replay path)
   -- any word is a path, also that of the command, and an empty one
-  pub same_word : path_of (command ∷ command ∷ []) ≡ Some command
-  pub empty_path : path_of (command ∷ [] ∷ []) ≡ Some []
-  pub one_word_more : path_of (command ∷ path ∷ path ∷ []) ≡ None
-  pub no_path : path_of (command ∷ []) ≡ None
-  pub none : path_of [] ≡ None
-  pub other_command : path_of (codes "serve" ∷ path ∷ []) ≡ None
-  pub capital : path_of (codes "Replay" ∷ path ∷ []) ≡ None
-  pub longer_command : path_of (codes "replays" ∷ path ∷ []) ≡ None
-  pub other_order : path_of (path ∷ command ∷ []) ≡ None
+  pub same_word : task_of (command ∷ command ∷ []) ≡ Some (replay command)
+  pub empty_path : task_of (command ∷ [] ∷ []) ≡ Some (replay [])
+  pub option_as_path : task_of (command ∷ codes "--help" ∷ []) ≡ Some (replay (codes "--help"))
+  pub help_alone : task_of (codes "--help" ∷ []) ≡ Some help
+  pub version_alone : task_of (codes "--version" ∷ []) ≡ Some version
+  pub help_and_more : task_of (codes "--help" ∷ path ∷ []) ≡ None
+  pub no_option : task_of (codes "-h" ∷ []) ≡ None
+  pub one_word_more : task_of (command ∷ path ∷ path ∷ []) ≡ None
+  pub no_path : task_of (command ∷ []) ≡ None
+  pub none : task_of [] ≡ None
+  pub other_command : task_of (codes "serve" ∷ path ∷ []) ≡ None
+  pub capital : task_of (codes "Replay" ∷ path ∷ []) ≡ None
+  pub longer_command : task_of (codes "replays" ∷ path ∷ []) ≡ None
+  pub other_order : task_of (path ∷ command ∷ []) ≡ None
 
 -- ---- statuses
 
 -- the four of the program's own words: 0 done, 1 a fault, 2 wrong usage, 3 no memory
 pub record Statuses : Type 0 where
   pub done : end_status (Ok tt) ≡ 0
-  pub faults : map status_of (Replay (replay.Settings settings.NotToml) ∷ Replay (replay.Script 7) ∷ Replay replay.Line ∷ []) ≡ 1 ∷ 1 ∷ 1 ∷ []
+  pub faults : map status_of (Replay (replay_faults.Settings settings.NotToml) ∷ Replay (replay_faults.Script 7)
+      ∷ Replay replay_faults.Line ∷ [])
+      ≡ 1 ∷ 1 ∷ 1 ∷ []
   pub usage : status_of Usage ≡ 2
-  pub memory : status_of (Replay replay.OutOfMemory) ≡ 3
-  pub ended : map (λ fault. end_status (Err fault)) (Replay replay.Line ∷ Usage ∷ Replay replay.OutOfMemory ∷ []) ≡ 1 ∷ 2 ∷ 3 ∷ []
+  pub memory : status_of (Replay replay_faults.OutOfMemory) ≡ 3
+  pub ended : map (λ fault. end_status (Err fault))
+      (Replay replay_faults.Line ∷ Usage ∷ Replay replay_faults.OutOfMemory ∷ [])
+      ≡ 1 ∷ 2 ∷ 3 ∷ []
 
 -- ---- faults
 
 -- of a file that isn't there, and of one for which there was no memory
 pub record OfFiles : Type 0 where
-  pub memory : IsOfFile kinds.OutOfMemory (Replay replay.OutOfMemory)
-  pub memory_as_other : IsOfFile kinds.OutOfMemory (Replay replay.Line) → ⊥
-  pub not_found : IsOfFile kinds.NotFound (Replay replay.Line)
-  pub not_found_as_memory : IsOfFile kinds.NotFound (Replay replay.OutOfMemory) → ⊥
+  pub memory : IsOfFile kinds.OutOfMemory (Replay replay_faults.OutOfMemory)
+  pub memory_as_other : IsOfFile kinds.OutOfMemory (Replay replay_faults.Line) → ⊥
+  pub not_found : IsOfFile kinds.NotFound (Replay replay_faults.Line)
+  pub not_found_as_memory : IsOfFile kinds.NotFound (Replay replay_faults.OutOfMemory) → ⊥
   pub not_found_as_usage : IsOfFile kinds.NotFound Usage → ⊥
+
+-- of arguments that aren't UTF-8, and of those for which there was no memory
+pub record OfArguments : Type 0 where
+  pub memory : IsOfArguments kinds.OutOfMemory (Replay replay_faults.OutOfMemory)
+  pub not_utf8 : IsOfArguments kinds.InvalidData Usage
+  pub not_utf8_as_input : IsOfArguments kinds.InvalidData (Replay replay_faults.Line) → ⊥
 
 -- no letter of UTF-8 begins with 255, and 226 130 are two of the three bytes of a euro sign; 97 is the letter a
 pub record OfTexts : Type 0 where
-  pub no_text : IsOfText (255 ∷ []) (Replay (replay.Settings settings.NotToml))
-  pub cut : IsOfText (97 ∷ 226 ∷ 130 ∷ []) (Replay (replay.Settings settings.NotToml))
+  pub no_text : IsOfText (255 ∷ []) (Replay (replay_faults.Settings settings.NotToml))
+  pub cut : IsOfText (97 ∷ 226 ∷ 130 ∷ []) (Replay (replay_faults.Settings settings.NotToml))
   pub as_usage : IsOfText (255 ∷ []) Usage → ⊥
   pub whole : (fault : ProgramFault) → IsOfText (97 ∷ 226 ∷ 130 ∷ 172 ∷ []) fault → ⊥
   pub letter : (fault : ProgramFault) → IsOfText (97 ∷ []) fault → ⊥
@@ -65,10 +80,13 @@ pub record OfTexts : Type 0 where
 
 -- of a file that is no text whatever the script, and of one that is, the letter a, as its replay ends
 pub record Runs : Type 0 where
-  pub no_text : (script : List ℕ) → IsRun (255 ∷ []) script [] (Err (Replay (replay.Settings settings.NotToml)))
-  pub written_without_settings : (script : List ℕ) → IsRun (255 ∷ []) script (10 ∷ []) (Err (Replay (replay.Settings settings.NotToml))) → ⊥
+  pub no_text : (script : List ℕ) → IsRun (255 ∷ []) script [] (Err (Replay (replay_faults.Settings settings.NotToml)))
+  pub written_without_settings : (script : List ℕ)
+      → IsRun (255 ∷ []) script (10 ∷ []) (Err (Replay (replay_faults.Settings settings.NotToml))) → ⊥
   pub no_text_is_done : (script written : List ℕ) → IsRun (255 ∷ []) script written (Ok tt) → ⊥
-  pub no_text_is_no_memory : (script : List ℕ) → IsRun (255 ∷ []) script [] (Err (Replay replay.OutOfMemory)) → ⊥
-  pub replayed : (script written : List ℕ) → IsReplay (97 ∷ []) script written (Err replay.Line) → IsRun (97 ∷ []) script written (Err (Replay replay.Line))
-  pub not_replayed : (script written : List ℕ) → (IsReplay (97 ∷ []) script written (Ok tt) → ⊥) → IsRun (97 ∷ []) script written (Ok tt) → ⊥
+  pub no_text_is_no_memory : (script : List ℕ) → IsRun (255 ∷ []) script [] (Err (Replay replay_faults.OutOfMemory)) → ⊥
+  pub replayed : (script written : List ℕ) → IsReplay (97 ∷ []) script written (Err replay_faults.Line)
+      → IsRun (97 ∷ []) script written (Err (Replay replay_faults.Line))
+  pub not_replayed : (script written : List ℕ) → (IsReplay (97 ∷ []) script written (Ok tt) → ⊥)
+      → IsRun (97 ∷ []) script written (Ok tt) → ⊥
   pub wrong_usage : (script written : List ℕ) → IsRun (97 ∷ []) script written (Err Usage) → ⊥

@@ -6,12 +6,17 @@ use Rattle.std.specs.declared.io.ErrorKind.TheVariants as kinds
 use Rattle.tail_settings.specs.declared.fault.SettingsFault.TheVariants as settings
 use Rattle.trace_collector.specs.declared.engine.ReplayFault.TheVariants as replay
 use Rattle.trace_collector_program.specs.declared.ProgramFault.{ProgramFault}
-use Rattle.trace_collector_program.specs.declared.ProgramFault.TheVariants.{Replay}
+use Rattle.trace_collector_program.specs.declared.ProgramFault.TheVariants.{Usage, Replay}
 
 -- of files, input and output only the want of memory is told apart
 pub record IsOfFile (kind : ErrorKind) (fault : ProgramFault) : Type 0 where
   pub memory : kind ≡ kinds.OutOfMemory → fault ≡ Replay replay.OutOfMemory
   pub other : kind ≢ kinds.OutOfMemory → fault ≡ Replay replay.Line
+
+-- of the arguments likewise: whatever else can't be had as arguments is wrong usage
+pub record IsOfArguments (kind : ErrorKind) (fault : ProgramFault) : Type 0 where
+  pub memory : kind ≡ kinds.OutOfMemory → fault ≡ Replay replay.OutOfMemory
+  pub other : kind ≢ kinds.OutOfMemory → fault ≡ Usage
 
 -- the bytes are no text, so they are no TOML document
 pub record IsOfText (bytes : List ℕ) (fault : ProgramFault) : Type 0 where

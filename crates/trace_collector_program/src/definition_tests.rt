@@ -1,12 +1,13 @@
 //! What the definitions say of arguments, statuses, faults and runs, on examples that were worked out by hand.
 
-ghost use Rattle.trace_collector_program.specs.Examples.{Arguments, Statuses, OfFiles, OfTexts, Runs};
+ghost use Rattle.trace_collector_program.specs.Examples.{Arguments, Statuses, OfFiles, OfArguments, OfTexts, Runs};
 
 /// The definitions, on small inputs, give what was worked out by hand.
 fn definitions_on_small_inputs()
     ensures arguments { Arguments }
     ensures statuses { Statuses }
     ensures of_files { OfFiles }
+    ensures of_arguments { OfArguments }
     ensures of_texts { OfTexts }
     ensures runs { Runs }
 {}

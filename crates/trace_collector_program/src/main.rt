@@ -1,5 +1,6 @@
-//! `trace_collector replay SETTINGS`: replays the script on standard input under the settings in that file, and writes what
-//! its steps are answered to standard output. Statuses: 0 done; 1 a fault of the settings, the script, the input or the
+//! `trace_collector replay SETTINGS`: replays the script on standard input under the settings in that file, and writes
+//! what its steps are answered to standard output, each answer before it waits for more of the script. `--help` and
+//! `--version` print on standard output. Statuses: 0 done; 1 a fault of the settings, the script, the input or the
 //! output; 2 wrong usage; 3 no memory. A fault is told in one line on standard error.
 //!
 //! It stands on `trace_collector`, whose `replay` promises what is written.
@@ -7,15 +8,15 @@
 
 #[cfg(test)]
 mod definition_tests;
+mod task;
 #[cfg(test)]
 mod tests;
 
-ghost use Rattle.std.specs.Prelude.{◌≡◌, ℕ, List, IfSome, IfOk, IfErr, map, option_map, string_bytes};
+ghost use Rattle.std.specs.Prelude.{◌≡◌, ℕ, List, IfSome, IfOk, IfErr, string_bytes};
 ghost use Rattle.std.specs.Io.KnownBytes.{Appends};
 ghost use Rattle.std.specs.IoError.{error_kind};
 ghost use Rattle.std.specs.Process.{exit_status};
-ghost use Rattle.trace_collector_program.specs.Arguments.{path_of};
-ghost use Rattle.trace_collector_program.specs.Fault.{IsOfFile, IsOfText};
+ghost use Rattle.trace_collector_program.specs.Fault.{IsOfFile, IsOfArguments, IsOfText};
 ghost use Rattle.trace_collector_program.specs.Run.{IsRun};
 ghost use Rattle.trace_collector_program.specs.Status.{status_of, end_status};
 ghost use Rattle.trace_collector_program.specs.declared.ProgramFault.TheVariants as faults;
@@ -27,6 +28,7 @@ use std::process::ExitCode;
 use std::rt::{Env, Files};
 use std::{env, fs, io};
 use tail_settings::SettingsFault;
+use task::{HELP, Task, VERSION, asked_task};
 use thiserror::Error;
 use trace_collector::{ReplayFault, replay};
 
@@ -36,7 +38,7 @@ const READ_SIZE: usize = 65_536;
 /// Why the program ends early.
 #[derive(Debug, Drop, Error)]
 enum ProgramFault {
-    /// The arguments aren't `replay` and a file.
+    /// The arguments ask for nothing that the program does, or one of them isn't UTF-8.
     #[error("usage: trace_collector replay SETTINGS")]
     Usage,
     /// The replay ended early, or there was none.
@@ -106,34 +108,43 @@ fn ended(rt: &impl Eprint, end: Result<(), ProgramFault>) -> ExitCode
 }
 
 fn run(rt: &(impl Env + Files + Input + Print + AllocGlobal)) -> Result<(), ProgramFault> {
-    let mut args = Vec::new(rt.alloc());
-    for arg in env::args(rt)?.skip(1) {
-        args.push(arg)?;
-    }
-    let Some(path) = settings_path(args.as_slice()) else {
-        return Err(ProgramFault::Usage);
+    let args = match env::args(rt) {
+        Ok(args) => args,
+        Err(error) => return Err(of_arguments(error)),
     };
+    let mut words = Vec::new(rt.alloc());
+    for word in args.skip(1) {
+        words.push(word)?;
+    }
+    match asked_task(words.as_slice()) {
+        Some(Task::Replay { settings }) => replay_file(rt, settings),
+        Some(Task::Help) => Ok(rt.println(HELP)?),
+        Some(Task::Version) => Ok(rt.println(VERSION)?),
+        None => Err(ProgramFault::Usage),
+    }
+}
+
+/// The library gives all arguments as text, or none where one of them isn't UTF-8, the program's own name included.
+/// Such arguments are wrong usage: this stands in for telling which of them it is.
+fn of_arguments(error: io::Error) -> ProgramFault
+    ensures { IsOfArguments (error_kind error) result }
+{
+    match error.kind() {
+        ErrorKind::OutOfMemory => ProgramFault::Replay(ReplayFault::OutOfMemory),
+        _ => ProgramFault::Usage,
+    }
+}
+
+/// Replays the script on standard input under the settings in a file.
+fn replay_file(
+    rt: &(impl Files + Input + Print + AllocGlobal),
+    path: &str,
+) -> Result<(), ProgramFault> {
     let settings = fs::read(rt, path)?;
     let alloc = rt.alloc();
     let mut reader = BufReader::with_capacity(alloc, READ_SIZE, rt.reader())?;
     let mut writer = io::writer(rt);
     replay_under(alloc, settings, &mut reader, &mut writer)
-}
-
-/// The file that these arguments name, or none where they are others. The program's name is not among them.
-fn settings_path(args: &[String]) -> Option<&str>
-    ensures { option_map (λ path. path.now) result ≡ path_of (map string_bytes args.now) }
-{
-    match args {
-        [command, path] => {
-            if command.as_str() == "replay" {
-                Some(path.as_str())
-            } else {
-                None
-            }
-        }
-        _ => None,
-    }
 }
 
 /// The text that a file's bytes spell. Bytes that spell none are no TOML document.
@@ -155,7 +166,8 @@ fn replay_under<R: BufRead, W: Write>(
     writer: &mut W,
 ) -> Result<(), ProgramFault>
     ensures { IfSome (R.remaining reader.old) (λ script. (written : List ℕ)
-        × Appends (W.contents writer.old) (W.contents writer.new) written × IsRun settings.items script written result) }
+        × Appends (W.contents writer.old) (W.contents writer.new) written
+        × IsRun settings.items script written result) }
 {
     let settings = settings_text(settings)?;
     replay(alloc, settings.as_str(), reader, writer)?;

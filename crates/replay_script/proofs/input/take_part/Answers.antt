@@ -1,4 +1,4 @@
-use Rattle.std.proofs.Common.{[], take, subst, rules}
+use Rattle.std.proofs.Common.{◌≤◌, [], length, take, subst, rules, arith}
 use Rattle.std.specs.Io.KnownBytes.{Consumes}
 use Rattle.std.specs.Io.BufRead.{FillKeeps}
 use Rattle.std.proofs.KnownBytes.{Consumes-nil, Consumes-kept}
@@ -12,7 +12,7 @@ pub returns-then-eq-clause-part : goal.returns-then-eq-clause-part
 returns-then-eq-clause-part g c = (
   [],
   All-nil _,
-  kept_nothing line_room c.args.line.now.items c.requires,
+  kept_nothing line_room c.args.line.now.items c.requires.room,
   Consumes-kept _ _ _ [] (Consumes-nil _) c.fill_buf.follows.holds-at-none.0,
   λ e. absurd (cc),
 )
@@ -22,7 +22,8 @@ returns-clause-part g c =
     let cut = c.find_part-cut in
     let rested = c.fill_buf.follows.lender-at-none in
     let filled = subst (FillKeeps _ (g.R.Read.remaining rested) (g.R.BufRead.consumable_len rested)) c.in-Ok.is c.fill_buf.follows.holds-at-none in
-    let moved = Consumes_shown _ _ _ _ c.in-Ok.shown.now cut.result.read cut.ensures.read c.in-Ok.ensures.front c.in-Ok.ensures.end filled.0 filled.1 c.consume.ensures.bytes in (
+    let within : cut.result.read ≤ length c.in-Ok.shown.now = omega (arith, cut.ensures.read) in
+    let moved = Consumes_shown _ _ _ _ c.in-Ok.shown.now cut.result.read within c.in-Ok.ensures.front c.in-Ok.ensures.end filled.0 filled.1 c.consume.ensures.bytes in (
       take cut.result.len c.in-Ok.shown.now,
       cut.ensures.inside,
       search rules,

@@ -1,4 +1,4 @@
-use Rattle.std.proofs.Common.{ℕ, List, Ok, Err, ap}
+use Rattle.std.proofs.Common.{ℕ, List, None, Ok, Err, ap}
 use Rattle.std.proofs.lemmas.Result.{err_from_is_err_and}
 use Rattle.tail_settings.specs.Settings.{settings_view}
 use Rattle.replay_script.specs.Line.{lines_of}
@@ -7,11 +7,11 @@ use Rattle.trace_collector.specs.Fault.{script_fault, settings_fault}
 use Rattle.trace_collector.specs.Script.{no_steps}
 use Rattle.trace_collector.specs.Standing.{Answers}
 use Rattle.trace_collector.specs.Replay.{IsReplay}
-use Rattle.trace_collector.proofs.Replayed.{Along, ran_replays, fault_replays, some_told, unread_replays, nothing_told}
+use Rattle.trace_collector.proofs.Replayed.{Along, ran_replays, fault_replays, was_memory, memory_so_far, some_told, unread_replays, nothing_told, nothing_so_far}
 use Rattle.trace_collector.proofs.engine.replay.Goals as goal
 
-pub returns-in_err-settings : goal.returns-in_err-settings
-returns-in_err-settings g c =
+pub returns-in_err-settings-clause-told : goal.returns-in_err-settings-clause-told
+returns-in_err-settings-clause-told g c =
     let p = err_from_is_err_and c.from_residual.result c.from_residual.ensures.1 in
     let text = c.args.settings.now in
     let fault = c.in_err-settings.field-0.0 in
@@ -19,8 +19,25 @@ returns-in_err-settings g c =
     (λ (script written : List ℕ). IsReplay text script written (Err (settings_fault fault))) _
     (λ script. unread_replays text script fault c.in_err-settings.ensures.fault))
 
-pub returns-in_err-run_script : goal.returns-in_err-run_script
-returns-in_err-run_script g c =
+pub returns-in_err-settings-clause-so_far : goal.returns-in_err-settings-clause-so_far
+returns-in_err-settings-clause-so_far g c = λ memory. nothing_so_far _ _ c.args.settings.now
+
+pub returns-in_err-shards-clause-so_far : goal.returns-in_err-shards-clause-so_far
+returns-in_err-shards-clause-so_far g c = λ memory. nothing_so_far _ _ c.args.settings.now
+
+pub returns-in_err-run_script-clause-so_far : goal.returns-in_err-run_script-clause-so_far
+returns-in_err-run_script-clause-so_far g c =
+    let p = err_from_is_err_and c.from_residual-in_err-run_script.result c.from_residual-in_err-run_script.ensures.1 in
+    let shards = c.in_ok-shards.shards in
+    let fault = c.in_err-run_script.field-0.0 in
+    let along : Along (settings_view c.in_ok-settings.settings) c.in_ok-shards.shards no_steps =
+    record { same = ap settings_view c.in_ok-shards.ensures.settings; stand = c.in_ok-shards.ensures.stand } in
+    λ memory.
+    memory_so_far _ _ _ _ c.args.settings.now shards (settings_view c.in_ok-settings.settings) fault c.in_ok-settings.ensures.ok along
+    (was_memory _ _ fault p.1 p.2 memory) c.in_err-run_script.ensures.told
+
+pub returns-in_err-run_script-clause-told : goal.returns-in_err-run_script-clause-told
+returns-in_err-run_script-clause-told g c =
     let p = err_from_is_err_and c.from_residual-in_err-run_script.result c.from_residual-in_err-run_script.ensures.1 in
     let text = c.args.settings.now in
     let shards = c.in_ok-shards.shards in
@@ -28,19 +45,19 @@ returns-in_err-run_script g c =
     let along : Along (settings_view c.in_ok-settings.settings) c.in_ok-shards.shards no_steps =
     record { same = ap settings_view c.in_ok-shards.ensures.settings; stand = c.in_ok-shards.ensures.stand } in
     rw (p.1, p.2) (some_told _
-    (λ (script written : List ℕ). Ends Answers (lines_of script) shards written (Err fault))
+    (λ (script written : List ℕ). Ends Answers (lines_of script) shards _ written (Err fault))
     (λ (script written : List ℕ). IsReplay text script written (Err (script_fault fault))) _ _
-    (λ script written ends. fault_replays text script written shards (settings_view c.in_ok-settings.settings) fault c.in_ok-settings.ensures.ok along ends)
+    (λ script written ends. fault_replays text script written _ shards (settings_view c.in_ok-settings.settings) fault c.in_ok-settings.ensures.ok along ends)
     c.in_err-run_script.ensures.told)
 
-pub returns : goal.returns
-returns g c =
+pub returns-clause-told : goal.returns-clause-told
+returns-clause-told g c =
     let text = c.args.settings.now in
     let shards = c.in_ok-shards.shards in
     let along : Along (settings_view c.in_ok-settings.settings) c.in_ok-shards.shards no_steps =
     record { same = ap settings_view c.in_ok-shards.ensures.settings; stand = c.in_ok-shards.ensures.stand } in
     some_told _
-    (λ (script written : List ℕ). Ends Answers (lines_of script) shards written (Ok tt))
+    (λ (script written : List ℕ). Ends Answers (lines_of script) shards None written (Ok tt))
     (λ (script written : List ℕ). IsReplay text script written (Ok tt)) _ _
-    (λ script written ends. ran_replays text script written shards (settings_view c.in_ok-settings.settings) tt c.in_ok-settings.ensures.ok along ends)
+    (λ script written ends. ran_replays text script written None shards (settings_view c.in_ok-settings.settings) tt c.in_ok-settings.ensures.ok along ends)
     c.in_ok-run_script.ensures.told

@@ -4,7 +4,7 @@ use Rattle.std.proofs.lemmas.Str.{IsUtf8-from_is_utf8, is_utf8-from_IsUtf8}
 use Rattle.std.specs.Char.{encode_utf8}
 use Rattle.std.specs.Str.{IsUtf8, chars, is_utf8}
 use Rattle.std.specs.declared.io.ErrorKind.TheVariants as kinds
-use Rattle.trace_collector.specs.declared.engine.ReplayFault.TheVariants as replay
+use Rattle.trace_collector.specs.declared.engine.ReplayFault.TheVariants as replay_faults
 use Rattle.trace_collector_program.specs.declared.ProgramFault.TheVariants.{Usage, Replay}
 use Rattle.trace_collector_program.proofs.definition_tests.definitions_on_small_inputs.Goals as goal
 
@@ -13,6 +13,11 @@ returns-clause-arguments c = record {
   named = refl;
   same_word = refl;
   empty_path = refl;
+  option_as_path = refl;
+  help_alone = refl;
+  version_alone = refl;
+  help_and_more = refl;
+  no_option = refl;
   one_word_more = refl;
   no_path = refl;
   none = refl;
@@ -33,10 +38,20 @@ is_memory same = cc
 pub returns-clause-of_files : goal.returns-clause-of_files
 returns-clause-of_files c = record {
   memory = record { memory = λ same. refl; other = λ apart. absurd (apart refl) };
-  memory_as_other = λ is. let told : Replay replay.Line ≡ Replay replay.OutOfMemory = is.memory refl in cc;
+  memory_as_other = λ is. let told : Replay replay_faults.Line ≡ Replay replay_faults.OutOfMemory = is.memory refl in cc;
   not_found = record { memory = λ same. absurd (is_memory same); other = λ apart. refl };
-  not_found_as_memory = λ is. let told : Replay replay.OutOfMemory ≡ Replay replay.Line = is.other is_memory in cc;
-  not_found_as_usage = λ is. let told : Usage ≡ Replay replay.Line = is.other is_memory in cc;
+  not_found_as_memory = λ is. let told : Replay replay_faults.OutOfMemory ≡ Replay replay_faults.Line = is.other is_memory in cc;
+  not_found_as_usage = λ is. let told : Usage ≡ Replay replay_faults.Line = is.other is_memory in cc;
+}
+
+is_invalid : kinds.InvalidData ≡ kinds.OutOfMemory → ⊥
+is_invalid same = cc
+
+pub returns-clause-of_arguments : goal.returns-clause-of_arguments
+returns-clause-of_arguments c = record {
+  memory = record { memory = λ same. refl; other = λ apart. absurd (apart refl) };
+  not_utf8 = record { memory = λ same. absurd (is_invalid same); other = λ apart. refl };
+  not_utf8_as_input = λ is. let told : Replay replay_faults.Line ≡ Usage = is.other is_invalid in cc;
 }
 
 is_text : (bytes : List ℕ) → is_utf8 bytes ≡ true → IsUtf8 bytes

@@ -1,0 +1,247 @@
+use Rattle.std.proofs.Common.{◌≡◌, ◌↔◌, ◌==◌, ◌%◌, ℕ, zero, suc, ◌<◌, Bool, true, false, List, [], ◌∷◌, ◌++◌, Option, Some, None, Ok, Err, is_ok, length, subst, refl, sym, ap, ◌∙◌, arith, inl, inr}
+use Rattle.std.specs.Prelude.{codes, if◌then◌else◌}
+use Rattle.std.specs.Option.{unwrap_or}
+use Rattle.otlp_trace.specs.Data.{RequestData}
+use Rattle.otlp_read.specs.Value.{value_of, IsValue}
+use Rattle.tail_settings.specs.Fault.{FaultData, not_toml, too_many}
+use Rattle.tail_settings.specs.Settings.{SettingsData, settings_of}
+use Rattle.tail_settings.proofs.OnLiterals.{texts_on_literals}
+use Rattle.tenant_pipeline.specs.Examples.{body, value}
+use Rattle.tenant_pipeline.specs.Own.{Own}
+use Rattle.tenant_pipeline.specs.Prepared.{prepared_of}
+use Rattle.tenant_shard.specs.declared.step.Outcome.{Outcome}
+use Rattle.tenant_shard.specs.declared.step.Outcome.TheVariants.{Reply, Job, Idle}
+use Rattle.tenant_shard.specs.declared.step.Step.{Step}
+use Rattle.tenant_shard.specs.declared.step.Step.TheVariants as steps
+use Rattle.tenant_shard.specs.Pick.{ready_after, ready_at, NotAfter}
+use Rattle.tenant_shard.specs.Run.{after}
+use Rattle.tenant_pipeline.proofs.OnLiterals.{values_on_literals, pipelines_on_literals}
+use Rattle.replay_script.proofs.OnLiterals.{script_on_literals, answers_on_literals}
+use Rattle.replay_script.specs.Command.{Post, Turn}
+use Rattle.replay_script.specs.Line.{lines_of}
+use Rattle.trace_collector.specs.Answered.{lists_of, HasNoValue, IsAnswered}
+use Rattle.trace_collector.specs.Script.{no_steps, ScriptText, BeginsScriptText}
+use Rattle.collector_tests.specs.ReplayExamples.{at_default, one_tenant, hex, script, told, begun, faulty_script, document, no_document}
+use Rattle.trace_collector.proofs.One.{told_one, script_answered_one, same_value}
+use Rattle.collector_tests.proofs.replay_definitions.definitions_on_small_replays.Goals as goal
+
+pub returns-clause-members : goal.returns-clause-members
+returns-clause-members c = record {
+  tenant_0 = refl;
+  tenant_1 = refl;
+  tenant_2 = refl;
+  tenant_0_elsewhere = refl;
+  tenant_1_elsewhere = refl;
+  no_tenant = refl;
+}
+
+pub returns-clause-lines : goal.returns-clause-lines
+unfolding answers_on_literals
+returns-clause-lines c = record {
+  name = refl;
+  no_name = refl;
+  reply = refl;
+  job = refl;
+  worked = refl;
+  idle = refl;
+  refused = refl;
+  bad = refl;
+}
+
+-- ---- a body
+
+-- a body has a value exactly where the functions give it
+Exact : Type 0
+Exact = (bytes : List ℕ) (v : RequestData) → (value_of bytes ≡ Ok v) ↔ IsValue bytes v
+
+has_this_value : Exact → IsValue (body 17 33) (value 17 33)
+unfolding Exact values_on_literals
+has_this_value exact = (exact (body 17 33) (value 17 33)).0 refl
+
+has_none : Exact → HasNoValue (0 ∷ 0 ∷ [])
+unfolding Exact values_on_literals
+has_none exact v is = let same : false ≡ true = ap is_ok ((exact (0 ∷ 0 ∷ []) v).1 is) in cc
+
+-- ---- the steps
+
+abbrev the_post : Step
+the_post = steps.Post 0 (prepared_of 0 at_default (value 17 33))
+
+abbrev accepted : Outcome
+accepted = Reply 0 (record { status = 200; body = [] })
+
+abbrev posted : ℕ → List Own
+posted = (after the_post accepted (lists_of one_tenant no_steps 0)).pasts
+
+abbrev idled : ℕ → List Own
+idled = (after (steps.Turn 999) Idle (lists_of one_tenant posted 0)).pasts
+
+abbrev the_job : Outcome
+the_job = Job 0 1 (body 17 33)
+
+abbrev handed : ℕ → List Own
+handed = (after (steps.Turn 1000) the_job (lists_of one_tenant idled 0)).pasts
+
+some_same : (a b : ℕ) → Some a ≡ Some b → a ≡ b
+some_same a b e = ap (λ o. unwrap_or o a) e
+
+never : (a : ℕ) → None ≡ Some a → ⊥
+never a e = cc
+
+none_either : (b : Bool) (past : List Own) (seen : Option ℕ) → ready_after (if b then None else None) past true seen ≡ None
+none_either true past seen = refl
+none_either false past seen = refl
+
+-- no other tenant is ever ready
+no_other : (pasts : ℕ → List Own) (n : ℕ) → ready_at (lists_of one_tenant pasts 0) [] (suc n) ≡ None
+no_other pasts n = none_either (suc n % 1 == 0) (pasts (suc n)) None
+
+post_is_answered : Exact → IsAnswered one_tenant no_steps (Post (codes "a") 0 (body 17 33)) (Some (codes "reply a 200 -\n")) posted
+unfolding pipelines_on_literals answers_on_literals
+post_is_answered exact = inl (at_default, value 17 33, refl, has_this_value exact, (accepted, refl, refl, refl))
+
+idle_before : (tenant moment : ℕ) → ready_at (lists_of one_tenant posted 0) [] tenant ≡ Some moment → 999 < moment
+unfolding pipelines_on_literals
+idle_before zero moment h = omega (arith, some_same 1000 moment h)
+idle_before (suc n) moment h = absurd (never moment (sym (no_other posted n) ∙ h))
+
+turn_is_idle : IsAnswered one_tenant posted (Turn 0 999) (Some (codes "idle 0\n")) idled
+unfolding answers_on_literals
+turn_is_idle = (Idle, (None, idle_before, refl), refl, refl)
+
+first_ready : (tenant moment : ℕ) → ready_at (lists_of one_tenant idled 0) [] tenant ≡ Some moment → NotAfter 1000 0 moment tenant
+unfolding pipelines_on_literals
+first_ready zero moment h = inr (some_same 1000 moment h, omega arith)
+first_ready (suc n) moment h = absurd (never moment (sym (no_other idled n) ∙ h))
+
+abbrev job_line : List ℕ
+job_line = codes "job a 1 " ++ (hex ++ codes "\n")
+
+turn_hands_out : IsAnswered one_tenant idled (Turn 0 1000) (Some job_line) handed
+unfolding pipelines_on_literals answers_on_literals
+turn_hands_out = (the_job, (Some 0, (1000, refl, omega arith, first_ready), refl), refl, refl)
+
+not_taken : Exact → IsAnswered one_tenant no_steps (Post (codes "a") 0 (0 ∷ 0 ∷ [])) (Some (codes "reply a 400 120c6261642070726f746f627566\n")) no_steps
+unfolding answers_on_literals
+not_taken exact = inr (has_none exact, refl, refl)
+
+pub returns-clause-posts : goal.returns-clause-posts
+unfolding Exact pipelines_on_literals
+returns-clause-posts c =
+    let exact = c.values_or_faults.ensures.exact in
+    record {
+      has_this_value = has_this_value exact;
+      has_none = has_none exact;
+      taken = (posted, post_is_answered exact, refl);
+      not_taken = not_taken exact;
+      no_tenant = (refl, refl);
+      no_shard = (refl, refl);
+    }
+
+-- ---- scripts
+
+whole_text : Exact → ScriptText one_tenant script told None
+unfolding script_on_literals
+whole_text exact = (
+  Some (codes "reply a 200 -\n"),
+  posted,
+  post_is_answered exact,
+  (
+    codes "idle 0\n" ++ job_line,
+    refl,
+    (Some (codes "idle 0\n"), idled, turn_is_idle, (job_line, refl, (Some job_line, handed, turn_hands_out, ([], refl, (refl, refl))))),
+  ),
+)
+
+begins : Exact → BeginsScriptText one_tenant script begun
+unfolding script_on_literals
+begins exact = (
+  (codes "post a 0 " ++ hex) ∷ codes "turn 0 999" ∷ [],
+  codes "turn 0 1000" ∷ [],
+  codes "le 0\n",
+  None,
+  refl,
+  (
+    Some (codes "reply a 200 -\n"),
+    posted,
+    post_is_answered exact,
+    (codes "idle 0\n", refl, (Some (codes "idle 0\n"), idled, turn_is_idle, ([], refl, (refl, refl)))),
+  ),
+)
+
+-- with no step before, no tenant is ready
+none_ready : (tenant moment : ℕ) → ready_at (lists_of one_tenant no_steps 0) [] tenant ≡ Some moment → 0 < moment
+unfolding pipelines_on_literals
+none_ready zero moment h = absurd (never moment h)
+none_ready (suc n) moment h = absurd (never moment (sym (no_other no_steps n) ∙ h))
+
+second_faulty : ScriptText one_tenant faulty_script (codes "idle 0\n") (Some 2)
+unfolding script_on_literals answers_on_literals
+second_faulty = (
+  Some (codes "idle 0\n"),
+  (after (steps.Turn 0) Idle (lists_of one_tenant no_steps 0)).pasts,
+  (Idle, (None, none_ready, refl), refl, refl),
+  ([], refl, (None, (after (steps.Turn 0) Idle (lists_of one_tenant no_steps 0)).pasts, (refl, refl), (refl, refl))),
+)
+
+pub returns-clause-scripts : goal.returns-clause-scripts
+unfolding Exact
+returns-clause-scripts c =
+    let exact = c.values_or_faults.ensures.exact in
+    record { text = whole_text exact; begins = begins exact; fault = second_faulty }
+
+-- ---- replays
+
+means : settings_of document ≡ Ok one_tenant
+unfolding texts_on_literals
+means = refl
+
+is_no_document : settings_of no_document ≡ Err not_toml
+unfolding texts_on_literals
+is_no_document = refl
+
+-- a document has one meaning
+same_settings : (s : SettingsData) → settings_of document ≡ Ok s → one_tenant ≡ s
+same_settings s e = let same : Ok one_tenant ≡ Ok s = sym means ∙ e in cc
+
+has_settings : (f : FaultData) → settings_of document ≡ Err f → ⊥
+has_settings f e = let same : Ok one_tenant ≡ Err f = sym means ∙ e in cc
+
+has_fault : (s : SettingsData) → settings_of no_document ≡ Ok s → ⊥
+has_fault s e = let same : Err not_toml ≡ Ok s = sym is_no_document ∙ e in cc
+
+some_told : told ≡ [] → ⊥
+some_told none = let lengths : 98 ≡ 0 = ap length none in omega (arith, lengths)
+
+half_told : Exact → ScriptText one_tenant script begun None → ⊥
+unfolding Exact
+half_told exact half =
+    let same = told_one (IsAnswered one_tenant) (λ h k k' command line line'. script_answered_one (same_value exact) one_tenant h k k' command line line')
+    (lines_of script) 1 no_steps told begun None None (whole_text exact) half in
+    let lengths : 98 ≡ 16 = ap length same.0 in
+    omega (arith, lengths)
+
+pub returns-clause-replays : goal.returns-clause-replays
+unfolding Exact
+returns-clause-replays c =
+    let exact = c.values_or_faults.ensures.exact in
+    record {
+      means = means;
+      done = (one_tenant, means, whole_text exact);
+      half_done = λ is. half_told exact (subst (λ s. ScriptText s script begun None) (sym (same_settings is.0 is.1)) is.2);
+      script_fault = (one_tenant, means, second_faulty);
+      failed = (one_tenant, means, begins exact);
+      no_memory = (
+        λ s e. subst (λ s. BeginsScriptText s script begun) (same_settings s e) (begins exact),
+        λ f e. absurd (has_settings f e),
+      );
+      settings_fault = (not_toml, refl, is_no_document, refl);
+      other_fault = λ is.
+          let told : Some too_many ≡ Some is.0 = is.1 in
+          let meant : Err not_toml ≡ Err is.0 = sym is_no_document ∙ is.2 in
+          cc;
+      written_after_fault = λ is. some_told is.3;
+      no_fault = λ is. has_settings is.0 is.2;
+      no_memory_for_settings = (λ s e. absurd (has_fault s e), λ f e. refl);
+      written_without_settings = λ is. some_told (is.1 not_toml is_no_document);
+    }

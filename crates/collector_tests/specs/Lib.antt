@@ -1,0 +1,2 @@
+pub mod ScriptExamples
+pub mod ReplayExamples

@@ -1,0 +1,125 @@
+-- What the definitions give on a small script, worked out by hand, for the tests.
+use Rattle.std.specs.Prelude.{◌≡◌, ℕ, List, [], ◌∷◌, ◌++◌, codes, Some, None, Ok, Err}
+use Rattle.otlp_read.specs.Value.{IsValue}
+use Rattle.tail_settings.specs.Section.{SectionData}
+use Rattle.tail_settings.specs.Examples.{default_global}
+use Rattle.tail_settings.specs.Settings.{SettingsData, TenantData, settings_of}
+use Rattle.tail_settings.specs.declared.fault.SettingsFault.TheVariants.{NotToml, TooMany}
+use Rattle.tenant_pipeline.specs.Examples.{one_second, span, body, value}
+use Rattle.tenant_pipeline.specs.Own.{Own}
+use Rattle.tenant_pipeline.specs.Own as own
+use Rattle.tenant_shard.specs.declared.step.Outcome.TheVariants.{Reply, Job, Worked, Idle, Refused}
+use Rattle.replay_script.specs.Command.{Post, Turn}
+use Rattle.trace_collector.specs.declared.engine.ReplayFault.TheVariants.{Settings, Script, Line, OutOfMemory}
+use Rattle.trace_collector.specs.Outcomes.{name_at, outcome_text, bad_protobuf}
+use Rattle.trace_collector.specs.Answered.{section_in, HasNoValue, IsAnswered}
+use Rattle.trace_collector.specs.Script.{no_steps, ScriptText, BeginsScriptText}
+use Rattle.trace_collector.specs.Replay.{IsReplay}
+
+-- so many shards, and else the defaults
+abbrev pub with_shards : ℕ → List TenantData → SettingsData
+with_shards shards tenants = record {
+  global = record default_global { shards = shards };
+  tenants = tenants;
+}
+
+-- two seconds, to tell the second tenant from the others
+abbrev pub two_seconds : SectionData
+two_seconds = record one_second { tail_sampling = record (one_second.tail_sampling) { decision_wait = 2000 } }
+
+-- tenants 0, 1 and 2 in two shards
+abbrev pub three_tenants : SettingsData
+three_tenants = with_shards 2 (record { name = codes "a"; section = one_second }
+    ∷ record { name = codes "b"; section = two_seconds } ∷ record { name = codes "c"; section = one_second } ∷ [])
+
+-- 0 and 2 leave 0 over where they are divided by 2, and 1 leaves 1; there is no tenant 3
+pub record Members : Type 0 where
+  pub tenant_0 : section_in three_tenants 0 0 ≡ Some one_second
+  pub tenant_1 : section_in three_tenants 1 1 ≡ Some two_seconds
+  pub tenant_2 : section_in three_tenants 0 2 ≡ Some one_second
+  pub tenant_0_elsewhere : section_in three_tenants 1 0 ≡ None
+  pub tenant_1_elsewhere : section_in three_tenants 0 1 ≡ None
+  pub no_tenant : section_in three_tenants 1 3 ≡ None
+
+-- a line names a tenant by its name, and an idle shard by its number. Of `bad protobuf` each letter is spelled in ASCII
+pub record Lines : Type 0 where
+  pub name : name_at three_tenants 1 ≡ codes "b"
+  pub no_name : name_at three_tenants 3 ≡ []
+  pub reply : outcome_text three_tenants 0 (Reply 2 (record { status = 200; body = [] })) ≡ codes "reply c 200 -\n"
+  pub job : outcome_text three_tenants 1 (Job 1 12 (10 ∷ 255 ∷ [])) ≡ codes "job b 12 0aff\n"
+  pub worked : outcome_text three_tenants 0 (Worked 0) ≡ codes "worked a\n"
+  pub idle : outcome_text three_tenants 1 Idle ≡ codes "idle 1\n"
+  pub refused : outcome_text three_tenants 0 (Refused 0 22) ≡ codes "refused a 22\n"
+  pub bad : bad_protobuf ≡ 18 ∷ 12 ∷ 98 ∷ 97 ∷ 100 ∷ 32 ∷ 112 ∷ 114 ∷ 111 ∷ 116 ∷ 111 ∷ 98 ∷ 117 ∷ 102 ∷ []
+
+-- ---- one tenant, whose name is `a`, in one shard
+
+-- a second's wait, and where batches go if the document doesn't say
+abbrev pub at_default : SectionData
+at_default = record one_second { endpoint = codes "127.0.0.1:4319" }
+
+abbrev pub one_tenant : SettingsData
+one_tenant = with_shards 1 (record { name = codes "a"; section = at_default } ∷ [])
+
+-- a body of one span, whose trace id is 11 and whose span id is 21 again and again, in hexadecimal digits
+abbrev pub hex : List ℕ
+hex = codes "0a20121e121c0a101111111111111111111111111111111112082121212121212121"
+
+-- it is answered 200, and is the tenant's own step; 0 is the number of no field, so that two zeros have no value, are
+-- answered 400 and are no step
+pub record Posts : Type 0 where
+  pub has_this_value : IsValue (body 17 33) (value 17 33)
+  pub has_none : HasNoValue (0 ∷ 0 ∷ [])
+  pub taken : (later : ℕ → List Own)
+      × IsAnswered one_tenant no_steps (Post (codes "a") 0 (body 17 33)) (Some (codes "reply a 200 -\n")) later
+      × (later 0 ≡ own.Post 0 (span 17 33 ∷ []) ∷ [])
+  pub not_taken : IsAnswered one_tenant no_steps (Post (codes "a") 0 (0 ∷ 0 ∷ []))
+      (Some (codes "reply a 400 120c6261642070726f746f627566\n")) no_steps
+  pub no_tenant : IsAnswered one_tenant no_steps (Post (codes "b") 0 []) None no_steps
+  pub no_shard : IsAnswered one_tenant no_steps (Turn 1 0) None no_steps
+
+-- a post, a turn before its span is due and one just then; the job has the 34 bytes that came
+abbrev pub script : List ℕ
+script = codes "post a 0 " ++ (hex ++ codes "\nturn 0 999\nturn 0 1000\n")
+
+abbrev pub told : List ℕ
+told = codes "reply a 200 -\nidle 0\njob a 1 " ++ (hex ++ codes "\n")
+
+-- as far as it was written when a reader or a writer failed
+abbrev pub begun : List ℕ
+begun = codes "reply a 200 -\nid"
+
+-- there is no shard 1
+abbrev pub faulty_script : List ℕ
+faulty_script = codes "turn 0 0\nturn 1 0\n"
+
+pub record Scripts : Type 0 where
+  pub text : ScriptText one_tenant script told None
+  pub begins : BeginsScriptText one_tenant script begun
+  pub fault : ScriptText one_tenant faulty_script (codes "idle 0\n") (Some 2)
+
+-- ---- replays
+
+-- a document that means `one_tenant`
+abbrev pub document : List ℕ
+document = codes "[[tenant]]\nname = \"a\"\n\n[tenant.tail_sampling]\ndecision_wait_ms = 1000\n\n[[tenant.tail_sampling.policy]]\ntype = \"always_sample\"\n"
+
+-- a key without a value, which TOML 1.0 calls invalid
+abbrev pub no_document : List ℕ
+no_document = codes "key = # INVALID"
+
+-- each end of a replay. Where the settings are faulty, nothing may be written; done is a replay only when all is
+-- written
+pub record Replays : Type 0 where
+  pub means : settings_of document ≡ Ok one_tenant
+  pub done : IsReplay document script told (Ok tt)
+  pub half_done : IsReplay document script begun (Ok tt) → ⊥
+  pub script_fault : IsReplay document faulty_script (codes "idle 0\n") (Err (Script 2))
+  pub failed : IsReplay document script begun (Err Line)
+  pub no_memory : IsReplay document script begun (Err OutOfMemory)
+  pub settings_fault : IsReplay no_document script [] (Err (Settings NotToml))
+  pub other_fault : IsReplay no_document script [] (Err (Settings TooMany)) → ⊥
+  pub written_after_fault : IsReplay no_document script told (Err (Settings NotToml)) → ⊥
+  pub no_fault : IsReplay document script [] (Err (Settings NotToml)) → ⊥
+  pub no_memory_for_settings : IsReplay no_document script [] (Err OutOfMemory)
+  pub written_without_settings : IsReplay no_document script told (Err OutOfMemory) → ⊥

@@ -1,0 +1,16 @@
+//! What the definitions say of shards, lines, scripts and replays, on examples that were worked out by hand.
+
+ghost use Rattle.collector_tests.specs.ReplayExamples.{Members, Lines, Posts, Scripts, Replays};
+
+use otlp_read::values_or_faults;
+
+/// The definitions, on small settings and scripts, give what was worked out by hand.
+fn definitions_on_small_replays()
+    ensures members { Members }
+    ensures lines { Lines }
+    ensures posts { Posts }
+    ensures scripts { Scripts }
+    ensures replays { Replays }
+{
+    values_or_faults();
+}

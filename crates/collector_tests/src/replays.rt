@@ -1,0 +1,318 @@
+//! Scripts with their answers written in.
+
+use crate::vectors::FAULTS;
+use std::alloc::Global;
+use std::io;
+use std::io::{BufReader, Read, Write};
+use std::process::Abort;
+use std::test::Fail;
+use trace_collector::{ReplayFault, replay};
+
+const ONE_SHARD: &str = "[[tenant]]
+name = \"a\"
+tail_sampling = { decision_wait_ms = 1000, policy = [{ type = \"always_sample\" }] }
+[[tenant]]
+name = \"b\"
+tail_sampling = { decision_wait_ms = 1000, policy = [{ type = \"always_sample\" }] }
+";
+
+const THREE_SHARDS: &str = "[global]
+shards = 3
+[[tenant]]
+name = \"a\"
+tail_sampling = { decision_wait_ms = 1000, policy = [{ type = \"always_sample\" }] }
+[[tenant]]
+name = \"b\"
+tail_sampling = { decision_wait_ms = 1000, policy = [{ type = \"always_sample\" }] }
+";
+
+const TWO_POLICIES: &str = "[[tenant]]
+name = \"a\"
+tail_sampling = { decision_wait_ms = 1000, policy = [{ type = \"always_sample\" }] }
+[[tenant]]
+name = \"b\"
+tail_sampling = { decision_wait_ms = 1000, policy = [{ type = \"latency\", threshold_ms = 0 }] }
+";
+
+/// What a replay ends with, no text where all is done, and what it writes.
+fn check(
+    rt: &impl Abort,
+    settings: &str,
+    script: &[u8],
+    fault: &str,
+    text: &[u8],
+    alloc: Global,
+) -> Result<(), Fail> {
+    let mut reader = script;
+    let mut out = Vec::new(alloc);
+    let end = match replay(alloc, settings, &mut reader, &mut out) {
+        Ok(()) => String::new(alloc),
+        Err(fault) => fault.to_string(alloc)?,
+    };
+    assert_eq!(rt; end.as_str(), fault);
+    assert_eq!(rt; out.as_slice(), text);
+    Ok(())
+}
+
+#[test]
+fn a_trace_comes_out_when_its_wait_is_over(rt: HostRuntime) -> Result<(), Fail> {
+    let cases: [(&[u8], &[u8]); 3] = [
+        (
+            b"post a 0 0a20121e121c0a101111111111111111111111111111111112082121212121212121\nturn 0 999\nturn 0 1000\n",
+            b"reply a 200 -\nidle 0\njob a 1 0a20121e121c0a101111111111111111111111111111111112082121212121212121\n",
+        ),
+        (b"post a 0 -\nturn 0 999999\n", b"reply a 200 -\nidle 0\n"),
+        // Of two spans the one whose trace id has 15 bytes is left out.
+        (
+            b"post a 0 0a3d123b121b0a0f11111111111111111111111111111112082222222222222222121c0a101111111111111111111111111111111112082121212121212121\nturn 0 1000\n",
+            b"reply a 200 -\njob a 1 0a20121e121c0a101111111111111111111111111111111112082121212121212121\n",
+        ),
+    ];
+    for (script, text) in cases {
+        check(&rt, ONE_SHARD, script, "", text, rt.alloc())?;
+    }
+    Ok(())
+}
+
+#[test]
+fn bodies_without_a_value_are_answered_400(rt: HostRuntime) -> Result<(), Fail> {
+    let script: &[u8] = b"post a 0 0affffffffffffffffff01
+post a 0 08ffffffffffffffffffff
+post a 0 0000
+post a 0 0e
+post a 0 0a1E121c
+turn 0 9999
+";
+    let text: &[u8] = b"reply a 400 120c6261642070726f746f627566
+reply a 400 120c6261642070726f746f627566
+reply a 400 120c6261642070726f746f627566
+reply a 400 120c6261642070726f746f627566
+reply a 400 120c6261642070726f746f627566
+idle 0
+";
+    check(&rt, ONE_SHARD, script, "", text, rt.alloc())
+}
+
+/// Each fault that a body can have, in bodies of Protocol Buffers' own libraries.
+#[test]
+fn bodies_of_each_fault_are_answered_400(rt: HostRuntime) -> Result<(), Fail> {
+    let alloc = rt.alloc();
+    let mut script = String::new(alloc);
+    let mut text = String::new(alloc);
+    let mut numbers = String::new(alloc);
+    for line in FAULTS.lines() {
+        let (_, rest) = line.split_once(' ').ok_or("a line without three words")?;
+        let (number, body) = rest.split_once(' ').ok_or("a line without three words")?;
+        if !numbers.ends_with(number) {
+            numbers.push_str(number)?;
+        }
+        script.push_str(format!(in alloc; "post a 0 {body}\n")?.as_str())?;
+        text.push_str("reply a 400 120c6261642070726f746f627566\n")?;
+    }
+    assert_eq!(rt; numbers.as_str(), "123456");
+    check(
+        &rt,
+        ONE_SHARD,
+        script.as_bytes(),
+        "",
+        text.as_bytes(),
+        alloc,
+    )
+}
+
+/// A field of 2,000 spans of 30 bytes has 60,000 bytes, in base 128 e0 d4 03; one around it and its 4 bytes e4 d4 03.
+#[test]
+fn a_post_of_2000_spans_leaves_as_one_job(rt: HostRuntime) -> Result<(), Fail> {
+    let alloc = rt.alloc();
+    let mut body = String::from_str(alloc, "0ae4d40312e0d403")?;
+    for span in 1..2001u64 {
+        body.push_str("121c0a10111111111111111111111111111111111208")?;
+        body.push_str(hex::encode(alloc, span.to_be_bytes().as_slice())?.as_str())?;
+    }
+    let script = format!(in alloc; "post a 0 {body}\nturn 0 1000\nturn 0 1000\n")?;
+    let text = format!(in alloc; "reply a 200 -\njob a 1 {body}\nidle 0\n")?;
+    check(
+        &rt,
+        ONE_SHARD,
+        script.as_bytes(),
+        "",
+        text.as_bytes(),
+        alloc,
+    )
+}
+
+#[test]
+fn tenants_share_a_shard_or_have_their_own(rt: HostRuntime) -> Result<(), Fail> {
+    let alloc = rt.alloc();
+    let posts = "post a 0 0a20121e121c0a101111111111111111111111111111111112082121212121212121
+post b 0 0a20121e121c0a101111111111111111111111111111111112083131313131313131
+";
+    let text: &[u8] = b"reply a 200 -
+reply b 200 -
+job a 1 0a20121e121c0a101111111111111111111111111111111112082121212121212121
+job b 1 0a20121e121c0a101111111111111111111111111111111112083131313131313131
+";
+    let script = format!(in alloc; "{posts}turn 0 1000\nturn 0 1000\n")?;
+    check(&rt, ONE_SHARD, script.as_bytes(), "", text, alloc)?;
+    let script = format!(in alloc; "{posts}turn 0 1000\nturn 1 1000\n")?;
+    check(&rt, THREE_SHARDS, script.as_bytes(), "", text, alloc)?;
+    let script = format!(in alloc; "{posts}turn 0 1000\nturn 0 1000\n")?;
+    check(&rt, TWO_POLICIES, script.as_bytes(), "", text, alloc)?;
+    let idle: &[u8] = b"idle 0\nidle 1\nidle 2\n";
+    check(
+        &rt,
+        THREE_SHARDS,
+        b"turn 0 5\nturn 1 5\nturn 2 5\n",
+        "",
+        idle,
+        alloc,
+    )
+}
+
+#[test]
+fn the_first_faulty_line_is_named(rt: HostRuntime) -> Result<(), Fail> {
+    let lines = [
+        "report a 0",
+        "post c 0 -",
+        "turn 1 0",
+        "post a 0 0a0",
+        "turn 0 00000000000000000000",
+        "turn  0 0",
+        "turn 0 0 ",
+        "turn 0",
+        "\r",
+    ];
+    let alloc = rt.alloc();
+    for line in lines {
+        let script = format!(in alloc; "# a comment\n\nturn 0 7\n{line}\nturn 0 8\n")?;
+        check(
+            &rt,
+            ONE_SHARD,
+            script.as_bytes(),
+            "script fault at line 4",
+            b"idle 0\n",
+            alloc,
+        )?;
+    }
+    check(
+        &rt,
+        THREE_SHARDS,
+        b"turn 3 0",
+        "script fault at line 1",
+        b"",
+        alloc,
+    )
+}
+
+#[test]
+fn settings_are_tested_before_the_script(rt: HostRuntime) -> Result<(), Fail> {
+    let cases = [
+        ("name =", "settings fault 10"),
+        ("", "settings fault 11 tenant"),
+        ("tenant = 1", "settings fault 12 tenant"),
+        (
+            "[[tenant]]\nname = \"a\"\ntail_sampling = { decision_wait_ms = 0, policy = [{ type = \"always_sample\" }] }",
+            "settings fault 13 decision_wait_ms",
+        ),
+        (
+            "[[tenant]]\nname = \"a\"\ntail_sampling = { policy = [{ type = \"always_sample\" }] }\n[[tenant]]\nname = \"a\"\n",
+            "settings fault 14 a",
+        ),
+    ];
+    for (settings, fault) in cases {
+        check(&rt, settings, b"no command\n", fault, b"", rt.alloc())?;
+    }
+    Ok(())
+}
+
+/// A moment above 2^62 is 2^62, so that what was posted a second before is due then, and what is
+/// posted then is never due.
+#[test]
+fn later_moments_are_one(rt: HostRuntime) -> Result<(), Fail> {
+    let script: &[u8] =
+        b"post a 4611686018427386904 0a20121e121c0a101111111111111111111111111111111112082121212121212121
+turn 0 4611686018427387903
+post b 9999999999999999999 0a20121e121c0a101111111111111111111111111111111112083131313131313131
+turn 0 9999999999999999999
+turn 0 9999999999999999999
+";
+    let text: &[u8] = b"reply a 200 -
+idle 0
+reply b 200 -
+job a 1 0a20121e121c0a101111111111111111111111111111111112082121212121212121
+idle 0
+";
+    check(&rt, ONE_SHARD, script, "", text, rt.alloc())
+}
+
+/// Fails where its text ends.
+#[derive(Drop)]
+struct FailsAtEnd {
+    text: &'static [u8],
+}
+
+impl Read for FailsAtEnd {
+    fn read(&mut self, buf: &mut [u8]) -> io::Result<usize> {
+        if self.text.is_empty() || buf.is_empty() {
+            return Err(io::ErrorKind::Other.into());
+        }
+        buf[0] = self.text[0];
+        self.text = &self.text[1..];
+        Ok(1)
+    }
+}
+
+#[test]
+fn a_reader_that_fails_ends_the_replay(rt: HostRuntime) -> Result<(), Fail> {
+    let alloc = rt.alloc();
+    let reader = FailsAtEnd {
+        text: b"turn 0 1\nturn 0 2\nturn 0 3",
+    };
+    let mut reader = BufReader::new(alloc, reader)?;
+    let mut out = Vec::new(alloc);
+    let told = replay(alloc, ONE_SHARD, &mut reader, &mut out);
+    assert!(rt; matches!(told, Err(ReplayFault::Line)));
+    assert_eq!(rt; out.as_slice(), b"idle 0\nidle 0\n".as_slice());
+    Ok(())
+}
+
+/// Takes so many bytes and fails then.
+#[derive(Drop)]
+struct TakesFew {
+    left: usize,
+}
+
+impl Write for TakesFew {
+    fn write(&mut self, buf: &[u8]) -> io::Result<usize> {
+        if self.left == 0 {
+            return Err(io::ErrorKind::Other.into());
+        }
+        let n = buf.len().min(self.left);
+        self.left -= n;
+        Ok(n)
+    }
+
+    fn flush(&mut self) -> io::Result<()> {
+        Ok(())
+    }
+}
+
+#[test]
+fn a_writer_that_fails_ends_the_replay(rt: HostRuntime) -> Result<(), Fail> {
+    let alloc = rt.alloc();
+    let script: &[u8] = b"turn 0 1\nturn 0 2\nno command\n";
+    for (left, fault) in [
+        (13, "input or output fault"),
+        (14, "script fault at line 3"),
+    ] {
+        let mut reader = script;
+        let mut writer = TakesFew { left };
+        let told = replay(alloc, ONE_SHARD, &mut reader, &mut writer);
+        let Err(told) = told else {
+            return Err("the script is faulty".into());
+        };
+        assert_eq!(rt; told.to_string(alloc)?.as_str(), fault);
+        assert_eq!(rt; writer.left, 0);
+    }
+    Ok(())
+}

@@ -1,0 +1,240 @@
+//! Lines and answers spelled by hand, and readers and writers that fail.
+
+use replay_script::{
+    AnswerFault, Command, ScriptFault, Session, parse_line, put_idle, put_job, put_refused,
+    put_reply, put_worked, run_script,
+};
+use std::alloc::Global;
+use std::io;
+use std::io::{BufReader, Read, Write};
+use std::test::Fail;
+
+/// Answers a turn of shard 0 as idle by its moment, and knows no other shard and no tenant.
+#[derive(Clone, Copy)]
+struct Clock;
+
+impl Session for Clock {
+    ghost answers = { λ old command line new. Unit {0} };
+
+    fn answer(
+        &mut self,
+        alloc: Global,
+        command: &Command<'_>,
+        out: &mut Vec<u8>,
+    ) -> Result<(), AnswerFault> {
+        match command {
+            Command::Turn { shard: 0, moment } => {
+                put_idle(alloc, out, *moment)?;
+                Ok(())
+            }
+            _ => Err(AnswerFault::Unknown),
+        }
+    }
+}
+
+/// Gives so many bytes a call, and fails where the text ends.
+#[derive(Drop)]
+struct FailsAtEnd {
+    text: &'static [u8],
+    most: usize,
+}
+
+impl Read for FailsAtEnd {
+    fn read(&mut self, buf: &mut [u8]) -> io::Result<usize> {
+        if self.text.is_empty() {
+            return Err(io::ErrorKind::Other.into());
+        }
+        let n = self.text.len().min(buf.len()).min(self.most);
+        for i in 0..n {
+            buf[i] = self.text[i];
+        }
+        self.text = &self.text[n..];
+        Ok(n)
+    }
+}
+
+/// Takes one byte a call, so many in all, and fails then.
+#[derive(Drop)]
+struct TakesFew {
+    taken: Vec<u8>,
+    most: usize,
+}
+
+impl Write for TakesFew {
+    fn write(&mut self, buf: &[u8]) -> io::Result<usize> {
+        if buf.is_empty() {
+            return Ok(0);
+        }
+        if self.taken.len() >= self.most {
+            return Err(io::ErrorKind::Other.into());
+        }
+        self.taken
+            .push(buf[0])
+            .map_err(|_| io::Error::from(io::ErrorKind::Other))?;
+        Ok(1)
+    }
+
+    fn flush(&mut self) -> io::Result<()> {
+        Ok(())
+    }
+}
+
+#[test]
+fn commands_are_read(rt: HostRuntime) -> Result<(), Fail> {
+    let alloc = rt.alloc();
+    let body = vec![in alloc; 0x0a, 0xff, 0x00]?;
+    let post = Command::Post {
+        name: "a_B-9.z",
+        moment: 7,
+        body,
+    };
+    assert_eq!(rt; parse_line(alloc, b"post a_B-9.z 0007 0aFf00")?, Some(post));
+    let empty = Command::Post {
+        name: "a",
+        moment: 0,
+        body: Vec::new(alloc),
+    };
+    assert_eq!(rt; parse_line(alloc, b"post a 0 -")?, Some(empty));
+    let turn = Command::Turn {
+        shard: 0,
+        moment: 9_999_999_999_999_999_999,
+    };
+    assert_eq!(rt;
+        parse_line(alloc, b"turn 00 9999999999999999999")?,
+        Some(turn)
+    );
+    Ok(())
+}
+
+#[test]
+fn other_lines_are_no_commands(rt: HostRuntime) -> Result<(), Fail> {
+    let lines: [&[u8]; 24] = [
+        b"",
+        b"post",
+        b"post a 0",
+        b"post a 0 ",
+        b"post a 0 0",
+        b"post a 0 0a0",
+        b"post a 0 0g",
+        b"post a 0 --",
+        b"post a 0 00 ",
+        b"post a 0 00 00",
+        b"post  a 0 00",
+        b" post a 0 00",
+        b"post a 0  00",
+        b"post a 0 00\r",
+        b"post a/b 0 00",
+        b"post a x 00",
+        b"turn 0 10000000000000000000",
+        b"turn 0 00000000000000000000",
+        b"turn 0 +1",
+        b"turn 0",
+        b"turn 0 1 2",
+        b"TURN 0 1",
+        b"report a 0",
+        b"answer a 0 1 0 200 - -",
+    ];
+    for line in lines {
+        assert_eq!(rt; parse_line(rt.alloc(), line)?, None, "{line:?}");
+    }
+    Ok(())
+}
+
+#[test]
+fn names_have_at_most_64_bytes(rt: HostRuntime) -> Result<(), Fail> {
+    let alloc = rt.alloc();
+    let name = "x".repeat(alloc, 64)?;
+    let line = format!(in alloc; "post {name} 0 -")?;
+    assert!(rt; parse_line(alloc, line.as_bytes())?.is_some());
+    let line = format!(in alloc; "post {name}x 0 -")?;
+    assert!(rt; parse_line(alloc, line.as_bytes())?.is_none());
+    Ok(())
+}
+
+#[test]
+fn answers_are_spelled(rt: HostRuntime) -> Result<(), Fail> {
+    let alloc = rt.alloc();
+    let mut out = Vec::new(alloc);
+    put_reply(alloc, &mut out, "a", 200, b"")?;
+    put_reply(alloc, &mut out, "a", 400, b"\x12\x0cbad protobuf")?;
+    put_job(
+        alloc,
+        &mut out,
+        "b",
+        18_446_744_073_709_551_615,
+        b"\x0a\xff",
+    )?;
+    put_worked(alloc, &mut out, "c.d")?;
+    put_idle(alloc, &mut out, 63)?;
+    put_refused(alloc, &mut out, "e", 22)?;
+    let text =
+        "reply a 200 -\nreply a 400 120c6261642070726f746f627566\njob b 18446744073709551615 0aff\n\
+        worked c.d\nidle 63\nrefused e 22\n";
+    assert_eq!(rt; out.as_slice(), text.as_bytes());
+    Ok(())
+}
+
+#[test]
+fn scripts_are_run(rt: HostRuntime) -> Result<(), Fail> {
+    let cases: [(&'static [u8], Result<(), ScriptFault>, &'static [u8]); 7] = [
+        (b"", Ok(()), b""),
+        (b"\n\n# turn 0 0\n#\xff\xfe\nturn 0 5", Ok(()), b"idle 5\n"),
+        (b"turn 0 5\nturn 00 6\n", Ok(()), b"idle 5\nidle 6\n"),
+        (
+            b"\n#\nturn 0 5\nturn 1 5\nturn 0 6\n",
+            Err(ScriptFault::Script { line: 4 }),
+            b"idle 5\n",
+        ),
+        (
+            b"turn 0 5\nturn  0 5\n",
+            Err(ScriptFault::Script { line: 2 }),
+            b"idle 5\n",
+        ),
+        (b"\r\n", Err(ScriptFault::Script { line: 1 }), b""),
+        (b"post a 0 -", Err(ScriptFault::Script { line: 1 }), b""),
+    ];
+    for (script, fault, text) in cases {
+        let mut reader = script;
+        let mut out = Vec::new(rt.alloc());
+        let told = run_script(rt.alloc(), &mut Clock, &mut reader, &mut out);
+        assert_eq!(rt; told, fault);
+        assert_eq!(rt; out.as_slice(), text);
+    }
+    Ok(())
+}
+
+#[test]
+fn lines_are_the_same_in_any_pieces(rt: HostRuntime) -> Result<(), Fail> {
+    let alloc = rt.alloc();
+    for most in [1, 2, 3, 7] {
+        let reader = FailsAtEnd {
+            text: b"# six\nturn 0 1\n\nturn 0 2\nturn 0 3",
+            most,
+        };
+        let mut reader = BufReader::with_capacity(alloc, 5, reader)?;
+        let mut out = Vec::new(alloc);
+        let told = run_script(alloc, &mut Clock, &mut reader, &mut out);
+        assert_eq!(rt; told, Err(ScriptFault::Line));
+        assert_eq!(rt; out.as_slice(), b"idle 1\nidle 2\n".as_slice());
+    }
+    Ok(())
+}
+
+#[test]
+fn a_writer_that_fails_ends_the_run(rt: HostRuntime) -> Result<(), Fail> {
+    let alloc = rt.alloc();
+    for (most, told) in [(9, Err(ScriptFault::Line)), (14, Ok(()))] {
+        let mut reader: &[u8] = b"turn 0 1\nturn 0 2\n";
+        let mut writer = TakesFew {
+            taken: Vec::new(alloc),
+            most,
+        };
+        assert_eq!(rt;
+            run_script(alloc, &mut Clock, &mut reader, &mut writer),
+            told
+        );
+        let text: &[u8] = b"idle 1\nidle 2\n";
+        assert_eq!(rt; writer.taken.as_slice(), &text[..most]);
+    }
+    Ok(())
+}

@@ -1,0 +1,18 @@
+//! What the definitions say, on examples that were worked out by hand.
+
+ghost use Rattle.collector_tests.specs.ScriptExamples.{Lines, Kinds, Words, Names, Numbers, Bodies, Commands, Answers, ThirdFaulty, OtherScripts, Beginnings};
+
+/// The definitions, on small scripts, give what was worked out by hand.
+fn definitions_on_small_scripts()
+    ensures lines { Lines }
+    ensures kinds { Kinds }
+    ensures words { Words }
+    ensures names { Names }
+    ensures numbers { Numbers }
+    ensures bodies { Bodies }
+    ensures commands { Commands }
+    ensures answers { Answers }
+    ensures third_faulty { ThirdFaulty }
+    ensures other_scripts { OtherScripts }
+    ensures beginnings { Beginnings }
+{}

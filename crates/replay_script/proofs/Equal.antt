@@ -1,0 +1,50 @@
+-- Commands are equal where they say the same.
+use Rattle.std.proofs.Common.{◌≡◌, ◌==◌, ◌&&◌, true, refl}
+use Rattle.std.specs.Prelude.{◌↔◌}
+use Rattle.std.specs.Str.{bytes_eq}
+use Rattle.std.proofs.lemmas.Bool.{and_parts, eq-eqb, eqb-true}
+use Rattle.std.proofs.lemmas.Slice.Eq.{bytes_eq-Decides}
+use Rattle.replay_script.specs.contracts.command.CommandPartialEq.TheImpl as command_equal
+use Rattle.replay_script.specs.contracts.fault.ScriptFaultPartialEq.TheImpl as script_fault_equal
+use Rattle.replay_script.specs.contracts.session.AnswerFaultPartialEq.TheImpl as answer_fault_equal
+use Rattle.replay_script.specs.declared.command.Command.{Command}
+use Rattle.replay_script.specs.declared.command.Command.TheVariants as commands
+use Rattle.replay_script.specs.declared.fault.ScriptFault.{ScriptFault}
+use Rattle.replay_script.specs.declared.fault.ScriptFault.TheVariants as script_faults
+use Rattle.replay_script.specs.declared.session.AnswerFault.{AnswerFault}
+use Rattle.replay_script.specs.declared.session.AnswerFault.TheVariants as answer_faults
+use Rattle.replay_script.specs.Named.{command_view}
+
+pub commands_equal : (a b : Command) → (command_equal.eq-value.it a b ≡ true) ↔ (command_view a ≡ command_view b)
+commands_equal (commands.Post n m b) (commands.Post o p c) =
+    let names = bytes_eq-Decides n.now o.now in
+    let bodies = bytes_eq-Decides b.items c.items in (
+      λ h.
+          let parts = and_parts (bytes_eq n.now o.now) ((m == p) && bytes_eq b.items c.items) h in
+          let rest = and_parts (m == p) (bytes_eq b.items c.items) parts.1 in
+          let name = names.0 parts.0 in
+          let moment = eqb-true m p rest.0 in
+          let body = bodies.0 rest.1 in
+          cc,
+      λ h. rw (names.1 cc, eq-eqb m p cc, bodies.1 cc),
+    )
+commands_equal (commands.Turn s m) (commands.Turn t n) = (
+  λ h.
+      let parts = and_parts (s == t) (m == n) h in
+      let shard = eqb-true s t parts.0 in
+      let moment = eqb-true m n parts.1 in
+      cc,
+  λ h. rw (eq-eqb s t cc, eq-eqb m n cc),
+)
+commands_equal _ _ = (λ h. cc, λ h. cc)
+
+pub script_faults_equal : (a b : ScriptFault) → (script_fault_equal.eq-value.it a b ≡ true) ↔ (a ≡ b)
+script_faults_equal (script_faults.Script m) (script_faults.Script n) = (λ h. let same = eqb-true m n h in cc, λ h. eq-eqb m n cc)
+script_faults_equal script_faults.Line script_faults.Line = (λ _. refl, λ _. refl)
+script_faults_equal script_faults.OutOfMemory script_faults.OutOfMemory = (λ _. refl, λ _. refl)
+script_faults_equal _ _ = (λ h. cc, λ h. cc)
+
+pub answer_faults_equal : (a b : AnswerFault) → (answer_fault_equal.eq-value.it a b ≡ true) ↔ (a ≡ b)
+answer_faults_equal answer_faults.Unknown answer_faults.Unknown = (λ _. refl, λ _. refl)
+answer_faults_equal answer_faults.OutOfMemory answer_faults.OutOfMemory = (λ _. refl, λ _. refl)
+answer_faults_equal _ _ = (λ h. cc, λ h. cc)
