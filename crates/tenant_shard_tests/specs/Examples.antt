@@ -5,7 +5,7 @@ use Rattle.tail_settings.specs.Section.{SectionData}
 use Rattle.tail_settings.specs.Global.{GlobalData}
 use Rattle.tail_settings.specs.Settings.{SettingsData}
 use Rattle.tenant_pipeline.specs.declared.told.Told.TheVariants as tell
-use Rattle.tenant_pipeline.specs.Examples.{one_second, span, body}
+use Rattle.tenant_pipeline_tests.specs.Examples.{one_second, span, body}
 use Rattle.tenant_pipeline.specs.Prepared.{PreparedData}
 use Rattle.tenant_pipeline.specs.State.{State, accepted}
 use Rattle.tenant_shard.specs.declared.step.Step.{Step}

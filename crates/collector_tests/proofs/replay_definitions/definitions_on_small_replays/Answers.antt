@@ -6,7 +6,7 @@ use Rattle.otlp_read.specs.Value.{value_of, IsValue}
 use Rattle.tail_settings.specs.Fault.{FaultData, not_toml, too_many}
 use Rattle.tail_settings.specs.Settings.{SettingsData, settings_of}
 use Rattle.tail_settings.proofs.OnLiterals.{texts_on_literals}
-use Rattle.tenant_pipeline.specs.Examples.{body, value}
+use Rattle.tenant_pipeline_tests.specs.Examples.{body, value}
 use Rattle.tenant_pipeline.specs.Own.{Own}
 use Rattle.tenant_pipeline.specs.Prepared.{prepared_of}
 use Rattle.tenant_shard.specs.declared.step.Outcome.{Outcome}

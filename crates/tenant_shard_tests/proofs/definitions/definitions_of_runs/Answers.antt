@@ -1,6 +1,6 @@
 use Rattle.std.proofs.Common.{◌≡◌, ℕ, zero, suc, ◌<◌, ◌≤◌, true, false, List, [], ◌∷◌, Option, Some, None, refl, sym, ap, arith, inl, inr}
 use Rattle.tail_settings.specs.Global.{GlobalData}
-use Rattle.tenant_pipeline.specs.Examples.{body}
+use Rattle.tenant_pipeline_tests.specs.Examples.{body}
 use Rattle.tenant_pipeline.proofs.OnLiterals.{pipelines_on_literals}
 use Rattle.tenant_shard.specs.declared.step.Outcome.TheVariants.{Job, Idle}
 use Rattle.tenant_shard.specs.declared.step.Step.TheVariants.{Turn}
