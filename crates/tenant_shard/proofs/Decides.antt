@@ -1,9 +1,8 @@
 -- What is kept before a run decides what it tells and what it leaves.
-use Rattle.std.proofs.Common.{◌≡◌, ◌≢◌, ℕ, ◌<◌, List, [], ◌∷◌, refl, sym, ap, ◌∙◌, arith, true, false, Option, Some, None, inl, inr, ◌⊎◌}
+use Rattle.std.proofs.Common.{◌≡◌, ℕ, List, [], ◌∷◌, refl, sym, ap, ◌∙◌, arith, true, false, Option, Some, None, inl, inr}
 use Rattle.std.specs.Prelude.{option_and_then}
 use Rattle.std.specs.Option.{unwrap_or}
 use Rattle.tail_settings.specs.Policy.{PolicyData}
-use Rattle.tenant_pipeline.specs.declared.told.Told.{Told}
 use Rattle.tenant_pipeline.specs.Own as own
 use Rattle.tenant_pipeline.specs.State.{State}
 use Rattle.tenant_pipeline.specs.Machine.{next, told}
@@ -17,7 +16,7 @@ use Rattle.tenant_shard.specs.Outcomes.{own_step, piped, Answered, named}
 use Rattle.tenant_shard.specs.Pick.{ready_in, NotAfter, IsPick}
 use Rattle.tenant_shard.specs.Refusal.{Reaches, ReachesNone, IsStepFor, IsNobodys}
 use Rattle.tenant_shard.specs.GoesOn.{refusal_number, told_of_nobodys, MemberGoesOn, ShardGoesOn}
-use Rattle.tenant_shard.specs.Chain.{Chain, KeepSame, KeptDecides}
+use Rattle.tenant_shard.specs.Chain.{KeepSame, KeptDecides}
 use Rattle.tenant_shard.proofs.Picks.{same_or_other}
 use Rattle.tenant_shard.proofs.Runs.{IsPick-same, not_both}
 

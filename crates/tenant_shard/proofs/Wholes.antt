@@ -12,8 +12,8 @@ use Rattle.tenant_shard.specs.declared.step.Outcome.{Outcome}
 use Rattle.tenant_shard.specs.View.{View}
 use Rattle.tenant_shard.specs.Lists.{Lists, ShardStands}
 use Rattle.tenant_shard.specs.Outcomes.{OwnStep, Turned, own_step, piped, is_taken, other_policies, Answer, Answered, NotTaken, named, told_whom, is_tenant, is_own}
-use Rattle.tenant_shard.specs.Run.{IsTakenOrNot, IsAnswered, recorded, IsTurned, IsOutcome, AllKnown, after, after_all, Run}
-use Rattle.tenant_shard.specs.Chain.{Chain, ShardDoes, ShardRuns, RunsByOwnSteps, StandsAfter}
+use Rattle.tenant_shard.specs.Run.{IsTakenOrNot, IsAnswered, recorded, IsTurned, IsOutcome, after, after_all}
+use Rattle.tenant_shard.specs.Chain.{Chain, ShardRuns, RunsByOwnSteps, StandsAfter}
 use Rattle.tenant_shard.specs.Alone.{alone, own_steps, told_to, EachAlone, OwnStepsDecide}
 use Rattle.tenant_shard.specs.Refusal.{ShardRefuses}
 use Rattle.tenant_shard.specs.Stop.{IsStopped}

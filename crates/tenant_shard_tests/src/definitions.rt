@@ -2,6 +2,7 @@
 
 ghost use Rattle.tail_settings.specs.Global.{GlobalData};
 ghost use Rattle.tenant_shard_tests.specs.Examples.{Kept, Opened, Taken, Whose, Picks, Nexts, FourSteps, EachIsTold, Skipped};
+ghost use Rattle.tenant_shard_tests.specs.Refusals.{Nobodys, Losses, AfterLoss, Stops, OneUnknown, NotOfTheChain};
 
 /// The definitions, on small shards of which all own steps are known, give what was worked out by hand.
 fn definitions_of_runs()
@@ -14,4 +15,14 @@ fn definitions_of_runs()
     ensures four_steps { FourSteps }
     ensures each_is_told { EachIsTold }
     ensures skipped { Skipped }
+{}
+
+/// And where memory was refused.
+fn definitions_of_refusals()
+    ensures nobodys { Nobodys }
+    ensures losses { Losses }
+    ensures after_loss { AfterLoss }
+    ensures stops { Stops }
+    ensures one_unknown { OneUnknown }
+    ensures not_of_the_chain { NotOfTheChain }
 {}
