@@ -1,6 +1,6 @@
 -- What the definitions give where memory was refused, on small shards, worked out by hand.
 use Rattle.std.specs.Prelude.{ℕ, true, false, List, [], ◌∷◌, replicate}
-use Rattle.tenant_pipeline.specs.Examples.{span, body, waiting, decided_row, half_decided, half_handed}
+use Rattle.tenant_pipeline_tests.specs.Examples.{span, body, waiting, decided_row, half_decided, half_handed}
 use Rattle.tenant_pipeline.specs.State.{State}
 use Rattle.tenant_shard.specs.declared.step.Step.{Step}
 use Rattle.tenant_shard.specs.declared.step.Step.TheVariants.{Post, Turn}
@@ -21,7 +21,7 @@ use Rattle.tenant_shard_tests.specs.Examples.{view, fresh, prepared, prepared_fo
 abbrev pub waits : State
 waits = record fresh {
   clock = 500;
-  rows = record { trace = replicate 16 18; due = 1500; spans = span 18 34 ∷ []; kept = false } ∷ [];
+  rows = record { trace = replicate 16 18; due = 1500; spans = span 18 34 ∷ []; sampled = false } ∷ [];
 }
 
 pub record Nobodys : Type 0 where
@@ -35,7 +35,7 @@ pub record Nobodys : Type 0 where
 abbrev pub decided : State
 decided = record fresh {
   clock = 1500;
-  rows = record { trace = replicate 16 18; due = 1500; spans = []; kept = true } ∷ [];
+  rows = record { trace = replicate 16 18; due = 1500; spans = []; sampled = true } ∷ [];
   decided = 1;
   queue = record { moment = 1500; spans = span 18 34 ∷ [] } ∷ [];
 }

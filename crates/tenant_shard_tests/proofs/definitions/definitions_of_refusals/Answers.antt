@@ -7,7 +7,7 @@ use Rattle.tenant_pipeline.specs.Own as own
 use Rattle.tenant_pipeline.specs.State.{State, accepted}
 use Rattle.tenant_pipeline.specs.Timers.{ran, effective}
 use Rattle.tenant_pipeline.specs.Machine.{next, told}
-use Rattle.tenant_pipeline.specs.Examples.{body, half_decided, half_handed}
+use Rattle.tenant_pipeline_tests.specs.Examples.{body, half_decided, half_handed}
 use Rattle.tenant_pipeline.proofs.OnLiterals.{pipelines_on_literals}
 use Rattle.tenant_shard.specs.declared.step.Outcome.{Outcome}
 use Rattle.tenant_shard.specs.declared.step.Outcome.TheVariants as outcomes
