@@ -1,6 +1,6 @@
 -- What the definitions give for small spans that are kept, worked out by hand. Texts are spelled by the encoding guide
--- of Protocol Buffers (https://protobuf.dev/programming-guides/encoding/), with the field numbers of opentelemetry-proto
--- (trace, resource and common v1).
+-- of Protocol Buffers (https://protobuf.dev/programming-guides/encoding/), with the field numbers of
+-- opentelemetry-proto (trace, resource and common v1).
 use Rattle.std.specs.Prelude.{◌≡◌, codes, ℕ, ◌-◌, ◌^◌, pos, Bool, true, false, List, [], ◌∷◌, ◌++◌, Option, Some, None}
 use Rattle.otlp_trace.specs.Data.{ResourceData}
 use Rattle.otlp_read.specs.Value.{no_span}

@@ -4,13 +4,11 @@ ghost use Rattle.std.specs.Prelude.{◌<◌, length};
 ghost use Rattle.span_tests.specs.Policies.{Durations, Latencies, Statuses, Strings, Numbers, Several};
 
 use span_view::{SpanRef, is_text};
-use std::alloc::{AllocError, Global};
+use std::alloc::Global;
 use std::process::Abort;
 use std::test::Fail;
 use tail_policy::keeps;
-use tail_settings::{LeafPolicy, PolicySpec, StatusCode};
-
-const NONE: &[u8] = b"";
+use tail_settings::load;
 
 /// From 5 to 1,000,000,004.
 const NEARLY_A_SECOND: &[u8] =
@@ -45,144 +43,100 @@ fn checked<'a>(rt: &impl Abort, span: &'a [u8], resource: &'a [u8]) -> SpanRef<'
     SpanRef::of(span, resource)
 }
 
-fn is_sampled_by(policy: LeafPolicy, spans: &[SpanRef<'_>]) -> bool
+/// Whether a trace with these spans is sampled by the policies of this array in TOML.
+fn is_sampled(alloc: Global, policies: &str, spans: &[SpanRef<'_>]) -> Result<bool, Fail>
     requires { 0 < length spans.now }
 {
-    keeps(&[PolicySpec::Leaf(policy)], spans)
+    let text = format!(in alloc; "[[tenant]]\nname = \"a\"\ntail_sampling.policy = {policies}\n")?;
+    let settings = load(alloc, text.as_str())?;
+    Ok(match settings.section(0) {
+        Some(section) => keeps(&section.tail_sampling.policies, spans),
+        None => false,
+    })
 }
 
-fn is_late(rt: &impl Abort, span: &[u8], threshold_ms: u64) -> bool {
-    is_sampled_by(
-        LeafPolicy::Latency { threshold_ms },
-        &[checked(rt, span, NONE)],
-    )
-}
-
-#[test]
-fn latency_is_in_whole_milliseconds_rounded_down(rt: HostRuntime) {
-    assert!(rt; is_late(&rt, NEARLY_A_SECOND, 999));
-    assert!(rt; !is_late(&rt, NEARLY_A_SECOND, 1000));
-    assert!(rt; is_late(&rt, A_SECOND, 1000));
-    assert!(rt; !is_late(&rt, EXCHANGED, 1));
-    assert!(rt; is_late(&rt, EXCHANGED, 0));
-}
-
-#[test]
-fn latency_is_from_the_earliest_start_to_the_latest_end(rt: HostRuntime) {
-    let second = LeafPolicy::Latency { threshold_ms: 1000 };
-    let early = checked(&rt, EARLY, NONE);
-    let late = checked(&rt, LATE, NONE);
-    assert!(rt; !is_late(&rt, EARLY, 1));
-    assert!(rt; !is_late(&rt, LATE, 1));
-    assert!(rt; is_sampled_by(second, &[late, early]));
-}
-
-fn is_coded(
+/// The same of a trace of one span.
+fn is_one_sampled(
     rt: &impl Abort,
     alloc: Global,
+    policies: &str,
     span: &[u8],
-    codes: &[StatusCode],
-) -> Result<bool, AllocError> {
-    let status_codes = Vec::from_slice(alloc, codes)?;
-    Ok(is_sampled_by(
-        LeafPolicy::StatusCode { status_codes },
-        &[checked(rt, span, NONE)],
-    ))
+) -> Result<bool, Fail> {
+    is_sampled(alloc, policies, &[checked(rt, span, RESOURCE)])
+}
+
+#[test]
+fn latency_is_in_whole_milliseconds_rounded_down(rt: HostRuntime) -> Result<(), Fail> {
+    let second = "[{ type = \"latency\", threshold_ms = 1000 }]";
+    assert!(rt; !is_one_sampled(&rt, rt.alloc(), second, NEARLY_A_SECOND)?);
+    assert!(rt; is_one_sampled(&rt, rt.alloc(), second, A_SECOND)?);
+    assert!(rt; !is_one_sampled(&rt, rt.alloc(), second, EXCHANGED)?);
+    Ok(())
+}
+
+#[test]
+fn latency_is_from_the_earliest_start_to_the_latest_end(rt: HostRuntime) -> Result<(), Fail> {
+    let second = "[{ type = \"latency\", threshold_ms = 1000 }]";
+    assert!(rt; !is_one_sampled(&rt, rt.alloc(), second, EARLY)?);
+    assert!(rt; !is_one_sampled(&rt, rt.alloc(), second, LATE)?);
+    let spans = [checked(&rt, LATE, RESOURCE), checked(&rt, EARLY, RESOURCE)];
+    assert!(rt; is_sampled(rt.alloc(), second, &spans)?);
+    Ok(())
 }
 
 #[test]
 fn each_status_has_its_number(rt: HostRuntime) -> Result<(), Fail> {
-    let alloc = rt.alloc();
-    assert!(rt; is_coded(&rt, alloc, NONE, &[StatusCode::Unset])?);
-    assert!(rt; !is_coded(&rt, alloc, NONE, &[StatusCode::Ok, StatusCode::Error])?);
-    let ok: &[u8] = b"\x7a\x02\x18\x01";
-    assert!(rt; is_coded(&rt, alloc, ok, &[StatusCode::Error, StatusCode::Ok])?);
-    assert!(rt; !is_coded(&rt, alloc, ok, &[StatusCode::Unset, StatusCode::Error])?);
-    assert!(rt; is_coded(&rt, alloc, ERROR, &[StatusCode::Error])?);
+    let error = "[{ type = \"status_code\", status_codes = [\"ERROR\"] }]";
+    let others = "[{ type = \"status_code\", status_codes = [\"OK\", \"UNSET\"] }]";
+    assert!(rt; is_one_sampled(&rt, rt.alloc(), error, ERROR)?);
+    assert!(rt; !is_one_sampled(&rt, rt.alloc(), others, ERROR)?);
+    assert!(rt; is_one_sampled(&rt, rt.alloc(), others, b"\x7a\x02\x18\x01")?);
+    assert!(rt; is_one_sampled(&rt, rt.alloc(), others, EARLY)?);
     Ok(())
-}
-
-fn with_text(alloc: Global, key: &str, value: &str) -> Result<LeafPolicy, AllocError> {
-    let key = String::from_str(alloc, key)?;
-    let mut values = Vec::new(alloc);
-    values.push(String::from_str(alloc, "other")?)?;
-    values.push(String::from_str(alloc, value)?)?;
-    Ok(LeafPolicy::StringAttribute { key, values })
-}
-
-fn has_text(
-    rt: &impl Abort,
-    alloc: Global,
-    resource: &[u8],
-    key: &str,
-    value: &str,
-) -> Result<bool, AllocError> {
-    let policy = with_text(alloc, key, value)?;
-    Ok(is_sampled_by(policy, &[checked(rt, THRICE, resource)]))
 }
 
 #[test]
 fn each_occurrence_of_a_key_counts(rt: HostRuntime) -> Result<(), Fail> {
-    let alloc = rt.alloc();
-    assert!(rt; has_text(&rt, alloc, RESOURCE, "k", "v")?);
-    assert!(rt; has_text(&rt, alloc, RESOURCE, "k", "x")?);
-    assert!(rt; has_text(&rt, alloc, RESOURCE, "k", "w")?);
-    assert!(rt; !has_text(&rt, alloc, NONE, "k", "w")?);
-    assert!(rt; !has_text(&rt, alloc, RESOURCE, "K", "v")?);
-    assert!(rt; !has_text(&rt, alloc, RESOURCE, "k", "7")?);
+    let own = "[{ type = \"string_attribute\", key = \"k\", values = [\"other\", \"x\"] }]";
+    let of_resource = "[{ type = \"string_attribute\", key = \"k\", values = [\"w\"] }]";
+    let other_key = "[{ type = \"string_attribute\", key = \"K\", values = [\"x\"] }]";
+    assert!(rt; is_one_sampled(&rt, rt.alloc(), own, THRICE)?);
+    assert!(rt; is_one_sampled(&rt, rt.alloc(), of_resource, THRICE)?);
+    assert!(rt; !is_one_sampled(&rt, rt.alloc(), other_key, THRICE)?);
     Ok(())
-}
-
-fn has_number(rt: &impl Abort, alloc: Global, low: i64, high: i64) -> Result<bool, AllocError> {
-    let policy = LeafPolicy::NumericAttribute {
-        key: String::from_str(alloc, "k")?,
-        min_value: low,
-        max_value: high,
-    };
-    Ok(is_sampled_by(policy, &[checked(rt, THRICE, NONE)]))
 }
 
 #[test]
 fn both_bounds_are_included(rt: HostRuntime) -> Result<(), Fail> {
-    let alloc = rt.alloc();
-    assert!(rt; has_number(&rt, alloc, 7, 9)?);
-    assert!(rt; has_number(&rt, alloc, 5, 7)?);
-    assert!(rt; !has_number(&rt, alloc, 8, 9)?);
-    assert!(rt; !has_number(&rt, alloc, -7, 6)?);
+    let seven = "[{ type = \"numeric_attribute\", key = \"k\", min_value = 7, max_value = 7 }]";
+    let less = "[{ type = \"numeric_attribute\", key = \"k\", min_value = -7, max_value = 6 }]";
+    assert!(rt; is_one_sampled(&rt, rt.alloc(), seven, THRICE)?);
+    assert!(rt; !is_one_sampled(&rt, rt.alloc(), less, THRICE)?);
     Ok(())
-}
-
-fn errors_with_text(alloc: Global) -> Result<PolicySpec, AllocError> {
-    let mut leaves = Vec::new(alloc);
-    leaves.push(LeafPolicy::StatusCode {
-        status_codes: Vec::from_slice(alloc, &[StatusCode::Error])?,
-    })?;
-    leaves.push(with_text(alloc, "k", "v")?)?;
-    Ok(PolicySpec::And(leaves))
 }
 
 #[test]
 fn joined_policies_may_be_met_by_different_spans(rt: HostRuntime) -> Result<(), Fail> {
-    let policies = [errors_with_text(rt.alloc())?];
-    let error = checked(&rt, ERROR, NONE);
-    let text = checked(&rt, THRICE, NONE);
-    assert!(rt; !keeps(&policies, &[checked(&rt, ERROR, NONE)]));
-    assert!(rt; !keeps(&policies, &[checked(&rt, THRICE, NONE)]));
-    assert!(rt; keeps(&policies, &[text, error]));
+    let both = "[{ type = \"and\", and_sub_policy = [\
+{ type = \"status_code\", status_codes = [\"ERROR\"] }, \
+{ type = \"string_attribute\", key = \"k\", values = [\"v\"] }] }]";
+    assert!(rt; !is_one_sampled(&rt, rt.alloc(), both, ERROR)?);
+    assert!(rt; !is_one_sampled(&rt, rt.alloc(), both, THRICE)?);
+    let spans = [
+        checked(&rt, THRICE, RESOURCE),
+        checked(&rt, ERROR, RESOURCE),
+    ];
+    assert!(rt; is_sampled(rt.alloc(), both, &spans)?);
     Ok(())
 }
 
 #[test]
-fn one_policy_of_several_samples_a_trace(rt: HostRuntime) {
-    let spans = [checked(&rt, A_SECOND, NONE)];
-    let late = LeafPolicy::Latency { threshold_ms: 1001 };
-    let policies = [
-        PolicySpec::Leaf(late),
-        PolicySpec::Leaf(LeafPolicy::AlwaysSample),
-    ];
-    assert!(rt; keeps(&policies, &spans));
-    assert!(rt; !keeps(&policies[..1], &spans));
-    assert!(rt; !keeps(&policies[..0], &spans));
+fn one_policy_of_several_samples_a_trace(rt: HostRuntime) -> Result<(), Fail> {
+    let late = "[{ type = \"latency\", threshold_ms = 1001 }]";
+    let late_or_any = "[{ type = \"latency\", threshold_ms = 1001 }, { type = \"always_sample\" }]";
+    assert!(rt; !is_one_sampled(&rt, rt.alloc(), late, A_SECOND)?);
+    assert!(rt; is_one_sampled(&rt, rt.alloc(), late_or_any, A_SECOND)?);
+    Ok(())
 }
 
 /// The definitions, on small inputs, give what was worked out by hand.
