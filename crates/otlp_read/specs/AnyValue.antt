@@ -1,9 +1,8 @@
 -- Attribute values, which may hold others: of the members of the value's oneof the last one wins, and a message member
 -- that stands again with no other member between is merged.
-use Rattle.std.specs.Prelude.{ℕ, zero, suc, ◌-◌, ◌==◌, if◌then◌else◌, List, [], ◌++◌, Some, None, Result, Ok, Err}
+use Rattle.std.specs.Prelude.{ℕ, zero, suc, ◌-◌, ◌==◌, if◌then◌else◌, List, [], ◌++◌, Some, None, Ok, Err}
 use Rattle.pb_wire.specs.Grammar.{Varint, Eight, Bytes}
 use Rattle.otlp_trace.specs.Data.{AnyValueData, any_value, KindData, unset, string, boolean, int, double, array, kvlist, bytes, ArrayValueData, array_value, AnyValues, no_values, a_value, KeyValueListData, key_value_list, KeyValueData, bare_key, key_value, KeyValues, no_key_values, a_key_value}
-use Rattle.otlp_read.specs.declared.fault.ReadFault.{ReadFault}
 use Rattle.otlp_read.specs.declared.fault.ReadFault.TheVariants.{TooDeep}
 use Rattle.otlp_read.specs.Numbers.{utf8, int64, bool}
 use Rattle.otlp_read.specs.Walk.{◌>>=◌, Step, Reader, Known, known_or_kept, walk}

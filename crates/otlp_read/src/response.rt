@@ -119,8 +119,8 @@ pub fn read_response(bytes: &[u8]) -> Result<Option<Partial<'_>>, ReadFault>
 }
 
 /// Each reply's body has a value or a fault that stands in it, and none has both. What the fields of a body make is
-/// what the fields of its first part make, and then those of the other. A partial success is read by the same rules, one
-/// level deeper.
+/// what the fields of its first part make, and then those of the other. A partial success is read by the same rules,
+/// one level deeper.
 pub fn responses_or_faults()
     ensures apart { (bytes : List ℕ) (v : ResponseData) (fault : ReadFault) →
         IsResponseFault bytes fault → IsResponse bytes v → ⊥ }

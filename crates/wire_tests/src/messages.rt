@@ -3,10 +3,11 @@
 ghost use Rattle.wire_tests.specs.MessageExamples.{ExampleTrace, Values, Messages, Replies};
 
 use otlp_trace::{
-    AnyValue, AnyValueKind, ArrayValue, ExportTracePartialSuccess, ExportTraceServiceRequest,
-    ExportTraceServiceResponse, InstrumentationScope, KeyValue, Octets, Repeated, Resource,
-    ResourceSpans, ScopeSpans, Span, put_bytes_field, put_some_bytes, wrap_in_field, write_request,
-    write_resource, write_response, write_scope, write_span, write_status,
+    AnyValue, AnyValueKind, ArrayValue, Event, ExportTracePartialSuccess,
+    ExportTraceServiceRequest, ExportTraceServiceResponse, InstrumentationScope, KeyValue, Link,
+    Octets, Repeated, Resource, ResourceSpans, ScopeSpans, Span, Status, put_bytes_field,
+    put_some_bytes, wrap_in_field, write_request, write_resource, write_response, write_scope,
+    write_span, write_status,
 };
 use std::alloc::Global;
 use std::test::Fail;
@@ -62,6 +63,36 @@ fn empty_span(alloc: Global) -> Span {
     }
 }
 
+fn empty_event(alloc: Global) -> Event {
+    Event {
+        time_unix_nano: 0,
+        name: String::new(alloc),
+        attributes: Repeated::new(alloc),
+        dropped_attributes_count: 0,
+        unknown: Octets::new(alloc),
+    }
+}
+
+fn empty_link(alloc: Global) -> Link {
+    Link {
+        trace_id: Octets::new(alloc),
+        span_id: Octets::new(alloc),
+        trace_state: String::new(alloc),
+        attributes: Repeated::new(alloc),
+        dropped_attributes_count: 0,
+        flags: 1,
+        unknown: Octets::new(alloc),
+    }
+}
+
+fn error_status(alloc: Global) -> Status {
+    Status {
+        message: String::new(alloc),
+        code: 2,
+        unknown: Octets::new(alloc),
+    }
+}
+
 #[test]
 fn span_is_written(rt: HostRuntime) -> Result<(), Fail> {
     let alloc = rt.alloc();
@@ -70,14 +101,20 @@ fn span_is_written(rt: HostRuntime) -> Result<(), Fail> {
     span.kind = -1;
     span.end_time_unix_nano = 256;
     span.attributes = repeated(alloc, attribute(alloc, "k", None)?)?;
+    span.events = repeated(alloc, empty_event(alloc))?;
     span.dropped_events_count = 300;
+    span.links = repeated(alloc, empty_link(alloc))?;
+    span.status = Some(error_status(alloc));
     span.flags = 0x101;
     span.unknown = octets(alloc, b"\xc0\x3e\x05")?;
     let text = b"\x2a\x03get\
         \x30\xff\xff\xff\xff\xff\xff\xff\xff\xff\x01\
         \x41\x00\x01\x00\x00\x00\x00\x00\x00\
         \x4a\x03\x0a\x01k\
+        \x5a\x00\
         \x60\xac\x02\
+        \x6a\x05\x35\x01\x00\x00\x00\
+        \x7a\x02\x18\x02\
         \x85\x01\x01\x01\x00\x00\
         \xc0\x3e\x05";
     let mut out = Vec::new(alloc);
