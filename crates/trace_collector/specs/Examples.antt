@@ -5,7 +5,7 @@ use Rattle.tail_settings.specs.Section.{SectionData}
 use Rattle.tail_settings.specs.Examples.{default_global}
 use Rattle.tail_settings.specs.Settings.{SettingsData, TenantData, settings_of}
 use Rattle.tail_settings.specs.declared.fault.SettingsFault.TheVariants.{NotToml, TooMany}
-use Rattle.tenant_pipeline.specs.Examples.{one_second, span, body, value}
+use Rattle.tenant_pipeline_tests.specs.Examples.{one_second, span, body, value}
 use Rattle.tenant_pipeline.specs.Own.{Own}
 use Rattle.tenant_pipeline.specs.Own as own
 use Rattle.tenant_shard.specs.declared.step.Outcome.TheVariants.{Reply, Job, Worked, Idle, Refused}
