@@ -1,6 +1,7 @@
 -- The lines that tell a script the outcomes of its steps.
-use Rattle.std.specs.Prelude.{ℕ, List, [], ◌∷◌, codes, option_map, slice_get}
+use Rattle.std.specs.Prelude.{ℕ, List, [], codes, option_map, slice_get}
 use Rattle.std.specs.Option.{unwrap_or}
+use Rattle.otlp_trace.specs.Text.{refusal_text}
 use Rattle.tail_settings.specs.Settings.{SettingsData}
 use Rattle.tenant_shard.specs.declared.step.Outcome.{Outcome}
 use Rattle.tenant_shard.specs.declared.step.Outcome.TheVariants.{Reply, Job, Worked, Idle, Refused}
@@ -18,6 +19,6 @@ outcome_text settings shard (Worked tenant) = worked_text (name_at settings tena
 outcome_text settings shard Idle = idle_text shard
 outcome_text settings shard (Refused tenant number) = refused_text (name_at settings tenant) number
 
--- a Status with this message, as protobuf has it
+-- what a body without a value is answered: the text of a refusal with this message
 abbrev pub bad_protobuf : List ℕ
-bad_protobuf = 18 ∷ 12 ∷ codes "bad protobuf"
+bad_protobuf = refusal_text (codes "bad protobuf")

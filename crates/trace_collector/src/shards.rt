@@ -5,21 +5,19 @@ ghost use Rattle.tail_settings.specs.Settings.{settings_view};
 ghost use Rattle.tenant_shard.specs.View.{View};
 ghost use Rattle.tenant_shard.specs.Run.{ShardSteps};
 ghost use Rattle.trace_collector.specs.Members.{AreMembers};
-ghost use Rattle.trace_collector.specs.Outcomes.{outcome_text, name_at};
+ghost use Rattle.replay_script.specs.Answer.{reply_text};
+ghost use Rattle.trace_collector.specs.Outcomes.{outcome_text, name_at, bad_protobuf};
 
 use replay_script::{
     AnswerFault, Command, Session, put_idle, put_job, put_refused, put_reply, put_worked,
 };
 use std::alloc::{AllocError, Global};
 use tail_settings::Settings;
-use tenant_pipeline::{Refusal, prepare};
+use tenant_pipeline::{Refusal, Reply, prepare};
 use tenant_shard::{Outcome, Shard, Step};
 
 /// A body that is no request is answered with this status, and a message that says so.
 const BAD_REQUEST: u16 = 400;
-
-/// A Status with the message `bad protobuf`.
-const BAD_PROTOBUF: &[u8; 14] = b"\x12\x0cbad protobuf";
 
 /// One shard for each number below the count that the settings have. Tenant i is in shard i mod that count.
 #[derive(Drop)]
@@ -78,7 +76,7 @@ impl Shards {
                 Ok(())
             }
             Err(Refusal::Bad(_)) => {
-                put_reply(alloc, out, name, BAD_REQUEST, BAD_PROTOBUF)?;
+                put_bad_request(alloc, out, name)?;
                 Ok(())
             }
             Err(Refusal::OutOfMemory) => Err(AnswerFault::OutOfMemory),
@@ -143,6 +141,15 @@ impl Session for Shards {
             Command::Turn { shard, moment } => self.turn(alloc, *shard, *moment, out),
         }
     }
+}
+
+/// Appends the line of the reply to a body that has no value.
+fn put_bad_request(alloc: Global, out: &mut Vec<u8>, name: &str) -> Result<(), AllocError>
+    ensures ok { OnOk result (out.new.items ≡ out.old.items ++ reply_text name.now 400 bad_protobuf) }
+    ensures err { OnErr result (out.new.items ≡ out.old.items) }
+{
+    let reply = Reply::refusal(alloc, BAD_REQUEST, "bad protobuf")?;
+    put_reply(alloc, out, name, reply.status, reply.body.as_slice())
 }
 
 /// One step of the shard at a place.

@@ -36,7 +36,7 @@ returns-clause-members c = record {
 }
 
 pub returns-clause-lines : goal.returns-clause-lines
-unfolding answers_on_literals
+unfolding answers_on_literals pipelines_on_literals
 returns-clause-lines c = record {
   name = refl;
   no_name = refl;
@@ -106,7 +106,7 @@ idle_before zero moment h = omega (arith, some_same 1000 moment h)
 idle_before (suc n) moment h = absurd (never moment (sym (no_other posted n) ∙ h))
 
 turn_is_idle : IsAnswered one_tenant posted (Turn 0 999) (Some (codes "idle 0\n")) idled
-unfolding answers_on_literals
+unfolding answers_on_literals pipelines_on_literals
 turn_is_idle = (Idle, (None, idle_before, refl), refl, refl)
 
 first_ready : (tenant moment : ℕ) → ready_at (lists_of one_tenant idled 0) [] tenant ≡ Some moment → NotAfter 1000 0 moment tenant
@@ -122,7 +122,7 @@ unfolding pipelines_on_literals answers_on_literals
 turn_hands_out = (the_job, (Some 0, (1000, refl, omega arith, first_ready), refl), refl, refl)
 
 not_taken : Exact → IsAnswered one_tenant no_steps (Post (codes "a") 0 (0 ∷ 0 ∷ [])) (Some (codes "reply a 400 120c6261642070726f746f627566\n")) no_steps
-unfolding answers_on_literals
+unfolding answers_on_literals pipelines_on_literals
 not_taken exact = inr (has_none exact, refl, refl)
 
 pub returns-clause-posts : goal.returns-clause-posts
