@@ -11,12 +11,13 @@ test: checks
 	@said=$$(python3 tests/program.py $(PROGRAM)/out/trace_collector_program) || { echo "$$said"; exit 1; }
 
 # Seconds, with Python alone: the definitions that docs/ quotes stand so in their
-# files, each public definition has its comment, and want of memory is made only
-# where it is known to be.
+# files, each public definition has its comment, want of memory is made only where
+# it is known to be, and no line is too long.
 .PHONY: checks
 checks:
 	@python3 tests/quotes.py
 	@python3 tests/refusals.py
+	@python3 tests/widths.py
 
 # Builds the program, makes a script of a body that is stored as a file, which is posted
 # before a worker asks for a job twice, one millisecond too early and in time, and replays it.

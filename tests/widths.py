@@ -2,7 +2,7 @@
 """Whether each line of code and of definitions has at most 120 columns: crates/**/*.rt and crates/*/specs.
 
 Imports and attributes are passed over, since the formatter keeps each on one line, and so are bytes made elsewhere
-(vectors.rt). Ends with 1, and names the lines, where some are longer; `widths.py --count` prints only how many there are
+(vectors.rt). A text in quotes can't be parted, so it counts for nothing. Ends with 1, and names the lines, where some are longer; `widths.py --count` prints only how many there are
 in each crate.
 """
 import collections
@@ -12,6 +12,7 @@ import sys
 
 ROOT = pathlib.Path(__file__).resolve().parent.parent
 MOST = 120
+QUOTED = re.compile(r'"(\\.|[^"\\])*"')
 PASSED = re.compile(r"\s*((pub |ghost )*use |#!?\[)")
 
 
@@ -21,7 +22,7 @@ def long_lines():
         if file.name == "vectors.rt":
             continue
         for number, line in enumerate(file.read_text().splitlines(), 1):
-            if len(line) > MOST and not PASSED.match(line):
+            if len(QUOTED.sub("", line)) > MOST and not PASSED.match(line):
                 yield file.relative_to(ROOT), number, len(line)
 
 

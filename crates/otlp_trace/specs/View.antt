@@ -23,8 +23,8 @@ use Rattle.otlp_trace.specs.declared.response.ExportTraceServiceResponse.{Export
 -- ---- attribute values
 
 -- They may hold others, so they are seen from the innermost value outwards. A type whose name ends in -F is one level
--- of the code's type, with the data of what lies inside in its place; a function whose name ends in _level turns it into
--- data, and the folds apply these.
+-- of the code's type, with the data of what lies inside in its place; a function whose name ends in _level turns it
+-- into data, and the folds apply these.
 
 -- a list of values as data
 abbrev pub values_of : List AnyValueData → AnyValues
