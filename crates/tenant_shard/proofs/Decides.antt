@@ -13,7 +13,8 @@ use Rattle.tenant_shard.specs.declared.step.Outcome.{Outcome}
 use Rattle.tenant_shard.specs.declared.step.Outcome.TheVariants.{Refused}
 use Rattle.tenant_shard.specs.View.{View, kept_of}
 use Rattle.tenant_shard.specs.Outcomes.{own_step, piped, Answered, named}
-use Rattle.tenant_shard.specs.Pick.{ready_in, NotAfter, IsPick}
+use Rattle.tenant_shard.specs.Pick.{ready_in}
+use Rattle.shard_agenda.specs.Pick.{NotAfter, IsPick}
 use Rattle.tenant_shard.specs.Refusal.{Reaches, ReachesNone, IsStepFor, IsNobodys}
 use Rattle.tenant_shard.specs.GoesOn.{refusal_number, told_of_nobodys, MemberGoesOn, ShardGoesOn}
 use Rattle.tenant_shard.specs.Chain.{KeepSame, KeptDecides}

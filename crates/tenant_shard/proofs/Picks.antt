@@ -5,7 +5,8 @@ use Rattle.std.proofs.lemmas.Bool.{cases_lt}
 use Rattle.std.specs.Prelude.{◌||◌, ◌&&◌}
 use Rattle.tenant_pipeline.specs.Ready.{ready}
 use Rattle.tenant_shard.specs.View.{View, kept_of, AreInOrder}
-use Rattle.tenant_shard.specs.Pick.{ready_in, NotAfter, IsPick}
+use Rattle.tenant_shard.specs.Pick.{ready_in}
+use Rattle.shard_agenda.specs.Pick.{NotAfter, IsPick}
 use Rattle.tenant_shard.proofs.Places.{not_above}
 use Rattle.tenant_shard.specs.Least.{due_by, earlier, least, named_by}
 

@@ -20,7 +20,8 @@ use Rattle.tenant_shard.specs.declared.step.Outcome.TheVariants.{Idle, Refused}
 use Rattle.tenant_shard.specs.View.{View, kept_of}
 use Rattle.tenant_shard.specs.Lists.{Lists, KeepsSection, MemberStands, ShardStands}
 use Rattle.tenant_shard.specs.Outcomes.{OwnStep, Posted, Turned, own_step, piped, is_taken, not_member, other_policies, Answer, Answered, NotTaken, named, told_whom, is_own}
-use Rattle.tenant_shard.specs.Pick.{ready_in, ready_after, ready_at, IsPick}
+use Rattle.tenant_shard.specs.Pick.{ready_in, ready_after, ready_at}
+use Rattle.shard_agenda.specs.Pick.{IsPick}
 use Rattle.tenant_shard.specs.Run.{IsTakenOrNot, IsAnswered, IsAnswerTo, IsOutcome, recorded, AllKnown, OthersStay, ShardSteps, after}
 use Rattle.tenant_shard.specs.Refusal.{IsStepFor, Reaches, ReachesNone, ShardRefuses}
 use Rattle.tenant_shard.specs.GoesOn.{refusal_number, ShardGoesOn}

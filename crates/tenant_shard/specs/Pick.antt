@@ -1,5 +1,5 @@
--- Whom a turn goes to.
-use Rattle.std.specs.Prelude.{◌≡◌, ℕ, ◌<◌, ◌≤◌, ◌⊎◌, Bool, true, false, List, Option, Some, None, option_and_then}
+-- When each tenant of a shard is ready. Whom a turn goes to then is `IsPick` of shard_agenda.
+use Rattle.std.specs.Prelude.{ℕ, Bool, true, false, List, Option, Some, None, option_and_then}
 use Rattle.tail_settings.specs.Section.{SectionData}
 use Rattle.tenant_pipeline.specs.Own.{Own}
 use Rattle.tenant_pipeline.specs.State.{state}
@@ -21,13 +21,3 @@ ready_after (Some section) past false seen = seen
 abbrev pub ready_at : Lists → List View → ℕ → Option ℕ
 ready_at lists views tenant =
     ready_after (lists.sections tenant) (lists.pasts tenant) (lists.known tenant) (ready_in views tenant)
-
--- a pair of a moment and a number is not after another
-abbrev pub NotAfter : ℕ → ℕ → ℕ → ℕ → Type 0
-NotAfter moment number moment' number' = (moment < moment') ⊎ ((moment ≡ moment') × (number ≤ number'))
-
--- a turn goes to the tenant that is ready by now with the least (moment, number), or to none where none is ready by now
-abbrev pub IsPick : (ℕ → Option ℕ) → ℕ → Option ℕ → Type 0
-IsPick ready_when now None = (tenant moment : ℕ) → ready_when tenant ≡ Some moment → now < moment
-IsPick ready_when now (Some picked) = (least : ℕ) × (ready_when picked ≡ Some least) × (least ≤ now)
-    × ((tenant moment : ℕ) → ready_when tenant ≡ Some moment → NotAfter least picked moment tenant)

@@ -10,7 +10,8 @@ use Rattle.tenant_shard.specs.declared.step.Step.TheVariants.{Post, Turn}
 use Rattle.tenant_shard.specs.View.{View, kept_of}
 use Rattle.tenant_shard.specs.Lists.{Lists, ShardStands}
 use Rattle.tenant_shard.specs.Outcomes.{own_step, piped}
-use Rattle.tenant_shard.specs.Pick.{ready_in, IsPick}
+use Rattle.tenant_shard.specs.Pick.{ready_in}
+use Rattle.shard_agenda.specs.Pick.{IsPick}
 
 -- a body that was prepared for these policies reaches the tenant's pipeline: the tenant is a member that has them
 abbrev pub Reaches : List PolicyData → Option State → Type 0

@@ -12,7 +12,8 @@ use Rattle.tenant_shard.specs.declared.step.Outcome.TheVariants.{Idle, Refused}
 use Rattle.tenant_shard.specs.View.{View, kept_of}
 use Rattle.tenant_shard.specs.Lists.{Lists, ShardStands}
 use Rattle.tenant_shard.specs.Outcomes.{OwnStep, Turned, own_step, piped, is_taken, not_member, other_policies, Answered, named, told_whom, is_own}
-use Rattle.tenant_shard.specs.Pick.{ready_at, IsPick}
+use Rattle.tenant_shard.specs.Pick.{ready_at}
+use Rattle.shard_agenda.specs.Pick.{IsPick}
 
 -- the outcome of a step that reaches a tenant's pipeline is the next answer of that pipeline alone, or, where its own
 -- steps are not known, some answer

@@ -4,7 +4,7 @@ use Rattle.std.proofs.lemmas.Bool.Decides.{nat_tests}
 use Rattle.std.specs.Option.{unwrap_or}
 use Rattle.tenant_shard.specs.declared.step.Outcome.{Outcome}
 use Rattle.tenant_shard.specs.declared.step.Outcome.TheVariants.{Refused}
-use Rattle.tenant_shard.specs.Pick.{NotAfter}
+use Rattle.shard_agenda.specs.Pick.{NotAfter}
 
 pub some_same : (a b : ℕ) → Some a ≡ Some b → a ≡ b
 some_same a b e = ap (λ o. unwrap_or o a) e

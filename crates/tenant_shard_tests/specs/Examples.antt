@@ -16,7 +16,7 @@ use Rattle.tenant_shard.specs.View.{View, kept_of, AreInOrder}
 use Rattle.tenant_shard.specs.Lists.{Lists, ShardStands}
 use Rattle.tenant_shard.specs.Table.{opened}
 use Rattle.tenant_shard.specs.Outcomes.{Posted, Turned, is_taken, Answered, NotTaken, named, is_own}
-use Rattle.tenant_shard.specs.Pick.{IsPick}
+use Rattle.shard_agenda.specs.Pick.{IsPick}
 use Rattle.tenant_shard.specs.Run.{after, IsNext, Run}
 use Rattle.tenant_shard.specs.Alone.{alone, own_steps, told_to}
 

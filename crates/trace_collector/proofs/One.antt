@@ -15,7 +15,7 @@ use Rattle.tenant_pipeline.specs.Prepared.{prepared_of}
 use Rattle.tenant_shard.specs.declared.step.Step.{Step}
 use Rattle.tenant_shard.specs.declared.step.Step.TheVariants as steps
 use Rattle.tenant_shard.specs.declared.step.Outcome.{Outcome}
-use Rattle.tenant_shard.specs.Pick.{IsPick, NotAfter}
+use Rattle.shard_agenda.specs.Pick.{IsPick, NotAfter}
 use Rattle.tenant_shard.specs.Outcomes.{OwnStep, Turned, own_step, piped, is_taken}
 use Rattle.tenant_shard.specs.Run.{IsTakenOrNot, IsAnswered, IsTurned, IsNext, after}
 use Rattle.tenant_shard.specs.Table.{section_at}

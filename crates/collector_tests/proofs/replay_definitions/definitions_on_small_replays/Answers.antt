@@ -13,7 +13,8 @@ use Rattle.tenant_shard.specs.declared.step.Outcome.{Outcome}
 use Rattle.tenant_shard.specs.declared.step.Outcome.TheVariants.{Reply, Job, Idle}
 use Rattle.tenant_shard.specs.declared.step.Step.{Step}
 use Rattle.tenant_shard.specs.declared.step.Step.TheVariants as steps
-use Rattle.tenant_shard.specs.Pick.{ready_after, ready_at, NotAfter}
+use Rattle.tenant_shard.specs.Pick.{ready_after, ready_at}
+use Rattle.shard_agenda.specs.Pick.{NotAfter}
 use Rattle.tenant_shard.specs.Run.{after}
 use Rattle.tenant_pipeline.proofs.OnLiterals.{values_on_literals, pipelines_on_literals}
 use Rattle.replay_script.proofs.OnLiterals.{script_on_literals, answers_on_literals}

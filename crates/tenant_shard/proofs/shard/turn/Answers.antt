@@ -3,7 +3,8 @@ use Rattle.tenant_pipeline.specs.Own.{latest_moment}
 use Rattle.tenant_shard.specs.declared.step.Step.TheVariants.{Turn}
 use Rattle.tenant_shard.specs.declared.member.Member.{Member}
 use Rattle.tenant_shard.specs.Members.{views}
-use Rattle.tenant_shard.specs.Pick.{ready_in, IsPick}
+use Rattle.tenant_shard.specs.Pick.{ready_in}
+use Rattle.shard_agenda.specs.Pick.{IsPick}
 use Rattle.tenant_shard.specs.Least.{least, named_by}
 use Rattle.tenant_shard.specs.View.{AreInOrder}
 use Rattle.tenant_shard.proofs.Picks.{least_is_pick, pick_is_kept}

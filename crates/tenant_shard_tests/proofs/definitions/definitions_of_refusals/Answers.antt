@@ -17,7 +17,8 @@ use Rattle.tenant_shard.specs.declared.step.Step.TheVariants.{Post, Turn}
 use Rattle.tenant_shard.specs.View.{View, kept_of}
 use Rattle.tenant_shard.specs.Lists.{Lists, MemberStands, ShardStands}
 use Rattle.tenant_shard.specs.Outcomes.{own_step, piped, Answered, named}
-use Rattle.tenant_shard.specs.Pick.{ready_in, ready_at, NotAfter, IsPick}
+use Rattle.tenant_shard.specs.Pick.{ready_in, ready_at}
+use Rattle.shard_agenda.specs.Pick.{NotAfter, IsPick}
 use Rattle.tenant_shard.specs.Run.{after_all, IsOutcome}
 use Rattle.tenant_shard.specs.Refusal.{IsRefused, without, IsNobodys}
 use Rattle.tenant_shard.specs.GoesOn.{MemberGoesOn, ShardGoesOn}

@@ -7,7 +7,8 @@ use Rattle.tenant_shard.specs.declared.step.Step.TheVariants.{Turn}
 use Rattle.tenant_shard.specs.Lists.{Lists, ShardStands}
 use Rattle.tenant_shard.specs.Table.{opened}
 use Rattle.tenant_shard.specs.Outcomes.{told_whom}
-use Rattle.tenant_shard.specs.Pick.{ready_at, NotAfter, IsPick}
+use Rattle.tenant_shard.specs.Pick.{ready_at}
+use Rattle.shard_agenda.specs.Pick.{NotAfter, IsPick}
 use Rattle.tenant_shard.specs.Run.{IsTurned, IsNext, after}
 use Rattle.tenant_shard_tests.specs.Examples.{view, fresh, table, both_at_1000, second_first, posted}
 use Rattle.tenant_shard_tests.proofs.Small.{some_same, never, above_1, not_before, later, is_refusal}
