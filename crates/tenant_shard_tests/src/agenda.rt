@@ -4,7 +4,9 @@ use shard_agenda::Agenda;
 use std::test::Fail;
 
 #[test]
-fn the_least_moment_goes_first_and_of_equal_ones_the_lower_number(rt: HostRuntime) -> Result<(), Fail> {
+fn the_least_moment_goes_first_and_of_equal_ones_the_lower_number(
+    rt: HostRuntime,
+) -> Result<(), Fail> {
     let mut agenda = Agenda::new(rt.alloc());
     agenda.admit(5)?;
     agenda.admit(3)?;
