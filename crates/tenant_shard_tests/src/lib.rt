@@ -1,9 +1,7 @@
-//! What tenants of one shard are told, on stories and examples that were worked out by hand: tests of `tenant_shard`
-//! and of `shard_agenda`, and what their definitions say of small shards.
+//! What tenants of one shard are told, on stories and examples that were worked out by hand: tests of `tenant_shard`,
+//! and what its definitions say of small shards.
 #![tactic(auto)]
 
-#[cfg(test)]
-mod agenda;
 #[cfg(test)]
 mod definitions;
 #[cfg(test)]
