@@ -1,0 +1,6 @@
+//! Tests of the stores that all tenants of a shard share, over their public functions. What they expect was worked out
+//! by hand.
+#![tactic(auto)]
+
+#[cfg(test)]
+mod rows;
