@@ -25,7 +25,6 @@ WORDS = TYPES | {"OutOfMemory"}
 # the file under crates/, the function, how often, and why
 KNOWN = [
     ("tail_settings/src/document.rt", "load", 1, "the TOML reader's error says that it is want of memory"),
-    ("trace_rows/src/table.rt", "open", 1, "the seat's growth was refused, and the row goes again"),
     ("tenant_shard/src/shard.rt", "run", 2, "room for the outcomes was refused, or a step was"),
 ]
 

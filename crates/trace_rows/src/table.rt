@@ -71,11 +71,13 @@ impl TraceRows {
     {
         let trace = row.trace;
         self.rows.insert((tenant, number), row)?;
-        let Ok(earlier) = self.seats.insert((tenant, trace), number) else {
-            self.rows.remove(&(tenant, number));
-            return Err(AllocError);
-        };
-        Ok(earlier)
+        match self.seats.insert((tenant, trace), number) {
+            Ok(earlier) => Ok(earlier),
+            Err(failed) => {
+                self.rows.remove(&(tenant, number));
+                Err(failed.into())
+            }
+        }
     }
 
     /// One more key in the row. Where there is no such row, nothing changes.
