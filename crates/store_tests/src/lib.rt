@@ -1,5 +1,8 @@
-//! Tests of the stores that the tenants of a shard share, and of how batches are cut.
+//! Tests of the stores that all tenants of a shard share, over their public functions. What they expect was worked out
+//! by hand.
 #![tactic(auto)]
 
 #[cfg(test)]
 mod agenda;
+#[cfg(test)]
+mod rows;

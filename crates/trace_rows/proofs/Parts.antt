@@ -1,0 +1,74 @@
+-- What a change of a map does to each tenant's part.
+use Rattle.std.proofs.Common.{◌≡◌, ◌≢◌, ℕ, refl, sym, ap, ◌∙◌, arith, Bool, true, false, Option, Some, None, eqb, nat_eq, bytes_eq, cond, if◌then◌else◌, ◌&&◌, Ordering, Less, Equal, Greater}
+use Rattle.std.proofs.lemmas.Bool.Decides.{nat_tests}
+use Rattle.std.proofs.Math.Path.{fun_ext}
+use Rattle.std.specs.Ordering.{nat_cmp, ordering_then, is_eq}
+use Rattle.std.specs.Cmp.{unsigned_ties, nat_eq_equiv}
+use Rattle.std.specs.Cmp.Lexicographic.{slice_cmp, texts_ties, nat_list_eq_equiv}
+use Rattle.std.specs.BTreeMap.{BTreeMap}
+use Rattle.std.specs.BTreeMap as tree
+use Rattle.trace_rows.specs.Part.{pair_cmp, with_at, at}
+
+-- a test tells which keys an order takes for equal
+pub record Tells {J : Type 0} (cmp : J → J → Ordering) (same : J → J → Bool) : Type 0 where
+  pub told : (x y : J) → is_eq (cmp x y) ≡ same y x
+
+pub numbers : Tells nat_cmp nat_eq
+numbers = record { told = λ x y. sym (unsigned_ties x y) ∙ nat_eq_equiv.symm x y }
+
+pub traces : Tells (slice_cmp nat_cmp) bytes_eq
+traces = record { told = λ x y. sym (texts_ties x y) ∙ nat_list_eq_equiv.symm x y }
+
+-- `with_at` and `with_seat`, at any keys
+abbrev pub put : {J X : Type 0} → (J → J → Bool) → J → Option X → (J → Option X) → J → Option X
+put same key slot slots other = if same other key then slot else slots other
+
+then_is : (o p : Ordering) → is_eq (ordering_then o p) ≡ (is_eq o && is_eq p)
+then_is Less p = refl
+then_is Equal p = refl
+then_is Greater p = refl
+
+same_tenant : (t : ℕ) → is_eq (nat_cmp t t) ≡ true
+same_tenant t = sym (unsigned_ties t t) ∙ nat_eq_equiv.refl t
+
+other_tenant : (t u : ℕ) → u ≢ t → is_eq (nat_cmp t u) ≡ false
+other_tenant t u ne = grind (arith, nat_tests)
+
+here : {J : Type 0} {cmp : J → J → Ordering} {same : J → J → Bool} → Tells cmp same → (t : ℕ) (k j : J) → is_eq (pair_cmp cmp (t, k) (t, j)) ≡ same j k
+here {J} {cmp} {same} tells t k j = then_is (nat_cmp t t) (cmp k j) ∙ (ap (λ (b : Bool). b && is_eq (cmp k j)) (same_tenant t) ∙ tells.told k j)
+
+elsewhere : {J : Type 0} (cmp : J → J → Ordering) (t u : ℕ) (k j : J) → u ≢ t → is_eq (pair_cmp cmp (t, k) (u, j)) ≡ false
+elsewhere cmp t u k j ne = then_is (nat_cmp t u) (cmp k j) ∙ ap (λ (b : Bool). b && is_eq (cmp k j)) (other_tenant t u ne)
+
+pub at_put : {J X : Type 0} {cmp : J → J → Ordering} {same : J → J → Bool} → Tells cmp same → (m n : BTreeMap (ℕ × J) X) (t : ℕ) (k : J) (w : Option X) → tree.Updates (pair_cmp cmp) m n (t, k) w → at cmp t n.entries ≡ put same k w (at cmp t m.entries)
+at_put {J} {X} {cmp} {same} tells m n t k w h = fun_ext (λ j. one j)
+  where
+    one : (j : J) → at cmp t n.entries j ≡ put same k w (at cmp t m.entries) j
+    one j =
+        let first : at cmp t n.entries j ≡ cond (is_eq (pair_cmp cmp (t, k) (t, j))) w (at cmp t m.entries j) = h.0 (t, j) in
+        first ∙ ap (λ (b : Bool). cond b w (at cmp t m.entries j)) (here tells t k j)
+
+pub at_put_other : {J X : Type 0} {cmp : J → J → Ordering} {same : J → J → Bool} → Tells cmp same → (m n : BTreeMap (ℕ × J) X) (t : ℕ) (k : J) (u : ℕ) (w : Option X) → tree.Updates (pair_cmp cmp) m n (t, k) w → u ≢ t → at cmp u n.entries ≡ at cmp u m.entries
+at_put_other {J} {X} {cmp} {same} tells m n t k u w h ne = fun_ext (λ j. one j)
+  where
+    one : (j : J) → at cmp u n.entries j ≡ at cmp u m.entries j
+    one j =
+        let first : at cmp u n.entries j ≡ cond (is_eq (pair_cmp cmp (t, k) (u, j))) w (at cmp u m.entries j) = h.0 (u, j) in
+        first ∙ ap (λ (b : Bool). cond b w (at cmp u m.entries j)) (elsewhere cmp t u k j ne)
+
+module _ {X : Type 0} where
+  -- a value where none was, taken out again
+  pub at_undone : (f : ℕ → Option X) (k : ℕ) (w : Option X) → f k ≡ None → with_at k None (with_at k w f) ≡ f
+  at_undone f k w none = fun_ext (λ j. one j (eqb j k) refl)
+    where
+      one : (j : ℕ) (b : Bool) → eqb j k ≡ b → with_at k None (with_at k w f) j ≡ f j
+      one j true e = let same : j ≡ k = grind (arith, nat_tests, e) in let there : f j ≡ None = ap f same ∙ none in grind (arith, nat_tests, e, there)
+      one j false e = grind (arith, nat_tests, e)
+
+  -- the value that was there, written again
+  pub at_again : (f : ℕ → Option X) (k : ℕ) (v : X) → f k ≡ Some v → with_at k (Some v) f ≡ f
+  at_again f k v had = fun_ext (λ j. one j (eqb j k) refl)
+    where
+      one : (j : ℕ) (b : Bool) → eqb j k ≡ b → with_at k (Some v) f j ≡ f j
+      one j true e = let same : j ≡ k = grind (arith, nat_tests, e) in let there : f j ≡ Some v = ap f same ∙ had in grind (arith, nat_tests, e, there)
+      one j false e = grind (arith, nat_tests, e)

@@ -1,0 +1,17 @@
+use Rattle.std.proofs.Common.{◌≡◌, ◌∙◌, ap, sym, ℕ, Option, Some, None, refl, true, eqb}
+use Rattle.std.specs.Option.{option_eq}
+use Rattle.trace_rows.specs.Part.{seats_part, is_number}
+use Rattle.trace_rows.proofs.Parts.{traces, at_put, at_put_other}
+use Rattle.trace_rows.proofs.table.TraceRows.unseat.Goals as goal
+
+number_is : (n : ℕ) (o : Option ℕ) → option_eq eqb o (Some n) ≡ is_number n o
+number_is n None = refl
+number_is n (Some k) = refl
+
+pub returns-then-eq-clause-seats : goal.returns-then-eq-clause-seats
+returns-then-eq-clause-seats c =
+    let is : is_number c.args.number (seats_part c.args.tenant c.args.self.now c.args.trace) ≡ true = sym (number_is c.args.number (seats_part c.args.tenant c.args.self.now c.args.trace)) ∙ (ap (λ (o : Option ℕ). option_eq eqb o (Some c.args.number)) (sym c.seat.ensures) ∙ (sym c.eq.ensures ∙ c.if-eq.true)) in
+    rw is (at_put traces c.args.self.now.seats c.remove.new.self c.args.tenant c.args.trace None c.remove.ensures.updates)
+
+pub returns-then-eq-clause-others : goal.returns-then-eq-clause-others
+returns-then-eq-clause-others c = λ other ne. at_put_other traces c.args.self.now.seats c.remove.new.self c.args.tenant c.args.trace other None c.remove.ensures.updates ne

@@ -1,0 +1,63 @@
+//! Keys of spans.
+
+ghost use Rattle.std.specs.Prelude.{◌≡◌, [], ◌∷◌, ◌++◌, IfOk, OnOk, OnErr, take, length, ◌-◌};
+
+use std::alloc::{AllocError, Global};
+use std::marker::Model;
+
+/// Keys of spans in order of arrival, which contracts see as a list.
+#[derive(Drop)]
+pub struct Keys {
+    items: Vec<usize>,
+}
+
+impl Model for Keys {
+    ghost use Rattle.std.specs.Prelude.{List, ℕ};
+
+    ghost Value = { List ℕ };
+
+    ghost view = { λ s. s.items.items };
+}
+
+impl Keys {
+    /// No keys, which take no memory.
+    pub fn new(alloc: Global) -> Self
+        ensures { result ≡ [] }
+    {
+        Keys {
+            items: Vec::new(alloc),
+        }
+    }
+
+    /// One key.
+    pub fn one(alloc: Global, key: usize) -> Result<Self, AllocError>
+        ensures { IfOk result (λ keys. keys ≡ key ∷ []) }
+    {
+        let mut items = Vec::new(alloc);
+        items.push(key)?;
+        Ok(Keys { items })
+    }
+
+    /// The keys, borrowed.
+    pub fn as_slice(&self) -> &[usize]
+        ensures { result.now ≡ self.now }
+    {
+        self.items.as_slice()
+    }
+
+    /// One more key, behind the others.
+    pub fn push(&mut self, key: usize) -> Result<(), AllocError>
+        ensures ok { OnOk result (self.new ≡ self.old ++ key ∷ []) }
+        ensures refused { OnErr result (self.new ≡ self.old) }
+    {
+        self.items.push(key)?;
+        Ok(())
+    }
+
+    /// Takes back the latest key, if there is one. Its room stays.
+    pub fn pop(&mut self)
+        ensures { self.new ≡ take (length self.old - 1) self.old }
+    {
+        let _ = self.items.pop();
+    }
+}

@@ -1,0 +1,174 @@
+//! The table of rows.
+
+ghost use Rattle.std.specs.Prelude.{◌≡◌, ◌≢◌, ℕ, IfOk, OnOk, OnErr, Some, None, option_copied};
+ghost use Rattle.trace_rows.specs.Part.{rows_part, seats_part, with_at, with_seat, joined, unjoined, settled, unseated, keys_of, trace_in, IsSame};
+
+use crate::keys::Keys;
+use std::alloc::{AllocError, Global};
+use std::collections::BTreeMap;
+
+/// The row of a trace.
+#[derive(Drop)]
+pub struct Row {
+    /// The trace's id.
+    pub trace: [u8; 16],
+    /// The moment of the decision, in milliseconds.
+    pub due: u64,
+    /// Keys of the spans that wait for it, in order of arrival; none once the row is decided.
+    pub keys: Keys,
+    /// Whether the trace is sampled, once the row is decided. Until then `false`.
+    pub sampled: bool,
+}
+
+/// All tenants' rows, and the latest row of each of their traces.
+#[derive(Drop)]
+pub struct TraceRows {
+    // By tenant and row number.
+    rows: BTreeMap<(u32, u64), Row>,
+    // By tenant and trace id, the number of the row that opened last.
+    seats: BTreeMap<(u32, [u8; 16]), u64>,
+}
+
+impl TraceRows {
+    /// No rows of any tenant, which take no memory.
+    pub fn new(alloc: Global) -> Self
+        ensures rows { (tenant : ℕ) → rows_part tenant result ≡ λ _. None }
+        ensures seats { (tenant : ℕ) → seats_part tenant result ≡ λ _. None }
+    {
+        TraceRows {
+            rows: BTreeMap::new(alloc),
+            seats: BTreeMap::new(alloc),
+        }
+    }
+
+    /// The number of the latest row of the tenant's trace, where it has one.
+    pub fn seat(&self, tenant: u32, trace: [u8; 16]) -> Option<u64>
+        ensures { result ≡ seats_part tenant self.now trace }
+    {
+        self.seats.get(&(tenant, trace)).copied()
+    }
+
+    /// The tenant's row of this number, where there is one.
+    pub fn row(&self, tenant: u32, number: u64) -> Option<&Row>
+        ensures { option_copied result ≡ rows_part tenant self.now number }
+    {
+        self.rows.get(&(tenant, number))
+    }
+
+    /// A row opens under a number that has none, as the latest of its trace. The answer is the trace's latest row until
+    /// now, which `undo_open` wants.
+    pub fn open(&mut self, tenant: u32, number: u64, row: Row) -> Result<Option<u64>, AllocError>
+        requires { rows_part tenant self.old number ≡ None }
+        ensures earlier { IfOk result (λ earlier. earlier ≡ seats_part tenant self.old row.trace) }
+        ensures rows { OnOk result (rows_part tenant self.new ≡
+            with_at number (Some row) (rows_part tenant self.old)) }
+        ensures seats { OnOk result (seats_part tenant self.new ≡
+            with_seat row.trace (Some number) (seats_part tenant self.old)) }
+
+        // Other tenants' parts stay as they were, and where memory is refused this tenant's too.
+        ensures others { (other : ℕ) → other ≢ tenant → IsSame other self.old self.new }
+        ensures refused { OnErr result (IsSame tenant self.old self.new) }
+    {
+        let trace = row.trace;
+        self.rows.insert((tenant, number), row)?;
+        match self.seats.insert((tenant, trace), number) {
+            Ok(earlier) => Ok(earlier),
+            Err(failed) => {
+                self.rows.remove(&(tenant, number));
+                Err(failed.into())
+            }
+        }
+    }
+
+    /// One more key in the row. Where there is no such row, nothing changes.
+    pub fn join(&mut self, tenant: u32, number: u64, key: usize) -> Result<(), AllocError>
+        ensures rows { OnOk result (rows_part tenant self.new ≡
+            with_at number (joined key (rows_part tenant self.old number)) (rows_part tenant self.old)) }
+        ensures seats { seats_part tenant self.new ≡ seats_part tenant self.old }
+
+        // Other tenants' parts stay as they were, and where memory is refused this tenant's too.
+        ensures others { (other : ℕ) → other ≢ tenant → IsSame other self.old self.new }
+        ensures refused { OnErr result (IsSame tenant self.old self.new) }
+    {
+        let Some(row) = self.rows.get_mut(&(tenant, number)) else {
+            return Ok(());
+        };
+        row.keys.push(key)?;
+        Ok(())
+    }
+
+    /// Takes back the latest key of the row, without memory.
+    pub fn undo_join(&mut self, tenant: u32, number: u64)
+        ensures rows { rows_part tenant self.new ≡
+            with_at number (unjoined (rows_part tenant self.old number)) (rows_part tenant self.old) }
+        ensures seats { seats_part tenant self.new ≡ seats_part tenant self.old }
+        ensures others { (other : ℕ) → other ≢ tenant → IsSame other self.old self.new }
+    {
+        let Some(row) = self.rows.get_mut(&(tenant, number)) else {
+            return;
+        };
+        row.keys.pop();
+    }
+
+    /// Takes back the row that opened, without memory. It is the latest of its trace; before it `earlier` was, as
+    /// `open` answered.
+    pub fn undo_open(&mut self, tenant: u32, number: u64, trace: [u8; 16], earlier: Option<u64>)
+        ensures rows { rows_part tenant self.new ≡ with_at number None (rows_part tenant self.old) }
+        ensures seats { seats_part tenant self.old trace ≢ None →
+            seats_part tenant self.new ≡ with_seat trace earlier (seats_part tenant self.old) }
+        ensures others { (other : ℕ) → other ≢ tenant → IsSame other self.old self.new }
+    {
+        self.rows.remove(&(tenant, number));
+        let Some(earlier) = earlier else {
+            self.seats.remove(&(tenant, trace));
+            return;
+        };
+        let Some(seat) = self.seats.get_mut(&(tenant, trace)) else {
+            return;
+        };
+        *seat = earlier;
+    }
+
+    /// The row is decided: it keeps the verdict, and the answer is the keys that it had. It takes no memory.
+    pub fn settle(&mut self, alloc: Global, tenant: u32, number: u64, sampled: bool) -> Keys
+        ensures keys { result ≡ keys_of (rows_part tenant self.old number) }
+        ensures rows { rows_part tenant self.new ≡
+            with_at number (settled sampled (rows_part tenant self.old number)) (rows_part tenant self.old) }
+        ensures seats { seats_part tenant self.new ≡ seats_part tenant self.old }
+        ensures others { (other : ℕ) → other ≢ tenant → IsSame other self.old self.new }
+    {
+        let Some(row) = self.rows.get_mut(&(tenant, number)) else {
+            return Keys::new(alloc);
+        };
+        row.sampled = sampled;
+        std::mem::replace(&mut row.keys, Keys::new(alloc))
+    }
+
+    /// The row leaves, and its trace's seat with it, unless a later row has the seat. The answer is the keys that it
+    /// had. It takes no memory.
+    pub fn sweep(&mut self, alloc: Global, tenant: u32, number: u64) -> Keys
+        ensures keys { result ≡ keys_of (rows_part tenant self.old number) }
+        ensures rows { rows_part tenant self.new ≡ with_at number None (rows_part tenant self.old) }
+        ensures seats { seats_part tenant self.new ≡
+            unseated number (trace_in (rows_part tenant self.old number)) (seats_part tenant self.old) }
+        ensures others { (other : ℕ) → other ≢ tenant → IsSame other self.old self.new }
+    {
+        let Some(row) = self.rows.remove(&(tenant, number)) else {
+            return Keys::new(alloc);
+        };
+        self.unseat(tenant, number, row.trace);
+        row.keys
+    }
+
+    /// The seat of a trace goes, where it is this row.
+    fn unseat(&mut self, tenant: u32, number: u64, trace: [u8; 16])
+        ensures rows { (other : ℕ) → rows_part other self.new ≡ rows_part other self.old }
+        ensures seats { seats_part tenant self.new ≡
+            unseated number (Some trace) (seats_part tenant self.old) }
+        ensures others { (other : ℕ) → other ≢ tenant → seats_part other self.new ≡ seats_part other self.old }
+    {
+        if self.seat(tenant, trace) == Some(number) {
+            self.seats.remove(&(tenant, trace));
+        }
+    }
+}
