@@ -54,12 +54,12 @@ module _ {X : Type 0} where
 
 module _ {X : Type 0} where
   -- a plan that cuts nothing, and one that cuts, as what the batcher keeps once it is taken
-  pub plans_short : (r : Rules) (start : Option ℕ) (pending : List X) (m : ℕ) (spans : List X) (old : State X) (answered : List (Batch X)) (all : List X) → record { rules = r; start = start; spans = pending } ≡ old → IsSound r → IsAfter (next_due old) m → 0 < length spans →
-      all ≡ pending ++ spans → length all < threshold r → answered ≡ [] → Adds m spans old answered (record { rules = old.rules; start = Some (unwrap_or start m); spans = all })
-  plans_short r start pending m spans old answered all is sound after some e lt none =
+  pub plans_short : (r : Rules) (start : Option ℕ) (pending : List X) (m : ℕ) (spans : List X) (old : State X) (answered : List (Batch X)) (all : List X) (start' : ℕ) → record { rules = r; start = start; spans = pending } ≡ old → IsSound r → IsAfter (next_due old) m → 0 < length spans →
+      all ≡ pending ++ spans → length all < threshold r → answered ≡ [] → start' ≡ unwrap_or start m → Adds m spans old answered (record { rules = old.rules; start = Some start'; spans = all })
+  plans_short r start pending m spans old answered all start' is sound after some e lt none e' =
       let few : length (pending ++ spans) < threshold r = subst (λ (ss : List X). length ss < threshold r) e lt in
       let rules : r ≡ old.rules = ap (λ (s : State X). s.rules) is in
-      subst (λ (q : Rules). Adds m spans old answered (record { rules = q; start = Some (unwrap_or start m); spans = all })) rules (adds_short r start pending m spans old answered all is sound after some few none e)
+      rw e' (subst (λ (q : Rules). Adds m spans old answered (record { rules = q; start = Some (unwrap_or start m); spans = all })) rules (adds_short r start pending m spans old answered all is sound after some few none e))
 
 module _ {X : Type 0} where
   pub plans_far : (r : Rules) (start : Option ℕ) (pending : List X) (m : ℕ) (spans : List X) (old : State X) (answered : List (Batch X)) (all rest : List X) (start' : Option ℕ) → record { rules = r; start = start; spans = pending } ≡ old → IsSound r → IsAfter (next_due old) m → 0 < length spans →

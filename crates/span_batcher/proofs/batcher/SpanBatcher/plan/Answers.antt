@@ -11,7 +11,7 @@ returns-then-len-threshold c =
     let all : c.extend_from_slice.new.self.items ≡ pending ++ c.args.spans.now = c.in_ok-extend_from_slice.ensures.items ∙ ap (λ (ss : List ℕ). ss ++ c.args.spans.now) (c.in_ok-all.ensures.items ∙ c.deref.ensures.value) in
     let few : length c.extend_from_slice.new.self.items < threshold r = omega arith in
     let start : c.unwrap_or.result ≡ unwrap_or c.self.inside.start c.args.moment = c.unwrap_or.ensures in
-    rw start (plans_short r c.self.inside.start pending c.args.moment c.args.spans.now c.args.self.now c.new-batches.result.items c.extend_from_slice.new.self.items c.self.view_is (c.self.invariant.some, c.self.invariant.limit) c.requires.timer c.requires.some all few c.new-batches.ensures.items)
+    plans_short r c.self.inside.start pending c.args.moment c.args.spans.now c.args.self.now c.new-batches.result.items c.extend_from_slice.new.self.items c.unwrap_or.result c.self.view_is (c.self.invariant.some, c.self.invariant.limit) c.requires.timer c.requires.some all few c.new-batches.ensures.items start
 
 pub returns : goal.returns
 returns c =
