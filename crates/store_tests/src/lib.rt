@@ -5,4 +5,6 @@
 #[cfg(test)]
 mod agenda;
 #[cfg(test)]
+mod batcher;
+#[cfg(test)]
 mod rows;

@@ -1,0 +1,196 @@
+//! The pending spans of one tenant.
+
+ghost use Rattle.std.specs.Prelude.{◌≡◌, ℕ, ◌+◌, ◌^◌, ◌≤◌, ◌<◌, List, [], ◌∷◌, ◌++◌, length, IfOk, Option, Some, None, ◌≢◌};
+ghost use Rattle.span_batcher.specs.Batches.{IsSound, at_most};
+ghost use Rattle.span_batcher.specs.State.{State, state, next_due, IsAfter, Adds, Fires, Drains, Begins};
+ghost use Rattle.span_batcher.specs.Machine.{rules_of, threshold, start_in, cuts, uncut, taken};
+
+use crate::batch::Batch;
+use crate::planned::Planned;
+use std::alloc::{AllocError, Global};
+use std::marker::Model;
+
+/// Spans that wait until there are enough of them, or long enough.
+#[derive(Drop)]
+pub struct SpanBatcher {
+    alloc: Global,
+    timeout: u64,
+    size: usize,
+    most: usize,
+    start: Option<u64>,
+    spans: Vec<usize>,
+}
+
+impl Model for SpanBatcher {
+    ghost use Rattle.std.specs.Prelude.{ℕ};
+    ghost use Rattle.span_batcher.specs.State.{State};
+    ghost use Rattle.span_batcher.specs.Machine.{IsFit};
+
+    ghost Value = { State ℕ };
+
+    ghost view = { λ b. record {
+      rules = record { timeout = b.timeout; size = b.size; most = b.most };
+      start = b.start;
+      spans = b.spans.items;
+    } };
+
+    ghost invariant = { λ b. IsFit b.timeout b.size b.most b.start };
+}
+
+/// From how many pending spans on a batch is cut: with no timeout from one on.
+fn threshold(timeout: u64, size: usize) -> usize
+    ensures { result ≡ threshold (rules_of timeout size 0) }
+{
+    if timeout == 0 { 1 } else { size }
+}
+
+/// How many of so many pending spans a batch takes.
+fn at_most(most: usize, count: usize) -> usize
+    ensures { result ≡ at_most most count }
+{
+    if most == 0 { count } else { most.min(count) }
+}
+
+/// When the timer of a new rest starts.
+fn start_in(moment: u64, rest: &[usize]) -> Option<u64>
+    ensures { result ≡ start_in moment rest.now }
+{
+    match rest {
+        [] => None,
+        [_, ..] => Some(moment),
+    }
+}
+
+/// The batches of the spans, and the rest.
+fn cut_all(
+    alloc: Global,
+    timeout: u64,
+    size: usize,
+    most: usize,
+    moment: u64,
+    all: &[usize],
+) -> Result<(Vec<Batch>, Vec<usize>), AllocError>
+    requires sound { IsSound (rules_of timeout size most) }
+    ensures batches { IfOk result (λ cut. cut.0.items ≡ cuts (rules_of timeout size most) moment all.now) }
+    ensures rest { IfOk result (λ cut. cut.1.items ≡ uncut (rules_of timeout size most) all.now) }
+{
+    let least = threshold(timeout, size);
+    let mut batches = Vec::new(alloc);
+    let mut rest = all;
+    while least <= rest.len() {
+        let count = at_most(most, rest.len());
+        let (front, back) = rest.split_at(count);
+        let spans = Vec::from_slice(alloc, front)?;
+        batches.push(Batch::new(moment, spans))?;
+        rest = back;
+    }
+    let left = Vec::from_slice(alloc, rest)?;
+    Ok((batches, left))
+}
+
+impl SpanBatcher {
+    /// No spans are pending. The timeout is in milliseconds, of which 0 is no wait; `size` spans fill a batch, and
+    /// `most` is the greatest number of spans in one, of which 0 is no limit.
+    pub fn new(alloc: Global, timeout: u64, size: usize, most: usize) -> Self
+        requires sound { IsSound (rules_of timeout size most) }
+        requires timer { timeout ≤ 2 ^ 32 }
+        ensures { Begins (rules_of timeout size most) result }
+    {
+        SpanBatcher {
+            alloc,
+            timeout,
+            size,
+            most,
+            start: None,
+            spans: Vec::new(alloc),
+        }
+    }
+
+    /// When the timer runs out, in milliseconds; none where nothing is pending.
+    pub fn next_due(&self) -> Option<u64>
+        ensures { result ≡ next_due self.now }
+    {
+        match self.start {
+            None => None,
+            Some(start) => Some(start + self.timeout),
+        }
+    }
+
+    /// What a group of spans makes of the pending ones at a moment in milliseconds, before the timer runs out. Nothing
+    /// changes yet, and `take` makes it so.
+    pub fn plan(&self, moment: u64, spans: &[usize]) -> Result<Planned, AllocError>
+        requires some { 0 < length spans.now }
+        requires moment { moment ≤ 2 ^ 62 }
+        requires timer { IsAfter (next_due self.now) moment }
+        ensures { IfOk result (λ planned. Adds moment spans.now self.now planned.batches (taken planned self.now)) }
+    {
+        let mut all = Vec::from_slice(self.alloc, &self.spans)?;
+        all.extend_from_slice(spans)?;
+        if all.len() < threshold(self.timeout, self.size) {
+            let start = Some(self.start.unwrap_or(moment));
+            let batches = Vec::new(self.alloc);
+            return Ok(Planned {
+                batches,
+                start,
+                spans: all,
+            });
+        }
+        let (batches, rest) = cut_all(
+            self.alloc,
+            self.timeout,
+            self.size,
+            self.most,
+            moment,
+            &all,
+        )?;
+        let start = start_in(moment, &rest);
+        Ok(Planned {
+            batches,
+            start,
+            spans: rest,
+        })
+    }
+
+    /// What was planned comes about, and its batches leave. It takes no memory.
+    pub fn take(&mut self, planned: Planned) -> Vec<Batch>
+        ensures batches { result.items ≡ planned.batches }
+        ensures pending { self.new ≡ taken planned self.old }
+    {
+        let Planned {
+            batches,
+            start,
+            spans,
+        } = planned;
+        self.start = start;
+        self.spans = spans;
+        batches
+    }
+
+    /// The timer runs out: all that is pending is one batch. It takes no memory.
+    pub fn fire(&mut self) -> Batch
+        requires pending { next_due self.old ≢ None }
+        ensures { (due : ℕ) → next_due self.old ≡ Some due → Fires due self.old result self.new }
+    {
+        let due = match self.start {
+            None => unreachable!(),
+            Some(start) => start + self.timeout,
+        };
+        let spans = std::mem::replace(&mut self.spans, Vec::new(self.alloc));
+        self.start = None;
+        Batch::new(due, spans)
+    }
+
+    /// The drain, at a moment in milliseconds before the timer runs out: all that is pending is one batch, with no
+    /// more wait. It takes no memory.
+    pub fn drain(&mut self, moment: u64) -> Option<Batch>
+        requires timer { IsAfter (next_due self.old) moment }
+        ensures { Drains moment self.old result self.new }
+    {
+        self.start = None;
+        if self.spans.is_empty() {
+            return None;
+        }
+        let spans = std::mem::replace(&mut self.spans, Vec::new(self.alloc));
+        Some(Batch::new(moment, spans))
+    }
+}
