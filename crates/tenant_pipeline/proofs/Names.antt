@@ -1,5 +1,5 @@
 -- Spans whose numbers name what they have, as numbers are handed out and spans come.
-use Rattle.std.proofs.Common.{◌≡◌, ◌<◌, ◌≤◌, ◌+◌, ◌-◌, ◌^◌, ℕ, min, Bool, true, false, cond, eqb, leb, ltb, List, [], ◌∷◌, ◌++◌, length, map, drop, get_or, None, refl, sym, ap, ◌∙◌, subst, arith}
+use Rattle.std.proofs.Common.{◌≡◌, ◌<◌, ◌≤◌, ◌+◌, ◌-◌, ◌^◌, ℕ, min, Bool, true, false, cond, eqb, leb, ltb, List, [], ◌∷◌, ◌++◌, length, map, take, drop, get_or, None, refl, sym, ap, ◌∙◌, subst, arith}
 use Rattle.std.specs.Prelude.{◌&&◌}
 use Rattle.std.proofs.lemmas.Bool.Decides.{nat_tests}
 use Rattle.std.proofs.Math.Nat.{le-min}
@@ -10,7 +10,7 @@ use Rattle.tenant_pipeline.specs.declared.rows.Row.{Row}
 use Rattle.tenant_pipeline.specs.declared.rows.Group.{Group}
 use Rattle.tenant_pipeline.specs.declared.rows.Backlog.{Backlog}
 use Rattle.tenant_pipeline.specs.Numbered.{AreNumbered, AreNumberedWith, AreRowsNamed, AreGroupsNamed, AreAllNamed, AreAllNumbered}
-use Rattle.tenant_pipeline.proofs.Numbered.{every_weaker, every_at, every_drop, every_pushed}
+use Rattle.tenant_pipeline.proofs.Numbered.{every_weaker, every_at, every_take, every_drop, every_pushed}
 
 -- ---- spans of one batch
 
@@ -27,6 +27,9 @@ alike_at last spans i j one other are within its is other_is =
 
 pub numbered_drop : (last n : ℕ) (spans : List StoredData) → AreNumbered last spans → AreNumbered last (drop n spans)
 numbered_drop last n spans are = record { names = are.names; named = every_drop (IsNamed are.names last) n spans are.named }
+
+pub numbered_take : (last n : ℕ) (spans : List StoredData) → AreNumbered last spans → AreNumbered last (take n spans)
+numbered_take last n spans are = record { names = are.names; named = every_take (IsNamed are.names last) n spans are.named }
 
 -- ---- numbers that are handed out
 
