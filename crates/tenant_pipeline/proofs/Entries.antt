@@ -1,5 +1,5 @@
 -- The rows as a map's entries.
-use Rattle.std.proofs.Common.{◌≡◌, ℕ, zero, suc, ◌+◌, ◌-◌, ◌≤◌, Bool, true, false, cond, not, List, [], ◌∷◌, ◌++◌, map, length, take, set, slice_get, position, Option, Some, None, refl, sym, ap, ◌∙◌, arith, ltb, length-append, append_assoc, append-nil}
+use Rattle.std.proofs.Common.{◌≡◌, ℕ, zero, suc, ◌+◌, ◌-◌, ◌≤◌, Bool, true, false, cond, not, List, [], ◌∷◌, ◌++◌, map, length, take, set, slice_get, position, Option, Some, None, refl, sym, ap, ◌∙◌, arith, ltb, length-append, append-nil}
 use Rattle.std.specs.Prelude.{option_map}
 use Rattle.std.proofs.lemmas.List.{length-map, take-map}
 use Rattle.std.specs.List.{position_or_len}
@@ -13,16 +13,21 @@ use Rattle.indexmap.specs.IndexMap.{insert_entry}
 use Rattle.std.proofs.lemmas.List.Elements.{filter-append}
 use Rattle.tail_settings.specs.Policy.{PolicyData}
 use Rattle.tenant_pipeline.specs.declared.place.Addition.{Addition}
-use Rattle.tenant_pipeline.specs.declared.place.Addition.TheVariants.{Joined, Late, NotSampled}
+use Rattle.tenant_pipeline.specs.declared.place.Addition.TheVariants.{Opened, Late, NotSampled}
 use Rattle.tenant_pipeline.specs.declared.rows.Row.{Row}
 use Rattle.tenant_pipeline.specs.Arrivals.{Arrival, arrivals_in, valid, is_valid}
 use Rattle.tenant_pipeline.specs.Groups.{GroupData, are_sampled}
 use Rattle.tenant_pipeline.specs.State.{RowData}
 use Rattle.tenant_pipeline.specs.Rows.{trace_of, is_same}
 use Rattle.tenant_pipeline.specs.Timers.{settled}
-use Rattle.tenant_pipeline.specs.Machine.{rows_with, late_with, rows_with_all, late_with_all, joined, late_of, IsDecided}
-use Rattle.tenant_pipeline.specs.Additions.{addition_to, but_last, shortened, without_last, rows_before, queue_before, rows_without, queue_without}
+use Rattle.tenant_pipeline.specs.Machine.{rows_with, late_with, joined, late_of, group_if_late}
+use Rattle.tenant_pipeline.specs.Backlog.{BacklogData, with_span, with_spans, IsDecided}
+use Rattle.tenant_pipeline.specs.Additions.{addition_to, but_last, shortened, without_last, before, without}
 use Rattle.tenant_pipeline.specs.View.{row_view, row_views}
+
+-- from the parts
+pub same_backlog : (a b : BacklogData) → a.rows ≡ b.rows → a.queue ≡ b.queue → a ≡ b
+same_backlog a b rows queue = λ j. record { rows = rows j; queue = queue j }
 
 -- the row at a place
 pub record RowAt (es : List (List ℕ × Row)) (i : ℕ) (v : Row) : Type 0 where
@@ -89,7 +94,7 @@ but_last-map f xs = sym (ap (λ n. take (n - 1) (map f xs)) (length-map xs f) �
 -- a row that was decided
 pub decided_at : (policies : List PolicyData) (es : List (List ℕ × Row)) (i : ℕ) (v w : Row) (queue new_queue : List GroupData) → slice_get (values_of es) i ≡ Some v → w.due ≡ v.due → w.spans.items ≡ [] →
     w.sampled ≡ are_sampled policies (arrivals_in v.spans.items) → new_queue ≡ queue ++ cond (are_sampled policies (arrivals_in v.spans.items)) (record { moment = v.due; spans = arrivals_in v.spans.items } ∷ []) [] →
-    IsDecided policies i w.due (row_views es) queue (row_views (set_value_at es i w)) new_queue
+    IsDecided policies i w.due (record { rows = row_views es; queue = queue }) (record { rows = row_views (set_value_at es i w); queue = new_queue })
 decided_at policies es i v w queue new_queue is due spans sampled queued =
     let at = row_at es i v is in
     let none = ap arrivals_in spans in
@@ -163,52 +168,58 @@ missing_by n len false t e = grind (arith, nat_tests)
 pub missing : (p : List ℕ → Bool) (ks : List (List ℕ)) → position p ks ≡ None → length ks ≤ position_or_len p ks
 missing p ks e = missing_by (position_or_len p ks) (length ks) (ltb (position_or_len p ks) (length ks)) refl e
 
+-- what a span's coming did, and that this addition takes it back
+pub record CameAs (wait moment : ℕ) (x : Arrival) (addition : Addition) (old new : BacklogData) : Type 0 where
+  pub ok : new ≡ with_span wait moment x old
+  pub back : before addition new ≡ old
+
+-- a late span is taken back
+late_back : (sampled : Bool) (rows new_rows : List RowData) (queue new_queue : List GroupData) (group : GroupData) → new_rows ≡ rows → new_queue ≡ queue ++ cond sampled (group ∷ []) [] →
+    before (cond sampled Late NotSampled) (record { rows = new_rows; queue = new_queue }) ≡ record { rows = rows; queue = queue }
+late_back true rows new_rows queue new_queue group same queued = same_backlog _ _ same (ap but_last queued ∙ but_last-push queue group)
+late_back false rows new_rows queue new_queue group same queued = same_backlog _ _ same (queued ∙ append-nil queue)
+
+-- the groups that wait, by whether the span is in time
+queued_by : (moment due : ℕ) (x : Arrival) (sampled b : Bool) (queue new_queue : List GroupData) → ltb moment due ≡ b → new_queue ≡ queue ++ group_if_late moment x due sampled → new_queue ≡ queue ++ cond b [] (cond sampled (record { moment = moment; spans = x ∷ [] } ∷ []) [])
+queued_by moment due x sampled b queue new_queue test queued = queued ∙ ap (λ t. queue ++ cond t [] (cond sampled (record { moment = moment; spans = x ∷ [] } ∷ []) [])) test
+
 -- a span that comes to the row at a place: it joins the row, or is late
-pub record JoinedAt (wait moment : ℕ) (x : Arrival) (es : List (List ℕ × Row)) (i : ℕ) (v w : Row) : Type 0 where
-  pub rows : row_views (set_value_at es i w) ≡ rows_with wait moment x (row_views es)
-  pub late : late_with moment x (row_views es) ≡ cond (ltb moment v.due) [] (cond v.sampled (record { moment = moment; spans = x ∷ [] } ∷ []) [])
-  pub back : rows_before (addition_to i moment v.due v.sampled) (row_views (set_value_at es i w)) ≡ row_views es
-
-rows_late : (sampled : Bool) (rows : List RowData) → rows_before (cond sampled Late NotSampled) rows ≡ rows
-rows_late true rows = refl
-rows_late false rows = refl
-
-joined_by : (wait moment : ℕ) (x : Arrival) (es : List (List ℕ × Row)) (i : ℕ) (v w : Row) (b : Bool) (at : RowAt es i v) →
+joined_by : (wait moment : ℕ) (x : Arrival) (es : List (List ℕ × Row)) (i : ℕ) (v w : Row) (queue new_queue : List GroupData) (b : Bool) (at : RowAt es i v) →
     (rows_with wait moment x (row_views es) ≡ set (row_views es) i (joined moment x (row_view (at.trace, v)))) → (late_with moment x (row_views es) ≡ late_of moment x (row_view (at.trace, v))) →
-    ltb moment v.due ≡ b → w.due ≡ v.due → w.sampled ≡ v.sampled → arrivals_in w.spans.items ≡ cond b (arrivals_in v.spans.items ++ x ∷ []) (arrivals_in v.spans.items) → JoinedAt wait moment x es i v w
-joined_by wait moment x es i v w true at with late test due sampled spans =
+    ltb moment v.due ≡ b → w.due ≡ v.due → w.sampled ≡ v.sampled → arrivals_in w.spans.items ≡ cond b (arrivals_in v.spans.items ++ x ∷ []) (arrivals_in v.spans.items) → new_queue ≡ queue ++ group_if_late moment x v.due v.sampled →
+    CameAs wait moment x (addition_to i moment v.due v.sampled) (record { rows = row_views es; queue = queue }) (record { rows = row_views (set_value_at es i w); queue = new_queue })
+joined_by wait moment x es i v w queue new_queue true at with late test due sampled spans queued =
     let grown : RowData = record { trace = at.trace; due = v.due; spans = arrivals_in v.spans.items ++ x ∷ []; sampled = v.sampled } in
     let row : row_view (at.trace, w) ≡ grown = λ j. record { trace = at.trace; due = due j; spans = spans j; sampled = sampled j } in
     let join : joined moment x (row_view (at.trace, v)) ≡ grown = rw test refl in
     let written : row_views (set_value_at es i w) ≡ set (row_views es) i grown = set_row es i at.trace v w at.entry ∙ ap (set (row_views es) i) row in
     let short : without_last grown ≡ row_view (at.trace, v) = ap (λ (xs : List Arrival). record { trace = at.trace; due = v.due; spans = xs; sampled = v.sampled }) (but_last-push (arrivals_in v.spans.items) x) in
     let back : shortened i (row_views (set_value_at es i w)) ≡ row_views es = ap (shortened i) written ∙ shortened-set (row_views es) i (row_view (at.trace, v)) _ at.view short in
-    record { rows = written ∙ (sym (ap (set (row_views es) i) join) ∙ sym with); late = late; back = rw test back }
-joined_by wait moment x es i v w false at with late test due sampled spans =
+    let as_before : new_queue ≡ queue = queued_by moment v.due x v.sampled true queue new_queue test queued ∙ append-nil queue in
+    record {
+      ok = same_backlog _ _ (written ∙ (sym (ap (set (row_views es) i) join) ∙ sym with)) (queued ∙ ap (λ gs. queue ++ gs) (sym late));
+      back = rw test (same_backlog _ _ back as_before);
+    }
+joined_by wait moment x es i v w queue new_queue false at with late test due sampled spans queued =
     let row : row_view (at.trace, w) ≡ row_view (at.trace, v) = λ j. record { trace = at.trace; due = due j; spans = spans j; sampled = sampled j } in
     let join : joined moment x (row_view (at.trace, v)) ≡ row_view (at.trace, v) = rw test refl in
     let same : row_views (set_value_at es i w) ≡ row_views es = set_row es i at.trace v w at.entry ∙ (ap (set (row_views es) i) row ∙ set_same (row_views es) i (row_view (at.trace, v)) at.view) in
     let as_before : rows_with wait moment x (row_views es) ≡ row_views es = with ∙ (ap (set (row_views es) i) join ∙ set_same (row_views es) i (row_view (at.trace, v)) at.view) in
-    record { rows = same ∙ sym as_before; late = late; back = rw test (rows_late v.sampled _ ∙ same) }
+    let group : GroupData = record { moment = moment; spans = x ∷ [] } in
+    record {
+      ok = same_backlog _ _ (same ∙ sym as_before) (queued ∙ ap (λ gs. queue ++ gs) (sym late));
+      back = rw test (late_back v.sampled (row_views es) (row_views (set_value_at es i w)) queue new_queue group same (queued_by moment v.due x v.sampled false queue new_queue test queued));
+    }
 
-pub joined_at : (wait moment : ℕ) (x : Arrival) (es : List (List ℕ × Row)) (i : ℕ) (v w : Row) → position (is_same (trace_of x)) (keys_of es) ≡ Some i → slice_get (values_of es) i ≡ Some v →
-    w.due ≡ v.due → w.sampled ≡ v.sampled → arrivals_in w.spans.items ≡ cond (ltb moment v.due) (arrivals_in v.spans.items ++ x ∷ []) (arrivals_in v.spans.items) → JoinedAt wait moment x es i v w
-joined_at wait moment x es i v w found is due sampled spans =
+pub joined_at : (wait moment : ℕ) (x : Arrival) (es : List (List ℕ × Row)) (i : ℕ) (v w : Row) (queue new_queue : List GroupData) → position (is_same (trace_of x)) (keys_of es) ≡ Some i → slice_get (values_of es) i ≡ Some v →
+    w.due ≡ v.due → w.sampled ≡ v.sampled → arrivals_in w.spans.items ≡ cond (ltb moment v.due) (arrivals_in v.spans.items ++ x ∷ []) (arrivals_in v.spans.items) → new_queue ≡ queue ++ group_if_late moment x v.due v.sampled →
+    CameAs wait moment x (addition_to i moment v.due v.sampled) (record { rows = row_views es; queue = queue }) (record { rows = row_views (set_value_at es i w); queue = new_queue })
+joined_at wait moment x es i v w queue new_queue found is due sampled spans queued =
     let at = row_at es i v is in
     let n = found_at (is_same (trace_of x)) (keys_of es) i found in
     let there : slice_get (row_views es) (position_or_len (is_same (trace_of x)) (keys_of es)) ≡ Some (row_view (at.trace, v)) = ap (slice_get (row_views es)) n ∙ at.view in
     let parts = rows_with-at wait moment x es (row_view (at.trace, v)) there in
-    joined_by wait moment x es i v w (ltb moment v.due) at (parts.0 ∙ ap (λ k. set (row_views es) k (joined moment x (row_view (at.trace, v)))) n) parts.1 refl due sampled spans
-
--- and how its group is taken back
-pub queue_back : (i moment due : ℕ) (sampled : Bool) (queue : List GroupData) (group : GroupData) →
-    queue_before (addition_to i moment due sampled) (queue ++ cond (ltb moment due) [] (cond sampled (group ∷ []) [])) ≡ queue
-queue_back i moment due sampled queue group = by (ltb moment due) sampled
-  where
-    by : (in_time sampled : Bool) → queue_before (cond in_time (Joined i) (cond sampled Late NotSampled)) (queue ++ cond in_time [] (cond sampled (group ∷ []) [])) ≡ queue
-    by true sampled = append-nil queue
-    by false true = but_last-push queue group
-    by false false = append-nil queue
+    joined_by wait moment x es i v w queue new_queue (ltb moment v.due) at (parts.0 ∙ ap (λ k. set (row_views es) k (joined moment x (row_view (at.trace, v)))) n) parts.1 refl due sampled spans queued
 
 -- a span that opens a row
 insert_by : (k : List ℕ) (w : Row) (e : List ℕ × Row) (es : List (List ℕ × Row)) (n : ℕ) (b : Bool) → (length (keys_of es) ≤ n → insert_entry is_same es k w ≡ es ++ (k, w) ∷ []) → 1 + length (keys_of es) ≤ cond (not b) (1 + n) 0 →
@@ -220,40 +231,29 @@ insert_entry-end : (k : List ℕ) (w : Row) (es : List (List ℕ × Row)) → le
 insert_entry-end k w [] all = refl
 insert_entry-end k w (e ∷ es) all = insert_by k w e es (position_or_len (is_same k) (keys_of es)) (is_same k e.0) (insert_entry-end k w es) (omega arith)
 
-pub record OpenedAt (wait moment : ℕ) (x : Arrival) (es new : List (List ℕ × Row)) : Type 0 where
-  pub rows : row_views new ≡ rows_with wait moment x (row_views es)
-  pub late : late_with moment x (row_views es) ≡ []
-  pub back : but_last (row_views new) ≡ row_views es
-
-pub opened_at : (wait moment : ℕ) (x : Arrival) (es new : List (List ℕ × Row)) (w : Row) → position (is_same (trace_of x)) (keys_of es) ≡ None → new ≡ insert_entry is_same es (trace_of x) w →
-    w.due ≡ moment + wait → w.sampled ≡ false → arrivals_in w.spans.items ≡ x ∷ [] → OpenedAt wait moment x es new
-opened_at wait moment x es new w found is due sampled spans =
+pub opened_at : (wait moment : ℕ) (x : Arrival) (es new : List (List ℕ × Row)) (queue : List GroupData) (w : Row) → position (is_same (trace_of x)) (keys_of es) ≡ None → new ≡ insert_entry is_same es (trace_of x) w →
+    w.due ≡ moment + wait → w.sampled ≡ false → arrivals_in w.spans.items ≡ x ∷ [] → CameAs wait moment x Opened (record { rows = row_views es; queue = queue }) (record { rows = row_views new; queue = queue })
+opened_at wait moment x es new queue w found is due sampled spans =
     let past = missing (is_same (trace_of x)) (keys_of es) found in
     let parts = rows_with-end wait moment x es past in
     let opening : RowData = record { trace = trace_of x; due = moment + wait; spans = x ∷ []; sampled = false } in
     let row : row_view (trace_of x, w) ≡ opening = λ j. record { trace = trace_of x; due = due j; spans = spans j; sampled = sampled j } in
     let added : row_views new ≡ row_views es ++ opening ∷ [] =
     ap row_views (is ∙ insert_entry-end (trace_of x) w es past) ∙ (map-append row_view es ((trace_of x, w) ∷ []) ∙ ap (λ (r : RowData). row_views es ++ r ∷ []) row) in
-    record { rows = added ∙ sym parts.0; late = parts.1; back = ap but_last added ∙ but_last-push (row_views es) _ }
+    record {
+      ok = same_backlog _ _ (added ∙ sym parts.0) (sym (append-nil queue) ∙ ap (λ gs. queue ++ gs) (sym parts.1));
+      back = same_backlog _ _ (ap but_last added ∙ but_last-push (row_views es) _) refl;
+    }
 
 -- several additions, and one more
-pub rows_without-push : (done : List Addition) (a : Addition) (rows : List RowData) → rows_without (done ++ a ∷ []) rows ≡ rows_without done (rows_before a rows)
-rows_without-push [] a rows = refl
-rows_without-push (b ∷ done) a rows = ap (rows_before b) (rows_without-push done a rows)
-
-pub queue_without-push : (done : List Addition) (a : Addition) (queue : List GroupData) → queue_without (done ++ a ∷ []) queue ≡ queue_without done (queue_before a queue)
-queue_without-push [] a queue = refl
-queue_without-push (b ∷ done) a queue = ap (queue_before b) (queue_without-push done a queue)
+pub without-push : (done : List Addition) (a : Addition) (backlog : BacklogData) → without (done ++ a ∷ []) backlog ≡ without done (before a backlog)
+without-push [] a backlog = refl
+without-push (b ∷ done) a backlog = ap (before b) (without-push done a backlog)
 
 -- several spans, and more
-pub rows_with_all-append : (wait moment : ℕ) (xs ys : List Arrival) (rows : List RowData) → rows_with_all wait moment (xs ++ ys) rows ≡ rows_with_all wait moment ys (rows_with_all wait moment xs rows)
-rows_with_all-append wait moment [] ys rows = refl
-rows_with_all-append wait moment (x ∷ xs) ys rows = rows_with_all-append wait moment xs ys (rows_with wait moment x rows)
-
-pub late_with_all-append : (wait moment : ℕ) (xs ys : List Arrival) (rows : List RowData) → late_with_all wait moment (xs ++ ys) rows ≡ late_with_all wait moment xs rows ++ late_with_all wait moment ys (rows_with_all wait moment xs rows)
-late_with_all-append wait moment [] ys rows = refl
-late_with_all-append wait moment (x ∷ xs) ys rows =
-    ap (λ zs. late_with moment x rows ++ zs) (late_with_all-append wait moment xs ys (rows_with wait moment x rows)) ∙ sym (append_assoc (late_with moment x rows) (late_with_all wait moment xs (rows_with wait moment x rows)) _)
+pub with_spans-append : (wait moment : ℕ) (xs ys : List Arrival) (backlog : BacklogData) → with_spans wait moment (xs ++ ys) backlog ≡ with_spans wait moment ys (with_spans wait moment xs backlog)
+with_spans-append wait moment [] ys backlog = refl
+with_spans-append wait moment (x ∷ xs) ys backlog = with_spans-append wait moment xs ys (with_span wait moment x backlog)
 
 pub valid-cons : (x : Arrival) (xs : List Arrival) → valid (x ∷ xs) ≡ valid (x ∷ []) ++ valid xs
 valid-cons x xs = filter-append is_valid (x ∷ []) xs

@@ -1,5 +1,5 @@
 -- Spans whose numbers name what they have, as numbers are handed out and spans come.
-use Rattle.std.proofs.Common.{◌≡◌, ◌<◌, ◌≤◌, ◌+◌, ◌-◌, ◌^◌, ℕ, min, Bool, true, false, cond, eqb, leb, ltb, List, [], ◌∷◌, ◌++◌, length, map, drop, get_or, None, refl, sym, ap, ◌∙◌, subst, arith}
+use Rattle.std.proofs.Common.{◌≡◌, ◌<◌, ◌≤◌, ◌+◌, ◌-◌, ◌^◌, ℕ, min, Bool, true, false, cond, eqb, leb, ltb, List, [], ◌∷◌, ◌++◌, length, map, take, drop, get_or, None, refl, sym, ap, ◌∙◌, subst, arith}
 use Rattle.std.specs.Prelude.{◌&&◌}
 use Rattle.std.proofs.lemmas.Bool.Decides.{nat_tests}
 use Rattle.std.proofs.Math.Nat.{le-min}
@@ -8,8 +8,9 @@ use Rattle.span_pool.specs.Stored.{Origin, StoredData}
 use Rattle.span_pool.specs.Named.{Named, Names, IsNumber, IsNamed, AreNamed, AreAlike, resource_of, scope_of, renumbered}
 use Rattle.tenant_pipeline.specs.declared.rows.Row.{Row}
 use Rattle.tenant_pipeline.specs.declared.rows.Group.{Group}
+use Rattle.tenant_pipeline.specs.declared.rows.Backlog.{Backlog}
 use Rattle.tenant_pipeline.specs.Numbered.{AreNumbered, AreNumberedWith, AreRowsNamed, AreGroupsNamed, AreAllNamed, AreAllNumbered}
-use Rattle.tenant_pipeline.proofs.Numbered.{every_weaker, every_at, every_drop, every_pushed}
+use Rattle.tenant_pipeline.proofs.Numbered.{every_weaker, every_at, every_take, every_drop, every_pushed}
 
 -- ---- spans of one batch
 
@@ -26,6 +27,9 @@ alike_at last spans i j one other are within its is other_is =
 
 pub numbered_drop : (last n : ℕ) (spans : List StoredData) → AreNumbered last spans → AreNumbered last (drop n spans)
 numbered_drop last n spans are = record { names = are.names; named = every_drop (IsNamed are.names last) n spans are.named }
+
+pub numbered_take : (last n : ℕ) (spans : List StoredData) → AreNumbered last spans → AreNumbered last (take n spans)
+numbered_take last n spans are = record { names = are.names; named = every_take (IsNamed are.names last) n spans are.named }
 
 -- ---- numbers that are handed out
 
@@ -166,29 +170,29 @@ spans_kept names more base after spans within are = every_weaker (IsNamed names 
   scope = joined_old names.scope more.scope base after s.numbers.scope (scope_of s.origin) within is.scope;
 }) spans are
 
-all_kept : (names more : Names) (base after : ℕ) (entries : List (List ℕ × Row)) (queue : List Group) → base ≤ after → AreAllNamed names base entries queue → AreAllNamed (joined_names base names more) after entries queue
-all_kept names more base after entries queue within are = record {
-  rows = every_weaker _ (λ (e : List ℕ × Row). AreNamed (joined_names base names more) after e.1.spans.items) (λ e is. spans_kept names more base after e.1.spans.items within is) entries are.rows;
-  groups = every_weaker _ (λ (g : Group). AreNamed (joined_names base names more) after g.spans.items) (λ g is. spans_kept names more base after g.spans.items within is) queue are.groups;
+all_kept : (names more : Names) (base after : ℕ) (backlog : Backlog) → base ≤ after → AreAllNamed names base backlog → AreAllNamed (joined_names base names more) after backlog
+all_kept names more base after backlog within are = record {
+  rows = every_weaker _ (λ (e : List ℕ × Row). AreNamed (joined_names base names more) after e.1.spans.items) (λ e is. spans_kept names more base after e.1.spans.items within is) backlog.rows.entries are.rows;
+  groups = every_weaker _ (λ (g : Group). AreNamed (joined_names base names more) after g.spans.items) (λ g is. spans_kept names more base after g.spans.items within is) backlog.queue.items are.groups;
 }
 
 -- a step that keeps the names of what there was and of the spans that came with it
-pub posted : (base last after : ℕ) (spans : List StoredData) (entries new_entries : List (List ℕ × Row)) (queue new_queue : List Group) → base < 2 ^ 64 → after ≡ min (base + last) (2 ^ 64 - 1) → AreAllNumbered base entries queue → AreNumbered last spans
-    → ((names : Names) (l : ℕ) → AreAllNamed names l entries queue → AreNamed names l (map (renumbered base) spans) → AreAllNamed names l new_entries new_queue) → AreAllNumbered after new_entries new_queue
-posted base last after spans entries new_entries queue new_queue fits is are come step =
+pub posted : (base last after : ℕ) (spans : List StoredData) (old new : Backlog) → base < 2 ^ 64 → after ≡ min (base + last) (2 ^ 64 - 1) → AreAllNumbered base old → AreNumbered last spans
+    → ((names : Names) (l : ℕ) → AreAllNamed names l old → AreNamed names l (map (renumbered base) spans) → AreAllNamed names l new) → AreAllNumbered after new
+posted base last after spans old new fits is are come step =
     let names = joined_names base are.names come.names in
     let top = min (base + last) (2 ^ 64 - 1) in
     let above : base ≤ top = le-min (omega arith) (omega arith) in
-    let all : AreAllNamed names top new_entries new_queue = step names top (all_kept are.names come.names base top entries queue above are.named) (renumbered_named are.names come.names base last spans come.named) in
-    record { names = names; named = subst (λ l. AreAllNamed names l new_entries new_queue) (sym is) all }
+    let all : AreAllNamed names top new = step names top (all_kept are.names come.names base top old above are.named) (renumbered_named are.names come.names base last spans come.named) in
+    record { names = names; named = subst (λ l. AreAllNamed names l new) (sym is) all }
 
 -- ---- a tenant's first and last
 
-pub none_kept : (last : ℕ) (entries : List (List ℕ × Row)) (queue : List Group) → entries ≡ [] → queue ≡ [] → AreAllNumbered last entries queue
-none_kept last entries queue none empty =
+pub none_kept : (last : ℕ) (backlog : Backlog) → backlog.rows.entries ≡ [] → backlog.queue.items ≡ [] → AreAllNumbered last backlog
+none_kept last backlog none empty =
     let names : Names = record { resource = λ n. (None, []); scope = λ n. (None, []) } in
     record { names = names; named = record { rows = subst (AreRowsNamed names last) (sym none) tt; groups = subst (AreGroupsNamed names last) (sym empty) tt } }
 
-pub group_numbered : (last : ℕ) (entries : List (List ℕ × Row)) (queue : List Group) (i : ℕ) (group : Group) → AreAllNumbered last entries queue → i < length queue → group ≡ get_or queue i group → AreNumbered last group.spans.items
-group_numbered last entries queue i group are within is =
-    record { names = are.names; named = every_at (λ (g : Group). AreNamed are.names last g.spans.items) queue i group within is are.named.groups }
+pub group_numbered : (last : ℕ) (backlog : Backlog) (i : ℕ) (group : Group) → AreAllNumbered last backlog → i < length backlog.queue.items → group ≡ get_or backlog.queue.items i group → AreNumbered last group.spans.items
+group_numbered last backlog i group are within is =
+    record { names = are.names; named = every_at (λ (g : Group). AreNamed are.names last g.spans.items) backlog.queue.items i group within is are.named.groups }

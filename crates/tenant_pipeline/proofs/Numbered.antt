@@ -1,5 +1,5 @@
 -- Rows and groups whose spans' numbers name what the spans have.
-use Rattle.std.proofs.Common.{◌≡◌, ◌<◌, ℕ, zero, suc, Bool, true, false, cond, List, [], ◌∷◌, ◌++◌, length, map, drop, get_or, slice_get, Some, sym, subst, arith}
+use Rattle.std.proofs.Common.{◌≡◌, ◌<◌, ℕ, zero, suc, Bool, true, false, cond, List, [], ◌∷◌, ◌++◌, length, map, take, drop, get_or, slice_get, Some, sym, subst, arith}
 use Rattle.std.specs.List.{AllByRecursion}
 use Rattle.std.specs.Map.{values_of}
 use Rattle.indexmap.specs.Layout.{set_value_at}
@@ -43,6 +43,12 @@ module _ {X : Type 0} (P : X → Type 0) where
   every_drop zero xs all = all
   every_drop (suc n) [] all = tt
   every_drop (suc n) (x ∷ xs) all = every_drop n xs all.1
+
+  -- of the first ones
+  pub every_take : (n : ℕ) (xs : List X) → AllByRecursion P xs → AllByRecursion P (take n xs)
+  every_take zero xs all = tt
+  every_take (suc n) [] all = tt
+  every_take (suc n) (x ∷ xs) all = (all.0, every_take n xs all.1)
 
   -- of what follows
   pub every_weaker : (Q : X → Type 0) → ((x : X) → P x → Q x) → (xs : List X) → AllByRecursion P xs → AllByRecursion Q xs

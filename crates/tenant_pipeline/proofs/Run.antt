@@ -1,5 +1,5 @@
 -- The state goes on by the machine's steps.
-use Rattle.std.proofs.Common.{◌≡◌, ℕ, ◌+◌, ◌<◌, ◌≤◌, List, [], ◌∷◌, ◌++◌, length, refl, sym, ap, ◌∙◌, arith, drop, length-append, append_assoc, append-nil, zero-le}
+use Rattle.std.proofs.Common.{◌≡◌, ℕ, ◌+◌, ◌<◌, ◌≤◌, List, [], ◌∷◌, length, refl, sym, ap, ◌∙◌, arith, drop, length-append, zero-le}
 use Rattle.std.proofs.lemmas.Bool.Decides.{nat_tests}
 use Rattle.std.proofs.lemmas.List.{drop-drop, length-drop}
 use Rattle.tenant_pipeline.specs.Arrivals.{Arrival, valid}
@@ -8,9 +8,10 @@ use Rattle.tenant_pipeline.specs.declared.told.Told.{Told}
 use Rattle.tenant_pipeline.specs.Own.{Own, Post, Turn, clock}
 use Rattle.tenant_pipeline.specs.Rows.{Taken, opened, seated, taken, taken_after}
 use Rattle.tenant_pipeline.specs.Groups.{GroupData, groups}
-use Rattle.tenant_pipeline.specs.State.{State, RowData, decided_count, kept_rows, state_at, state, answer, Answers, tickets, tickets_after, handed}
+use Rattle.tenant_pipeline.specs.State.{State, decided_count, kept_rows, state_at, state, answer, Answers, tickets, tickets_after, handed}
 use Rattle.tenant_pipeline.specs.Ready.{FirstIsLeast}
-use Rattle.tenant_pipeline.specs.Machine.{rows_with, late_with, rows_with_all, late_with_all, advanced, placed, all_placed, set_to, left, handed_out, next, told}
+use Rattle.tenant_pipeline.specs.Machine.{advanced, placed, all_placed, set_to, left, handed_out, next, told}
+use Rattle.tenant_pipeline.specs.Backlog.{BacklogData, with_spans}
 use Rattle.tenant_pipeline.proofs.Seats.{Reached, Reached_more, Reached-taken, OpenedBy-opened}
 use Rattle.tenant_pipeline.proofs.OneByOne.{first_least}
 use Rattle.tenant_pipeline.proofs.Advance.{groups_later, state_at_later}
@@ -92,19 +93,19 @@ answers_by step old new said pos by_told by_next = λ section past stands.
     let pos' : 0 < section.tail_sampling.decision_wait = omega arith in
     (by_told ∙ (ap (told step) stands ∙ sym (answer_goes_on section past step pos')), by_next ∙ (ap (next step) stands ∙ sym (state_goes_on section past step pos')))
 
--- the spans of a post, by the fields
-all_placed_is : (e : ℕ) (xs : List Arrival) (s : State) →
-    all_placed e xs s ≡ record { wait = s.wait; policies = s.policies; clock = s.clock; rows = rows_with_all s.wait e xs s.rows; decided = s.decided; queue = s.queue ++ late_with_all s.wait e xs s.rows; tickets = s.tickets }
-all_placed_is e [] s = ap (λ queue. record { wait = s.wait; policies = s.policies; clock = s.clock; rows = s.rows; decided = s.decided; queue = queue; tickets = s.tickets }) (sym (append-nil s.queue))
-all_placed_is e (x ∷ xs) s =
-    all_placed_is e xs (placed e x s) ∙ ap (λ queue. record { wait = s.wait; policies = s.policies; clock = s.clock; rows = rows_with_all s.wait e (x ∷ xs) s.rows; decided = s.decided; queue = queue; tickets = s.tickets }) (append_assoc s.queue (late_with e x s.rows) (late_with_all s.wait e xs (rows_with s.wait e x s.rows)))
+-- a state with other rows and groups
+abbrev pub with_backlog : State → BacklogData → State
+with_backlog s b = record s { rows = b.rows; queue = b.queue }
 
--- the state after a post, from its parts
-pub post_by : (e : ℕ) (xs : List Arrival) (s now : State) (rows : List RowData) (queue : List GroupData) → s ≡ now → rows ≡ rows_with_all s.wait e xs s.rows → queue ≡ s.queue ++ late_with_all s.wait e xs s.rows →
-    record { wait = s.wait; policies = s.policies; clock = e; rows = rows; decided = s.decided; queue = queue; tickets = s.tickets } ≡ all_placed e xs (set_to e now)
-post_by e xs s now rows queue same r q =
-    let parts : record { wait = s.wait; policies = s.policies; clock = e; rows = rows; decided = s.decided; queue = queue; tickets = s.tickets } ≡ record { wait = s.wait; policies = s.policies; clock = e; rows = rows_with_all s.wait e xs s.rows; decided = s.decided; queue = s.queue ++ late_with_all s.wait e xs s.rows; tickets = s.tickets } = cc (r, q) in
-    parts ∙ (sym (all_placed_is e xs (set_to e s)) ∙ ap (λ t. all_placed e xs (set_to e t)) same)
+-- the spans of a post, by rows and groups
+all_placed_is : (e : ℕ) (xs : List Arrival) (s : State) → all_placed e xs s ≡ with_backlog s (with_spans s.wait e xs (record { rows = s.rows; queue = s.queue }))
+all_placed_is e [] s = refl
+all_placed_is e (x ∷ xs) s = all_placed_is e xs (placed e x s)
+
+-- the state after a post
+pub post_by : (e : ℕ) (xs : List Arrival) (s now : State) (new : BacklogData) → s ≡ now → new ≡ with_spans s.wait e xs (record { rows = s.rows; queue = s.queue }) → with_backlog (set_to e s) new ≡ all_placed e xs (set_to e now)
+post_by e xs s now new same is =
+    ap (with_backlog (set_to e s)) is ∙ (sym (all_placed_is e xs (set_to e s)) ∙ ap (λ t. all_placed e xs (set_to e t)) same)
 
 pub first_is_least : FirstIsLeast
 unfolding state

@@ -2,8 +2,8 @@
 use Rattle.std.specs.Prelude.{ℕ, zero, suc, ◌-◌, Bool, List, [], ◌∷◌, length, take, nat_lt, if◌then◌else◌}
 use Rattle.tenant_pipeline.specs.declared.place.Addition.{Addition}
 use Rattle.tenant_pipeline.specs.declared.place.Addition.TheVariants.{Opened, Joined, Late, NotSampled}
-use Rattle.tenant_pipeline.specs.Groups.{GroupData}
 use Rattle.tenant_pipeline.specs.State.{RowData}
+use Rattle.tenant_pipeline.specs.Backlog.{BacklogData}
 
 -- what a span adds that comes at a moment to the row at a place, by when that row is due and whether it is sampled
 abbrev pub addition_to : ℕ → ℕ → ℕ → Bool → Addition
@@ -23,26 +23,14 @@ shortened i [] = []
 shortened zero (row ∷ rows) = without_last row ∷ rows
 shortened (suc i) (row ∷ rows) = row ∷ shortened i rows
 
--- the rows as they were before an addition
-abbrev pub rows_before : Addition → List RowData → List RowData
-rows_before Opened rows = but_last rows
-rows_before (Joined place) rows = shortened place rows
-rows_before Late rows = rows
-rows_before NotSampled rows = rows
-
--- the waiting groups as they were before an addition
-abbrev pub queue_before : Addition → List GroupData → List GroupData
-queue_before Opened queue = queue
-queue_before (Joined place) queue = queue
-queue_before Late queue = but_last queue
-queue_before NotSampled queue = queue
+-- rows and groups as they were before an addition
+abbrev pub before : Addition → BacklogData → BacklogData
+before Opened b = record b { rows = but_last b.rows }
+before (Joined place) b = record b { rows = shortened place b.rows }
+before Late b = record b { queue = but_last b.queue }
+before NotSampled b = b
 
 -- without all these additions, the last one being taken back first
-abbrev pub rows_without : List Addition → List RowData → List RowData
-rows_without [] rows = rows
-rows_without (addition ∷ additions) rows = rows_before addition (rows_without additions rows)
-
--- the waiting groups without all these additions
-abbrev pub queue_without : List Addition → List GroupData → List GroupData
-queue_without [] queue = queue
-queue_without (addition ∷ additions) queue = queue_before addition (queue_without additions queue)
+abbrev pub without : List Addition → BacklogData → BacklogData
+without [] b = b
+without (addition ∷ additions) b = before addition (without additions b)

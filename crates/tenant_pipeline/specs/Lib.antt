@@ -7,6 +7,7 @@ pub mod State
 pub mod Timers
 pub mod Ready
 pub mod Machine
+pub mod Backlog
 pub mod Additions
 pub mod Law
 pub mod View

@@ -1,13 +1,12 @@
 -- How the state goes on: what the steps of the code do to its fields.
-use Rattle.std.specs.Prelude.{ℕ, ◌+◌, Bool, false, List, [], ◌∷◌, ◌++◌, ◌≡◌, Some, length, set, slice_get, if◌then◌else◌, nat_lt}
-use Rattle.tail_settings.specs.Policy.{PolicyData}
+use Rattle.std.specs.Prelude.{ℕ, ◌+◌, Bool, false, List, [], ◌∷◌, ◌++◌, ◌≡◌, length, if◌then◌else◌, nat_lt}
 use Rattle.tenant_pipeline.specs.declared.told.Told.{Told}
 use Rattle.tenant_pipeline.specs.Arrivals.{Arrival, valid}
 use Rattle.tenant_pipeline.specs.Own.{Own, Post, Turn}
 use Rattle.tenant_pipeline.specs.Rows.{trace_of, is_same}
 use Rattle.tenant_pipeline.specs.Groups.{GroupData}
 use Rattle.tenant_pipeline.specs.State.{State, RowData, handed, tickets_after, last_ticket, accepted}
-use Rattle.tenant_pipeline.specs.Timers.{ran, effective, settled, groups_of}
+use Rattle.tenant_pipeline.specs.Timers.{ran, effective}
 
 -- a span joins its trace's row where that is undecided
 abbrev pub joined : ℕ → Arrival → RowData → RowData
@@ -46,15 +45,6 @@ abbrev pub all_placed : ℕ → List Arrival → State → State
 all_placed moment [] s = s
 all_placed moment (x ∷ xs) s = all_placed moment xs (placed moment x s)
 
--- the row at a place is decided by the policies
-pub record IsDecided (policies : List PolicyData) (place due : ℕ) (rows : List RowData) (queue : List GroupData)
-    (new_rows : List RowData) (new_queue : List GroupData) : Type 0 where
-  pub row : RowData
-  pub is_there : slice_get rows place ≡ Some row
-  pub is_due : row.due ≡ due
-  pub rows_are : new_rows ≡ set rows place (settled policies row)
-  pub queue_is : new_queue ≡ queue ++ groups_of policies row
-
 -- the clock stands at the moment
 abbrev pub set_to : ℕ → State → State
 set_to moment s = record s { clock = moment }
@@ -82,17 +72,6 @@ next (Turn now) s = handed_out (advanced (effective (Turn now) s) s)
 unfoldable pub told : Own → State → Told
 told (Post now arrivals) s = accepted
 told (Turn now) s = handed (advanced (effective (Turn now) s) s).tickets (advanced (effective (Turn now) s) s).queue
-
--- the rows and the new groups after several spans
-abbrev pub rows_with_all : ℕ → ℕ → List Arrival → List RowData → List RowData
-rows_with_all wait moment [] rows = rows
-rows_with_all wait moment (x ∷ xs) rows = rows_with_all wait moment xs (rows_with wait moment x rows)
-
--- the groups that several spans make that come one after the other
-abbrev pub late_with_all : ℕ → ℕ → List Arrival → List RowData → List GroupData
-late_with_all wait moment [] rows = []
-late_with_all wait moment (x ∷ xs) rows = late_with moment x rows ++
-    late_with_all wait moment xs (rows_with wait moment x rows)
 
 -- what is told and kept follows from what was kept, whether or not own steps leave that: also after refused memory
 pub record GoesOnFrom (step : Own) (old : State) (said : Told) (new : State) : Type 0 where

@@ -5,6 +5,7 @@ use Rattle.span_pool.specs.Stored.{StoredData}
 use Rattle.span_pool.specs.Named.{Named, Names, IsNumber, AreNamed}
 use Rattle.tenant_pipeline.specs.declared.rows.Row.{Row}
 use Rattle.tenant_pipeline.specs.declared.rows.Group.{Group}
+use Rattle.tenant_pipeline.specs.declared.rows.Backlog.{Backlog}
 
 -- the numbers up to the last one name what these spans have
 pub record AreNumbered (last : ℕ) (spans : List StoredData) : Type 0 where
@@ -26,11 +27,11 @@ abbrev pub AreGroupsNamed : Names → ℕ → List Group → Type 0
 AreGroupsNamed names last groups = AllByRecursion (λ (g : Group). AreNamed names last g.spans.items) groups
 
 -- in rows and groups alike
-pub record AreAllNamed (names : Names) (last : ℕ) (entries : List (List ℕ × Row)) (queue : List Group) : Type 0 where
-  pub rows : AreRowsNamed names last entries
-  pub groups : AreGroupsNamed names last queue
+pub record AreAllNamed (names : Names) (last : ℕ) (backlog : Backlog) : Type 0 where
+  pub rows : AreRowsNamed names last backlog.rows.entries
+  pub groups : AreGroupsNamed names last backlog.queue.items
 
 -- for some names
-pub record AreAllNumbered (last : ℕ) (entries : List (List ℕ × Row)) (queue : List Group) : Type 0 where
+pub record AreAllNumbered (last : ℕ) (backlog : Backlog) : Type 0 where
   pub names : Names
-  pub named : AreAllNamed names last entries queue
+  pub named : AreAllNamed names last backlog

@@ -2,9 +2,11 @@
 use Rattle.std.specs.Prelude.{ℕ, List, map}
 use Rattle.tenant_pipeline.specs.declared.rows.Row.{Row}
 use Rattle.tenant_pipeline.specs.declared.rows.Group.{Group}
+use Rattle.tenant_pipeline.specs.declared.rows.Backlog.{Backlog}
 use Rattle.tenant_pipeline.specs.Arrivals.{arrivals_in}
 use Rattle.tenant_pipeline.specs.Groups.{GroupData}
 use Rattle.tenant_pipeline.specs.State.{RowData}
+use Rattle.tenant_pipeline.specs.Backlog.{BacklogData}
 
 -- an entry of the rows, named by its trace
 abbrev pub row_view : List ℕ × Row → RowData
@@ -26,3 +28,7 @@ group_view group = record { moment = group.moment; spans = arrivals_in group.spa
 -- all groups, the oldest first
 abbrev pub group_views : List Group → List GroupData
 group_views groups = map group_view groups
+
+-- both together
+abbrev pub backlog_view : Backlog → BacklogData
+backlog_view backlog = record { rows = row_views backlog.rows.entries; queue = group_views backlog.queue.items }

@@ -1,8 +1,9 @@
 //! Bodies are read for a tenant.
 
 ghost use Rattle.std.specs.Prelude.{◌≡◌, ◌↔◌, true, ◌<◌, ◌≤◌, ◌^◌, ◌++◌, [], length, map, Option, option_map, string_bytes, None, IfOk, IfErr, OnOk, MatchResult};
+ghost use Rattle.std.specs.Cmp.Lexicographic.{pointwise};
 ghost use Rattle.otlp_trace.specs.Data.{ResourceData, RequestData};
-ghost use Rattle.otlp_trace.specs.Text.{resource_text, scope_text};
+ghost use Rattle.otlp_trace.specs.Text.{resource_text, scope_text, span_text};
 ghost use Rattle.otlp_trace.specs.View.{span_view, scope_view, resource_view, scope_spans_view, resource_spans_view, request_view};
 ghost use Rattle.otlp_read.specs.Nested.{NestedSpan, NestedScopeSpans, NestedResourceSpans, NestedRequest};
 ghost use Rattle.otlp_read.specs.Typed.{TypedSpan, TypedScopeSpans, TypedResourceSpans, TypedRequest};
@@ -10,6 +11,7 @@ ghost use Rattle.otlp_read.specs.Value.{IsValue, IsFault};
 ghost use Rattle.otlp_read.specs.declared.fault.ReadFault.{ReadFault};
 ghost use Rattle.span_pool.specs.Stored.{bytes_of};
 ghost use Rattle.span_pool.specs.Named.{resource_of};
+ghost use Rattle.span_pool.specs.Equal.{stored_eq};
 ghost use Rattle.tail_settings.specs.Section.{section_view};
 ghost use Rattle.tenant_pipeline.specs.Arrivals.{arrival_in, arrivals_in, arrivals_of, arrivals_of_resource, arrival_of, origin_with};
 ghost use Rattle.tenant_pipeline.specs.Equal.{prepared_eq};
@@ -67,8 +69,15 @@ impl PartialEq for Prepared {
     ghost laws = { prepared_laws };
 
     fn eq(&self, other: &Self) -> bool {
-        self.is_for_same(other) && self.spans == other.spans
+        self.is_for_same(other) && are_same_spans(self.spans.as_slice(), other.spans.as_slice())
     }
+}
+
+/// Whether these are the same spans, in the same order. Their numbers don't count.
+fn are_same_spans(one: &[StoredSpan], other: &[StoredSpan]) -> bool
+    ensures { result ≡ pointwise stored_eq one.now other.now }
+{
+    one == other
 }
 
 /// Why a body isn't posted.
@@ -362,14 +371,38 @@ fn written_span(
     ensures origin { IfOk result (λ stored. stored.origin ≡ origin.now) }
     ensures numbers { IfOk result (λ stored. stored.numbers ≡ numbers) }
 {
-    let mut text = Vec::new(alloc);
-    write_span(alloc, &mut text, &span)?;
-    let bytes = Bytes::from_vec(text)?;
-    let resource = share(&origin.resource)?;
-    let scope = share(&origin.scope)?;
-    let urls = origin.urls.clone()?;
+    let bytes = text_of(alloc, &span)?;
+    let around = shared(origin)?;
     read_spans_are_viewed();
-    Ok(StoredSpan::of(tenant, resource, scope, urls, bytes, numbers))
+    Ok(StoredSpan::of(
+        tenant,
+        around.resource,
+        around.scope,
+        around.urls,
+        bytes,
+        numbers,
+    ))
+}
+
+/// A span's text.
+fn text_of(alloc: Global, span: &Span) -> Result<Bytes, AllocError>
+    ensures text { IfOk result (λ text. text ≡ span_text (span_view span.now)) }
+    ensures short { IfOk result (λ text. length text < 2 ^ 64) }
+{
+    let mut text = Vec::new(alloc);
+    write_span(alloc, &mut text, span)?;
+    Ok(Bytes::from_vec(text)?)
+}
+
+/// The same texts, which aren't copied.
+fn shared(origin: &Origin) -> Result<Origin, AllocError>
+    ensures { IfOk result (λ shared. shared ≡ origin.now) }
+{
+    Ok(Origin {
+        resource: share(&origin.resource)?,
+        scope: share(&origin.scope)?,
+        urls: origin.urls.clone()?,
+    })
 }
 
 /// A resource's text, where there is one.

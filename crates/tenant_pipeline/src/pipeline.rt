@@ -6,7 +6,7 @@ ghost use Rattle.tenant_pipeline.specs.Equal.{same_policies};
 ghost use Rattle.tenant_pipeline.specs.Own.{Post, Turn, latest_moment};
 ghost use Rattle.tenant_pipeline.specs.State.{StandsFor, Answers, handed};
 ghost use Rattle.tenant_pipeline.specs.Timers.{next_timer, one_run, is_due, ran, IsFront, effective};
-ghost use Rattle.tenant_pipeline.specs.Machine.{handed_out, set_to, GoesOnFrom};
+ghost use Rattle.tenant_pipeline.specs.Machine.{handed_out, GoesOnFrom};
 ghost use Rattle.tenant_pipeline.specs.Ready.{lesser, next_job, ready};
 ghost use Rattle.tenant_pipeline.specs.View.{group_views};
 ghost use Rattle.tenant_pipeline.specs.declared.told.Told.TheVariants as tell;
@@ -14,7 +14,7 @@ ghost use Rattle.tenant_pipeline.specs.declared.told.Told.TheVariants as tell;
 use crate::body::Prepared;
 use crate::export::export;
 use crate::place::place_all;
-use crate::rows::{Group, Rows, decide_at};
+use crate::rows::{Backlog, Group, decide_at};
 use crate::told::{Reply, Told};
 use indexmap::IndexMap;
 use otlp_trace::Octets;
@@ -38,11 +38,9 @@ pub struct Pipeline {
     policies: Vec<PolicySpec>,
     // The moment of the last step or decision, in milliseconds, which no later one is before.
     clock: u64,
-    rows: Rows,
+    backlog: Backlog,
     // So many rows are decided, which are the first.
     decided: usize,
-    // The groups that are yet to be handed out, the oldest first.
-    queue: VecDeque<Group>,
     // The last ticket that was handed out, 0 before the first.
     tickets: u64,
     // No number above this one is in use. The next body's are put above it.
@@ -63,14 +61,13 @@ impl Model for Pipeline {
       wait = p.wait;
       policies = map policy_view p.policies.items;
       clock = p.clock;
-      rows = row_views p.rows.entries;
+      rows = row_views p.backlog.rows.entries;
       decided = p.decided;
-      queue = group_views p.queue.items;
+      queue = group_views p.backlog.queue.items;
       tickets = p.tickets;
     } };
 
-    ghost invariant = { λ p. IsBounded p.wait p.clock p.tickets ×
-        AreAllNumbered p.last_number p.rows.entries p.queue.items };
+    ghost invariant = { λ p. IsBounded p.wait p.clock p.tickets × AreAllNumbered p.last_number p.backlog };
 }
 
 impl Pipeline {
@@ -83,9 +80,11 @@ impl Pipeline {
             wait: section.tail_sampling.decision_wait,
             policies: copied_policies(alloc, section.tail_sampling.policies.as_slice())?,
             clock: 0,
-            rows: IndexMap::new(alloc),
+            backlog: Backlog {
+                rows: IndexMap::new(alloc),
+                queue: VecDeque::new(alloc),
+            },
             decided: 0,
-            queue: VecDeque::new(alloc),
             tickets: 0,
             last_number: 0,
         })
@@ -121,8 +120,7 @@ impl Pipeline {
         self.last_number = base.saturating_add(last_number);
         place_all(
             self.alloc,
-            &mut self.rows,
-            &mut self.queue,
+            &mut self.backlog,
             self.wait,
             moment,
             base,
@@ -160,7 +158,10 @@ impl Pipeline {
     pub fn ready(&self) -> Option<u64>
         ensures { result ≡ ready self.now }
     {
-        lesser(self.next_timer(), next_job(&self.queue, self.tickets))
+        lesser(
+            self.next_timer(),
+            next_job(&self.backlog.queue, self.tickets),
+        )
     }
 
     /// When a step of this moment takes effect.
@@ -175,7 +176,7 @@ impl Pipeline {
     fn next_timer(&self) -> Option<u64>
         ensures { result ≡ next_timer self.now }
     {
-        match self.rows.get_index(self.decided) {
+        match self.backlog.rows.get_index(self.decided) {
             Some((_, row)) => Some(row.due),
             None => None,
         }
@@ -198,13 +199,12 @@ impl Pipeline {
         ensures ok { OnOk result (self.new ≡ one_run self.old) }
         ensures refused { OnErr result (self.new ≡ self.old) }
     {
-        if self.decided < self.rows.len() {
+        if self.decided < self.backlog.rows.len() {
             self.clock = decide_at(
                 self.alloc,
                 self.policies.as_slice(),
-                &mut self.rows,
+                &mut self.backlog,
                 self.decided,
-                &mut self.queue,
             )?;
             self.decided += 1;
         }
@@ -233,11 +233,11 @@ impl Pipeline {
         if self.tickets >= LAST_TICKET {
             return Ok(Told::Worked);
         }
-        let payload = match self.queue.front() {
+        let payload = match self.backlog.queue.front() {
             Some(group) => export(self.alloc, group.spans.as_slice())?,
             None => return Ok(Told::Worked),
         };
-        self.queue.pop_front();
+        self.backlog.queue.pop_front();
         self.tickets += 1;
         Ok(Told::Job {
             ticket: self.tickets,

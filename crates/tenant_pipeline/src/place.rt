@@ -5,12 +5,13 @@ ghost use Rattle.std.specs.List.{list_all};
 ghost use Rattle.span_pool.specs.Stored.{stored_facts};
 ghost use Rattle.span_pool.specs.Named.{Names, IsNamed, AreNamed, renumbered};
 ghost use Rattle.tenant_pipeline.specs.Arrivals.{arrival_in, arrivals_in, is_id, is_valid, valid};
-ghost use Rattle.tenant_pipeline.specs.View.{row_views, group_views};
+ghost use Rattle.tenant_pipeline.specs.View.{group_views, backlog_view};
 ghost use Rattle.tenant_pipeline.specs.Numbered.{AreGroupsNamed, AreAllNamed};
-ghost use Rattle.tenant_pipeline.specs.Machine.{group_if_late, rows_with, late_with, rows_with_all, late_with_all};
-ghost use Rattle.tenant_pipeline.specs.Additions.{addition_to, rows_before, queue_before, rows_without, queue_without};
+ghost use Rattle.tenant_pipeline.specs.Machine.{group_if_late};
+ghost use Rattle.tenant_pipeline.specs.Backlog.{with_span, with_spans};
+ghost use Rattle.tenant_pipeline.specs.Additions.{addition_to, before, without};
 
-use crate::rows::{Group, Row, Rows};
+use crate::rows::{Backlog, Group, Row};
 use span_pool::StoredSpan;
 use std::alloc::{AllocError, Global};
 use std::collections::VecDeque;
@@ -70,6 +71,7 @@ fn one(alloc: Global, span: StoredSpan) -> Result<Vec<StoredSpan>, AllocError>
     ensures { IfOk result (λ spans. spans.items ≡ span ∷ []) }
 {
     let mut spans = Vec::new(alloc);
+    spans.reserve_exact(1)?;
     spans.push(span)?;
     Ok(spans)
 }
@@ -112,8 +114,7 @@ fn join(
 /// The span goes to its trace's row, or opens one. Where memory is refused, nothing changes.
 fn place(
     alloc: Global,
-    rows: &mut Rows,
-    queue: &mut VecDeque<Group>,
+    backlog: &mut Backlog,
     wait: u64,
     moment: u64,
     span: StoredSpan,
@@ -121,22 +122,19 @@ fn place(
     requires wait { wait ≤ 2 ^ 32 }
     requires moment { moment ≤ 2 ^ 62 }
     requires id { length (stored_facts span).trace_id ≡ 16 }
-    ensures rows { OnOk result (row_views rows.new.entries ≡
-        rows_with wait moment (arrival_in span) (row_views rows.old.entries)) }
-    ensures queue { OnOk result (group_views queue.new.items ≡ group_views queue.old.items ++
-        late_with moment (arrival_in span) (row_views rows.old.entries)) }
-    ensures rows_back { IfOk result (λ addition. rows_before addition (row_views rows.new.entries) ≡
-        row_views rows.old.entries) }
-    ensures queue_back { IfOk result (λ addition. queue_before addition (group_views queue.new.items) ≡
-        group_views queue.old.items) }
-    ensures refused_rows { OnErr result (row_views rows.new.entries ≡ row_views rows.old.entries) }
-    ensures refused_queue { OnErr result (queue.new.items ≡ queue.old.items) }
-    ensures named { (names : Names) (last : ℕ) → AreAllNamed names last rows.old.entries queue.old.items →
-        IsNamed names last span → AreAllNamed names last rows.new.entries queue.new.items }
+    ensures ok { OnOk result (backlog_view backlog.new ≡
+        with_span wait moment (arrival_in span) (backlog_view backlog.old)) }
+    ensures back { IfOk result (λ addition. before addition (backlog_view backlog.new) ≡ backlog_view backlog.old) }
+    ensures refused { OnErr result (backlog_view backlog.new ≡ backlog_view backlog.old) }
+    ensures named { (names : Names) (last : ℕ) → AreAllNamed names last backlog.old → IsNamed names last span →
+        AreAllNamed names last backlog.new }
 {
     let key = trace_key(&span);
-    match rows.get_index_of(&key) {
-        Some(place) => join(alloc, &mut rows[place], place, queue, moment, span),
+    match backlog.rows.get_index_of(&key) {
+        Some(place) => {
+            let row = &mut backlog.rows[place];
+            join(alloc, row, place, &mut backlog.queue, moment, span)
+        }
         None => {
             let spans = one(alloc, span)?;
             let due = moment + wait;
@@ -145,7 +143,7 @@ fn place(
                 spans,
                 sampled: false,
             };
-            rows.insert(key, row)?;
+            backlog.rows.insert(key, row)?;
             Ok(Addition::Opened)
         }
     }
@@ -154,8 +152,7 @@ fn place(
 /// The span goes to its trace's row where it is valid, with numbers that are `base` higher. What it added is noted.
 fn add(
     alloc: Global,
-    rows: &mut Rows,
-    queue: &mut VecDeque<Group>,
+    backlog: &mut Backlog,
     wait: u64,
     moment: u64,
     base: u64,
@@ -164,67 +161,60 @@ fn add(
 ) -> Result<(), AllocError>
     requires wait { wait ≤ 2 ^ 32 }
     requires moment { moment ≤ 2 ^ 62 }
-    ensures rows { OnOk result (row_views rows.new.entries ≡
-        rows_with_all wait moment (valid (arrival_in span.now ∷ [])) (row_views rows.old.entries)) }
-    ensures queue { OnOk result (group_views queue.new.items ≡ group_views queue.old.items ++
-        late_with_all wait moment (valid (arrival_in span.now ∷ [])) (row_views rows.old.entries)) }
-    ensures rows_back { rows_without additions.new.items (row_views rows.new.entries) ≡
-        rows_without additions.old.items (row_views rows.old.entries) }
-    ensures queue_back { queue_without additions.new.items (group_views queue.new.items) ≡
-        queue_without additions.old.items (group_views queue.old.items) }
-    ensures named { (names : Names) (last : ℕ) → AreAllNamed names last rows.old.entries queue.old.items →
-        IsNamed names last (renumbered base span.now) → AreAllNamed names last rows.new.entries queue.new.items }
+    ensures ok { OnOk result (backlog_view backlog.new ≡
+        with_spans wait moment (valid (arrival_in span.now ∷ [])) (backlog_view backlog.old)) }
+    ensures back { without additions.new.items (backlog_view backlog.new) ≡
+        without additions.old.items (backlog_view backlog.old) }
+    ensures named { (names : Names) (last : ℕ) → AreAllNamed names last backlog.old →
+        IsNamed names last (renumbered base span.now) → AreAllNamed names last backlog.new }
 {
     if !is_valid(span) {
         return Ok(());
     }
     additions.reserve(1)?;
     let span = span.renumbered(base)?;
-    let addition = place(alloc, rows, queue, wait, moment, span)?;
+    let addition = place(alloc, backlog, wait, moment, span)?;
     additions.push_reserved(addition);
     Ok(())
 }
 
 /// Takes an addition back. It is the last one.
-fn take_back(rows: &mut Rows, queue: &mut VecDeque<Group>, addition: Addition)
-    ensures rows { row_views rows.new.entries ≡ rows_before addition (row_views rows.old.entries) }
-    ensures queue { group_views queue.new.items ≡ queue_before addition (group_views queue.old.items) }
-    ensures named { (names : Names) (last : ℕ) → AreAllNamed names last rows.old.entries queue.old.items →
-        AreAllNamed names last rows.new.entries queue.new.items }
+fn take_back(backlog: &mut Backlog, addition: Addition)
+    ensures back { backlog_view backlog.new ≡ before addition (backlog_view backlog.old) }
+    ensures named { (names : Names) (last : ℕ) → AreAllNamed names last backlog.old →
+        AreAllNamed names last backlog.new }
 {
     match addition {
         Addition::Opened => {
-            rows.pop();
+            backlog.rows.pop();
         }
         Addition::Joined(place) => {
-            if let Some(row) = rows.get_index_mut(place) {
+            if let Some(row) = backlog.rows.get_index_mut(place) {
                 row.spans.pop();
             }
         }
         Addition::Late => {
-            queue.pop_back();
+            backlog.queue.pop_back();
         }
         Addition::NotSampled => {}
     }
 }
 
 /// Takes all additions back, the last one first.
-fn take_all_back(rows: &mut Rows, queue: &mut VecDeque<Group>, additions: &mut Vec<Addition>)
-    ensures rows { row_views rows.new.entries ≡ rows_without additions.old.items (row_views rows.old.entries) }
-    ensures queue { group_views queue.new.items ≡ queue_without additions.old.items (group_views queue.old.items) }
-    ensures named { (names : Names) (last : ℕ) → AreAllNamed names last rows.old.entries queue.old.items →
-        AreAllNamed names last rows.new.entries queue.new.items }
+fn take_all_back(backlog: &mut Backlog, additions: &mut Vec<Addition>)
+    ensures back { backlog_view backlog.new ≡ without additions.old.items (backlog_view backlog.old) }
+    ensures named { (names : Names) (last : ℕ) → AreAllNamed names last backlog.old →
+        AreAllNamed names last backlog.new }
 {
     while let Some(addition) = additions.pop() {
-        take_back(rows, queue, addition);
+        take_back(backlog, addition);
     }
 }
 
 /// The valid ones of these spans come one after the other, all of them or none, with numbers that are `base` higher.
 pub fn place_all(
     alloc: Global,
-    rows: &mut Rows,
-    queue: &mut VecDeque<Group>,
+    backlog: &mut Backlog,
     wait: u64,
     moment: u64,
     base: u64,
@@ -232,20 +222,16 @@ pub fn place_all(
 ) -> Result<(), AllocError>
     requires wait { wait ≤ 2 ^ 32 }
     requires moment { moment ≤ 2 ^ 62 }
-    ensures rows { OnOk result (row_views rows.new.entries ≡
-        rows_with_all wait moment (valid (arrivals_in spans.now)) (row_views rows.old.entries)) }
-    ensures queue { OnOk result (group_views queue.new.items ≡ group_views queue.old.items ++
-        late_with_all wait moment (valid (arrivals_in spans.now)) (row_views rows.old.entries)) }
-    ensures refused_rows { OnErr result (row_views rows.new.entries ≡ row_views rows.old.entries) }
-    ensures refused_queue { OnErr result (group_views queue.new.items ≡ group_views queue.old.items) }
-    ensures named { (names : Names) (last : ℕ) → AreAllNamed names last rows.old.entries queue.old.items →
-        AreNamed names last (map (renumbered base) spans.now) →
-        AreAllNamed names last rows.new.entries queue.new.items }
+    ensures ok { OnOk result (backlog_view backlog.new ≡
+        with_spans wait moment (valid (arrivals_in spans.now)) (backlog_view backlog.old)) }
+    ensures refused { OnErr result (backlog_view backlog.new ≡ backlog_view backlog.old) }
+    ensures named { (names : Names) (last : ℕ) → AreAllNamed names last backlog.old →
+        AreNamed names last (map (renumbered base) spans.now) → AreAllNamed names last backlog.new }
 {
     let mut additions = Vec::new(alloc);
     for span in spans {
-        if let Err(error) = add(alloc, rows, queue, wait, moment, base, span, &mut additions) {
-            take_all_back(rows, queue, &mut additions);
+        if let Err(error) = add(alloc, backlog, wait, moment, base, span, &mut additions) {
+            take_all_back(backlog, &mut additions);
             return Err(error);
         }
     }

@@ -7,8 +7,8 @@ ghost use Rattle.span_pool.specs.Stored.{stored_facts};
 ghost use Rattle.span_pool.specs.Named.{Names, AreNamed};
 ghost use Rattle.tenant_pipeline.specs.Arrivals.{arrivals_in};
 ghost use Rattle.tenant_pipeline.specs.Groups.{are_sampled};
-ghost use Rattle.tenant_pipeline.specs.Machine.{IsDecided};
-ghost use Rattle.tenant_pipeline.specs.View.{row_views, group_views};
+ghost use Rattle.tenant_pipeline.specs.Backlog.{IsDecided};
+ghost use Rattle.tenant_pipeline.specs.View.{backlog_view, group_views};
 ghost use Rattle.tenant_pipeline.specs.Numbered.{AreGroupsNamed, AreAllNamed};
 
 use indexmap::IndexMap;
@@ -41,6 +41,15 @@ pub struct Group {
     pub moment: u64,
     /// In order of arrival.
     pub spans: Vec<StoredSpan>,
+}
+
+/// What came and has not left.
+#[derive(Drop)]
+pub struct Backlog {
+    /// The row of each trace that came, decided or not.
+    pub rows: Rows,
+    /// The groups that are yet to be handed out, the oldest first.
+    pub queue: VecDeque<Group>,
 }
 
 /// What the policies ask of each span.
@@ -109,24 +118,21 @@ fn decide(
 pub fn decide_at(
     alloc: Global,
     policies: &[PolicySpec],
-    rows: &mut Rows,
+    backlog: &mut Backlog,
     place: usize,
-    queue: &mut VecDeque<Group>,
 ) -> Result<u64, AllocError>
-    requires { place < index_map_len rows.old }
+    requires { place < index_map_len backlog.old.rows }
     ensures ok { IfOk result (λ due. IsDecided (map policy_view policies.now) place due
-        (row_views rows.old.entries) (group_views queue.old.items)
-        (row_views rows.new.entries) (group_views queue.new.items)) }
+        (backlog_view backlog.old) (backlog_view backlog.new)) }
 
     // Where memory is refused, nothing has changed.
-    ensures refused_rows { OnErr result (row_views rows.new.entries ≡ row_views rows.old.entries) }
-    ensures refused_queue { OnErr result (group_views queue.new.items ≡ group_views queue.old.items) }
+    ensures refused { OnErr result (backlog_view backlog.new ≡ backlog_view backlog.old) }
 
     // Numbers go on naming what they named.
-    ensures named { (names : Names) (last : ℕ) → AreAllNamed names last rows.old.entries queue.old.items →
-        AreAllNamed names last rows.new.entries queue.new.items }
+    ensures named { (names : Names) (last : ℕ) → AreAllNamed names last backlog.old →
+        AreAllNamed names last backlog.new }
 {
-    let row = &mut rows[place];
-    decide(alloc, policies, row, queue)?;
+    let row = &mut backlog.rows[place];
+    decide(alloc, policies, row, &mut backlog.queue)?;
     Ok(row.due)
 }

@@ -3,19 +3,28 @@
 use crate::sections::{ALWAYS, section_of};
 use std::alloc::Global;
 use std::test::Fail;
-use tenant_pipeline::{Pipeline, Told, prepare};
+use tenant_pipeline::{Pipeline, Prepared, Told, prepare};
 
-/// Posts the body at 0 to a new pipeline, and gives what is sent at 1000.
-fn sent_of(alloc: Global, body: &[u8]) -> Result<Vec<u8>, Fail> {
-    let section = section_of(alloc, ALWAYS)?;
-    let mut pipeline = Pipeline::new(alloc, &section)?;
-    let prepared = prepare(alloc, 7, &section, body)?;
-    let _reply = pipeline.post(0, &prepared)?;
-    let mut sent = Vec::new(alloc);
-    if let Told::Job { ticket: _, payload } = pipeline.turn(1000)? {
-        sent.extend_from_slice(payload.as_slice())?;
+fn is_batch(told: &Told, batch: &[u8]) -> bool {
+    match told {
+        Told::Job { ticket: _, payload } => payload.as_slice() == batch,
+        _ => false,
     }
-    Ok(sent)
+}
+
+/// Whether what is posted at 0 is sent as this batch at 1000.
+fn leaves_as(pipeline: &mut Pipeline, prepared: &Prepared, batch: &[u8]) -> Result<bool, Fail> {
+    let _reply = pipeline.post(0, prepared)?;
+    let told = pipeline.turn(1000)?;
+    Ok(is_batch(&told, batch))
+}
+
+/// Whether a new pipeline sends the body as this batch.
+fn is_sent_as(alloc: Global, body: &[u8], batch: &[u8]) -> Result<bool, Fail> {
+    let section = section_of(alloc, ALWAYS)?;
+    let prepared = prepare(alloc, 7, &section, body)?;
+    let mut pipeline = Pipeline::new(alloc, &section)?;
+    leaves_as(&mut pipeline, &prepared, batch)
 }
 
 /// The first 20 bytes of a span: its trace id, and its span id's length.
@@ -53,8 +62,8 @@ fn together(alloc: Global) -> Result<Vec<u8>, Fail> {
 /// Whether a post of 2,000 spans of one trace leaves as one batch.
 fn many_leave_together(alloc: Global) -> Result<bool, Fail> {
     let body = apart(alloc)?;
-    let sent = sent_of(alloc, body.as_slice())?;
-    Ok(sent == together(alloc)?)
+    let batch = together(alloc)?;
+    is_sent_as(alloc, body.as_slice(), batch.as_slice())
 }
 
 #[test]
@@ -78,8 +87,7 @@ fn with_unknown_bytes(alloc: Global) -> Result<Vec<u8>, Fail> {
 /// Whether a body of that span leaves as it came.
 fn unknown_bytes_stay(alloc: Global) -> Result<bool, Fail> {
     let body = with_unknown_bytes(alloc)?;
-    let sent = sent_of(alloc, body.as_slice())?;
-    Ok(sent == body)
+    is_sent_as(alloc, body.as_slice(), body.as_slice())
 }
 
 #[test]

@@ -77,22 +77,31 @@ fn is_so(
     }
 }
 
-/// The first line of a story that does not come true, or an empty one.
-fn wrong_line<'a>(alloc: Global, section: &Section, story: &'a str) -> Result<&'a str, Fail> {
-    let mut pipeline = Pipeline::new(alloc, section)?;
+/// The first line of a story of this pipeline that does not come true, or an empty one.
+fn wrong_line<'a>(
+    alloc: Global,
+    pipeline: &mut Pipeline,
+    section: &Section,
+    story: &'a str,
+) -> Result<&'a str, Fail> {
     for line in story.lines() {
-        if !is_so(alloc, &mut pipeline, section, line)? {
+        if !is_so(alloc, pipeline, section, line)? {
             return Ok(line);
         }
     }
     Ok("")
 }
 
+/// The same of a new pipeline.
+fn wrong_at_first<'a>(alloc: Global, section: &Section, story: &'a str) -> Result<&'a str, Fail> {
+    let mut pipeline = Pipeline::new(alloc, section)?;
+    wrong_line(alloc, &mut pipeline, section, story)
+}
+
 /// The first line that does not come true of any of these stories, which empty lines part, or an empty one.
-fn first_wrong<'a>(alloc: Global, policy: &str, stories: &'a str) -> Result<&'a str, Fail> {
-    let section = section_of(alloc, policy)?;
+fn first_wrong<'a>(alloc: Global, section: &Section, stories: &'a str) -> Result<&'a str, Fail> {
     for story in stories.split("\n\n") {
-        let wrong = wrong_line(alloc, &section, story)?;
+        let wrong = wrong_at_first(alloc, section, story)?;
         if !wrong.is_empty() {
             return Ok(wrong);
         }
@@ -102,7 +111,8 @@ fn first_wrong<'a>(alloc: Global, policy: &str, stories: &'a str) -> Result<&'a 
 
 /// Each of these stories of a new pipeline comes true.
 fn check(rt: &impl Abort, alloc: Global, policy: &str, stories: &str) -> Result<(), Fail> {
-    let wrong = first_wrong(alloc, policy, stories)?;
+    let section = section_of(alloc, policy)?;
+    let wrong = first_wrong(alloc, &section, stories)?;
     assert_eq!(rt; wrong, "");
     Ok(())
 }

@@ -1,4 +1,4 @@
-use Rattle.std.proofs.Common.{◌≡◌, ◌<◌, ◌^◌, ◌++◌, length, ap, ◌∙◌, arith, rules}
+use Rattle.std.proofs.Common.{◌≡◌, ap, ◌∙◌}
 use Rattle.std.specs.Prelude.{option_map}
 use Rattle.otlp_trace.specs.Text.{span_text, resource_text}
 use Rattle.otlp_trace.specs.View.{span_view}
@@ -11,18 +11,17 @@ of-requires c =
     let span = span_view c.args.span in
     let resource = c.requires.resource.0 in
     let is = c.requires.resource.1 in
-    let written : c.write_span.new.out.items ≡ span_text span = c.in_ok-write_span.ensures.ok ∙ ap (λ bs. bs ++ span_text span) c.new-text.ensures.items in
-    let short : length c.write_span.new.out.items < 2 ^ 64 = omega arith in
-    let read = read_span c.write_span.new.out.items span c.requires.typed c.requires.nested written short in
-    let shared : c.in_ok-resource.resource ≡ option_map resource_text resource = c.in_ok-resource.ensures ∙ (ap (λ (o : Origin). o.resource) c.origin.view_is ∙ is.same) in
-    viewed c.in_ok-bytes.bytes (span_text span) c.in_ok-resource.resource (option_map resource_text resource) (c.in_ok-bytes.ensures.ok ∙ written) shared (c.read_spans_are_viewed.ensures.text span resource read (read_resource _ resource is))
+    let read = read_span c.in_ok-bytes.bytes span c.requires.typed c.requires.nested c.in_ok-bytes.ensures.text c.in_ok-bytes.ensures.short in
+    let shared : c.around.inside.resource ≡ option_map resource_text resource = ap (λ (o : Origin). o.resource) (c.around.view_is ∙ c.in_ok-around.ensures) ∙ is.same in
+    viewed c.in_ok-bytes.bytes (span_text span) c.around.inside.resource (option_map resource_text resource) c.in_ok-bytes.ensures.text shared (c.read_spans_are_viewed.ensures.text span resource read (read_resource _ resource is))
 
 pub returns-clause-arrival : goal.returns-clause-arrival
 returns-clause-arrival c = λ resource is.
     let span = span_view c.args.span in
-    let written : c.write_span.new.out.items ≡ span_text span = c.in_ok-write_span.ensures.ok ∙ ap (λ bs. bs ++ span_text span) c.new-text.ensures.items in
-    let short : length c.write_span.new.out.items < 2 ^ 64 = omega arith in
-    let read = read_span c.write_span.new.out.items span c.requires.typed c.requires.nested written short in
-    let around : c.of.result.origin ≡ c.args.origin.now = search rules in
-    let text : c.of.result.text ≡ span_text span = ap (λ (s : StoredData). s.text) c.of.ensures ∙ (c.in_ok-bytes.ensures.ok ∙ written) in
+    let read = read_span c.in_ok-bytes.bytes span c.requires.typed c.requires.nested c.in_ok-bytes.ensures.text c.in_ok-bytes.ensures.short in
+    let around : c.of.result.origin ≡ c.args.origin.now = ap (λ (s : StoredData). s.origin) c.of.ensures ∙ (c.around.view_is ∙ c.in_ok-around.ensures) in
+    let text : c.of.result.text ≡ span_text span = ap (λ (s : StoredData). s.text) c.of.ensures ∙ c.in_ok-bytes.ensures.text in
     stored_arrival c.of.result c.args.origin.now resource span around text is (c.read_spans_are_viewed.ensures.facts span resource read (read_resource _ resource is))
+
+pub returns-clause-origin : goal.returns-clause-origin
+returns-clause-origin c = ap (λ (s : StoredData). s.origin) c.of.ensures ∙ (c.around.view_is ∙ c.in_ok-around.ensures)

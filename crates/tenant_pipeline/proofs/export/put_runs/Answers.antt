@@ -2,7 +2,7 @@ use Rattle.std.proofs.Common.{◌≡◌, ℕ, Bool, List, ◌∷◌, take, drop,
 use Rattle.span_pool.specs.Stored.{StoredData}
 use Rattle.tenant_pipeline.specs.Numbered.{AreNumbered}
 use Rattle.tenant_pipeline.specs.ExportText.{runs}
-use Rattle.tenant_pipeline.proofs.Names.{numbered_drop}
+use Rattle.tenant_pipeline.proofs.Names.{numbered_take, numbered_drop}
 use Rattle.tenant_pipeline.proofs.Runs.{one_run}
 use Rattle.tenant_pipeline.proofs.export.put_runs.Goals as goal
 
@@ -24,3 +24,8 @@ loop-left-preserved g c =
       whole = one_run same g.L.Level.field left run others c.loop-left.out.items c.put.new.out.items _ first c.in_ok-put.ensures c.loop-left.invariant.whole;
       numbered = (last, subst (AreNumbered last) (sym back) (numbered_drop last c.leading.result left c.loop-left.invariant.numbered.1));
     }
+
+pub put-requires : goal.put-requires
+put-requires g c =
+    let last = c.loop-left.invariant.numbered.0 in
+    (last, subst (AreNumbered last) (sym c.split_at.ensures.front) (numbered_take last c.leading.result c.loop-left.left.now c.loop-left.invariant.numbered.1))

@@ -1,7 +1,7 @@
 use Rattle.std.proofs.Common.{◌≡◌, ◌++◌, [], ◌∷◌, sym, ap, ◌∙◌}
-use Rattle.tenant_pipeline.specs.Additions.{rows_without, queue_without}
-use Rattle.tenant_pipeline.specs.View.{row_views, group_views}
-use Rattle.tenant_pipeline.proofs.Entries.{rows_without-push, queue_without-push}
+use Rattle.tenant_pipeline.specs.Additions.{without}
+use Rattle.tenant_pipeline.specs.View.{backlog_view}
+use Rattle.tenant_pipeline.proofs.Entries.{without-push}
 use Rattle.tenant_pipeline.proofs.place.take_all_back.Goals as goal
 
 pub loop-addition-preserved : goal.loop-addition-preserved
@@ -9,10 +9,8 @@ loop-addition-preserved c =
     let done = c.pop.new.self.items in
     let a = c.in-Some.addition in
     let was : c.loop-addition.additions.items ≡ done ++ a ∷ [] = c.in-Some.ensures.items in
-    let rows = row_views c.loop-addition.rows.entries in
-    let queue = group_views c.loop-addition.queue.items in
+    let backlog = backlog_view c.loop-addition.backlog in
     record {
-      rows = ap (rows_without done) c.take_back.ensures.rows ∙ (sym (rows_without-push done a rows) ∙ (ap (λ zs. rows_without zs rows) (sym was) ∙ c.loop-addition.invariant.rows));
-      queue = ap (queue_without done) c.take_back.ensures.queue ∙ (sym (queue_without-push done a queue) ∙ (ap (λ zs. queue_without zs queue) (sym was) ∙ c.loop-addition.invariant.queue));
+      back = ap (without done) c.take_back.ensures.back ∙ (sym (without-push done a backlog) ∙ (ap (λ zs. without zs backlog) (sym was) ∙ c.loop-addition.invariant.back));
       named = λ names last all. c.take_back.ensures.named names last (c.loop-addition.invariant.named names last all);
     }

@@ -15,4 +15,4 @@ returns c =
     cc (rows, queue, policies)
 
 pub invariant_of-result : goal.invariant_of-result
-invariant_of-result c = (search rules, none_kept 0 c.new.result.entries c.new-2.result.items c.new.ensures.empty c.new-2.ensures.items)
+invariant_of-result c = (search rules, none_kept 0 (record { rows = c.new.result; queue = c.new-2.result }) c.new.ensures.empty c.new-2.ensures.items)
