@@ -121,11 +121,16 @@ fn span(alloc: Global) -> Result<Span, Fail> {
     })
 }
 
+/// Whether this is the span's text.
+fn is_span(alloc: Global, span: &Span, text: &[u8]) -> Result<bool, Fail> {
+    let mut out = Vec::new(alloc);
+    write_span(alloc, &mut out, span)?;
+    Ok(out.as_slice() == text)
+}
+
 #[test]
 fn span_is_written(rt: HostRuntime) -> Result<(), Fail> {
     let span = span(rt.alloc())?;
-    let mut out = Vec::new(rt.alloc());
-    write_span(rt.alloc(), &mut out, &span)?;
     let text = b"\x2a\x03get\
         \x30\xff\xff\xff\xff\xff\xff\xff\xff\xff\x01\
         \x41\x00\x01\x00\x00\x00\x00\x00\x00\
@@ -136,7 +141,7 @@ fn span_is_written(rt: HostRuntime) -> Result<(), Fail> {
         \x7a\x02\x18\x02\
         \x85\x01\x01\x01\x00\x00\
         \xc0\x3e\x05";
-    assert!(rt; out.as_slice() == text.as_slice());
+    assert!(rt; is_span(rt.alloc(), &span, text)?);
     Ok(())
 }
 
@@ -150,19 +155,29 @@ fn array(alloc: Global) -> Result<ArrayValue, Fail> {
     })
 }
 
-#[test]
-fn attribute_values(rt: HostRuntime) -> Result<(), Fail> {
-    let alloc = rt.alloc();
+/// A resource with an attribute that is an array.
+fn resource(alloc: Global) -> Result<Resource, Fail> {
     let value = any(alloc, AnyValueKind::Array(array(alloc)?));
-    let resource = Resource {
-        attributes: repeated(alloc, attribute(alloc, "a", Some(value))?)?,
+    let attributes = repeated(alloc, attribute(alloc, "a", Some(value))?)?;
+    Ok(Resource {
+        attributes,
         dropped_attributes_count: 1,
         unknown: octets(alloc, b"\x78\x01")?,
-    };
-    let text = b"\x0a\x0d\x0a\x01a\x12\x08\x2a\x06\x0a\x02\x10\x01\x18\x01\x10\x01\x78\x01";
+    })
+}
+
+/// Whether this is the resource's text.
+fn is_resource(alloc: Global, resource: &Resource, text: &[u8]) -> Result<bool, Fail> {
     let mut out = Vec::new(alloc);
-    write_resource(alloc, &mut out, &resource)?;
-    assert!(rt; out.as_slice() == text.as_slice());
+    write_resource(alloc, &mut out, resource)?;
+    Ok(out.as_slice() == text)
+}
+
+#[test]
+fn attribute_values(rt: HostRuntime) -> Result<(), Fail> {
+    let resource = resource(rt.alloc())?;
+    let text = b"\x0a\x0d\x0a\x01a\x12\x08\x2a\x06\x0a\x02\x10\x01\x18\x01\x10\x01\x78\x01";
+    assert!(rt; is_resource(rt.alloc(), &resource, text)?);
     Ok(())
 }
 
@@ -184,9 +199,8 @@ fn empty_resource(alloc: Global) -> Resource {
     }
 }
 
-#[test]
-fn empty_messages_are_written(rt: HostRuntime) -> Result<(), Fail> {
-    let alloc = rt.alloc();
+/// A request of a resource, a scope and a span without fields.
+fn empty_messages(alloc: Global) -> Result<ExportTraceServiceRequest, Fail> {
     let scope_spans = ScopeSpans {
         scope: Some(empty_scope(alloc)),
         spans: repeated(alloc, empty_span(alloc))?,
@@ -197,13 +211,27 @@ fn empty_messages_are_written(rt: HostRuntime) -> Result<(), Fail> {
         scope_spans: repeated(alloc, scope_spans)?,
         schema_url: string(alloc, "u")?,
     };
-    let request = ExportTraceServiceRequest {
+    Ok(ExportTraceServiceRequest {
         resource_spans: repeated(alloc, resource_spans)?,
-    };
-    let text = b"\x0a\x0b\x0a\x00\x12\x04\x0a\x00\x12\x00\x1a\x01u";
+    })
+}
+
+/// Whether this is the request's text.
+fn is_request(
+    alloc: Global,
+    request: &ExportTraceServiceRequest,
+    text: &[u8],
+) -> Result<bool, Fail> {
     let mut out = Vec::new(alloc);
-    write_request(alloc, &mut out, &request)?;
-    assert!(rt; out.as_slice() == text.as_slice());
+    write_request(alloc, &mut out, request)?;
+    Ok(out.as_slice() == text)
+}
+
+#[test]
+fn empty_messages_are_written(rt: HostRuntime) -> Result<(), Fail> {
+    let request = empty_messages(rt.alloc())?;
+    let text = b"\x0a\x0b\x0a\x00\x12\x04\x0a\x00\x12\x00\x1a\x01u";
+    assert!(rt; is_request(rt.alloc(), &request, text)?);
     Ok(())
 }
 
