@@ -33,7 +33,7 @@ pub enum BenchFault {
 
 impl BenchFault {
     /// The status with which the program ends.
-    pub fn status(&self) -> u8
+    pub(crate) fn status(&self) -> u8
         ensures { result ≡ status_of self.now }
     {
         match self {

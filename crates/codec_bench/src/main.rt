@@ -7,12 +7,11 @@
 //! proved. It stands on `otlp_read` and `otlp_trace`.
 #![tactic(auto)]
 
+mod examples;
 mod fault;
 mod measure;
 mod round;
 mod task;
-#[cfg(test)]
-mod tests;
 
 ghost use Rattle.std.specs.Prelude.{◌≡◌};
 ghost use Rattle.std.specs.Process.{exit_status};

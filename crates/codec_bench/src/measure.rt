@@ -13,14 +13,14 @@ use otlp_read::read_request;
 use otlp_trace::{ExportTraceServiceRequest, write_request};
 use std::alloc::Global;
 use std::rt::Clock;
-use std::time::{Duration, Instant};
+use std::time::Instant;
 
 /// Nanoseconds in a second.
 const SECOND: u128 = 1_000_000_000;
 
 /// Reads the body so many times, writes what was read so many times, does both so many times, and prints for each how
 /// many bytes and spans a second it took.
-pub fn measure(
+pub(crate) fn measure(
     rt: &(impl Clock + Print + AllocGlobal),
     body: &[u8],
     rounds: u32,
@@ -30,18 +30,47 @@ pub fn measure(
 {
     let alloc = rt.alloc();
     let request = read_request(alloc, body)?;
-    let spans = spans_len(&request);
     let mut text = Vec::new(alloc);
     write_request(alloc, &mut text, &request)?;
+    let spans = spans_len(&request);
+    measure_reads(rt, body, spans, rounds)?;
+    measure_writes(rt, &request, &mut text, spans, rounds)?;
+    measure_both(rt, body, &mut text, spans, rounds)
+}
+
+fn measure_reads(
+    rt: &(impl Clock + Print + AllocGlobal),
+    body: &[u8],
+    spans: usize,
+    rounds: u32,
+) -> Result<(), BenchFault> {
     let start = Instant::now(rt)?;
-    read_rounds(alloc, body, rounds)?;
-    report(rt, "read", body.len(), spans, rounds, start.elapsed(rt)?)?;
+    read_rounds(rt.alloc(), body, rounds)?;
+    report(rt, "read", body.len(), spans, rounds, start)
+}
+
+fn measure_writes(
+    rt: &(impl Clock + Print + AllocGlobal),
+    request: &ExportTraceServiceRequest,
+    text: &mut Vec<u8>,
+    spans: usize,
+    rounds: u32,
+) -> Result<(), BenchFault> {
     let start = Instant::now(rt)?;
-    write_rounds(alloc, &request, &mut text, rounds)?;
-    report(rt, "written", text.len(), spans, rounds, start.elapsed(rt)?)?;
+    write_rounds(rt.alloc(), request, text, rounds)?;
+    report(rt, "written", text.len(), spans, rounds, start)
+}
+
+fn measure_both(
+    rt: &(impl Clock + Print + AllocGlobal),
+    body: &[u8],
+    text: &mut Vec<u8>,
+    spans: usize,
+    rounds: u32,
+) -> Result<(), BenchFault> {
     let start = Instant::now(rt)?;
-    both_rounds(alloc, body, &mut text, rounds)?;
-    report(rt, "both", body.len(), spans, rounds, start.elapsed(rt)?)
+    both_rounds(rt.alloc(), body, text, rounds)?;
+    report(rt, "both", body.len(), spans, rounds, start)
 }
 
 fn read_rounds(alloc: Global, body: &[u8], rounds: u32) -> Result<(), BenchFault>
@@ -88,17 +117,18 @@ fn both_rounds(
     Ok(())
 }
 
-/// Prints how many bytes and spans a second this is.
+/// Prints how many bytes and spans a second this is, since that moment.
 fn report(
-    rt: &impl Print,
+    rt: &(impl Clock + Print),
     what: &str,
     bytes: usize,
     spans: usize,
     rounds: u32,
-    elapsed: Duration,
+    start: Instant,
 ) -> Result<(), BenchFault> {
-    let bytes = per_second(bytes, rounds, elapsed.as_nanos());
-    let spans = per_second(spans, rounds, elapsed.as_nanos());
+    let nanos = start.elapsed(rt)?.as_nanos();
+    let bytes = per_second(bytes, rounds, nanos);
+    let spans = per_second(spans, rounds, nanos);
     println!(rt; "{what}: {bytes} bytes/s, {spans} spans/s")?;
     Ok(())
 }

@@ -14,7 +14,7 @@ use otlp_trace::{ExportTraceServiceRequest, ResourceSpans, write_request};
 use std::alloc::Global;
 
 /// How many spans a request has, or the greatest number of 64 bits where it has more.
-pub fn spans_len(request: &ExportTraceServiceRequest) -> usize
+pub(crate) fn spans_len(request: &ExportTraceServiceRequest) -> usize
     ensures { result ≡ in_64_bits (spans_of (request_view request.now)) }
 {
     let mut len = 0usize;
@@ -35,7 +35,7 @@ fn resource_spans_len(resource: &ResourceSpans) -> usize
 }
 
 /// Reads a body and writes it, which has to give that body again, and counts its spans.
-pub fn checked_round(alloc: Global, body: &[u8]) -> Result<usize, BenchFault>
+pub(crate) fn checked_round(alloc: Global, body: &[u8]) -> Result<usize, BenchFault>
     // The body has a value with so many spans, whose canonical text it is.
     ensures value { IfOk result (λ len. (v : RequestData) × IsWrittenAgain body.now v
         × (len ≡ in_64_bits (spans_of v))) }

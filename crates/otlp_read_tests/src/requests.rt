@@ -6,7 +6,9 @@ use otlp_read::{
     written_request_reads_back, written_resource_reads_back, written_scope_reads_back,
     written_span_reads_back,
 };
-use otlp_trace::{Event, InstrumentationScope, Link, Resource, Span, write_request};
+use otlp_trace::{
+    Event, ExportTraceServiceRequest, InstrumentationScope, Link, Resource, Span, write_request,
+};
 use std::alloc::Global;
 use std::test::Fail;
 
@@ -48,24 +50,38 @@ fn has_two_spans(spans: &[Span]) -> bool {
         && spans[1].span_id.as_slice() == [0x22; 8].as_slice()
 }
 
+/// Whether the request is written as this body again.
+fn is_written(
+    alloc: Global,
+    request: &ExportTraceServiceRequest,
+    body: &[u8],
+) -> Result<bool, Fail> {
+    let mut written = Vec::new(alloc);
+    write_request(alloc, &mut written, request)?;
+    Ok(written.as_slice() == body)
+}
+
+/// Whether the only span has these fields. The laws of what was read are called, each of them once.
+fn has_all_fields(request: &ExportTraceServiceRequest) -> bool {
+    request_is_typed(request);
+    written_request_reads_back(request);
+    match only_span(request) {
+        Some(span) => {
+            span_is_typed(span);
+            written_span_reads_back(span);
+            has_ids_and_strings(span) && has_numbers(span) && has_messages(span)
+        }
+        None => false,
+    }
+}
+
 #[test]
 fn fields_of_a_span(rt: HostRuntime) -> Result<(), Fail> {
-    let alloc = rt.alloc();
-    let body = span_body(alloc, &SPAN)?;
-    let request = read_request(alloc, body.as_slice())?;
-    let span = only_span(&request).ok_or("no span")?;
-    assert!(rt; has_ids_and_strings(span));
-    assert!(rt; has_numbers(span));
-    assert!(rt; has_messages(span));
+    let body = span_body(rt.alloc(), &SPAN)?;
+    let request = read_request(rt.alloc(), body.as_slice())?;
+    assert!(rt; has_all_fields(&request));
     // The fields stand in the order of a canonical text, and so the body is written again.
-    let mut written = Vec::new(alloc);
-    write_request(alloc, &mut written, &request)?;
-    assert!(rt; written.as_slice() == body.as_slice());
-    // The laws of what was read, each called once.
-    request_is_typed(&request);
-    span_is_typed(span);
-    written_request_reads_back(&request);
-    written_span_reads_back(span);
+    assert!(rt; is_written(rt.alloc(), &request, body.as_slice())?);
     Ok(())
 }
 
@@ -112,16 +128,29 @@ fn has_status(span: &Span) -> bool {
     matches!(&span.status, Some(status) if status.code == 2 && status.message.as_str() == "m")
 }
 
+/// What is read of these fields inside these tags.
+fn request(alloc: Global, tags: &[u8], fields: &[u8]) -> Result<ExportTraceServiceRequest, Fail> {
+    let body = nested(alloc, tags, fields)?;
+    Ok(read_request(alloc, body.as_slice())?)
+}
+
+fn has_resource(request: &ExportTraceServiceRequest) -> bool {
+    match only_group(request) {
+        Some(group) => {
+            group.scope_spans.as_slice().len() == 1
+                && group.schema_url.as_str() == "w"
+                && matches!(&group.resource, Some(resource) if is_resource(resource))
+        }
+        None => false,
+    }
+}
+
 /// A resource in two pieces, a scope spans and a schema.
 #[test]
 fn resource_spans(rt: HostRuntime) -> Result<(), Fail> {
-    let alloc = rt.alloc();
     let fields = b"\x0a\x04\x10\x04\x0a\x00\x0a\x02\x0a\x00\x12\x00\x1a\x01w";
-    let body = nested(alloc, b"\x0a", fields)?;
-    let request = read_request(alloc, body.as_slice())?;
-    let group = only_group(&request).ok_or("no resource spans")?;
-    assert!(rt; group.scope_spans.as_slice().len() == 1 && group.schema_url.as_str() == "w");
-    assert!(rt; matches!(&group.resource, Some(resource) if is_resource(resource)));
+    let request = request(rt.alloc(), b"\x0a", fields)?;
+    assert!(rt; has_resource(&request));
     Ok(())
 }
 
@@ -131,16 +160,23 @@ fn is_resource(resource: &Resource) -> bool {
     resource.dropped_attributes_count == 4 && resource.attributes.as_slice().len() == 2
 }
 
+fn has_scope(request: &ExportTraceServiceRequest) -> bool {
+    match only_scope_spans(request) {
+        Some(found) => {
+            found.spans.as_slice().len() == 1
+                && found.schema_url.as_str() == "u"
+                && matches!(&found.scope, Some(scope) if is_scope(scope))
+        }
+        None => false,
+    }
+}
+
 /// A field that isn't known, of which nothing stays, a scope, a span and a schema.
 #[test]
 fn scope_spans(rt: HostRuntime) -> Result<(), Fail> {
-    let alloc = rt.alloc();
     let fields = b"\x20\x01\x0a\x0a\x0a\x01s\x12\x01v\x1a\x00\x20\x03\x12\x00\x1a\x01u";
-    let body = nested(alloc, b"\x0a\x12", fields)?;
-    let request = read_request(alloc, body.as_slice())?;
-    let found = only_scope_spans(&request).ok_or("no scope spans")?;
-    assert!(rt; found.spans.as_slice().len() == 1 && found.schema_url.as_str() == "u");
-    assert!(rt; matches!(&found.scope, Some(scope) if is_scope(scope)));
+    let request = request(rt.alloc(), b"\x0a\x12", fields)?;
+    assert!(rt; has_scope(&request));
     Ok(())
 }
 
@@ -179,19 +215,19 @@ fn unknown_fields(rt: HostRuntime) -> Result<(), Fail> {
     Ok(())
 }
 
+fn is_merged(request: &ExportTraceServiceRequest) -> bool {
+    matches!(only_span(request), Some(span) if span.kind == -1 && has_status(span))
+}
+
 #[test]
 fn again(rt: HostRuntime) -> Result<(), Fail> {
-    let alloc = rt.alloc();
     // Minus one, in ten bytes and in five. Of two kinds the last counts, and a status is merged.
     for fields in [
         b"\x7a\x02\x18\x02\x30\x02\x30\xff\xff\xff\xff\xff\xff\xff\xff\xff\x01\x7a\x03\x12\x01m".as_slice(),
         b"\x7a\x02\x18\x02\x30\x02\x30\xff\xff\xff\xff\x0f\x7a\x03\x12\x01m".as_slice(),
     ] {
-        let body = span_body(alloc, fields)?;
-        let request = read_request(alloc, body.as_slice())?;
-        assert!(rt;
-            matches!(only_span(&request), Some(span) if span.kind == -1 && has_status(span))
-        );
+        let request = request(rt.alloc(), b"\x0a\x12\x12", fields)?;
+        assert!(rt; is_merged(&request));
     }
     Ok(())
 }

@@ -65,77 +65,84 @@ fn is_one_sampled(
     is_sampled(alloc, policies, &[checked(rt, span, RESOURCE)])
 }
 
-#[test]
-fn latency_is_in_whole_milliseconds_rounded_down(rt: HostRuntime) -> Result<(), Fail> {
-    let second = "[{ type = \"latency\", threshold_ms = 1000 }]";
-    assert!(rt; !is_one_sampled(&rt, rt.alloc(), second, NEARLY_A_SECOND)?);
-    assert!(rt; is_one_sampled(&rt, rt.alloc(), second, A_SECOND)?);
-    assert!(rt; !is_one_sampled(&rt, rt.alloc(), second, EXCHANGED)?);
-    Ok(())
-}
+/// A second or more.
+const A_SECOND_OR_MORE: &str = "[{ type = \"latency\", threshold_ms = 1000 }]";
 
-#[test]
-fn latency_is_from_the_earliest_start_to_the_latest_end(rt: HostRuntime) -> Result<(), Fail> {
-    let second = "[{ type = \"latency\", threshold_ms = 1000 }]";
-    assert!(rt; !is_one_sampled(&rt, rt.alloc(), second, EARLY)?);
-    assert!(rt; !is_one_sampled(&rt, rt.alloc(), second, LATE)?);
-    let spans = [checked(&rt, LATE, RESOURCE), checked(&rt, EARLY, RESOURCE)];
-    assert!(rt; is_sampled(rt.alloc(), second, &spans)?);
-    Ok(())
-}
+const IS_ERROR: &str = "[{ type = \"status_code\", status_codes = [\"ERROR\"] }]";
 
-#[test]
-fn each_status_has_its_number(rt: HostRuntime) -> Result<(), Fail> {
-    let error = "[{ type = \"status_code\", status_codes = [\"ERROR\"] }]";
-    let others = "[{ type = \"status_code\", status_codes = [\"OK\", \"UNSET\"] }]";
-    assert!(rt; is_one_sampled(&rt, rt.alloc(), error, ERROR)?);
-    assert!(rt; !is_one_sampled(&rt, rt.alloc(), others, ERROR)?);
-    assert!(rt; is_one_sampled(&rt, rt.alloc(), others, b"\x7a\x02\x18\x01")?);
-    assert!(rt; is_one_sampled(&rt, rt.alloc(), others, EARLY)?);
-    Ok(())
-}
+const IS_NO_ERROR: &str = "[{ type = \"status_code\", status_codes = [\"OK\", \"UNSET\"] }]";
 
-#[test]
-fn each_occurrence_of_a_key_counts(rt: HostRuntime) -> Result<(), Fail> {
-    let own = "[{ type = \"string_attribute\", key = \"k\", values = [\"other\", \"x\"] }]";
-    let of_resource = "[{ type = \"string_attribute\", key = \"k\", values = [\"w\"] }]";
-    let other_key = "[{ type = \"string_attribute\", key = \"K\", values = [\"x\"] }]";
-    assert!(rt; is_one_sampled(&rt, rt.alloc(), own, THRICE)?);
-    assert!(rt; is_one_sampled(&rt, rt.alloc(), of_resource, THRICE)?);
-    assert!(rt; !is_one_sampled(&rt, rt.alloc(), other_key, THRICE)?);
-    Ok(())
-}
+/// A later one of a key's values.
+const HAS_X: &str = "[{ type = \"string_attribute\", key = \"k\", values = [\"other\", \"x\"] }]";
 
-#[test]
-fn both_bounds_are_included(rt: HostRuntime) -> Result<(), Fail> {
-    let seven = "[{ type = \"numeric_attribute\", key = \"k\", min_value = 7, max_value = 7 }]";
-    let less = "[{ type = \"numeric_attribute\", key = \"k\", min_value = -7, max_value = 6 }]";
-    assert!(rt; is_one_sampled(&rt, rt.alloc(), seven, THRICE)?);
-    assert!(rt; !is_one_sampled(&rt, rt.alloc(), less, THRICE)?);
-    Ok(())
-}
+/// A value that the resource has.
+const HAS_W: &str = "[{ type = \"string_attribute\", key = \"k\", values = [\"w\"] }]";
 
-#[test]
-fn joined_policies_may_be_met_by_different_spans(rt: HostRuntime) -> Result<(), Fail> {
-    let both = "[{ type = \"and\", and_sub_policy = [\
+const OTHER_KEY: &str = "[{ type = \"string_attribute\", key = \"K\", values = [\"x\"] }]";
+
+const IS_SEVEN: &str =
+    "[{ type = \"numeric_attribute\", key = \"k\", min_value = 7, max_value = 7 }]";
+
+const IS_LESS: &str =
+    "[{ type = \"numeric_attribute\", key = \"k\", min_value = -7, max_value = 6 }]";
+
+/// An error, and a first value of `k`.
+const BOTH: &str = "[{ type = \"and\", and_sub_policy = [\
 { type = \"status_code\", status_codes = [\"ERROR\"] }, \
 { type = \"string_attribute\", key = \"k\", values = [\"v\"] }] }]";
-    assert!(rt; !is_one_sampled(&rt, rt.alloc(), both, ERROR)?);
-    assert!(rt; !is_one_sampled(&rt, rt.alloc(), both, THRICE)?);
-    let spans = [
-        checked(&rt, THRICE, RESOURCE),
-        checked(&rt, ERROR, RESOURCE),
-    ];
-    assert!(rt; is_sampled(rt.alloc(), both, &spans)?);
+
+const LATE_ALONE: &str = "[{ type = \"latency\", threshold_ms = 1001 }]";
+
+const LATE_OR_ANY: &str =
+    "[{ type = \"latency\", threshold_ms = 1001 }, { type = \"always_sample\" }]";
+
+#[test]
+fn traces_of_one_span(rt: HostRuntime) -> Result<(), Fail> {
+    for (policies, span, sampled) in [
+        // Whole milliseconds, rounded down.
+        (A_SECOND_OR_MORE, NEARLY_A_SECOND, false),
+        (A_SECOND_OR_MORE, A_SECOND, true),
+        (A_SECOND_OR_MORE, EXCHANGED, false),
+        (A_SECOND_OR_MORE, EARLY, false),
+        (A_SECOND_OR_MORE, LATE, false),
+        // Each status has its number, and a missing one is UNSET.
+        (IS_ERROR, ERROR, true),
+        (IS_NO_ERROR, ERROR, false),
+        (IS_NO_ERROR, b"\x7a\x02\x18\x01", true),
+        (IS_NO_ERROR, EARLY, true),
+        // Each occurrence of a key counts, the resource's too.
+        (HAS_X, THRICE, true),
+        (HAS_W, THRICE, true),
+        (OTHER_KEY, THRICE, false),
+        // Both bounds are included.
+        (IS_SEVEN, THRICE, true),
+        (IS_LESS, THRICE, false),
+        // Joined policies have to be met by this one.
+        (BOTH, ERROR, false),
+        (BOTH, THRICE, false),
+        // One policy of several is enough.
+        (LATE_ALONE, A_SECOND, false),
+        (LATE_OR_ANY, A_SECOND, true),
+    ] {
+        assert!(rt; is_one_sampled(&rt, rt.alloc(), policies, span)? == sampled);
+    }
     Ok(())
 }
 
 #[test]
-fn one_policy_of_several_samples_a_trace(rt: HostRuntime) -> Result<(), Fail> {
-    let late = "[{ type = \"latency\", threshold_ms = 1001 }]";
-    let late_or_any = "[{ type = \"latency\", threshold_ms = 1001 }, { type = \"always_sample\" }]";
-    assert!(rt; !is_one_sampled(&rt, rt.alloc(), late, A_SECOND)?);
-    assert!(rt; is_one_sampled(&rt, rt.alloc(), late_or_any, A_SECOND)?);
+fn traces_of_two_spans(rt: HostRuntime) -> Result<(), Fail> {
+    for (policies, first, second) in [
+        // From the earliest start to the latest end.
+        (A_SECOND_OR_MORE, LATE, EARLY),
+        // Joined policies may be met by different spans.
+        (BOTH, THRICE, ERROR),
+    ] {
+        let spans = [
+            checked(&rt, first, RESOURCE),
+            checked(&rt, second, RESOURCE),
+        ];
+        assert!(rt; is_sampled(rt.alloc(), policies, &spans)?);
+    }
     Ok(())
 }
 

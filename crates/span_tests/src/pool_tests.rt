@@ -114,13 +114,6 @@ fn is_copied(span: &StoredSpan) -> Result<bool, AllocError> {
 }
 
 #[test]
-fn a_copy_is_equal(rt: HostRuntime) -> Result<(), AllocError> {
-    let span = stored(&rt, 7, (b"", b"r"), (b"", b"u"), NAME);
-    assert!(rt; is_copied(&span)?);
-    Ok(())
-}
-
-#[test]
 fn bytes_are_shared_where_there_are_any(rt: HostRuntime) -> Result<(), AllocError> {
     let bytes = Some(Bytes::from_static(NAME));
     let copy = share(&bytes)?;
@@ -136,16 +129,23 @@ fn is_same_with(span: &StoredSpan, base: u64) -> Result<bool, AllocError> {
     Ok(other == *span && other.is_same_resource(span) && other.is_same_scope(span))
 }
 
-#[test]
-fn a_span_is_the_same_with_other_numbers(rt: HostRuntime) -> Result<(), AllocError> {
+/// The same of numbers that are higher by five, and of those that would be too great.
+fn is_same_with_others(span: &StoredSpan) -> Result<bool, AllocError> {
+    Ok(is_same_with(span, 5)? && is_same_with(span, u64::MAX)?)
+}
+
+fn with_numbers(rt: &impl Abort) -> StoredSpan {
     let numbers = Numbers {
         resource: 1,
         scope: 2,
     };
-    let span = numbered(&rt, 7, b"", b"", urls(b"r", b"u"), NAME, numbers);
-    assert!(rt; is_same_with(&span, 5)?);
-    // These numbers would be too great.
-    assert!(rt; is_same_with(&span, u64::MAX)?);
+    numbered(rt, 7, b"", b"", urls(b"r", b"u"), NAME, numbers)
+}
+
+#[test]
+fn copies_and_spans_with_other_numbers_are_the_same(rt: HostRuntime) -> Result<(), AllocError> {
+    let span = with_numbers(&rt);
+    assert!(rt; is_copied(&span)? && is_same_with_others(&span)?);
     Ok(())
 }
 

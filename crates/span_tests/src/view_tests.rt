@@ -29,23 +29,44 @@ fn checked<'a>(rt: &impl Abort, span: &'a [u8], resource: &'a [u8]) -> SpanRef<'
     SpanRef::of(span, resource)
 }
 
+fn has_ids(view: &SpanRef<'_>) -> bool {
+    let id: &[u8] = b"\x5b\x8e\xff\xf7\x98\x03\x81\x03\xd2\x69\xb6\x33\x81\x3f\xc6\x0c";
+    let span_id: &[u8] = b"\xee\xe1\x9b\x7e\xc3\xc1\xb1\x74";
+    view.trace_id() == id && view.span_id() == span_id
+}
+
+fn has_times_and_status(view: &SpanRef<'_>) -> bool {
+    (view.start(), view.end()) == (1544712660000000000, 1544712661000000000) && view.status() == 2
+}
+
+/// Whether this is an attribute with that key and value.
+fn is_attribute(found: Option<(&str, ValueRef<'_>)>, key: &str, want: ValueRef<'_>) -> bool {
+    match found {
+        Some((name, value)) => name == key && value == want,
+        None => false,
+    }
+}
+
+fn has_attributes(view: &SpanRef<'_>) -> bool {
+    let own = ValueRef::String("some value");
+    let of_resource = ValueRef::String("my.service");
+    let mut attributes = view.attributes();
+    is_attribute(attributes.next(), "my.span.attr", own)
+        && is_attribute(attributes.next(), "service.name", of_resource)
+        && attributes.next().is_none()
+        && attributes.next().is_none()
+}
+
 #[test]
 fn the_example_of_a_trace_is_viewed(rt: HostRuntime) {
     let view = checked(&rt, SPAN, RESOURCE);
-    let id: &[u8] = b"\x5b\x8e\xff\xf7\x98\x03\x81\x03\xd2\x69\xb6\x33\x81\x3f\xc6\x0c";
-    assert_eq!(rt; view.trace_id(), id);
-    let span_id: &[u8] = b"\xee\xe1\x9b\x7e\xc3\xc1\xb1\x74";
-    assert_eq!(rt; view.span_id(), span_id);
-    assert_eq!(rt; view.start(), 1544712660000000000);
-    assert_eq!(rt; view.end(), 1544712661000000000);
-    assert_eq!(rt; view.status(), 2);
-    let mut attributes = view.attributes();
-    let own = ("my.span.attr", ValueRef::String("some value"));
-    assert_eq!(rt; attributes.next(), Some(own));
-    let of_resource = ("service.name", ValueRef::String("my.service"));
-    assert_eq!(rt; attributes.next(), Some(of_resource));
-    assert_eq!(rt; attributes.next(), None);
-    assert_eq!(rt; attributes.next(), None);
+    assert!(rt; has_ids(&view) && has_times_and_status(&view) && has_attributes(&view));
+}
+
+/// Whether the one attribute of this resource has no key and this value.
+fn has_value(rt: &impl Abort, resource: &[u8], value: ValueRef<'_>) -> bool {
+    let mut attributes = checked(rt, b"", resource).attributes();
+    is_attribute(attributes.next(), "", value) && attributes.next().is_none()
 }
 
 #[test]
@@ -77,22 +98,23 @@ fn each_kind_of_value_is_told(rt: HostRuntime) {
         (b"\x0a\x06\x12\x04\x40\x01\x08\x02", ValueRef::Unset),
     ];
     for (resource, value) in cases {
-        let none: &[u8] = b"";
-        let mut attributes = checked(&rt, none, resource).attributes();
-        assert_eq!(rt; attributes.next(), Some(("", value)));
-        assert_eq!(rt; attributes.next(), None);
+        assert!(rt; has_value(&rt, resource, value));
     }
 }
 
 #[test]
 fn strings_that_are_not_utf8_are_found(rt: HostRuntime) {
     let none: &[u8] = b"";
-    assert!(rt; !is_text(b"\x4a\x03\x0a\x01\xff", none));
-    assert!(rt; !is_text(b"\x4a\x05\x12\x03\x0a\x01\xff", none));
-    assert!(rt; !is_text(none, b"\x0a\x03\x0a\x01\xff"));
-    // Bytes, and a name that no view reads.
-    assert!(rt; is_text(b"\x4a\x05\x12\x03\x3a\x01\xff", none));
-    assert!(rt; is_text(b"\x2a\x01\xff", none));
+    for (span, resource, expected) in [
+        (b"\x4a\x03\x0a\x01\xff".as_slice(), none, false),
+        (b"\x4a\x05\x12\x03\x0a\x01\xff".as_slice(), none, false),
+        (none, b"\x0a\x03\x0a\x01\xff".as_slice(), false),
+        // Bytes, and a name that no view reads.
+        (b"\x4a\x05\x12\x03\x3a\x01\xff".as_slice(), none, true),
+        (b"\x2a\x01\xff".as_slice(), none, true),
+    ] {
+        assert!(rt; is_text(span, resource) == expected);
+    }
 }
 
 #[test]

@@ -93,20 +93,44 @@ fn error_status(alloc: Global) -> Status {
     }
 }
 
+/// A span that has some of its fields, one that isn't known among them.
+fn span(alloc: Global) -> Result<Span, Fail> {
+    let name = string(alloc, "get")?;
+    let attributes = repeated(alloc, attribute(alloc, "k", None)?)?;
+    let events = repeated(alloc, empty_event(alloc))?;
+    let links = repeated(alloc, empty_link(alloc))?;
+    let unknown = octets(alloc, b"\xc0\x3e\x05")?;
+    Ok(Span {
+        trace_id: Octets::new(alloc),
+        span_id: Octets::new(alloc),
+        trace_state: String::new(alloc),
+        parent_span_id: Octets::new(alloc),
+        name,
+        kind: -1,
+        start_time_unix_nano: 0,
+        end_time_unix_nano: 256,
+        attributes,
+        dropped_attributes_count: 0,
+        events,
+        dropped_events_count: 300,
+        links,
+        dropped_links_count: 0,
+        status: Some(error_status(alloc)),
+        flags: 0x101,
+        unknown,
+    })
+}
+
+/// Whether this is the span's text.
+fn is_span(alloc: Global, span: &Span, text: &[u8]) -> Result<bool, Fail> {
+    let mut out = Vec::new(alloc);
+    write_span(alloc, &mut out, span)?;
+    Ok(out.as_slice() == text)
+}
+
 #[test]
 fn span_is_written(rt: HostRuntime) -> Result<(), Fail> {
-    let alloc = rt.alloc();
-    let mut span = empty_span(alloc);
-    span.name = string(alloc, "get")?;
-    span.kind = -1;
-    span.end_time_unix_nano = 256;
-    span.attributes = repeated(alloc, attribute(alloc, "k", None)?)?;
-    span.events = repeated(alloc, empty_event(alloc))?;
-    span.dropped_events_count = 300;
-    span.links = repeated(alloc, empty_link(alloc))?;
-    span.status = Some(error_status(alloc));
-    span.flags = 0x101;
-    span.unknown = octets(alloc, b"\xc0\x3e\x05")?;
+    let span = span(rt.alloc())?;
     let text = b"\x2a\x03get\
         \x30\xff\xff\xff\xff\xff\xff\xff\xff\xff\x01\
         \x41\x00\x01\x00\x00\x00\x00\x00\x00\
@@ -117,9 +141,7 @@ fn span_is_written(rt: HostRuntime) -> Result<(), Fail> {
         \x7a\x02\x18\x02\
         \x85\x01\x01\x01\x00\x00\
         \xc0\x3e\x05";
-    let mut out = Vec::new(alloc);
-    write_span(alloc, &mut out, &span)?;
-    assert_eq!(rt; out.as_slice(), text.as_slice());
+    assert!(rt; is_span(rt.alloc(), &span, text)?);
     Ok(())
 }
 
@@ -133,19 +155,29 @@ fn array(alloc: Global) -> Result<ArrayValue, Fail> {
     })
 }
 
-#[test]
-fn attribute_values(rt: HostRuntime) -> Result<(), Fail> {
-    let alloc = rt.alloc();
+/// A resource with an attribute that is an array.
+fn resource(alloc: Global) -> Result<Resource, Fail> {
     let value = any(alloc, AnyValueKind::Array(array(alloc)?));
-    let resource = Resource {
-        attributes: repeated(alloc, attribute(alloc, "a", Some(value))?)?,
+    let attributes = repeated(alloc, attribute(alloc, "a", Some(value))?)?;
+    Ok(Resource {
+        attributes,
         dropped_attributes_count: 1,
         unknown: octets(alloc, b"\x78\x01")?,
-    };
-    let text = b"\x0a\x0d\x0a\x01a\x12\x08\x2a\x06\x0a\x02\x10\x01\x18\x01\x10\x01\x78\x01";
+    })
+}
+
+/// Whether this is the resource's text.
+fn is_resource(alloc: Global, resource: &Resource, text: &[u8]) -> Result<bool, Fail> {
     let mut out = Vec::new(alloc);
-    write_resource(alloc, &mut out, &resource)?;
-    assert_eq!(rt; out.as_slice(), text.as_slice());
+    write_resource(alloc, &mut out, resource)?;
+    Ok(out.as_slice() == text)
+}
+
+#[test]
+fn attribute_values(rt: HostRuntime) -> Result<(), Fail> {
+    let resource = resource(rt.alloc())?;
+    let text = b"\x0a\x0d\x0a\x01a\x12\x08\x2a\x06\x0a\x02\x10\x01\x18\x01\x10\x01\x78\x01";
+    assert!(rt; is_resource(rt.alloc(), &resource, text)?);
     Ok(())
 }
 
@@ -167,9 +199,8 @@ fn empty_resource(alloc: Global) -> Resource {
     }
 }
 
-#[test]
-fn empty_messages_are_written(rt: HostRuntime) -> Result<(), Fail> {
-    let alloc = rt.alloc();
+/// A request of a resource, a scope and a span without fields.
+fn empty_messages(alloc: Global) -> Result<ExportTraceServiceRequest, Fail> {
     let scope_spans = ScopeSpans {
         scope: Some(empty_scope(alloc)),
         spans: repeated(alloc, empty_span(alloc))?,
@@ -180,13 +211,27 @@ fn empty_messages_are_written(rt: HostRuntime) -> Result<(), Fail> {
         scope_spans: repeated(alloc, scope_spans)?,
         schema_url: string(alloc, "u")?,
     };
-    let request = ExportTraceServiceRequest {
+    Ok(ExportTraceServiceRequest {
         resource_spans: repeated(alloc, resource_spans)?,
-    };
-    let text = b"\x0a\x0b\x0a\x00\x12\x04\x0a\x00\x12\x00\x1a\x01u";
+    })
+}
+
+/// Whether this is the request's text.
+fn is_request(
+    alloc: Global,
+    request: &ExportTraceServiceRequest,
+    text: &[u8],
+) -> Result<bool, Fail> {
     let mut out = Vec::new(alloc);
-    write_request(alloc, &mut out, &request)?;
-    assert_eq!(rt; out.as_slice(), text.as_slice());
+    write_request(alloc, &mut out, request)?;
+    Ok(out.as_slice() == text)
+}
+
+#[test]
+fn empty_messages_are_written(rt: HostRuntime) -> Result<(), Fail> {
+    let request = empty_messages(rt.alloc())?;
+    let text = b"\x0a\x0b\x0a\x00\x12\x04\x0a\x00\x12\x00\x1a\x01u";
+    assert!(rt; is_request(rt.alloc(), &request, text)?);
     Ok(())
 }
 
@@ -206,13 +251,13 @@ fn scope_and_status(rt: HostRuntime) -> Result<(), Fail> {
     let mut out = Vec::new(alloc);
     write_scope(alloc, &mut out, &scope(alloc)?)?;
     let text = b"\x0a\x01n\x12\x011\x1a\x03\x0a\x01k\x20\x01\x28\x05";
-    assert_eq!(rt; out.as_slice(), text.as_slice());
+    assert!(rt; out.as_slice() == text.as_slice());
 
     // What stands there already stays.
     write_status(alloc, &mut out, "bad protobuf")?;
     let both = b"\x0a\x01n\x12\x011\x1a\x03\x0a\x01k\x20\x01\x28\x05\
         \x12\x0c\x62\x61\x64\x20\x70\x72\x6f\x74\x6f\x62\x75\x66";
-    assert_eq!(rt; out.as_slice(), both.as_slice());
+    assert!(rt; out.as_slice() == both.as_slice());
     Ok(())
 }
 
@@ -230,7 +275,7 @@ fn replies(rt: HostRuntime) -> Result<(), Fail> {
         error_message: string(alloc, "a")?,
     });
     write_response(alloc, &mut out, &response)?;
-    assert_eq!(rt; out.as_slice(), b"\x0a\x05\x08\x02\x12\x01a".as_slice());
+    assert!(rt; out.as_slice() == b"\x0a\x05\x08\x02\x12\x01a".as_slice());
     Ok(())
 }
 
@@ -246,7 +291,7 @@ fn fields_around_texts(rt: HostRuntime) -> Result<(), Fail> {
     wrap_in_field(&mut out, start, 16)?;
     // Number 16 with wire type 2 is 130, a tag of two bytes.
     let text = b"\x0a\x02ab\x12\x00\x82\x01\x03\x1a\x01c";
-    assert_eq!(rt; out.as_slice(), text.as_slice());
+    assert!(rt; out.as_slice() == text.as_slice());
     Ok(())
 }
 
@@ -254,14 +299,14 @@ fn fields_around_texts(rt: HostRuntime) -> Result<(), Fail> {
 fn lists(rt: HostRuntime) -> Result<(), Fail> {
     let alloc = rt.alloc();
     let bytes = Octets::from_vec(octets(alloc, b"ab")?.into_vec());
-    assert_eq!(rt; bytes.as_slice(), b"ab".as_slice());
+    assert!(rt; bytes.as_slice() == b"ab".as_slice());
     assert!(rt; bytes == bytes.clone()? && bytes != octets(alloc, b"ba")?);
     assert!(rt; Octets::new(alloc).as_slice().is_empty());
     let numbers = Repeated::from_vec(bytes.into_vec());
-    assert_eq!(rt; numbers.as_slice(), b"ab".as_slice());
+    assert!(rt; numbers.as_slice() == b"ab".as_slice());
     assert!(rt; numbers == repeated_bytes(alloc, b"ab")?);
     assert!(rt; numbers != repeated_bytes(alloc, b"a")?);
-    assert_eq!(rt; numbers.into_vec().len(), 2);
+    assert!(rt; numbers.into_vec().len() == 2);
     assert!(rt; Repeated::<u8>::new(alloc).as_slice().is_empty());
     Ok(())
 }

@@ -3,7 +3,7 @@ use Rattle.otlp_read.specs.Walk.{no_pieces}
 use Rattle.codec_bench.specs.Task.{TaskData, Asks, nothing_named, file_named}
 use Rattle.codec_bench.specs.Examples.{path}
 use Rattle.codec_bench.proofs.Words.{not_named}
-use Rattle.codec_bench.proofs.tests.definitions_on_small_inputs.Goals as goal
+use Rattle.codec_bench.proofs.examples.definitions_on_small_inputs.Goals as goal
 
 pub returns-clause-counts : goal.returns-clause-counts
 returns-clause-counts c = record { none = refl; empty = refl; ten = refl; greatest = refl; too_great = refl; small = refl }
