@@ -95,24 +95,27 @@ fn wrong_lines(alloc: Global, table: Table, text: &str) -> Result<String, Fail> 
 
 #[test]
 fn vectors(rt: HostRuntime) -> Result<(), Fail> {
-    assert!(rt; VECTORS.lines().count() == 195);
-    let wrong = wrong_lines(rt.alloc(), Table::Requests, VECTORS)?;
+    let text = VECTORS;
+    assert!(rt; text.lines().count() == 195);
+    let wrong = wrong_lines(rt.alloc(), Table::Requests, text)?;
     assert!(rt; wrong.is_empty(), "{wrong}");
     Ok(())
 }
 
 #[test]
 fn faults(rt: HostRuntime) -> Result<(), Fail> {
-    assert!(rt; FAULTS.lines().count() == 80);
-    let wrong = wrong_lines(rt.alloc(), Table::Faults, FAULTS)?;
+    let text = FAULTS;
+    assert!(rt; text.lines().count() == 80);
+    let wrong = wrong_lines(rt.alloc(), Table::Faults, text)?;
     assert!(rt; wrong.is_empty(), "{wrong}");
     Ok(())
 }
 
 #[test]
 fn responses(rt: HostRuntime) -> Result<(), Fail> {
-    assert!(rt; RESPONSES.lines().count() == 11);
-    let wrong = wrong_lines(rt.alloc(), Table::Replies, RESPONSES)?;
+    let text = RESPONSES;
+    assert!(rt; text.lines().count() == 11);
+    let wrong = wrong_lines(rt.alloc(), Table::Replies, text)?;
     assert!(rt; wrong.is_empty(), "{wrong}");
     Ok(())
 }
