@@ -38,38 +38,6 @@ fn answer(alloc: Global, body: &str) -> Result<String, Fail> {
     }
 }
 
-#[test]
-fn vectors(rt: HostRuntime) -> Result<(), Fail> {
-    let alloc = rt.alloc();
-    assert_eq!(rt; VECTORS.lines().count(), 195);
-    let mut wrong = String::new(alloc);
-    for line in VECTORS.lines() {
-        let (name, body, canonical) = words(line).ok_or("a line without three words")?;
-        if answer(alloc, body)?.as_str() != canonical {
-            wrong.push_str(name)?;
-            wrong.push(' ')?;
-        }
-    }
-    assert_eq!(rt; wrong.as_str(), "");
-    Ok(())
-}
-
-#[test]
-fn faults(rt: HostRuntime) -> Result<(), Fail> {
-    let alloc = rt.alloc();
-    assert_eq!(rt; FAULTS.lines().count(), 80);
-    let mut wrong = String::new(alloc);
-    for line in FAULTS.lines() {
-        let (name, number, body) = words(line).ok_or("a line without three words")?;
-        if answer(alloc, body)?.as_str() != number {
-            wrong.push_str(name)?;
-            wrong.push(' ')?;
-        }
-    }
-    assert_eq!(rt; wrong.as_str(), "");
-    Ok(())
-}
-
 /// The digits of the canonical text of what a reply's body is read as.
 fn reply(alloc: Global, body: &str) -> Result<String, Fail> {
     let bytes = bytes(alloc, body)?;
@@ -92,18 +60,62 @@ fn reply(alloc: Global, body: &str) -> Result<String, Fail> {
     Ok(hex::encode(alloc, out)?)
 }
 
-#[test]
-fn responses(rt: HostRuntime) -> Result<(), Fail> {
-    let alloc = rt.alloc();
-    assert_eq!(rt; RESPONSES.lines().count(), 11);
+/// A table of bodies, a line each, of three words.
+#[derive(Clone, Copy)]
+enum Table {
+    /// A name, a request's body, and its canonical text.
+    Requests,
+    /// A name, a fault's number, and a request's body.
+    Faults,
+    /// A name, a reply's body, and its canonical text.
+    Replies,
+}
+
+/// Whether the line's body is read as the line says.
+fn is_right(alloc: Global, table: Table, line: &str) -> Result<bool, Fail> {
+    let (_, second, third) = words(line).ok_or("a line without three words")?;
+    match table {
+        Table::Requests => Ok(answer(alloc, second)?.as_str() == third),
+        Table::Faults => Ok(answer(alloc, third)?.as_str() == second),
+        Table::Replies => Ok(reply(alloc, second)?.as_str() == third),
+    }
+}
+
+/// The lines whose bodies aren't read as they say.
+fn wrong_lines(alloc: Global, table: Table, text: &str) -> Result<String, Fail> {
     let mut wrong = String::new(alloc);
-    for line in RESPONSES.lines() {
-        let (name, body, canonical) = words(line).ok_or("a line without three words")?;
-        if reply(alloc, body)?.as_str() != canonical {
-            wrong.push_str(name)?;
-            wrong.push(' ')?;
+    for line in text.lines() {
+        if !is_right(alloc, table, line)? {
+            wrong.push_str(line)?;
+            wrong.push('\n')?;
         }
     }
-    assert_eq!(rt; wrong.as_str(), "");
+    Ok(wrong)
+}
+
+#[test]
+fn vectors(rt: HostRuntime) -> Result<(), Fail> {
+    let text = VECTORS;
+    assert!(rt; text.lines().count() == 195);
+    let wrong = wrong_lines(rt.alloc(), Table::Requests, text)?;
+    assert!(rt; wrong.is_empty(), "{wrong}");
+    Ok(())
+}
+
+#[test]
+fn faults(rt: HostRuntime) -> Result<(), Fail> {
+    let text = FAULTS;
+    assert!(rt; text.lines().count() == 80);
+    let wrong = wrong_lines(rt.alloc(), Table::Faults, text)?;
+    assert!(rt; wrong.is_empty(), "{wrong}");
+    Ok(())
+}
+
+#[test]
+fn responses(rt: HostRuntime) -> Result<(), Fail> {
+    let text = RESPONSES;
+    assert!(rt; text.lines().count() == 11);
+    let wrong = wrong_lines(rt.alloc(), Table::Replies, text)?;
+    assert!(rt; wrong.is_empty(), "{wrong}");
     Ok(())
 }

@@ -34,7 +34,16 @@ name = \"b\"
 tail_sampling = { decision_wait_ms = 1000, policy = [{ type = \"latency\", threshold_ms = 0 }] }
 ";
 
-/// What a replay ends with, no text where all is done, and what it writes.
+/// What a replay ends with, no text where all is done.
+fn end_of(alloc: Global, settings: &str, script: &[u8], out: &mut Vec<u8>) -> Result<String, Fail> {
+    let mut reader = script;
+    match replay(alloc, settings, &mut reader, out) {
+        Ok(()) => Ok(String::new(alloc)),
+        Err(fault) => Ok(fault.to_string(alloc)?),
+    }
+}
+
+/// A replay ends with this fault, no text where all is done, and writes this text.
 fn check(
     rt: &impl Abort,
     settings: &str,
@@ -43,14 +52,10 @@ fn check(
     text: &[u8],
     alloc: Global,
 ) -> Result<(), Fail> {
-    let mut reader = script;
     let mut out = Vec::new(alloc);
-    let end = match replay(alloc, settings, &mut reader, &mut out) {
-        Ok(()) => String::new(alloc),
-        Err(fault) => fault.to_string(alloc)?,
-    };
-    assert_eq!(rt; end.as_str(), fault);
-    assert_eq!(rt; out.as_slice(), text);
+    let end = end_of(alloc, settings, script, &mut out)?;
+    assert!(rt; end.as_str() == fault, "{end}");
+    assert!(rt; out.as_slice() == text);
     Ok(())
 }
 
@@ -93,23 +98,30 @@ idle 0
     check(&rt, ONE_SHARD, script, "", text, rt.alloc())
 }
 
-/// Each fault that a body can have, in bodies of Protocol Buffers' own libraries.
-#[test]
-fn bodies_of_each_fault_are_answered_400(rt: HostRuntime) -> Result<(), Fail> {
-    let alloc = rt.alloc();
-    let mut script = String::new(alloc);
-    let mut text = String::new(alloc);
+/// The numbers of the faults of bodies of Protocol Buffers' own libraries, each once, and those bodies posted.
+fn faulty_posts(alloc: Global) -> Result<(String, String), Fail> {
     let mut numbers = String::new(alloc);
+    let mut script = String::new(alloc);
     for line in FAULTS.lines() {
         let (_, rest) = line.split_once(' ').ok_or("a line without three words")?;
         let (number, body) = rest.split_once(' ').ok_or("a line without three words")?;
         if !numbers.ends_with(number) {
             numbers.push_str(number)?;
         }
-        script.push_str(format!(in alloc; "post a 0 {body}\n")?.as_str())?;
-        text.push_str("reply a 400 120c6261642070726f746f627566\n")?;
+        script.push_str("post a 0 ")?;
+        script.push_str(body)?;
+        script.push('\n')?;
     }
-    assert_eq!(rt; numbers.as_str(), "123456");
+    Ok((numbers, script))
+}
+
+/// Each fault that a body can have.
+#[test]
+fn bodies_of_each_fault_are_answered_400(rt: HostRuntime) -> Result<(), Fail> {
+    let alloc = rt.alloc();
+    let (numbers, script) = faulty_posts(alloc)?;
+    let text = "reply a 400 120c6261642070726f746f627566\n".repeat(alloc, 80)?;
+    assert!(rt; numbers.as_str() == "123456");
     check(
         &rt,
         ONE_SHARD,
@@ -120,15 +132,21 @@ fn bodies_of_each_fault_are_answered_400(rt: HostRuntime) -> Result<(), Fail> {
     )
 }
 
-/// A field of 2,000 spans of 30 bytes has 60,000 bytes, in base 128 e0 d4 03; one around it and its 4 bytes e4 d4 03.
-#[test]
-fn a_post_of_2000_spans_leaves_as_one_job(rt: HostRuntime) -> Result<(), Fail> {
-    let alloc = rt.alloc();
+/// The digits of a body of 2,000 spans, each of another id. Its field of spans of 30 bytes has 60,000 bytes, in base
+/// 128 e0 d4 03; one around it and its 4 bytes e4 d4 03.
+fn body_of_2000_spans(alloc: Global) -> Result<String, Fail> {
     let mut body = String::from_str(alloc, "0ae4d40312e0d403")?;
     for span in 1..2001u64 {
         body.push_str("121c0a10111111111111111111111111111111111208")?;
         body.push_str(hex::encode(alloc, span.to_be_bytes().as_slice())?.as_str())?;
     }
+    Ok(body)
+}
+
+#[test]
+fn a_post_of_2000_spans_leaves_as_one_job(rt: HostRuntime) -> Result<(), Fail> {
+    let alloc = rt.alloc();
+    let body = body_of_2000_spans(alloc)?;
     let script = format!(in alloc; "post a 0 {body}\nturn 0 1000\nturn 0 1000\n")?;
     let text = format!(in alloc; "reply a 200 -\njob a 1 {body}\nidle 0\n")?;
     check(
@@ -141,32 +159,42 @@ fn a_post_of_2000_spans_leaves_as_one_job(rt: HostRuntime) -> Result<(), Fail> {
     )
 }
 
-#[test]
-fn tenants_share_a_shard_or_have_their_own(rt: HostRuntime) -> Result<(), Fail> {
-    let alloc = rt.alloc();
-    let posts = "post a 0 0a20121e121c0a101111111111111111111111111111111112082121212121212121
+/// Two tenants post, and what they posted comes out in these turns.
+fn check_two_posts(
+    rt: &impl Abort,
+    settings: &str,
+    turns: &str,
+    alloc: Global,
+) -> Result<(), Fail> {
+    let script = format!(in alloc;
+        "post a 0 0a20121e121c0a101111111111111111111111111111111112082121212121212121
 post b 0 0a20121e121c0a101111111111111111111111111111111112083131313131313131
-";
+{turns}"
+    )?;
     let text: &[u8] = b"reply a 200 -
 reply b 200 -
 job a 1 0a20121e121c0a101111111111111111111111111111111112082121212121212121
 job b 1 0a20121e121c0a101111111111111111111111111111111112083131313131313131
 ";
-    let script = format!(in alloc; "{posts}turn 0 1000\nturn 0 1000\n")?;
-    check(&rt, ONE_SHARD, script.as_bytes(), "", text, alloc)?;
-    let script = format!(in alloc; "{posts}turn 0 1000\nturn 1 1000\n")?;
-    check(&rt, THREE_SHARDS, script.as_bytes(), "", text, alloc)?;
-    let script = format!(in alloc; "{posts}turn 0 1000\nturn 0 1000\n")?;
-    check(&rt, TWO_POLICIES, script.as_bytes(), "", text, alloc)?;
+    check(rt, settings, script.as_bytes(), "", text, alloc)
+}
+
+#[test]
+fn tenants_share_a_shard_or_have_their_own(rt: HostRuntime) -> Result<(), Fail> {
+    let alloc = rt.alloc();
+    check_two_posts(&rt, ONE_SHARD, "turn 0 1000\nturn 0 1000\n", alloc)?;
+    check_two_posts(&rt, THREE_SHARDS, "turn 0 1000\nturn 1 1000\n", alloc)?;
+    check_two_posts(&rt, TWO_POLICIES, "turn 0 1000\nturn 0 1000\n", alloc)?;
     let idle: &[u8] = b"idle 0\nidle 1\nidle 2\n";
-    check(
-        &rt,
-        THREE_SHARDS,
-        b"turn 0 5\nturn 1 5\nturn 2 5\n",
-        "",
-        idle,
-        alloc,
-    )
+    let turns: &[u8] = b"turn 0 5\nturn 1 5\nturn 2 5\n";
+    check(&rt, THREE_SHARDS, turns, "", idle, alloc)
+}
+
+/// The fourth line is faulty, and is named.
+fn check_faulty(rt: &impl Abort, line: &str, alloc: Global) -> Result<(), Fail> {
+    let script = format!(in alloc; "# a comment\n\nturn 0 7\n{line}\nturn 0 8\n")?;
+    let told = "script fault at line 4";
+    check(rt, ONE_SHARD, script.as_bytes(), told, b"idle 0\n", alloc)
 }
 
 #[test]
@@ -182,26 +210,11 @@ fn the_first_faulty_line_is_named(rt: HostRuntime) -> Result<(), Fail> {
         "turn 0",
         "\r",
     ];
-    let alloc = rt.alloc();
     for line in lines {
-        let script = format!(in alloc; "# a comment\n\nturn 0 7\n{line}\nturn 0 8\n")?;
-        check(
-            &rt,
-            ONE_SHARD,
-            script.as_bytes(),
-            "script fault at line 4",
-            b"idle 0\n",
-            alloc,
-        )?;
+        check_faulty(&rt, line, rt.alloc())?;
     }
-    check(
-        &rt,
-        THREE_SHARDS,
-        b"turn 3 0",
-        "script fault at line 1",
-        b"",
-        alloc,
-    )
+    let told = "script fault at line 1";
+    check(&rt, THREE_SHARDS, b"turn 3 0", told, b"", rt.alloc())
 }
 
 #[test]
@@ -262,17 +275,20 @@ impl Read for FailsAtEnd {
     }
 }
 
-#[test]
-fn a_reader_that_fails_ends_the_replay(rt: HostRuntime) -> Result<(), Fail> {
-    let alloc = rt.alloc();
+/// Whether a replay from a reader that fails ends so, with the answers to the whole lines written.
+fn ends_with_its_reader(alloc: Global) -> Result<bool, Fail> {
     let reader = FailsAtEnd {
         text: b"turn 0 1\nturn 0 2\nturn 0 3",
     };
     let mut reader = BufReader::new(alloc, reader)?;
     let mut out = Vec::new(alloc);
     let told = replay(alloc, ONE_SHARD, &mut reader, &mut out);
-    assert!(rt; matches!(told, Err(ReplayFault::Line)));
-    assert_eq!(rt; out.as_slice(), b"idle 0\nidle 0\n".as_slice());
+    Ok(matches!(told, Err(ReplayFault::Line)) && out.as_slice() == b"idle 0\nidle 0\n".as_slice())
+}
+
+#[test]
+fn a_reader_that_fails_ends_the_replay(rt: HostRuntime) -> Result<(), Fail> {
+    assert!(rt; ends_with_its_reader(rt.alloc())?);
     Ok(())
 }
 
@@ -297,22 +313,26 @@ impl Write for TakesFew {
     }
 }
 
+/// Whether a replay to a writer that takes so many bytes ends with this fault, and those bytes are written.
+fn ends_with_its_writer(alloc: Global, left: usize, fault: &str) -> Result<bool, Fail> {
+    let mut reader: &[u8] = b"turn 0 1\nturn 0 2\nno command\n";
+    let mut writer = TakesFew { left };
+    let Err(told) = replay(alloc, ONE_SHARD, &mut reader, &mut writer) else {
+        return Ok(false);
+    };
+    Ok(told.to_string(alloc)?.as_str() == fault && writer.left == 0)
+}
+
 #[test]
 fn a_writer_that_fails_ends_the_replay(rt: HostRuntime) -> Result<(), Fail> {
-    let alloc = rt.alloc();
-    let script: &[u8] = b"turn 0 1\nturn 0 2\nno command\n";
-    for (left, fault) in [
-        (13, "input or output fault"),
-        (14, "script fault at line 3"),
-    ] {
-        let mut reader = script;
-        let mut writer = TakesFew { left };
-        let told = replay(alloc, ONE_SHARD, &mut reader, &mut writer);
-        let Err(told) = told else {
-            return Err("the script is faulty".into());
-        };
-        assert_eq!(rt; told.to_string(alloc)?.as_str(), fault);
-        assert_eq!(rt; writer.left, 0);
-    }
+    assert!(rt; ends_with_its_writer(rt.alloc(), 13, "input or output fault")?);
+    assert!(rt; ends_with_its_writer(rt.alloc(), 14, "script fault at line 3")?);
+    Ok(())
+}
+
+#[test]
+fn want_of_memory_is_told_in_its_words(rt: HostRuntime) -> Result<(), Fail> {
+    let words = ReplayFault::OutOfMemory.to_string(rt.alloc())?;
+    assert!(rt; words.as_str() == "out of memory");
     Ok(())
 }

@@ -79,30 +79,36 @@ impl Write for TakesFew {
     }
 }
 
+/// Whether a line says this command.
+fn says(alloc: Global, line: &[u8], command: Command<'_>) -> Result<bool, Fail> {
+    Ok(parse_line(alloc, line)? == Some(command))
+}
+
 #[test]
-fn commands_are_read(rt: HostRuntime) -> Result<(), Fail> {
+fn posts_are_read(rt: HostRuntime) -> Result<(), Fail> {
     let alloc = rt.alloc();
-    let body = vec![in alloc; 0x0a, 0xff, 0x00]?;
     let post = Command::Post {
         name: "a_B-9.z",
         moment: 7,
-        body,
+        body: vec![in alloc; 0x0a, 0xff, 0x00]?,
     };
-    assert_eq!(rt; parse_line(alloc, b"post a_B-9.z 0007 0aFf00")?, Some(post));
+    assert!(rt; says(alloc, b"post a_B-9.z 0007 0aFf00", post)?);
     let empty = Command::Post {
         name: "a",
         moment: 0,
         body: Vec::new(alloc),
     };
-    assert_eq!(rt; parse_line(alloc, b"post a 0 -")?, Some(empty));
+    assert!(rt; says(alloc, b"post a 0 -", empty)?);
+    Ok(())
+}
+
+#[test]
+fn turns_are_read(rt: HostRuntime) -> Result<(), Fail> {
     let turn = Command::Turn {
         shard: 0,
         moment: 9_999_999_999_999_999_999,
     };
-    assert_eq!(rt;
-        parse_line(alloc, b"turn 00 9999999999999999999")?,
-        Some(turn)
-    );
+    assert!(rt; says(rt.alloc(), b"turn 00 9999999999999999999", turn)?);
     Ok(())
 }
 
@@ -135,19 +141,22 @@ fn other_lines_are_no_commands(rt: HostRuntime) -> Result<(), Fail> {
         b"answer a 0 1 0 200 - -",
     ];
     for line in lines {
-        assert_eq!(rt; parse_line(rt.alloc(), line)?, None, "{line:?}");
+        assert!(rt; parse_line(rt.alloc(), line)?.is_none(), "{line:?}");
     }
     Ok(())
 }
 
+/// Whether a line with a name of so many bytes says a command.
+fn has_name(alloc: Global, len: usize) -> Result<bool, Fail> {
+    let name = "x".repeat(alloc, len)?;
+    let line = format!(in alloc; "post {name} 0 -")?;
+    Ok(parse_line(alloc, line.as_bytes())?.is_some())
+}
+
 #[test]
 fn names_have_at_most_64_bytes(rt: HostRuntime) -> Result<(), Fail> {
-    let alloc = rt.alloc();
-    let name = "x".repeat(alloc, 64)?;
-    let line = format!(in alloc; "post {name} 0 -")?;
-    assert!(rt; parse_line(alloc, line.as_bytes())?.is_some());
-    let line = format!(in alloc; "post {name}x 0 -")?;
-    assert!(rt; parse_line(alloc, line.as_bytes())?.is_none());
+    assert!(rt; has_name(rt.alloc(), 64)?);
+    assert!(rt; !has_name(rt.alloc(), 65)?);
     Ok(())
 }
 
@@ -170,71 +179,78 @@ fn answers_are_spelled(rt: HostRuntime) -> Result<(), Fail> {
     let text =
         "reply a 200 -\nreply a 400 120c6261642070726f746f627566\njob b 18446744073709551615 0aff\n\
         worked c.d\nidle 63\nrefused e 22\n";
-    assert_eq!(rt; out.as_slice(), text.as_bytes());
+    assert!(rt; out.as_slice() == text.as_bytes());
     Ok(())
+}
+
+/// Whether a script's run ends so, and writes this.
+fn runs(alloc: Global, script: &[u8], end: Result<(), ScriptFault>, text: &[u8]) -> bool {
+    let mut reader = script;
+    let mut out = Vec::new(alloc);
+    run_script(alloc, &mut Clock, &mut reader, &mut out) == end && out.as_slice() == text
 }
 
 #[test]
 fn scripts_are_run(rt: HostRuntime) -> Result<(), Fail> {
-    let cases: [(&'static [u8], Result<(), ScriptFault>, &'static [u8]); 7] = [
-        (b"", Ok(()), b""),
-        (b"\n\n# turn 0 0\n#\xff\xfe\nturn 0 5", Ok(()), b"idle 5\n"),
-        (b"turn 0 5\nturn 00 6\n", Ok(()), b"idle 5\nidle 6\n"),
-        (
-            b"\n#\nturn 0 5\nturn 1 5\nturn 0 6\n",
-            Err(ScriptFault::Script { line: 4 }),
-            b"idle 5\n",
-        ),
-        (
-            b"turn 0 5\nturn  0 5\n",
-            Err(ScriptFault::Script { line: 2 }),
-            b"idle 5\n",
-        ),
-        (b"\r\n", Err(ScriptFault::Script { line: 1 }), b""),
-        (b"post a 0 -", Err(ScriptFault::Script { line: 1 }), b""),
+    let cases: [(&'static [u8], &'static [u8]); 3] = [
+        (b"", b""),
+        (b"\n\n# turn 0 0\n#\xff\xfe\nturn 0 5", b"idle 5\n"),
+        (b"turn 0 5\nturn 00 6\n", b"idle 5\nidle 6\n"),
     ];
-    for (script, fault, text) in cases {
-        let mut reader = script;
-        let mut out = Vec::new(rt.alloc());
-        let told = run_script(rt.alloc(), &mut Clock, &mut reader, &mut out);
-        assert_eq!(rt; told, fault);
-        assert_eq!(rt; out.as_slice(), text);
+    for (script, text) in cases {
+        assert!(rt; runs(rt.alloc(), script, Ok(()), text));
     }
     Ok(())
+}
+
+#[test]
+fn scripts_are_run_up_to_a_faulty_line(rt: HostRuntime) -> Result<(), Fail> {
+    let cases: [(&'static [u8], u64, &'static [u8]); 4] = [
+        (b"\n#\nturn 0 5\nturn 1 5\nturn 0 6\n", 4, b"idle 5\n"),
+        (b"turn 0 5\nturn  0 5\n", 2, b"idle 5\n"),
+        (b"\r\n", 1, b""),
+        (b"post a 0 -", 1, b""),
+    ];
+    for (script, line, text) in cases {
+        assert!(rt; runs(rt.alloc(), script, Err(ScriptFault::Script { line }), text));
+    }
+    Ok(())
+}
+
+/// Whether a script that comes so many bytes a call is done, up to its reader's failure in the last line.
+fn runs_in_pieces(alloc: Global, most: usize) -> Result<bool, Fail> {
+    let reader = FailsAtEnd {
+        text: b"# six\nturn 0 1\n\nturn 0 2\nturn 0 3",
+        most,
+    };
+    let mut reader = BufReader::with_capacity(alloc, 5, reader)?;
+    let mut out = Vec::new(alloc);
+    let told = run_script(alloc, &mut Clock, &mut reader, &mut out);
+    Ok(told == Err(ScriptFault::Line) && out.as_slice() == b"idle 1\nidle 2\n".as_slice())
 }
 
 #[test]
 fn lines_are_the_same_in_any_pieces(rt: HostRuntime) -> Result<(), Fail> {
-    let alloc = rt.alloc();
     for most in [1, 2, 3, 7] {
-        let reader = FailsAtEnd {
-            text: b"# six\nturn 0 1\n\nturn 0 2\nturn 0 3",
-            most,
-        };
-        let mut reader = BufReader::with_capacity(alloc, 5, reader)?;
-        let mut out = Vec::new(alloc);
-        let told = run_script(alloc, &mut Clock, &mut reader, &mut out);
-        assert_eq!(rt; told, Err(ScriptFault::Line));
-        assert_eq!(rt; out.as_slice(), b"idle 1\nidle 2\n".as_slice());
+        assert!(rt; runs_in_pieces(rt.alloc(), most)?);
     }
     Ok(())
 }
 
+/// Whether a run to a writer that takes so many bytes ends so, with those bytes written.
+fn runs_to(alloc: Global, most: usize, end: Result<(), ScriptFault>, text: &[u8]) -> bool {
+    let mut reader: &[u8] = b"turn 0 1\nturn 0 2\n";
+    let mut writer = TakesFew {
+        taken: Vec::new(alloc),
+        most,
+    };
+    run_script(alloc, &mut Clock, &mut reader, &mut writer) == end
+        && writer.taken.as_slice() == text
+}
+
 #[test]
 fn a_writer_that_fails_ends_the_run(rt: HostRuntime) -> Result<(), Fail> {
-    let alloc = rt.alloc();
-    for (most, told) in [(9, Err(ScriptFault::Line)), (14, Ok(()))] {
-        let mut reader: &[u8] = b"turn 0 1\nturn 0 2\n";
-        let mut writer = TakesFew {
-            taken: Vec::new(alloc),
-            most,
-        };
-        assert_eq!(rt;
-            run_script(alloc, &mut Clock, &mut reader, &mut writer),
-            told
-        );
-        let text: &[u8] = b"idle 1\nidle 2\n";
-        assert_eq!(rt; writer.taken.as_slice(), &text[..most]);
-    }
+    assert!(rt; runs_to(rt.alloc(), 9, Err(ScriptFault::Line), b"idle 1\nid"));
+    assert!(rt; runs_to(rt.alloc(), 14, Ok(()), b"idle 1\nidle 2\n"));
     Ok(())
 }

@@ -38,13 +38,27 @@ const BODIES: &str = "11.21 0a20121e121c0a10111111111111111111111111111111111208
 /// The text of one span within its scope, in hexadecimal digits.
 const SPAN: &str = "121c0a101111111111111111111111111111111112082121212121212121";
 
+/// A body of one resource and one scope with 2,000 spans of 28 bytes, each with its field's number and length: 60,000
+/// bytes of a scope, and 60,004 of a resource with it.
+fn two_thousand_spans(alloc: Global) -> Result<Vec<u8>, Fail> {
+    let mut body = hex::decode(alloc, "0ae4d40312e0d403")?;
+    let span = hex::decode(alloc, SPAN)?;
+    for _ in 0..2000 {
+        body.extend_from_slice(span.as_slice())?;
+    }
+    Ok(body)
+}
+
 /// The first word of a line, and the rest.
 fn parts(line: &str) -> Result<(&str, &str), Fail> {
     Ok(line.split_once(' ').ok_or("a word is missing")?)
 }
 
-/// The body with this name.
+/// The body with this name, of which `large` is that of 2,000 spans.
 fn body_of(alloc: Global, name: &str) -> Result<Vec<u8>, Fail> {
+    if name == "large" {
+        return two_thousand_spans(alloc);
+    }
     for line in BODIES.lines() {
         let (first, digits) = parts(line)?;
         if first == name {
@@ -121,21 +135,18 @@ fn outcome_of(alloc: Global, line: &str) -> Result<Outcome, Fail> {
     }
 }
 
-/// A line of a story comes true. It begins with what its step gives. `taken`, `stranger` and `other_policies` are
-/// posts, with the tenant, the tenant whose section the body was prepared with, the moment and the body's name. `idle`
-/// and `job` are turns, with the moment, and `job` with the tenant, the ticket and the name of the batch's text.
-fn check_line(
-    rt: &impl Abort,
+/// Whether a line of a story comes true. It begins with what its step gives. `taken`, `stranger` and `other_policies`
+/// are posts, with the tenant, the tenant whose section the body was prepared with, the moment and the body's name.
+/// `idle` and `job` are turns, with the moment, and `job` with the tenant, the ticket and the name of the batch's text.
+fn comes_true(
     alloc: Global,
     settings: &Settings,
     shard: &mut Shard,
     line: &str,
-) -> Result<(), Fail> {
+) -> Result<bool, Fail> {
     let step = step_of(alloc, settings, line)?;
-    let want = outcome_of(alloc, line)?;
     let outcome = shard.step(&step)?;
-    assert!(rt; outcome == want, "{line}");
-    Ok(())
+    Ok(outcome == outcome_of(alloc, line)?)
 }
 
 fn shard_of(alloc: Global, members: &[u32]) -> Result<Shard, Fail> {
@@ -148,7 +159,8 @@ fn check(rt: &impl Abort, alloc: Global, members: &[u32], story: &str) -> Result
     let mut shard = shard_of(alloc, members)?;
     let settings = load(alloc, SETTINGS)?;
     for line in story.lines() {
-        check_line(rt, alloc, &settings, &mut shard, line)?;
+        let is_true = comes_true(alloc, &settings, &mut shard, line)?;
+        assert!(rt; is_true, "{line}");
     }
     Ok(())
 }
@@ -169,10 +181,11 @@ idle 1000",
     )
 }
 
-fn steps_of(alloc: Global, settings: &Settings, story: &str) -> Result<Vec<Step>, Fail> {
+fn steps_of(alloc: Global, story: &str) -> Result<Vec<Step>, Fail> {
+    let settings = load(alloc, SETTINGS)?;
     let mut steps = Vec::new(alloc);
     for line in story.lines() {
-        steps.push(step_of(alloc, settings, line)?)?;
+        steps.push(step_of(alloc, &settings, line)?)?;
     }
     Ok(steps)
 }
@@ -185,6 +198,13 @@ fn outcomes_of(alloc: Global, story: &str) -> Result<Vec<Outcome>, Fail> {
     Ok(outcomes)
 }
 
+/// What the steps of a story give in one run of a new shard with these members.
+fn run_of(alloc: Global, members: &[u32], story: &str) -> Result<Vec<Outcome>, Fail> {
+    let steps = steps_of(alloc, story)?;
+    let mut shard = shard_of(alloc, members)?;
+    Ok(shard.run(&steps)?)
+}
+
 /// A tenant that is ready earlier goes first, also where its number is greater.
 const EARLIER_FIRST: &str = "taken 0 0 0 11.21
 taken 1 1 500 12.22
@@ -194,11 +214,9 @@ idle 3000";
 
 #[test]
 fn the_tenant_that_is_ready_first_goes_first(rt: HostRuntime) -> Result<(), Fail> {
-    let alloc = rt.alloc();
-    let settings = load(alloc, SETTINGS)?;
-    let steps = steps_of(alloc, &settings, EARLIER_FIRST)?;
-    let outcomes = shard_of(alloc, &[0, 1])?.run(&steps)?;
-    assert!(rt; outcomes.len() == 5 && outcomes == outcomes_of(alloc, EARLIER_FIRST)?);
+    let outcomes = run_of(rt.alloc(), &[0, 1], EARLIER_FIRST)?;
+    let wanted = outcomes_of(rt.alloc(), EARLIER_FIRST)?;
+    assert!(rt; outcomes.len() == 5 && outcomes == wanted);
     Ok(())
 }
 
@@ -322,28 +340,14 @@ idle 2000",
     )
 }
 
-/// A body of one resource and one scope with 2,000 spans of 28 bytes, each with its field's number and length: 60,000
-/// bytes of a scope, and 60,004 of a resource with it.
-fn two_thousand_spans(alloc: Global) -> Result<Vec<u8>, Fail> {
-    let mut body = hex::decode(alloc, "0ae4d40312e0d403")?;
-    let span = hex::decode(alloc, SPAN)?;
-    for _ in 0..2000 {
-        body.extend_from_slice(span.as_slice())?;
-    }
-    Ok(body)
-}
-
 /// A large body is taken whole, and its batch is handed out whole.
 #[test]
 fn a_post_of_two_thousand_spans_is_one_batch(rt: HostRuntime) -> Result<(), Fail> {
-    let alloc = rt.alloc();
-    let settings = load(alloc, SETTINGS)?;
-    let mut shard = shard_of(alloc, &[1])?;
-    let body = two_thousand_spans(alloc)?;
-    let prepared = prepared_of(alloc, &settings, 1, 1, body.as_slice())?;
-    let posted = shard.step(&Step::Post { now: 0, prepared })?;
-    assert!(rt; posted == accepted(alloc, 1));
-    let turned = shard.step(&Step::Turn { now: 1000 })?;
-    assert!(rt; turned == Outcome::Job(1, 1, Bytes::from_vec(body)?));
-    Ok(())
+    check(
+        &rt,
+        rt.alloc(),
+        &[1],
+        "taken 1 1 0 large
+job 1000 1 1 large",
+    )
 }

@@ -6,11 +6,8 @@
 //! It stands on `trace_collector`, whose `replay` promises what is written.
 #![tactic(auto)]
 
-#[cfg(test)]
-mod definition_tests;
+mod examples;
 mod task;
-#[cfg(test)]
-mod tests;
 
 ghost use Rattle.std.specs.Prelude.{◌≡◌, ℕ, List, IfSome, IfOk, IfErr, string_bytes};
 ghost use Rattle.std.specs.Io.KnownBytes.{Appends};

@@ -6,7 +6,7 @@ use Rattle.std.specs.Str.{IsUtf8, chars, is_utf8}
 use Rattle.std.specs.declared.io.ErrorKind.TheVariants as kinds
 use Rattle.trace_collector.specs.declared.engine.ReplayFault.TheVariants as replay_faults
 use Rattle.trace_collector_program.specs.declared.ProgramFault.TheVariants.{Usage, Replay}
-use Rattle.trace_collector_program.proofs.definition_tests.definitions_on_small_inputs.Goals as goal
+use Rattle.trace_collector_program.proofs.examples.definitions_on_small_inputs.Goals as goal
 
 pub returns-clause-arguments : goal.returns-clause-arguments
 returns-clause-arguments c = record {
