@@ -3,3 +3,4 @@ pub mod Stored
 pub mod Named
 pub mod Equal
 pub mod Read
+pub mod Pool

@@ -14,14 +14,20 @@
 //! which each stored span has. The canonical texts of a span that was read and of its resource are such, and a view
 //! over them tells what the two are ([`read_spans_are_viewed`]).
 //!
-//! It stands on `span_view` and the library's `bytes`, and for what a span that was read is on `otlp_read` and those
-//! below it.
+//! A [`SpanPool`] has the spans of all tenants of a shard under keys that it gives out. Contracts speak of a tenant's
+//! part, a function from keys to its own spans (`specs/Pool`): each call changes the part of the tenant that it names,
+//! and leaves every other one as it was. Only [`SpanPool::put`] takes memory; where it is refused, nothing has changed.
+//!
+//! It stands on `span_view` and the library's `bytes` and `slab`, and for what a span that was read is on `otlp_read`
+//! and those below it.
 #![tactic(auto)]
 
 mod law;
 mod numbers;
+mod pool;
 mod stored;
 
 pub use law::{equal_spans, read_spans_are_viewed};
 pub use numbers::Numbers;
+pub use pool::{NotYours, SpanPool, each_span_has_one_owner};
 pub use stored::{SchemaUrls, StoredSpan, share};

@@ -16,11 +16,11 @@ abbrev pub at : {J X : Type 0} → (J → J → Ordering) → ℕ → List ((ℕ
 at cmp tenant es key = lookup (λ q. is_eq (pair_cmp cmp (tenant, key) q)) es
 
 -- a tenant's rows, by number
-abbrev pub rows_part : ℕ → TraceRows → ℕ → Option Row
+abbrev pub rows_part : {N : Type 0} → ℕ → TraceRows N → ℕ → Option (Row N)
 rows_part tenant table = at nat_cmp tenant table.rows.entries
 
 -- the number of the latest row of each of a tenant's traces, by the trace's id
-abbrev pub seats_part : ℕ → TraceRows → List ℕ → Option ℕ
+abbrev pub seats_part : {N : Type 0} → ℕ → TraceRows N → List ℕ → Option ℕ
 seats_part tenant table = at (slice_cmp nat_cmp) tenant table.seats.entries
 
 -- the same rows with another one, or none, at one number
@@ -31,23 +31,23 @@ with_at {X} number slot rows other = if other == number then slot else rows othe
 abbrev pub with_seat : List ℕ → Option ℕ → (List ℕ → Option ℕ) → List ℕ → Option ℕ
 with_seat trace slot seats other = if bytes_eq other trace then slot else seats other
 
--- the row with one more key
-abbrev pub joined : ℕ → Option Row → Option Row
-joined key None = None
-joined key (Some row) = Some (record row { keys = row.keys ++ key ∷ [] })
+-- the row with one more key, and another note
+abbrev pub joined : {N : Type 0} → ℕ → N → Option (Row N) → Option (Row N)
+joined key note None = None
+joined key note (Some row) = Some (record row { keys = row.keys ++ key ∷ []; note = note })
 
--- the row without its latest key
-abbrev pub unjoined : Option Row → Option Row
-unjoined None = None
-unjoined (Some row) = Some (record row { keys = take (length row.keys - 1) row.keys })
+-- the row without its latest key, and with another note
+abbrev pub unjoined : {N : Type 0} → N → Option (Row N) → Option (Row N)
+unjoined note None = None
+unjoined note (Some row) = Some (record row { keys = take (length row.keys - 1) row.keys; note = note })
 
 -- the row as it is decided: without its keys, and with the verdict
-abbrev pub settled : Bool → Option Row → Option Row
+abbrev pub settled : {N : Type 0} → Bool → Option (Row N) → Option (Row N)
 settled sampled None = None
 settled sampled (Some row) = Some (record row { keys = []; sampled = sampled })
 
 -- the trace of a row
-abbrev pub trace_in : Option Row → Option (List ℕ)
+abbrev pub trace_in : {N : Type 0} → Option (Row N) → Option (List ℕ)
 trace_in None = None
 trace_in (Some row) = Some row.trace
 
@@ -62,11 +62,11 @@ unseated number None seats = seats
 unseated number (Some trace) seats = if is_number number (seats trace) then with_seat trace None seats else seats
 
 -- the keys of a row; none where there is no row
-abbrev pub keys_of : Option Row → List ℕ
+abbrev pub keys_of : {N : Type 0} → Option (Row N) → List ℕ
 keys_of None = []
 keys_of (Some row) = row.keys
 
 -- a tenant's part of two tables is one: its rows and its seats
-pub record IsSame (tenant : ℕ) (old new : TraceRows) : Type 0 where
+pub record IsSame {N : Type 0} (tenant : ℕ) (old new : TraceRows N) : Type 0 where
   pub rows : rows_part tenant new ≡ rows_part tenant old
   pub seats : seats_part tenant new ≡ seats_part tenant old

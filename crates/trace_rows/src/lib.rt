@@ -2,9 +2,10 @@
 //! the number of the trace's latest row.
 //!
 //! A row is a trace that waits for its decision, or was decided and isn't forgotten yet. It has the keys of the spans
-//! that wait, which are numbers to this crate. Row numbers are the caller's: where they rise as rows open, the next
-//! decision and the row that has to leave are found by number, and no map by moments is needed. The maps are ordered,
-//! so ids that somebody chose cost no more than others. Moments are milliseconds.
+//! that wait, which are numbers to this crate, and a note of them, which is any value that the caller makes of spans
+//! and joins as they come. Row numbers are the caller's: where they rise as rows open, the next decision and the row
+//! that has to leave are found by number, and no map by moments is needed. The maps are ordered, so ids that somebody
+//! chose cost no more than others. Moments are milliseconds.
 //!
 //! Contracts speak of a tenant's part: its rows by number and its traces' latest rows, as functions (`specs/Part`).
 //! Each call changes the part of the tenant that it names, and leaves every other tenant's part as it was. Only

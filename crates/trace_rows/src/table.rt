@@ -7,29 +7,31 @@ use crate::keys::Keys;
 use std::alloc::{AllocError, Global};
 use std::collections::BTreeMap;
 
-/// The row of a trace.
+/// The row of a trace. `N` is what is noted of its spans.
 #[derive(Drop)]
-pub struct Row {
+pub struct Row<N> {
     /// The trace's id.
     pub trace: [u8; 16],
     /// The moment of the decision, in milliseconds.
     pub due: u64,
     /// Keys of the spans that wait for it, in order of arrival; none once the row is decided.
     pub keys: Keys,
+    /// What is noted of the spans that came in time, of all of them together.
+    pub note: N,
     /// Whether the trace is sampled, once the row is decided. Until then `false`.
     pub sampled: bool,
 }
 
 /// All tenants' rows, and the latest row of each of their traces.
 #[derive(Drop)]
-pub struct TraceRows {
+pub struct TraceRows<N> {
     // By tenant and row number.
-    rows: BTreeMap<(u32, u64), Row>,
+    rows: BTreeMap<(u32, u64), Row<N>>,
     // By tenant and trace id, the number of the row that opened last.
     seats: BTreeMap<(u32, [u8; 16]), u64>,
 }
 
-impl TraceRows {
+impl<N: Drop> TraceRows<N> {
     /// No rows of any tenant, which take no memory.
     pub fn new(alloc: Global) -> Self
         ensures rows { (tenant : ℕ) → rows_part tenant result ≡ λ _. None }
@@ -49,7 +51,7 @@ impl TraceRows {
     }
 
     /// The tenant's row of this number, where there is one.
-    pub fn row(&self, tenant: u32, number: u64) -> Option<&Row>
+    pub fn row(&self, tenant: u32, number: u64) -> Option<&Row<N>>
         ensures { option_copied result ≡ rows_part tenant self.now number }
     {
         self.rows.get(&(tenant, number))
@@ -57,7 +59,7 @@ impl TraceRows {
 
     /// A row opens under a number that has none, as the latest of its trace. The answer is the trace's latest row until
     /// now, which `undo_open` wants.
-    pub fn open(&mut self, tenant: u32, number: u64, row: Row) -> Result<Option<u64>, AllocError>
+    pub fn open(&mut self, tenant: u32, number: u64, row: Row<N>) -> Result<Option<u64>, AllocError>
         requires { rows_part tenant self.old number ≡ None }
         ensures earlier { IfOk result (λ earlier. earlier ≡ seats_part tenant self.old row.trace) }
         ensures rows { OnOk result (rows_part tenant self.new ≡
@@ -80,10 +82,10 @@ impl TraceRows {
         }
     }
 
-    /// One more key in the row. Where there is no such row, nothing changes.
-    pub fn join(&mut self, tenant: u32, number: u64, key: usize) -> Result<(), AllocError>
+    /// One more key in the row, whose note is this one from now on. Where there is no such row, nothing changes.
+    pub fn join(&mut self, tenant: u32, number: u64, key: usize, note: N) -> Result<(), AllocError>
         ensures rows { OnOk result (rows_part tenant self.new ≡
-            with_at number (joined key (rows_part tenant self.old number)) (rows_part tenant self.old)) }
+            with_at number (joined key note (rows_part tenant self.old number)) (rows_part tenant self.old)) }
         ensures seats { seats_part tenant self.new ≡ seats_part tenant self.old }
 
         // Other tenants' parts stay as they were, and where memory is refused this tenant's too.
@@ -94,13 +96,14 @@ impl TraceRows {
             return Ok(());
         };
         row.keys.push(key)?;
+        row.note = note;
         Ok(())
     }
 
-    /// Takes back the latest key of the row, without memory.
-    pub fn undo_join(&mut self, tenant: u32, number: u64)
+    /// Takes back the latest key of the row, and its note is the former one again. It takes no memory.
+    pub fn undo_join(&mut self, tenant: u32, number: u64, former: N)
         ensures rows { rows_part tenant self.new ≡
-            with_at number (unjoined (rows_part tenant self.old number)) (rows_part tenant self.old) }
+            with_at number (unjoined former (rows_part tenant self.old number)) (rows_part tenant self.old) }
         ensures seats { seats_part tenant self.new ≡ seats_part tenant self.old }
         ensures others { (other : ℕ) → other ≢ tenant → IsSame other self.old self.new }
     {
@@ -108,6 +111,7 @@ impl TraceRows {
             return;
         };
         row.keys.pop();
+        row.note = former;
     }
 
     /// Takes back the row that opened, without memory. It is the latest of its trace; before it `earlier` was, as

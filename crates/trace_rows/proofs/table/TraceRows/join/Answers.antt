@@ -5,47 +5,47 @@ use Rattle.trace_rows.proofs.Parts.{numbers, at_put, at_put_other, at_again}
 use Rattle.trace_rows.proofs.table.TraceRows.join.Goals as goal
 
 pub returns : goal.returns
-returns c =
-    let row : Row = c.in-Some.row.now in
+returns g c =
+    let row : Row g.row.N.Denot = c.in-Some.row.now in
     let t = c.args.tenant in
     let k = c.args.number in
-    let f : ℕ → Option Row = rows_part t c.args.self.now in
-    let grown : Row = record row { keys = c.push.new.self } in
+    let f : ℕ → Option (Row g.row.N.Denot) = rows_part t c.args.self.now in
+    let grown : Row g.row.N.Denot = record row { keys = c.push.new.self; note = c.args.note } in
     let had : f k ≡ Some row = sym c.in-Some.ensures.value in
     let keys : c.push.new.self ≡ row.keys ++ c.args.key ∷ [] = c.in_ok-push.ensures.ok in
     let new = c.get_mut.follows.lender grown in
     let written = (c.get_mut.follows.holds grown).3 (ap is_some had) in
-    let slot : Some grown ≡ joined c.args.key (f k) = ap (λ (ks : List ℕ). Some (record row { keys = ks })) keys ∙ sym (ap (joined c.args.key) had) in
+    let slot : Some grown ≡ joined c.args.key c.args.note (f k) = ap (λ (ks : List ℕ). Some (record row { keys = ks; note = c.args.note })) keys ∙ sym (ap (joined c.args.key c.args.note) had) in
     record {
-      rows = at_put numbers c.args.self.now.rows new t k (Some grown) written ∙ ap (λ (s : Option Row). with_at k s f) slot;
+      rows = at_put numbers c.args.self.now.rows new t k (Some grown) written ∙ ap (λ (s : Option (Row g.row.N.Denot)). with_at k s f) slot;
       seats = refl;
       others = λ other ne. record { rows = at_put_other numbers c.args.self.now.rows new t k other (Some grown) written ne; seats = refl };
       refused = tt;
     }
 
 pub returns-in_err-push-clause-others : goal.returns-in_err-push-clause-others
-returns-in_err-push-clause-others c = λ other ne.
-    let row : Row = c.in-Some.row.now in
+returns-in_err-push-clause-others g c = λ other ne.
+    let row : Row g.row.N.Denot = c.in-Some.row.now in
     let t = c.args.tenant in
     let k = c.args.number in
-    let grown : Row = record row { keys = c.push.new.self } in
+    let grown : Row g.row.N.Denot = record row { keys = c.push.new.self } in
     let had : rows_part t c.args.self.now k ≡ Some row = sym c.in-Some.ensures.value in
     let written = (c.get_mut.follows.holds grown).3 (ap is_some had) in
     record { rows = at_put_other numbers c.args.self.now.rows (c.get_mut.follows.lender grown) t k other (Some grown) written ne; seats = refl }
 
 pub returns-in_err-push-clause-refused : goal.returns-in_err-push-clause-refused
-returns-in_err-push-clause-refused c =
-    let row : Row = c.in-Some.row.now in
+returns-in_err-push-clause-refused g c =
+    let row : Row g.row.N.Denot = c.in-Some.row.now in
     let t = c.args.tenant in
     let k = c.args.number in
-    let f : ℕ → Option Row = rows_part t c.args.self.now in
-    let grown : Row = record row { keys = c.push.new.self } in
+    let f : ℕ → Option (Row g.row.N.Denot) = rows_part t c.args.self.now in
+    let grown : Row g.row.N.Denot = record row { keys = c.push.new.self } in
     let had : f k ≡ Some row = sym c.in-Some.ensures.value in
     let keys : c.push.new.self ≡ row.keys = c.in_err-push.ensures.refused in
     let written = (c.get_mut.follows.holds grown).3 (ap is_some had) in
     let same : Some grown ≡ Some row = ap (λ (ks : List ℕ). Some (record row { keys = ks })) keys in
     let kept : IsSame t c.args.self.now (record { rows = c.get_mut.follows.lender grown; seats = c.args.self.now.seats }) = record {
-      rows = at_put numbers c.args.self.now.rows (c.get_mut.follows.lender grown) t k (Some grown) written ∙ (ap (λ (s : Option Row). with_at k s f) same ∙ at_again f k row had);
+      rows = at_put numbers c.args.self.now.rows (c.get_mut.follows.lender grown) t k (Some grown) written ∙ (ap (λ (s : Option (Row g.row.N.Denot)). with_at k s f) same ∙ at_again f k row had);
       seats = refl;
     } in
     search (rules, kept)

@@ -5,12 +5,12 @@ use Rattle.trace_rows.proofs.Parts.{numbers, at_put, at_put_other}
 use Rattle.trace_rows.proofs.table.TraceRows.settle.Goals as goal
 
 pub returns : goal.returns
-returns c =
-    let row : Row = c.in-Some.row.now in
+returns g c =
+    let row : Row g.row.N.Denot = c.in-Some.row.now in
     let t = c.args.tenant in
     let k = c.args.number in
-    let f : ℕ → Option Row = rows_part t c.args.self.now in
-    let less : Row = record row { keys = c.replace.new.dest; sampled = c.args.sampled } in
+    let f : ℕ → Option (Row g.row.N.Denot) = rows_part t c.args.self.now in
+    let less : Row g.row.N.Denot = record row { keys = c.replace.new.dest; sampled = c.args.sampled } in
     let had : f k ≡ Some row = sym c.in-Some.ensures.value in
     let empty : c.replace.new.dest ≡ [] = c.replace.ensures.after ∙ c.new-2.ensures in
     let new = c.get_mut.follows.lender less in
@@ -18,7 +18,7 @@ returns c =
     let slot : Some less ≡ settled c.args.sampled (f k) = ap (λ (ks : List ℕ). Some (record row { keys = ks; sampled = c.args.sampled })) empty ∙ sym (ap (settled c.args.sampled) had) in
     record {
       keys = c.replace.ensures.value ∙ sym (ap keys_of had);
-      rows = at_put numbers c.args.self.now.rows new t k (Some less) written ∙ ap (λ (s : Option Row). with_at k s f) slot;
+      rows = at_put numbers c.args.self.now.rows new t k (Some less) written ∙ ap (λ (s : Option (Row g.row.N.Denot)). with_at k s f) slot;
       seats = refl;
       others = λ other ne. record { rows = at_put_other numbers c.args.self.now.rows new t k other (Some less) written ne; seats = refl };
     }

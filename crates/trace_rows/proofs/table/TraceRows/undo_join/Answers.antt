@@ -5,19 +5,19 @@ use Rattle.trace_rows.proofs.Parts.{numbers, at_put, at_put_other}
 use Rattle.trace_rows.proofs.table.TraceRows.undo_join.Goals as goal
 
 pub returns : goal.returns
-returns c =
-    let row : Row = c.in-Some.row.now in
+returns g c =
+    let row : Row g.row.N.Denot = c.in-Some.row.now in
     let t = c.args.tenant in
     let k = c.args.number in
-    let f : ℕ → Option Row = rows_part t c.args.self.now in
-    let less : Row = record row { keys = c.pop.new.self } in
+    let f : ℕ → Option (Row g.row.N.Denot) = rows_part t c.args.self.now in
+    let less : Row g.row.N.Denot = record row { keys = c.pop.new.self; note = c.args.former } in
     let had : f k ≡ Some row = sym c.in-Some.ensures.value in
     let keys : c.pop.new.self ≡ take (length row.keys - 1) row.keys = c.pop.ensures in
     let new = c.get_mut.follows.lender less in
     let written = (c.get_mut.follows.holds less).3 (ap is_some had) in
-    let slot : Some less ≡ unjoined (f k) = ap (λ (ks : List ℕ). Some (record row { keys = ks })) keys ∙ sym (ap unjoined had) in
+    let slot : Some less ≡ unjoined c.args.former (f k) = ap (λ (ks : List ℕ). Some (record row { keys = ks; note = c.args.former })) keys ∙ sym (ap (unjoined c.args.former) had) in
     record {
-      rows = at_put numbers c.args.self.now.rows new t k (Some less) written ∙ ap (λ (s : Option Row). with_at k s f) slot;
+      rows = at_put numbers c.args.self.now.rows new t k (Some less) written ∙ ap (λ (s : Option (Row g.row.N.Denot)). with_at k s f) slot;
       seats = refl;
       others = λ other ne. record { rows = at_put_other numbers c.args.self.now.rows new t k other (Some less) written ne; seats = refl };
     }

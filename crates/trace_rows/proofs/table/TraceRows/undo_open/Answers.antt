@@ -7,32 +7,32 @@ use Rattle.trace_rows.proofs.Parts.{numbers, traces, at_put, at_put_other}
 use Rattle.trace_rows.proofs.table.TraceRows.undo_open.Goals as goal
 
 pub returns-in_default-clause-rows : goal.returns-in_default-clause-rows
-returns-in_default-clause-rows c = at_put numbers c.args.self.now.rows c.remove.new.self c.args.tenant c.args.number None c.remove.ensures.updates
+returns-in_default-clause-rows g c = at_put numbers c.args.self.now.rows c.remove.new.self c.args.tenant c.args.number None c.remove.ensures.updates
 
 pub returns-in_default-clause-seats : goal.returns-in_default-clause-seats
-returns-in_default-clause-seats c = λ had.
+returns-in_default-clause-seats g c = λ had.
     at_put traces c.args.self.now.seats c.remove-in_default.new.self c.args.tenant c.args.trace None c.remove-in_default.ensures.updates ∙ sym (ap (λ (s : Option ℕ). with_seat c.args.trace s (seats_part c.args.tenant c.args.self.now)) c.in_default.is)
 
 pub returns-in_default-clause-others : goal.returns-in_default-clause-others
-returns-in_default-clause-others c = λ other ne. record {
+returns-in_default-clause-others g c = λ other ne. record {
   rows = at_put_other numbers c.args.self.now.rows c.remove.new.self c.args.tenant c.args.number other None c.remove.ensures.updates ne;
   seats = at_put_other traces c.args.self.now.seats c.remove-in_default.new.self c.args.tenant c.args.trace other None c.remove-in_default.ensures.updates ne;
 }
 
 pub returns-in_default-get_mut-clause-rows : goal.returns-in_default-get_mut-clause-rows
-returns-in_default-get_mut-clause-rows c = at_put numbers c.args.self.now.rows c.remove.new.self c.args.tenant c.args.number None c.remove.ensures.updates
+returns-in_default-get_mut-clause-rows g c = at_put numbers c.args.self.now.rows c.remove.new.self c.args.tenant c.args.number None c.remove.ensures.updates
 
 pub returns-in_default-get_mut-clause-others : goal.returns-in_default-get_mut-clause-others
-returns-in_default-get_mut-clause-others c = λ other ne. record {
+returns-in_default-get_mut-clause-others g c = λ other ne. record {
   rows = at_put_other numbers c.args.self.now.rows c.remove.new.self c.args.tenant c.args.number other None c.remove.ensures.updates ne;
   seats = ap (λ (m : BTreeMap (ℕ × List ℕ) ℕ). at (slice_cmp nat_cmp) other m.entries) c.get_mut.follows.holds-at-none;
 }
 
 pub returns-clause-rows : goal.returns-clause-rows
-returns-clause-rows c = at_put numbers c.args.self.now.rows c.remove.new.self c.args.tenant c.args.number None c.remove.ensures.updates
+returns-clause-rows g c = at_put numbers c.args.self.now.rows c.remove.new.self c.args.tenant c.args.number None c.remove.ensures.updates
 
 pub returns-clause-seats : goal.returns-clause-seats
-returns-clause-seats c = λ had.
+returns-clause-seats g c = λ had.
     let t = c.args.tenant in
     let k = c.args.trace in
     let earlier = c.in-Some.earlier in
@@ -40,7 +40,7 @@ returns-clause-seats c = λ had.
     at_put traces c.args.self.now.seats (c.get_mut.follows.lender earlier) t k (Some earlier) ((c.get_mut.follows.holds earlier).3 (ap is_some there)) ∙ sym (ap (λ (s : Option ℕ). with_seat k s (seats_part t c.args.self.now)) c.in-Some.is)
 
 pub returns-clause-others : goal.returns-clause-others
-returns-clause-others c = λ other ne.
+returns-clause-others g c = λ other ne.
     let t = c.args.tenant in
     let k = c.args.trace in
     let earlier = c.in-Some.earlier in

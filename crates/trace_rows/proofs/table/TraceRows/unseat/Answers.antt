@@ -9,9 +9,9 @@ number_is n None = refl
 number_is n (Some k) = refl
 
 pub returns-then-eq-clause-seats : goal.returns-then-eq-clause-seats
-returns-then-eq-clause-seats c =
+returns-then-eq-clause-seats g c =
     let is : is_number c.args.number (seats_part c.args.tenant c.args.self.now c.args.trace) ≡ true = sym (number_is c.args.number (seats_part c.args.tenant c.args.self.now c.args.trace)) ∙ (ap (λ (o : Option ℕ). option_eq eqb o (Some c.args.number)) (sym c.seat.ensures) ∙ (sym c.eq.ensures ∙ c.if-eq.true)) in
     rw is (at_put traces c.args.self.now.seats c.remove.new.self c.args.tenant c.args.trace None c.remove.ensures.updates)
 
 pub returns-then-eq-clause-others : goal.returns-then-eq-clause-others
-returns-then-eq-clause-others c = λ other ne. at_put_other traces c.args.self.now.seats c.remove.new.self c.args.tenant c.args.trace other None c.remove.ensures.updates ne
+returns-then-eq-clause-others g c = λ other ne. at_put_other traces c.args.self.now.seats c.remove.new.self c.args.tenant c.args.trace other None c.remove.ensures.updates ne
