@@ -1,0 +1,12 @@
+mod Times
+mod Order
+mod Later
+mod Fronts
+mod Walks
+mod Walked
+mod Tally
+mod Elapsed
+mod Intakes
+mod Stays
+mod Steps
+mod Closing
