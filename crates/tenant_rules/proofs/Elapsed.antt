@@ -48,7 +48,7 @@ counts_are : (w : SectionData) (i : IntakeData) (d e : ℕ) (D D' : SenderData) 
 unfolding ledger_at
 counts_are w i d e D D' P f = refl
 
-tally_at : (w : SectionData) (i : IntakeData) (d : ℕ) (D : SenderData) (es : List EndedData) →
+pub tally_at : (w : SectionData) (i : IntakeData) (d : ℕ) (D : SenderData) (es : List EndedData) →
     Tally (ledger_at w i d None D (ended_places es)) (not_sampled w d None i.spans) (ended_places es).queue_full (state_with w i d None D es)
 unfolding ledger_at
 tally_at w i d D es = refl

@@ -10,3 +10,4 @@ mod Intakes
 mod Stays
 mod Steps
 mod Closing
+mod Drained

@@ -35,7 +35,7 @@ use Rattle.tenant_rules.proofs.Elapsed.{state_with, state_same}
 over : (w : SectionData) (x e : ℕ) (r : Opened) → x ≤ e → leb (min (r.moment + w.tail_sampling.decision_wait) x) e ≡ true
 over w x e r le = let few : min (r.moment + w.tail_sampling.decision_wait) x ≤ e = omega (arith, le) in grind (arith, nat_tests, few)
 
-waits_none : (w : SectionData) (x e n : ℕ) (N : List Seated) (R : List Opened) → x ≤ e → waiting w e (Some x) N n R ≡ []
+pub waits_none : (w : SectionData) (x e n : ℕ) (N : List Seated) (R : List Opened) → x ≤ e → waiting w e (Some x) N n R ≡ []
 waits_none w x e n N [] le = refl
 waits_none w x e n N (r ∷ R) le = let is : is_over w e (Some x) r ≡ true = over w x e r le in rw is (by_test (is_present (most_of w) n (length R + 1)) (waits_none w x e n N R le))
   where

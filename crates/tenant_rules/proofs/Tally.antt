@@ -72,7 +72,7 @@ overflow-append (x ∷ xs) ys s = by_test (is_full s) (overflow-append xs ys s) 
 
 -- ---- batches are offered
 
-queued_tally : (bs : List BatchData) (s : State) (l : LedgerData) (u k n f : ℕ) → s.ledger ≡ set_counts l u (k + sizes bs) (sizes s.sender.queue) (active_sizes s.sender.active) n f →
+pub queued_tally : (bs : List BatchData) (s : State) (l : LedgerData) (u k n f : ℕ) → s.ledger ≡ set_counts l u (k + sizes bs) (sizes s.sender.queue) (active_sizes s.sender.active) n f →
     (all_queued bs s).ledger ≡ set_counts l u k (sizes (all_offered bs s.sender).queue) (active_sizes (all_offered bs s.sender).active) n (f + sizes (overflow bs s.sender))
 queued_tally [] s l u k n f is = is ∙ set_same l u u (k + 0) k (sizes s.sender.queue) (sizes s.sender.queue) (active_sizes s.sender.active) (active_sizes s.sender.active) n n f (f + 0) refl (omega arith) refl refl refl (omega arith)
 queued_tally (b ∷ bs) s l u k n f is = by_test (is_full s.sender) (λ t f' is'. queued_tally bs t l u k n f' is')

@@ -33,7 +33,7 @@ abbrev pub became : State → List SettledData → List WaitingData → batcher.
 became s settled waiting pending batches clock ledger =
     record s { clock = clock; settled = settled; waiting = waiting; pending = pending; sender = all_offered batches s.sender; ledger = ledger }
 
-became_same : (s : State) (S S' : List SettledData) (W W' : List WaitingData) (P P' : batcher.State Arrival) (D D' : SenderData) (c : ℕ) (L : LedgerData) → S ≡ S' → W ≡ W' → P ≡ P' → D ≡ D' →
+pub became_same : (s : State) (S S' : List SettledData) (W W' : List WaitingData) (P P' : batcher.State Arrival) (D D' : SenderData) (c : ℕ) (L : LedgerData) → S ≡ S' → W ≡ W' → P ≡ P' → D ≡ D' →
     Path State (record s { clock = c; settled = S; waiting = W; pending = P; sender = D; ledger = L }) (record s { clock = c; settled = S'; waiting = W'; pending = P'; sender = D'; ledger = L })
 became_same s S S' W W' P P' D D' c L a b d f = cc (a, b, d, f)
 

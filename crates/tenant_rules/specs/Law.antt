@@ -3,7 +3,7 @@ use Rattle.std.specs.Prelude.{◌≡◌, ◌<◌, ℕ, List, ◌∷◌}
 use Rattle.tail_settings.specs.Section.{SectionData}
 use Rattle.send_retry.specs.Class.{AnswerData}
 use Rattle.span_batcher.specs.Batches.{IsSound}
-use Rattle.tenant_rules.specs.Own.{Own, Turn, Answer, Report}
+use Rattle.tenant_rules.specs.Own.{Own, Turn, Answer, Report, Drain}
 use Rattle.tenant_rules.specs.Batching.{rules_of}
 use Rattle.tenant_rules.specs.State.{state}
 use Rattle.tenant_rules.specs.Answers.{answer}
@@ -24,8 +24,13 @@ abbrev pub TurnsFollow : Type 0
 TurnsFollow = (section : SectionData) → 0 < section.tail_sampling.num_traces → IsSound (rules_of section) →
     (past : List Own) (now : ℕ) → Follows section past (Turn now)
 
--- and those of an answer
+-- those of an answer
 abbrev pub AnswersFollow : Type 0
 AnswersFollow = (section : SectionData) → 0 < section.tail_sampling.num_traces → IsSound (rules_of section) →
     (past : List Own) (now ticket word : ℕ) (content : AnswerData) →
     Follows section past (Answer now ticket word content)
+
+-- and those of a drain, be it the first or not
+abbrev pub DrainsFollow : Type 0
+DrainsFollow = (section : SectionData) → 0 < section.tail_sampling.num_traces → IsSound (rules_of section) →
+    (past : List Own) (now : ℕ) → Follows section past (Drain now)

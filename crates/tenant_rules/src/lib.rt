@@ -15,7 +15,7 @@
 //! processors and of its `exporterhelper`, and after OTLP 1.x.
 #![tactic(auto)]
 
-ghost use Rattle.tenant_rules.specs.Law.{ReportsFollow, TurnsFollow, AnswersFollow};
+ghost use Rattle.tenant_rules.specs.Law.{ReportsFollow, TurnsFollow, AnswersFollow, DrainsFollow};
 
 mod told;
 
@@ -35,4 +35,10 @@ pub fn turns_follow()
 /// law over the definitions.
 pub fn answers_follow()
     ensures { AnswersFollow }
+{}
+
+/// A drain decides the rows that wait and closes the last batch, after the due timers, and a second one changes the clock
+/// alone: a law over the definitions.
+pub fn drains_follow()
+    ensures { DrainsFollow }
 {}
