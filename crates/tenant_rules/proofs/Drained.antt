@@ -92,10 +92,10 @@ all_decided_tally l n f m p (r ∷ rs) s pol is tally =
     let f1 = f + sizes (overflow (all_sent (batches_with b m r.spans s.pending)) s.sender) in
     let rest = all_decided_tally l (n + lost_in b r.spans) f1 m p rs s1 (ap (λ (t : State). t.section.tail_sampling.policies) e1 ∙ pol) (ap (λ (t : State). t.waiting) e1) t1 in
     let P1 = pending_with b m r.spans s.pending in
-    let D1 = all_offered (all_sent (batches_with b m r.spans s.pending)) s.sender in
+    let sent1 = all_offered (all_sent (batches_with b m r.spans s.pending)) s.sender in
     let pending1 : s1.pending ≡ P1 = ap (λ (t : State). t.pending) e1 in
-    let sender1 : s1.sender ≡ D1 = ap (λ (t : State). t.sender) e1 in
-    let o1 : sizes (overflow (all_sent (all_cut p m rs s1.pending)) s1.sender) ≡ sizes (overflow (all_sent (all_cut p m rs P1)) D1) = cc (pending1, sender1) in
+    let sender1 : s1.sender ≡ sent1 = ap (λ (t : State). t.sender) e1 in
+    let o1 : sizes (overflow (all_sent (all_cut p m rs s1.pending)) s1.sender) ≡ sizes (overflow (all_sent (all_cut p m rs P1)) sent1) = cc (pending1, sender1) in
     let both = overflow_twice (batches_with b m r.spans s.pending) (all_cut p m rs P1) s.sender in
     let whole : sizes (overflow (all_sent (all_cut p m (r ∷ rs) s.pending)) s.sender) ≡ sizes (overflow (all_sent (batches_with b m r.spans s.pending ++ all_cut p m rs P1)) s.sender) = ap (λ (bs : List (Batch Arrival)). sizes (overflow (all_sent bs) s.sender)) (sym (step_added p m r rs s.pending).1) in
     rest ∙ set_same l _ _ _ _ _ _ _ _ (n + lost_in b r.spans + all_lost p rs) (n + all_lost p (r ∷ rs)) (f1 + sizes (overflow (all_sent (all_cut p m rs s1.pending)) s1.sender)) (f + sizes (overflow (all_sent (all_cut p m (r ∷ rs) s.pending)) s.sender)) refl refl refl refl (lost_step b n r.spans (all_lost p rs)) (omega (arith, o1, both, whole))
@@ -138,9 +138,9 @@ drain_first w i e D es M pos sound by same =
     let fields = all_decided-is e e p W s refl refl in
     let tally = all_decided_tally l (not_sampled w e None A) (ended_places es).queue_full e p W s refl refl (tally_at w i e D es) in
     let C = all_sent (all_cut p e W P) in
-    let D1 = all_offered C D in
+    let sent1 = all_offered C D in
     let pending1 : t.pending ≡ all_added p e W P = ap (λ (z : State). z.pending) fields in
-    let sender1 : t.sender ≡ D1 = ap (λ (z : State). z.sender) fields in
+    let sender1 : t.sender ≡ sent1 = ap (λ (z : State). z.sender) fields in
     let waits1 : t.waiting ≡ [] = ap (λ (z : State). z.waiting) fields in
     let B = all_sent (option_to_list (machine.drained e t.pending.spans)) in
     let B' = all_sent (option_to_list (machine.drained e (all_added p e W P).spans)) in
@@ -156,9 +156,9 @@ drain_first w i e D es M pos sound by same =
     let split : M ≡ C ++ B' = same ∙ map-append as_sent (all_cut p e W P) (option_to_list (machine.drained e (all_added p e W P).spans)) in
     let D' = all_offered M D in
     let sender_is : D' ≡ all_offered B t.sender = ap (λ (bs : List BatchData). all_offered bs D) split ∙ (all_offered-append C B' D ∙ cc (last, sender1)) in
-    let over : overflow M D ≡ overflow C D ++ overflow B' D1 = ap (λ (bs : List BatchData). overflow bs D) split ∙ overflow-append C B' D in
-    let over_last : sizes (overflow B t.sender) ≡ sizes (overflow B' D1) = cc (last, sender1) in
-    let over_all : sizes (overflow M D) ≡ sizes (overflow C D) + sizes (overflow B t.sender) = omega (arith, ap sizes over, sizes-append (overflow C D) (overflow B' D1), over_last) in
+    let over : overflow M D ≡ overflow C D ++ overflow B' sent1 = ap (λ (bs : List BatchData). overflow bs D) split ∙ overflow-append C B' D in
+    let over_last : sizes (overflow B t.sender) ≡ sizes (overflow B' sent1) = cc (last, sender1) in
+    let over_all : sizes (overflow M D) ≡ sizes (overflow C D) + sizes (overflow B t.sender) = omega (arith, ap sizes over, sizes-append (overflow C D) (overflow B' sent1), over_last) in
     let no_rows : waiting_rows w e (Some e) A ≡ [] = waits_none w e e (length R) N R (omega arith) in
     let pends : pending w e (Some e) A ≡ fired (all_added p e W P) = pending_drained w e A pos sound by in
     let drops = dropped_drained w e N R R pos opens in
@@ -204,16 +204,16 @@ drain_by w i d e None D es new pos sound le by drain_at is =
     let later_by = TakenBy_more d e A le by in
     let formed_is : formed w e (Some e) A ≡ formed w d None A ++ (B ++ M) = formed_drained w e A pos sound later_by ∙ (ap (λ (bs : List BatchData). bs ++ M) (formed_later w d e A pos sound le by) ∙ append_assoc (formed w d None A) B M) in
     let all : new ≡ B ++ M = is ∙ (ap (drop (length (formed w d None A))) formed_is ∙ drop-append_seam (formed w d None A) (B ++ M)) in
-    let D1 = all_offered B D in
+    let sent1 = all_offered B D in
     let es1 = map met_full_queue (overflow B D) ++ es in
     let first : state_with w i e (Some e) (all_offered new D) (map met_full_queue (overflow new D) ++ es) ≡ state_with w i e (Some e) (all_offered (B ++ M) D) (map met_full_queue (overflow (B ++ M) D) ++ es) =
     ap (λ (bs : List BatchData). state_with w i e (Some e) (all_offered bs D) (map met_full_queue (overflow bs D) ++ es)) all in
-    let places : ended_places (map met_full_queue (overflow (B ++ M) D) ++ es) ≡ ended_places (map met_full_queue (overflow M D1) ++ es1) =
-    ap (λ (bs : List BatchData). ended_places (map met_full_queue bs ++ es)) (overflow-append B M D) ∙ met_append (overflow B D) (overflow M D1) es in
-    let second : state_with w i e (Some e) (all_offered (B ++ M) D) (map met_full_queue (overflow (B ++ M) D) ++ es) ≡ state_with w i e (Some e) (all_offered M D1) (map met_full_queue (overflow M D1) ++ es1) =
+    let places : ended_places (map met_full_queue (overflow (B ++ M) D) ++ es) ≡ ended_places (map met_full_queue (overflow M sent1) ++ es1) =
+    ap (λ (bs : List BatchData). ended_places (map met_full_queue bs ++ es)) (overflow-append B M D) ∙ met_append (overflow B D) (overflow M sent1) es in
+    let second : state_with w i e (Some e) (all_offered (B ++ M) D) (map met_full_queue (overflow (B ++ M) D) ++ es) ≡ state_with w i e (Some e) (all_offered M sent1) (map met_full_queue (overflow M sent1) ++ es1) =
     ap (λ (s : SenderData). state_at w A e (Some e) s (ledger_at w i e (Some e) s (ended_places (map met_full_queue (overflow (B ++ M) D) ++ es)))) (all_offered-append B M D)
-    ∙ ap (λ (q : Places). state_at w A e (Some e) (all_offered M D1) (ledger_at w i e (Some e) (all_offered M D1) q)) places in
-    first ∙ (second ∙ (drain_first w i e D1 es1 M pos sound later_by refl ∙ ap (drain e) (elapsed w i d e D es pos sound le by)))
+    ∙ ap (λ (q : Places). state_at w A e (Some e) (all_offered M sent1) (ledger_at w i e (Some e) (all_offered M sent1) q)) places in
+    first ∙ (second ∙ (drain_first w i e sent1 es1 M pos sound later_by refl ∙ ap (drain e) (elapsed w i d e D es pos sound le by)))
 
 pub drain_goes_on : (w : SectionData) (past : List Own) (now : ℕ) → 0 < w.tail_sampling.num_traces → IsSound (rules_of w) → state w (Drain now ∷ past) ≡ next (Drain now) (state w past)
 unfolding state next sender ended

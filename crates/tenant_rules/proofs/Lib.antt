@@ -11,3 +11,4 @@ mod Stays
 mod Steps
 mod Closing
 mod Drained
+mod FrontsAre

@@ -122,7 +122,7 @@ AllAfter-fired p m e (r ∷ ws) asc = by_test (leb r.due e && are_sampled p r.sp
     by_test true rest = asc.0
     by_test false rest = rest
 
-after_rules : (m : ℕ) (p : batcher.State Arrival) → (after m p).rules ≡ p.rules
+pub after_rules : (m : ℕ) (p : batcher.State Arrival) → (after m p).rules ≡ p.rules
 after_rules m p = by_test (is_due (next_due p) m)
   where
     by_test : (b : Bool) → (cond b (fired p) p).rules ≡ p.rules

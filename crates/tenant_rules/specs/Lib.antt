@@ -13,4 +13,5 @@ pub mod Answers
 pub mod Ready
 pub mod Timers
 pub mod Machine
+pub mod Fronts
 pub mod Law

@@ -15,6 +15,7 @@
 //! processors and of its `exporterhelper`, and after OTLP 1.x.
 #![tactic(auto)]
 
+ghost use Rattle.tenant_rules.specs.Fronts.{FrontsAre};
 ghost use Rattle.tenant_rules.specs.Law.{ReportsFollow, TurnsFollow, AnswersFollow, DrainsFollow};
 
 mod told;
@@ -41,4 +42,10 @@ pub fn answers_follow()
 /// clock alone: a law over the definitions.
 pub fn drains_follow()
     ensures { DrainsFollow }
+{}
+
+/// Some first timers, as they stand after refused memory, decide the first rows that wait, and what that makes of lists
+/// and batches: a law over the machine.
+pub fn fronts_are()
+    ensures { FrontsAre }
 {}
