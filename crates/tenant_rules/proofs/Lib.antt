@@ -1,0 +1,14 @@
+mod Times
+mod Order
+mod Later
+mod Fronts
+mod Walks
+mod Walked
+mod Tally
+mod Elapsed
+mod Intakes
+mod Stays
+mod Steps
+mod Closing
+mod Drained
+mod FrontsAre

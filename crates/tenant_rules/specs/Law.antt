@@ -1,0 +1,36 @@
+-- The definitions over a whole past and those of one step agree.
+use Rattle.std.specs.Prelude.{◌≡◌, ◌<◌, ℕ, List, ◌∷◌}
+use Rattle.tail_settings.specs.Section.{SectionData}
+use Rattle.send_retry.specs.Class.{AnswerData}
+use Rattle.span_batcher.specs.Batches.{IsSound}
+use Rattle.tenant_rules.specs.Own.{Own, Turn, Answer, Report, Drain}
+use Rattle.tenant_rules.specs.Batching.{rules_of}
+use Rattle.tenant_rules.specs.State.{state}
+use Rattle.tenant_rules.specs.Answers.{answer}
+use Rattle.tenant_rules.specs.Machine.{next, told}
+
+-- a step's state, and what is told of it, follow from the state before it alone
+pub record Follows (section : SectionData) (past : List Own) (step : Own) : Type 0 where
+  pub state_is : state section (step ∷ past) ≡ next step (state section past)
+  pub told_is : answer section past step ≡ told step (state section past)
+
+-- where the settings are in their ranges: those of a report, before which nothing but time goes on
+abbrev pub ReportsFollow : Type 0
+ReportsFollow = (section : SectionData) → 0 < section.tail_sampling.num_traces → IsSound (rules_of section) →
+    (past : List Own) (now : ℕ) → Follows section past (Report now)
+
+-- those of a turn
+abbrev pub TurnsFollow : Type 0
+TurnsFollow = (section : SectionData) → 0 < section.tail_sampling.num_traces → IsSound (rules_of section) →
+    (past : List Own) (now : ℕ) → Follows section past (Turn now)
+
+-- those of an answer
+abbrev pub AnswersFollow : Type 0
+AnswersFollow = (section : SectionData) → 0 < section.tail_sampling.num_traces → IsSound (rules_of section) →
+    (past : List Own) (now ticket word : ℕ) (content : AnswerData) →
+    Follows section past (Answer now ticket word content)
+
+-- and those of a drain, be it the first or not
+abbrev pub DrainsFollow : Type 0
+DrainsFollow = (section : SectionData) → 0 < section.tail_sampling.num_traces → IsSound (rules_of section) →
+    (past : List Own) (now : ℕ) → Follows section past (Drain now)

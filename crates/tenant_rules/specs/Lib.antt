@@ -1,0 +1,17 @@
+pub mod Arrivals
+pub mod Own
+pub mod Rows
+pub mod Fate
+pub mod Groups
+pub mod ExportText
+pub mod Sender
+pub mod Batching
+pub mod Intake
+pub mod Sending
+pub mod State
+pub mod Answers
+pub mod Ready
+pub mod Timers
+pub mod Machine
+pub mod Fronts
+pub mod Law

@@ -1,0 +1,87 @@
+-- What is kept of a tenant's batches after its own steps, and where the spans of the others ended. At each step the
+-- batches that form by then are offered first, in order; then a worker's turn or a back end's answer acts.
+use Rattle.std.specs.Prelude.{ℕ, Bool, List, [], ◌∷◌, ◌++◌, map, length, drop, Option, Some, None, if◌then◌else◌}
+use Rattle.tail_settings.specs.Section.{SectionData}
+use Rattle.drop_ledger.specs.declared.places.Place.{Place}
+use Rattle.drop_ledger.specs.declared.places.Place.TheVariants.{Exported, QueueFull, RetryExhausted, BackEndRefused, BackEndRejected}
+use Rattle.send_retry.specs.Class.{AnswerData}
+use Rattle.tenant_rules.specs.Own.{Own, Post, Turn, Answer, Report, Drain, clock, drained}
+use Rattle.tenant_rules.specs.Batching.{formed}
+use Rattle.tenant_rules.specs.Intake.{intake}
+use Rattle.tenant_rules.specs.Sender.{BatchData, ActiveData, SenderData, no_batches, is_full, offered, asked, Settlement, Delivered, Refused, Exhausted, Postponed, settlement, in_flight, answered}
+
+-- all batches that formed in a past, oldest first
+abbrev pub formed_by : SectionData → List Own → List BatchData
+formed_by section past = formed section (clock past) (drained past) (intake section past).spans
+
+-- those that form at a step, its due timers among what makes them
+abbrev pub newly_formed : SectionData → Own → List Own → List BatchData
+newly_formed section step past = drop (length (formed_by section past)) (formed_by section (step ∷ past))
+
+-- batches are offered, one after the other
+abbrev pub all_offered : List BatchData → SenderData → SenderData
+all_offered [] s = s
+all_offered (batch ∷ batches) s = all_offered batches (offered batch s)
+
+-- those that meet a full queue
+abbrev pub overflow : List BatchData → SenderData → List BatchData
+overflow [] s = []
+overflow (batch ∷ batches) s =
+    if is_full s then batch ∷ overflow batches s else overflow batches (offered batch s)
+
+-- what a step does to the sender at a moment
+abbrev pub acted : ℕ → Own → SenderData → SenderData
+acted moment (Post now arrivals) s = s
+acted moment (Turn now) s = asked moment s
+acted moment (Answer now ticket word answer) s = answered ticket moment word answer s
+acted moment (Report now) s = s
+acted moment (Drain now) s = s
+
+-- the sender just before a step acts
+abbrev pub before_acting : SectionData → Own → List Own → SenderData → SenderData
+before_acting section step past s = all_offered (newly_formed section step past) s
+
+-- the sender after own steps
+unfoldable pub sender : SectionData → List Own → SenderData
+sender section [] = no_batches section.sending_queue section.retry_on_failure
+sender section (step ∷ past) =
+    acted (clock (step ∷ past)) step (before_acting section step past (sender section past))
+
+-- ---- batches that are settled
+
+-- so many spans ended in a place
+pub record EndedData : Type 0 where
+  pub place : Place
+  pub spans : ℕ
+
+-- a batch that met a full queue
+abbrev pub met_full_queue : BatchData → EndedData
+met_full_queue batch = record { place = QueueFull; spans = batch.spans }
+
+-- where the spans of a batch of so many ended by an answer
+abbrev pub ended_by : ℕ → Settlement → List EndedData
+ended_by spans (Delivered exported rejected) =
+    record { place = BackEndRejected; spans = rejected } ∷ record { place = Exported; spans = exported } ∷ []
+ended_by spans Refused = record { place = BackEndRefused; spans = spans } ∷ []
+ended_by spans Exhausted = record { place = RetryExhausted; spans = spans } ∷ []
+ended_by spans (Postponed due retry) = []
+
+-- those of the batch in flight, if there is one
+abbrev pub ended_in_flight : ℕ → ℕ → AnswerData → Option ActiveData → List EndedData
+ended_in_flight moment word answer None = []
+ended_in_flight moment word answer (Some a) = ended_by a.batch.spans (settlement moment word answer a)
+
+-- by a step at a moment
+abbrev pub ended_at : ℕ → Own → SenderData → List EndedData
+ended_at moment (Post now arrivals) s = []
+ended_at moment (Turn now) s = []
+ended_at moment (Answer now ticket word answer) s = ended_in_flight moment word answer (in_flight ticket s)
+ended_at moment (Report now) s = []
+ended_at moment (Drain now) s = []
+
+-- where the spans of all batches ended that are neither in the queue nor active, the last one first
+unfoldable pub ended : SectionData → List Own → List EndedData
+ended section [] = []
+ended section (step ∷ past) =
+    ended_at (clock (step ∷ past)) step (before_acting section step past (sender section past))
+    ++ (map met_full_queue (overflow (newly_formed section step past) (sender section past)) ++ ended section past)

@@ -1,0 +1,51 @@
+//! One tenant's rules, whole.
+//!
+//! A tenant's own steps are posts of spans, turns of workers, answers of its back end, reports and drains. What it is
+//! told of each depends on its settings and its own steps alone: `specs/State` says what it is after any list of own
+//! steps, with its fourteen counters, `specs/Answers` what it is told of the next one, and `specs/Ready` when it next
+//! has something to do. Rows of traces wait for their decision and leave to make room for others, a budget bounds the
+//! spans that are held, groups of spans become batches, batches wait in a queue, are sent and sent again, and every
+//! span that was taken is counted in one place.
+//!
+//! `specs/Machine` goes from state to state, one timer at a time. The functions here have no bodies: their clauses are
+//! laws that tie the two. It knows nothing of how spans and rows are stored, and nothing of other tenants.
+//!
+//! It stands on `span_batcher`, `send_retry`, `drop_ledger`, `tail_policy` and `tail_settings`, and on the crates that
+//! say what a span is. The rules are after the documents of the OpenTelemetry Collector's `tail_sampling` and `batch`
+//! processors and of its `exporterhelper`, and after OTLP 1.x.
+#![tactic(auto)]
+
+ghost use Rattle.tenant_rules.specs.Fronts.{FrontsAre};
+ghost use Rattle.tenant_rules.specs.Law.{ReportsFollow, TurnsFollow, AnswersFollow, DrainsFollow};
+
+mod told;
+
+pub use told::{Reply, Told};
+
+/// As time goes on, due timers run one at a time, and a report changes nothing else: a law over the definitions.
+pub fn reports_follow()
+    ensures { ReportsFollow }
+{}
+
+/// A turn hands out one job at most, after the due timers: a law over the definitions.
+pub fn turns_follow()
+    ensures { TurnsFollow }
+{}
+
+/// An answer settles the batch in flight under its ticket, or lets it wait for another attempt, after the due timers:
+/// a law over the definitions.
+pub fn answers_follow()
+    ensures { AnswersFollow }
+{}
+
+/// A drain decides the rows that wait and closes the last batch, after the due timers, and a second one changes the
+/// clock alone: a law over the definitions.
+pub fn drains_follow()
+    ensures { DrainsFollow }
+{}
+
+/// Some first timers, as they stand after refused memory, decide the first rows that wait, and what that makes of lists
+/// and batches: a law over the machine.
+pub fn fronts_are()
+    ensures { FrontsAre }
+{}

@@ -1,0 +1,5 @@
+pub mod Parts
+pub mod Rows
+pub mod Batches
+pub mod Jobs
+pub mod Drains
