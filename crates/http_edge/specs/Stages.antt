@@ -7,6 +7,9 @@ use Rattle.http1.specs.declared.decode.Decoder.{Decoder}
 use Rattle.http1.specs.declared.decode.Decoder.TheVariants.{Chunked}
 use Rattle.http1.specs.declared.chunked.ChunkedDecoder.{ChunkedDecoder}
 use Rattle.http1.specs.ChunkedDecoder.{run, prepend, HasNotFailed}
+use Rattle.http_edge.specs.declared.fields.Single.{Single}
+use Rattle.http_edge.specs.declared.fields.Single.TheVariants as Code
+use Rattle.http_edge.specs.Fields.{Single as SingleData, absent, one, repeated}
 use Rattle.http_edge.specs.declared.head.Head.{Head}
 use Rattle.http_edge.specs.declared.head.Begin.{Begin}
 use Rattle.http_edge.specs.declared.head.Begin.TheVariants.{Whole, More, Refuse}
@@ -17,7 +20,8 @@ use Rattle.http_edge.specs.declared.body.BodyRead.TheVariants as Read
 use Rattle.http_edge.specs.declared.body.Pieces.{Pieces}
 use Rattle.http_edge.specs.declared.body.Pieces.TheVariants as Piece
 use Rattle.http_edge.specs.Message.{Request, Answer, Message, Frame, sized, chunked, headers_of, framing_of, max_body, limits, chunks_of, HasHead, HasBody, NeverHasBody, IsTooLong, LacksBody, HasMessage, request_of, expects, closes, is_bodiless}
-use Rattle.http_edge.specs.Talk.{RefusesHead, Exchange, exchange_text, reply_text, refusal_text, Ends, Due}
+use Rattle.http_edge.specs.Talk.{RefusesHead, Exchange, exchange_text, Ends, Due}
+use Rattle.http_edge.specs.Reply.{reply_text, refusal_text}
 use Rattle.http_edge.specs.Steps.{Moves}
 use Rattle.http_edge.specs.Seen.{header_of}
 
@@ -26,11 +30,18 @@ abbrev pub error_status : Error → ℕ
 error_status TooManyHeaders = 431
 error_status _ = 400
 
+-- what the value of a field stands for
+abbrev pub single_of : Single → SingleData
+single_of Code.Absent = absent
+single_of (Code.One value) = one value.now
+single_of Code.Repeated = repeated
+
 -- what the kind of a body stands for
 abbrev pub frame_by : BodyKind → Frame
 frame_by (Sized n) = sized n
 frame_by Chunks = chunked
 
+-- the same where there is one
 abbrev pub frame_in : Option BodyKind → Option Frame
 frame_in None = None
 frame_in (Some kind) = Some (frame_by kind)
@@ -41,7 +52,7 @@ message_with h body = record { head = h; body = body }
 
 -- the head of the code says what the head of the grammar says
 pub record IsHeadOf (head : Head) (h : RequestHead) : Type 0 where
-  pub method : head.method.items ≡ h.method
+  pub method : head.method ≡ h.method
   pub target : head.target.items ≡ h.target
   pub headers : map header_of head.headers.items ≡ headers_of h
   pub expects : head.expects ≡ expects h
@@ -56,6 +67,7 @@ pub record IsHead (bytes : List ℕ) (head : Head) (h : RequestHead) : Type 0 wh
   pub fits : (n : ℕ) → frame_by head.kind ≡ sized n → n ≤ max_body
   pub says : IsHeadOf head h
 
+-- what the bytes begin with
 abbrev pub IsBegin : List ℕ → Begin → Type 0
 IsBegin bytes (Whole head) = (h : RequestHead) × IsHead bytes head h
 IsBegin bytes More = HasNoRequest bytes × MayBecomeRequest bytes
@@ -83,13 +95,15 @@ IsRead frame stream after Read.Bad = (frame ≡ chunked) × NeverHasBody chunked
 IsRead frame stream after Read.Ended = LacksBody frame stream
 
 -- the handler's answer and what is written of it
-pub record Replies {H : Type 0} (answers : H → Request → Answer → H → Type 0) (old new : H) (m : Message) (written missing : List ℕ) : Type 0 where
+pub record Replies {H : Type 0} (answers : H → Request → Answer → H
+    → Type 0) (old new : H) (m : Message) (written missing : List ℕ) : Type 0 where
   pub reply : Answer
   pub answered : answers old (request_of m) reply new
   pub text : reply_text (is_bodiless m.head) (closes m.head) reply ≡ written ++ missing
 
 -- a message was answered, and the connection goes on
-pub record GoesOn {H : Type 0} (answers : H → Request → Answer → H → Type 0) (old new : H) (received0 received1 sent0 sent1 : Option (List ℕ)) (before after : List ℕ) : Type 0 where
+pub record GoesOn {H : Type 0} (answers : H → Request → Answer → H
+    → Type 0) (old new : H) (received0 received1 sent0 sent1 : Option (List ℕ)) (before after : List ℕ) : Type 0 where
   pub read : List ℕ
   pub exchange : Exchange
   pub moves : Moves received0 received1 sent0 sent1 read (exchange_text exchange)
@@ -98,7 +112,9 @@ pub record GoesOn {H : Type 0} (answers : H → Request → Answer → H → Typ
   pub answered : answers old (request_of exchange.message) exchange.reply new
 
 -- the talk has come to its end
-pub record IsOver {H : Type 0} (answers : H → Request → Answer → H → Type 0) (old new : H) (received0 received1 sent0 sent1 : Option (List ℕ)) (ended : Type 0) (before : List ℕ) : Type 0 where
+pub record IsOver {H : Type 0} (answers : H → Request → Answer → H
+    → Type 0) (old new : H) (received0 received1 sent0 sent1 : Option (List ℕ)) (ended : Type 0) (before : List ℕ)
+    : Type 0 where
   pub read : List ℕ
   pub text : List ℕ
   pub over : Bool
@@ -107,7 +123,8 @@ pub record IsOver {H : Type 0} (answers : H → Request → Answer → H → Typ
   pub end : over ≡ false → ended
 
 -- it was broken off
-pub record IsCut {H : Type 0} (answers : H → Request → Answer → H → Type 0) (old new : H) (received0 received1 sent0 sent1 : Option (List ℕ)) (before : List ℕ) : Type 0 where
+pub record IsCut {H : Type 0} (answers : H → Request → Answer → H
+    → Type 0) (old new : H) (received0 received1 sent0 sent1 : Option (List ℕ)) (before : List ℕ) : Type 0 where
   pub read : List ℕ
   pub written : List ℕ
   pub moves : Moves received0 received1 sent0 sent1 read written

@@ -1,7 +1,8 @@
 //! The loop over messages.
 ghost use Rattle.std.specs.Prelude.{◌≡◌, ◌≢◌, ℕ, ◌+◌, ◌<◌, ◌≤◌, ◌⊎◌, Bool, not, List, [], ◌++◌, length, map, take, drop, if◌then◌else◌, IfOk, IfSome, OnOk, OnErr, Some, None, true, false, Ok, Err};
 ghost use Rattle.httparse.specs.Grammar.{RequestHead};
-ghost use Rattle.http_edge.specs.Talk.{Talk, Begins, refusal_text, reply_text, continue_text};
+ghost use Rattle.http_edge.specs.Talk.{Talk, Begins};
+ghost use Rattle.http_edge.specs.Reply.{refusal_text, reply_text, continue_text};
 ghost use Rattle.http_edge.specs.Message.{closes, max_head};
 ghost use Rattle.http_edge.specs.Steps.{Moves, work, HasFailed};
 ghost use Rattle.http_edge.specs.Seen.{seen, header_of, answer_of};
@@ -9,8 +10,9 @@ ghost use Rattle.http_edge.specs.Stages.{IsBegin, IsHeadOf, message_with, Replie
 
 use crate::body::{BodyRead, read_body};
 use crate::head::{Begin, Head, head_at};
-use crate::message::{Handler, HttpMessage, Reply, reply_bytes};
-use crate::wire::{EdgeFault, drop_front, fill, send};
+use crate::message::{Handler, HttpMessage, Reply};
+use crate::reply::{is_for_no_memory, no_memory_bytes, plain_bytes, refusal_body};
+use crate::wire::{EdgeFault, drop_front, fill, is_worth_a_look, send};
 use http_line::Line;
 use std::alloc::{AllocError, Global};
 
@@ -46,12 +48,15 @@ fn exchange<L: Line, H: Handler>(
     buffer: &mut Vec<u8>,
 ) -> Result<bool, EdgeFault>
     ensures on { result ≡ Ok true → GoesOn H.answers handler.old handler.new
-        (L.received line.old) (L.received line.new) (L.sent line.old) (L.sent line.new) buffer.old.items buffer.new.items }
+        (L.received line.old) (L.received line.new) (L.sent line.old) (L.sent line.new) buffer.old.items
+        buffer.new.items }
     ensures over { result ≡ Ok false → IsOver H.answers handler.old handler.new
-        (L.received line.old) (L.received line.new) (L.sent line.old) (L.sent line.new) (L.ends line.old < L.ends line.new) buffer.old.items }
+        (L.received line.old) (L.received line.new) (L.sent line.old) (L.sent line.new) (L.ends line.old < L.ends
+        line.new) buffer.old.items }
     ensures cut { OnErr result (IsCut H.answers handler.old handler.new
         (L.received line.old) (L.received line.new) (L.sent line.old) (L.sent line.new) buffer.old.items) }
-    ensures work { result ≡ Ok true → work (L.reads_left line.new) buffer.new.items < work (L.reads_left line.old) buffer.old.items }
+    ensures work { result ≡ Ok true → work (L.reads_left line.new) buffer.new.items < work (L.reads_left line.old)
+        buffer.old.items }
     ensures ends { L.ends line.old ≤ L.ends line.new }
     ensures kept { OnOk result (L.failed line.new ≡ L.failed line.old) }
     ensures read { result ≡ Err EdgeFault.ReadFailed → HasFailed (L.failed line.old) (L.failed line.new) }
@@ -80,7 +85,8 @@ fn read_head<L: Line>(alloc: Global, line: &mut L, buffer: &mut Vec<u8>) -> Resu
     ensures short { result ≡ Ok Begin.More → length buffer.new.items < max_head }
     ensures err { OnErr result ((read : List ℕ)
         × Moves (L.received line.old) (L.received line.new) (L.sent line.old) (L.sent line.new) read []) }
-    ensures work { OnOk result (work (L.reads_left line.new) buffer.new.items ≤ work (L.reads_left line.old) buffer.old.items) }
+    ensures work { OnOk result (work (L.reads_left line.new) buffer.new.items ≤ work (L.reads_left line.old)
+        buffer.old.items) }
     ensures ends { L.ends line.old ≤ L.ends line.new }
     ensures kept { OnOk result (L.failed line.new ≡ L.failed line.old) }
     ensures failed { result ≡ Err EdgeFault.ReadFailed → HasFailed (L.failed line.old) (L.failed line.new) }
@@ -111,8 +117,10 @@ fn look<L: Line>(
     ensures short { result ≡ Ok (Some Begin.More) → length buffer.new.items < max_head }
     ensures err { OnErr result ((read : List ℕ)
         × Moves (L.received line.old) (L.received line.new) (L.sent line.old) (L.sent line.new) read []) }
-    ensures work { OnOk result (work (L.reads_left line.new) buffer.new.items ≤ work (L.reads_left line.old) buffer.old.items) }
-    ensures less { result ≡ Ok None → work (L.reads_left line.new) buffer.new.items < work (L.reads_left line.old) buffer.old.items }
+    ensures work { OnOk result (work (L.reads_left line.new) buffer.new.items ≤ work (L.reads_left line.old)
+        buffer.old.items) }
+    ensures less { result ≡ Ok None → work (L.reads_left line.new) buffer.new.items < work (L.reads_left line.old)
+        buffer.old.items }
     ensures ends { L.ends line.old ≤ L.ends line.new }
     ensures kept { OnOk result (L.failed line.new ≡ L.failed line.old) }
     ensures failed { result ≡ Err EdgeFault.ReadFailed → HasFailed (L.failed line.old) (L.failed line.new) }
@@ -130,16 +138,6 @@ fn look<L: Line>(
     Ok(Some(head_at(alloc, buffer)?))
 }
 
-/// Whether the bytes after the first `seen` may have completed a head or made it clear that none comes.
-fn is_worth_a_look(bytes: &[u8], seen: usize) -> bool {
-    let from = seen.min(bytes.len()).saturating_sub(3);
-    let fresh = &bytes[from..];
-    seen == 0
-        || fresh.windows(2).any(|w| w == b"\n\n".as_slice())
-        || fresh.windows(3).any(|w| w == b"\n\r\n".as_slice())
-        || bytes.len() / 2 >= seen
-}
-
 /// Writes the reply to a bad message.
 fn refuse<L: Line>(
     alloc: Global,
@@ -147,8 +145,10 @@ fn refuse<L: Line>(
     status: u16,
     bodiless: bool,
 ) -> Result<(), EdgeFault>
-    ensures ok { OnOk result (Moves (L.received line.old) (L.received line.new) (L.sent line.old) (L.sent line.new) [] (refusal_text bodiless status)) }
-    ensures err { OnErr result ((front : List ℕ) × (missing : List ℕ) × (refusal_text bodiless status ≡ front ++ missing)
+    ensures ok { OnOk result (Moves (L.received line.old) (L.received line.new) (L.sent line.old) (L.sent line.new) []
+        (refusal_text bodiless status)) }
+    ensures err { OnErr result ((front : List ℕ) × (missing : List ℕ) × (refusal_text bodiless status ≡ front
+        ++ missing)
         × Moves (L.received line.old) (L.received line.new) (L.sent line.old) (L.sent line.new) [] front) }
     ensures end { L.ends line.new ≡ L.ends line.old }
     ensures reads { L.reads_left line.new ≡ L.reads_left line.old }
@@ -158,9 +158,9 @@ fn refuse<L: Line>(
 {
     let reply = Reply {
         status,
-        body: Vec::from_slice(alloc, b"refused")?,
+        body: Vec::from_slice(alloc, refusal_body(status))?,
     };
-    send(line, &reply_bytes(alloc, &reply, true, bodiless)?)
+    say(alloc, line, &reply, true, bodiless)
 }
 
 /// Reads the body of a head's message, and answers it.
@@ -173,12 +173,15 @@ fn attend<L: Line, H: Handler>(
 ) -> Result<bool, EdgeFault>
     requires { IsBegin buffer.old.items (Begin.Whole head) }
     ensures on { result ≡ Ok true → GoesOn H.answers handler.old handler.new
-        (L.received line.old) (L.received line.new) (L.sent line.old) (L.sent line.new) buffer.old.items buffer.new.items }
+        (L.received line.old) (L.received line.new) (L.sent line.old) (L.sent line.new) buffer.old.items
+        buffer.new.items }
     ensures over { result ≡ Ok false → IsOver H.answers handler.old handler.new
-        (L.received line.old) (L.received line.new) (L.sent line.old) (L.sent line.new) (L.ends line.old < L.ends line.new) buffer.old.items }
+        (L.received line.old) (L.received line.new) (L.sent line.old) (L.sent line.new) (L.ends line.old < L.ends
+        line.new) buffer.old.items }
     ensures cut { OnErr result (IsCut H.answers handler.old handler.new
         (L.received line.old) (L.received line.new) (L.sent line.old) (L.sent line.new) buffer.old.items) }
-    ensures work { result ≡ Ok true → work (L.reads_left line.new) buffer.new.items < work (L.reads_left line.old) buffer.old.items }
+    ensures work { result ≡ Ok true → work (L.reads_left line.new) buffer.new.items < work (L.reads_left line.old)
+        buffer.old.items }
     ensures ends { L.ends line.old ≤ L.ends line.new }
     ensures kept { OnOk result (L.failed line.new ≡ L.failed line.old) }
     ensures read { result ≡ Err EdgeFault.ReadFailed → HasFailed (L.failed line.old) (L.failed line.new) }
@@ -205,8 +208,10 @@ fn attend<L: Line, H: Handler>(
 
 /// Writes 100 Continue where it is due.
 fn interim<L: Line>(line: &mut L, due: bool) -> Result<(), EdgeFault>
-    ensures ok { OnOk result (Moves (L.received line.old) (L.received line.new) (L.sent line.old) (L.sent line.new) [] (if due then continue_text else [])) }
-    ensures err { OnErr result ((front : List ℕ) × (missing : List ℕ) × ((if due then continue_text else []) ≡ front ++ missing)
+    ensures ok { OnOk result (Moves (L.received line.old) (L.received line.new) (L.sent line.old) (L.sent line.new) []
+        (if due then continue_text else [])) }
+    ensures err { OnErr result ((front : List ℕ) × (missing : List ℕ) × ((if due then continue_text else []) ≡ front
+        ++ missing)
         × Moves (L.received line.old) (L.received line.new) (L.sent line.old) (L.sent line.new) [] front) }
     ensures end { L.ends line.new ≡ L.ends line.old }
     ensures reads { L.reads_left line.new ≡ L.reads_left line.old }
@@ -252,6 +257,7 @@ fn answer<L: Line, H: Handler>(
 }
 
 /// Writes a reply.
+#[tactic(auto, unfolding(crate::specs::Reply::reply_text))]
 fn say<L: Line>(
     alloc: Global,
     line: &mut L,
@@ -259,8 +265,10 @@ fn say<L: Line>(
     close: bool,
     bodiless: bool,
 ) -> Result<(), EdgeFault>
-    ensures ok { OnOk result (Moves (L.received line.old) (L.received line.new) (L.sent line.old) (L.sent line.new) [] (reply_text bodiless close (answer_of reply.now))) }
-    ensures err { OnErr result ((front : List ℕ) × (missing : List ℕ) × (reply_text bodiless close (answer_of reply.now) ≡ front ++ missing)
+    ensures ok { OnOk result (Moves (L.received line.old) (L.received line.new) (L.sent line.old) (L.sent line.new) []
+        (reply_text bodiless close (answer_of reply.now))) }
+    ensures err { OnErr result ((front : List ℕ) × (missing : List ℕ)
+        × (reply_text bodiless close (answer_of reply.now) ≡ front ++ missing)
         × Moves (L.received line.old) (L.received line.new) (L.sent line.old) (L.sent line.new) [] front) }
     ensures end { L.ends line.new ≡ L.ends line.old }
     ensures reads { L.reads_left line.new ≡ L.reads_left line.old }
@@ -268,14 +276,17 @@ fn say<L: Line>(
     ensures failed { result ≡ Err EdgeFault.WriteFailed → HasFailed (L.failed line.old) (L.failed line.new) }
     ensures no_read { result ≢ Err EdgeFault.ReadFailed }
 {
-    let bytes = reply_bytes(alloc, reply, close, bodiless)?;
+    if is_for_no_memory(reply) {
+        return send(line, no_memory_bytes(close, bodiless));
+    }
+    let bytes = plain_bytes(alloc, reply, close, bodiless)?;
     send(line, &bytes)
 }
 
 /// The message of a head and a body.
 fn message_of(head: Head, body: Vec<u8>) -> HttpMessage
     ensures { seen result ≡ record {
-      method = head.method.items;
+      method = head.method;
       target = head.target.items;
       headers = map header_of head.headers.items;
       body = body.items;

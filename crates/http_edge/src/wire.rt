@@ -1,17 +1,38 @@
 //! Reading into a buffer, and writing.
 ghost use Rattle.std.specs.Prelude.{◌≡◌, ◌≢◌, ℕ, ◌+◌, ◌<◌, ◌≤◌, List, [], ◌++◌, length, drop, IfOk, OnOk, OnErr, IsTrue, true, false, Ok, Err};
 ghost use Rattle.http_edge.specs.Steps.{Moves, work, HasFailed};
+ghost use Rattle.http_edge.specs.Fault.{fault_number};
 ghost use Rattle.http_edge.specs.declared.wire.EdgeFault.TheVariants.{ReadFailed, WriteFailed, OutOfMemory};
 
 use http_line::{Line, LineFailed};
 use std::alloc::{AllocError, Global};
+use thiserror::Error;
 
-/// Why an edge gave up.
-#[derive(Clone, Copy, Debug, Drop, PartialEq, Eq)]
+/// Why an edge gave up. The line is given up with it.
+#[derive(Clone, Copy, Debug, Drop, PartialEq, Eq, Error)]
 pub enum EdgeFault {
+    /// A read failed. What was written is a beginning of what was due.
+    #[error("a read failed")]
     ReadFailed,
+    /// A write failed. What was written is a beginning of what was due.
+    #[error("a write failed")]
     WriteFailed,
+    /// A growth was refused. What was written is a beginning of what was due.
+    #[error("out of memory")]
     OutOfMemory,
+}
+
+impl EdgeFault {
+    /// The fault's number, 30 or 31. Want of memory has none.
+    pub fn number(self) -> Option<u32>
+        ensures { result ≡ fault_number self }
+    {
+        match self {
+            EdgeFault::ReadFailed => Some(30),
+            EdgeFault::WriteFailed => Some(31),
+            EdgeFault::OutOfMemory => None,
+        }
+    }
 }
 
 impl From<AllocError> for EdgeFault {
@@ -31,9 +52,12 @@ pub(crate) fn fill<L: Line>(line: &mut L, buffer: &mut Vec<u8>) -> Result<bool, 
         × (buffer.new.items ≡ buffer.old.items ++ read)) }
     ensures err { OnErr result ((read : List ℕ)
         × Moves (L.received line.old) (L.received line.new) (L.sent line.old) (L.sent line.new) read []) }
-    ensures end { IfOk result (λ more. more ≡ false → (buffer.new.items ≡ buffer.old.items) × (L.ends line.old < L.ends line.new)) }
-    ensures quiet { result ≡ Ok false → Moves (L.received line.old) (L.received line.new) (L.sent line.old) (L.sent line.new) [] [] }
-    ensures work { OnOk result (work (L.reads_left line.new) buffer.new.items < work (L.reads_left line.old) buffer.old.items) }
+    ensures end { IfOk result (λ more. more ≡ false → (buffer.new.items ≡ buffer.old.items)
+        × (L.ends line.old < L.ends line.new)) }
+    ensures quiet { result ≡ Ok false → Moves (L.received line.old) (L.received line.new) (L.sent line.old)
+        (L.sent line.new) [] [] }
+    ensures work { OnOk result (work (L.reads_left line.new) buffer.new.items < work (L.reads_left line.old)
+        buffer.old.items) }
     ensures ends { L.ends line.old ≤ L.ends line.new }
     ensures kept { OnOk result (L.failed line.new ≡ L.failed line.old) }
     ensures failed { result ≡ Err EdgeFault.ReadFailed → HasFailed (L.failed line.old) (L.failed line.new) }
@@ -47,6 +71,16 @@ pub(crate) fn fill<L: Line>(line: &mut L, buffer: &mut Vec<u8>) -> Result<bool, 
         }
         Err(LineFailed) => Err(EdgeFault::ReadFailed),
     }
+}
+
+/// Whether the bytes after the first `seen` may have completed a head or made it clear that none comes.
+pub(crate) fn is_worth_a_look(bytes: &[u8], seen: usize) -> bool {
+    let from = seen.min(bytes.len()).saturating_sub(3);
+    let fresh = &bytes[from..];
+    seen == 0
+        || fresh.windows(2).any(|w| w == b"\n\n".as_slice())
+        || fresh.windows(3).any(|w| w == b"\n\r\n".as_slice())
+        || bytes.len() / 2 >= seen
 }
 
 /// Drops so many bytes from the front of the buffer.
@@ -65,7 +99,8 @@ pub(crate) fn drop_front(
 
 /// Writes all the bytes.
 pub(crate) fn send<L: Line>(line: &mut L, bytes: &[u8]) -> Result<(), EdgeFault>
-    ensures ok { OnOk result (Moves (L.received line.old) (L.received line.new) (L.sent line.old) (L.sent line.new) [] bytes.now) }
+    ensures ok { OnOk result (Moves (L.received line.old) (L.received line.new) (L.sent line.old) (L.sent line.new) []
+        bytes.now) }
     ensures err { OnErr result ((front : List ℕ) × (missing : List ℕ) × (bytes.now ≡ front ++ missing)
         × Moves (L.received line.old) (L.received line.new) (L.sent line.old) (L.sent line.new) [] front) }
     ensures end { L.ends line.new ≡ L.ends line.old }

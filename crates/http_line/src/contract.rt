@@ -11,6 +11,7 @@ pub struct LineFailed;
 pub trait Line {
     // All that was read and all that was written so far, where it is known: not at a socket.
     ghost received: { Self → Option (List ℕ) };
+
     ghost sent: { Self → Option (List ℕ) };
 
     // How many reads into room gave no byte.

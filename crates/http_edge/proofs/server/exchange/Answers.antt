@@ -1,6 +1,7 @@
 use Rattle.std.proofs.Common.{Ok, [], refl, ap, append-nil, true, false, arith}
 use Rattle.std.proofs.lemmas.Result.{err_from_is_err_and}
-use Rattle.http_edge.specs.Talk.{RefusesHead, at_head, refusal_text, nothing, refusing, waits, refuses, in_head}
+use Rattle.http_edge.specs.Talk.{RefusesHead, at_head, nothing, refusing, waits, refuses, in_head}
+use Rattle.http_edge.specs.Reply.{refusal_text}
 use Rattle.http_edge.specs.Stages.{IsBegin}
 use Rattle.http_edge.specs.declared.head.Begin.TheVariants.{More}
 use Rattle.http_edge.proofs.Moved.{then_to}
@@ -16,9 +17,11 @@ returns-in_err-read_head-clause-cut g c =
 pub returns-in_err-refuse-in-Refuse-clause-cut : goal.returns-in_err-refuse-in-Refuse-clause-cut
 returns-in_err-refuse-in-Refuse-clause-cut g c =
     let e = c.in_ok-read_head.ensures.ok in
-    let begin : RefusesHead c.read_head.new.buffer.items (refusal_text c.in-Refuse.bodiless c.in-Refuse.status) = rw c.in-Refuse.is at e.3 in
+    let begin : RefusesHead c.read_head.new.buffer.items (refusal_text c.in-Refuse.bodiless
+    c.in-Refuse.status) = rw c.in-Refuse.is at e.3 in
     let f = c.in_err-refuse-in-Refuse.ensures.err in
-    let p = err_from_is_err_and c.from_residual-in_err-refuse-in-Refuse.result c.from_residual-in_err-refuse-in-Refuse.ensures.1 in
+    let p = err_from_is_err_and c.from_residual-in_err-refuse-in-Refuse.result
+    c.from_residual-in_err-refuse-in-Refuse.ensures.1 in
     rw p.1 (record {
       read = e.0;
       written = f.0;
@@ -36,14 +39,16 @@ returns-in-More-clause-over g c = λ _.
       text = [];
       over = false;
       moves = e.1;
-      ends = rw (← e.2) (waits [] (in_head (c.in_ok-read_head.ensures.short (ap Ok c.in-More.is)) begin.0 begin.1) refl);
+      ends = rw (← e.2) (waits [] (in_head (c.in_ok-read_head.ensures.short (ap Ok c.in-More.is)) begin.0 begin.1)
+          refl);
       end = λ _. c.in_ok-read_head.ensures.end (ap Ok c.in-More.is);
     }
 
 pub returns-in_ok-refuse-in-Refuse-clause-over : goal.returns-in_ok-refuse-in-Refuse-clause-over
 returns-in_ok-refuse-in-Refuse-clause-over g c = λ _.
     let e = c.in_ok-read_head.ensures.ok in
-    let begin : RefusesHead c.read_head.new.buffer.items (refusal_text c.in-Refuse.bodiless c.in-Refuse.status) = rw c.in-Refuse.is at e.3 in
+    let begin : RefusesHead c.read_head.new.buffer.items (refusal_text c.in-Refuse.bodiless
+    c.in-Refuse.status) = rw c.in-Refuse.is at e.3 in
     record {
       read = e.0;
       text = refusal_text c.in-Refuse.bodiless c.in-Refuse.status;
@@ -59,10 +64,12 @@ returns-in_ok-goes-in-Whole-clause-on g c = λ eq.
 
 pub returns-in_ok-goes-in-Whole-clause-over : goal.returns-in_ok-goes-in-Whole-clause-over
 returns-in_ok-goes-in-Whole-clause-over g c = λ eq.
-    let e = c.in_ok-read_head.ensures.ok in over_after (λ w. omega (arith, w, c.in_ok-read_head.ensures.ends)) e.1 e.2 (c.in_ok-goes-in-Whole.ensures.over eq)
+    let e = c.in_ok-read_head.ensures.ok in over_after (λ w. omega (arith, w, c.in_ok-read_head.ensures.ends)) e.1 e.2
+    (c.in_ok-goes-in-Whole.ensures.over eq)
 
 pub returns-in_err-goes-in-Whole-clause-cut : goal.returns-in_err-goes-in-Whole-clause-cut
 returns-in_err-goes-in-Whole-clause-cut g c =
     let e = c.in_ok-read_head.ensures.ok in
-    let p = err_from_is_err_and c.from_residual-in_err-goes-in-Whole.result c.from_residual-in_err-goes-in-Whole.ensures.1 in
+    let p = err_from_is_err_and c.from_residual-in_err-goes-in-Whole.result
+    c.from_residual-in_err-goes-in-Whole.ensures.1 in
     rw p.1 (cut_after e.1 e.2 c.in_err-goes-in-Whole.ensures.cut)

@@ -14,8 +14,11 @@ messages-preserved g c =
       exchanges = inv.exchanges ++ on.exchange ∷ [];
       so_far = (
         then_to inv.so_far.0 on.moves refl (sym (told_more inv.exchanges on.exchange)),
-        runs_more g.H.Handler.answers c.args.handler.now c.messages.handler c.exchange.new.handler inv.exchanges on.exchange inv.so_far.1 on.answered,
-        asks_more inv.exchanges on.exchange (inv.read ++ on.read) (c.messages.buffer.items ++ on.read) c.exchange.new.buffer.items (asks_read inv.exchanges inv.read c.messages.buffer.items on.read inv.so_far.2) on.has on.stays,
+        runs_more g.H.Handler.answers c.args.handler.now c.messages.handler c.exchange.new.handler inv.exchanges
+            on.exchange inv.so_far.1 on.answered,
+        asks_more inv.exchanges on.exchange (inv.read ++ on.read) (c.messages.buffer.items
+            ++ on.read) c.exchange.new.buffer.items (asks_read inv.exchanges inv.read c.messages.buffer.items on.read
+            inv.so_far.2) on.has on.stays,
       );
       kept = c.in_ok-exchange.ensures.kept ∙ inv.kept;
       ends = omega (arith, c.in_ok-exchange.ensures.ends, inv.ends);

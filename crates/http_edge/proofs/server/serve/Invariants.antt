@@ -12,7 +12,8 @@ pub record Served (P : List ℕ → List Exchange → Type 0) (Q R : Type 0) : T
 
 abbrev pub invariant-messages : goal.invariant-messages
 invariant-messages g l = Served
-    (λ read es. Moves (g.L.Line.received l.fn.line) (g.L.Line.received l.line) (g.L.Line.sent l.fn.line) (g.L.Line.sent l.line) read (told es)
+    (λ read es. Moves (g.L.Line.received l.fn.line) (g.L.Line.received l.line) (g.L.Line.sent l.fn.line) (g.L.Line.sent
+    l.line) read (told es)
     × Runs g.H.Handler.answers l.fn.handler es l.handler
     × Asks read es l.buffer.items)
     (g.L.Line.failed l.line ≡ g.L.Line.failed l.fn.line)

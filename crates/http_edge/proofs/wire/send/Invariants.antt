@@ -12,7 +12,8 @@ pub record Sends (P : Type 0) (Q R S T : Type 0) : Type 0 where
 abbrev pub invariant-pieces : goal.invariant-pieces
 invariant-pieces g l = Sends
     (l.at ≤ length l.bytes)
-    (Moves (g.L.Line.received l.fn.line) (g.L.Line.received l.line) (g.L.Line.sent l.fn.line) (g.L.Line.sent l.line) [] (take l.at l.bytes))
+    (Moves (g.L.Line.received l.fn.line) (g.L.Line.received l.line) (g.L.Line.sent l.fn.line) (g.L.Line.sent l.line) []
+    (take l.at l.bytes))
     (g.L.Line.ends l.line ≡ g.L.Line.ends l.fn.line)
     (g.L.Line.reads_left l.line ≡ g.L.Line.reads_left l.fn.line)
     (g.L.Line.failed l.line ≡ g.L.Line.failed l.fn.line)
