@@ -1,5 +1,5 @@
 -- Heads of answers, at the front of bytes of which more may follow.
-use Rattle.std.proofs.Common.{◌≡◌, ◌≢◌, ℕ, zero, suc, ◌+◌, ◌≤◌, ◌<◌, Bool, true, false, Option, Some, None, inl, inr, List, [], ◌++◌, length, take, drop, map, refl, sym, ap, subst, ◌∙◌, append_assoc, append-nil, length-append, length-take, arith}
+use Rattle.std.proofs.Common.{◌≡◌, ◌≢◌, ℕ, zero, suc, ◌+◌, ◌≤◌, Bool, true, Option, Some, None, inl, inr, List, ◌++◌, length, take, drop, map, refl, sym, ap, subst, ◌∙◌, append_assoc, length-append, length-take, arith}
 use Rattle.std.proofs.lemmas.List.{take-append-le, drop-append-le, length-map}
 use Rattle.std.specs.Prelude.{◌/◌, ◌==◌, ◌&&◌, not}
 use Rattle.httparse.specs.Grammar.{ResponseHead, print_response, status_code}

@@ -1,10 +1,10 @@
 -- Bytes tell one answer.
-use Rattle.std.proofs.Common.{◌≡◌, ℕ, zero, suc, ◌≤◌, ◌<◌, ◌⊎◌, inl, inr, Bool, true, false, List, [], ◌++◌, length, take, drop, Option, Some, None, refl, sym, ap, subst, ◌∙◌, append-nil, length-append, length-take, arith}
+use Rattle.std.proofs.Common.{◌≡◌, ℕ, zero, suc, ◌≤◌, ◌⊎◌, inl, inr, Bool, true, false, List, [], length, take, drop, Some, None, refl, sym, ap, subst, ◌∙◌, append-nil, length-append, length-take, arith}
 use Rattle.std.proofs.lemmas.List.{take-append-drop}
 use Rattle.httparse.specs.Grammar.{ResponseHead, print_response, status_code}
 use Rattle.httparse.proofs.GrammarLemmas.{response_unique}
 use Rattle.http1.specs.declared.framing.Framing.{Framing}
-use Rattle.http1.specs.Body.{Body, body_of, ReadsBody}
+use Rattle.http1.specs.Body.{Body, body_of}
 use Rattle.http1.proofs.TextLemmas.{front_within}
 use Rattle.http1.proofs.OneParse.{body_unique}
 use Rattle.send_retry.specs.Class.{AnswerData, Http, Failed}

@@ -1,5 +1,5 @@
 -- How far the body of an answer has come.
-use Rattle.std.specs.Prelude.{◌≡◌, ℕ, ◌≢◌, ◌⊎◌, nat_lt, Bool, true, ◌≤◌, drop, Option, Some, None, List, [], ◌++◌, length}
+use Rattle.std.specs.Prelude.{◌≡◌, ℕ, ◌≢◌, ◌⊎◌, nat_lt, Bool, drop, Option, Some, None, List, [], ◌++◌, length}
 use Rattle.http1.specs.declared.framing.Framing.{Framing}
 use Rattle.http1.specs.declared.decode.Decoder.{Decoder}
 use Rattle.http1.specs.Body.{Body}

@@ -2,7 +2,7 @@ use Rattle.std.proofs.Common.{◌≡◌, ◌++◌, ◌∙◌, suc, Ok, sym, ap, 
 use Rattle.std.proofs.lemmas.Result.{err_from_is_err_and}
 use Rattle.std.proofs.lemmas.Bool.{lt-ltb}
 use Rattle.http_edge.specs.declared.answer_head.AnswerBegin.TheVariants.{Whole, More, Bad}
-use Rattle.http_edge.specs.Post.{SkipsInterims, is_interim, many_interims, bad_head, cut_head}
+use Rattle.http_edge.specs.Post.{SkipsInterims, many_interims, bad_head, cut_head}
 use Rattle.http_edge.specs.Kept.{IsAnswerBegin}
 use Rattle.http_edge.proofs.Moved.{then}
 use Rattle.http_edge.proofs.Answered.{skips_read, skips_more, skips_next, answer_within, status_interim}

@@ -1,6 +1,6 @@
-use Rattle.std.proofs.Common.{◌++◌, Ok, refl, ap, ◌∙◌, append_assoc, append-nil, arith}
+use Rattle.std.proofs.Common.{◌++◌, ap, ◌∙◌, append_assoc, arith}
 use Rattle.std.proofs.lemmas.Result.{err_from_is_err_and}
-use Rattle.http_edge.proofs.Moved.{then, then_to}
+use Rattle.http_edge.proofs.Moved.{then}
 use Rattle.http_edge.proofs.answer_head.read_answer_head.Goals as goal
 
 pub returns-in_err-fill-clause-err : goal.returns-in_err-fill-clause-err

@@ -1,4 +1,4 @@
-use Rattle.std.proofs.Common.{◌≡◌, Bool, true, false, sym}
+use Rattle.std.proofs.Common.{◌≡◌, Bool, sym}
 use Rattle.std.specs.Fmt.{digits}
 use Rattle.http_edge.specs.Reply.{head_text_of, plain_text, out_of_memory}
 use Rattle.http_edge.proofs.reply.no_memory_bytes.Goals as goal
