@@ -1,4 +1,11 @@
-//! The server's side of HTTP/1.1 over a line.
+//! HTTP/1.1 over a line of bytes, at both edges of the collector.
+//!
+//! [`serve`] reads messages and writes a [`Handler`]'s replies; [`write_post`] writes a post to a back end, and
+//! [`read_answer`] reads what it answers. What is written and answered is settled by the bytes read, however they were
+//! cut ([`one_talk`], [`one_answer`]).
+//!
+//! Rules are those of RFC 9110 and RFC 9112, with this project's own choices where they leave one (docs/HTTP.md). Heads
+//! are read by `httparse`, bodies in chunks by `http1`.
 #![tactic(auto)]
 
 mod answer;

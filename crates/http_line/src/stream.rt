@@ -7,6 +7,7 @@ use std::io::{Read, Write};
 const MOST_READS: u64 = 1 << 62;
 
 /// A stream, with what its calls have come to.
+#[derive(Drop)]
 pub struct StreamLine<S> {
     stream: S,
     failures: u64,
