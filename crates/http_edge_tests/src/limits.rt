@@ -81,6 +81,12 @@ fn a_body_of_20971520_bytes_is_taken(rt: HostRuntime) -> Result<(), Fail> {
     let told = talk(alloc, &in_chunks(alloc, 320, 0)?, &[], 200)?;
     assert!(rt; told.starts_with(b"HTTP/1.1 200 OK\r\n"));
     assert!(rt; told.len() > 20_971_520);
+    Ok(())
+}
+
+#[test]
+fn one_byte_more_is_refused(rt: HostRuntime) -> Result<(), Fail> {
+    let alloc = rt.alloc();
     let told = talk(alloc, &in_chunks(alloc, 320, 1)?, &[], 200)?;
     assert_eq!(rt; told.as_slice(), TOO_LARGE);
     Ok(())
