@@ -1,0 +1,173 @@
+-- Messages one after another, and where a talk ends.
+use Rattle.std.proofs.Common.{◌≡◌, ℕ, ◌≤◌, Bool, true, false, not, List, [], ◌∷◌, ◌++◌, length, drop, Option, if◌then◌else◌, refl, sym, ap, subst, ◌∙◌, append_assoc, append-nil}
+use Rattle.httparse.specs.Grammar.{RequestHead}
+use Rattle.http1.proofs.DecoderLemmas.{ReadsTrailers-append}
+use Rattle.http1.specs.ChunkedBody.{print_chunks}
+use Rattle.http_edge.specs.declared.head.Head.{Head}
+use Rattle.http_edge.specs.Message.{Request, Answer, Message, Frame, sized, chunked, limits, HasBody, HasMessage, request_of, closes, expects, max_body}
+use Rattle.http_edge.specs.Talk.{Exchange, exchange_text, interim_text, Asks, told, Runs, Due, MayInterim, interim, replying}
+use Rattle.http_edge.specs.Reply.{continue_text}
+use Rattle.http_edge.specs.Stages.{IsHead, frame_by, message_with, IsCut, IsOver, GoesOn, Replies}
+use Rattle.http_edge.specs.Steps.{Moves}
+use Rattle.http_edge.proofs.Moved.{then_to}
+use Rattle.http_edge.proofs.Heads.{has_head_more}
+
+-- a body and what follows, of which more came
+pub has_body_more : (frame : Frame) (stream body after more : List ℕ) → HasBody frame stream body after
+    → HasBody frame (stream ++ more) body (after ++ more)
+has_body_more (sized n) stream body after more h = (h.0, ap (λ v. v ++ more) h.1 ∙ append_assoc body after more)
+has_body_more chunked stream body after more h =
+    let r = h.2 in (
+      h.0,
+      h.1,
+      record {
+        chunks = r.chunks;
+        after = r.after ++ more;
+        reads = (r.reads.0, ap (λ v. v ++ more) r.reads.1 ∙ append_assoc (print_chunks r.chunks) r.after more);
+        decoded = r.decoded;
+        trailers = ReadsTrailers-append limits.max_trailers_len r.after h.0 after more r.trailers;
+      },
+    )
+
+pub has_message_more : {bytes : List ℕ} {m : Message} {after : List ℕ} (more : List ℕ) → HasMessage bytes m after
+    → HasMessage (bytes ++ more) m (after ++ more)
+has_message_more {bytes} {m} {after} more p = record {
+  after_head = p.after_head ++ more;
+  head = has_head_more more p.head;
+  frame = p.frame;
+  framed = p.framed;
+  body = has_body_more p.frame p.after_head m.body after more p.body;
+  size = p.size;
+}
+
+-- more was read after the exchanges so far
+pub asks_read : (es : List Exchange) (read rest more : List ℕ) → Asks read es rest → Asks (read ++ more) es (rest
+    ++ more)
+asks_read [] read rest more p = ap (λ v. v ++ more) p
+asks_read (e ∷ es) read rest more p = (p.0 ++ more, has_message_more more p.1, p.2, asks_read es p.0 rest more p.3)
+
+-- one more exchange
+pub asks_more : (es : List Exchange) (e : Exchange) (read rest after : List ℕ) → Asks read es rest
+    → HasMessage rest e.message after → closes e.message.head ≡ false → Asks read (es ++ e ∷ []) after
+asks_more [] e read rest after p q stays = (after, subst (λ v. HasMessage v e.message after) (sym p) q, stays, refl)
+asks_more (d ∷ es) e read rest after p q stays = (p.0, p.1, p.2, asks_more es e p.0 rest after p.3 q stays)
+
+pub runs_more : {H : Type 0} (answers : H → Request → Answer → H → Type 0) (old mid new : H) (es : List Exchange)
+    (e : Exchange) → Runs answers old es mid → answers mid (request_of e.message) e.reply new
+    → Runs answers old (es ++ e ∷ []) new
+runs_more answers old mid new [] e p q = (new, rw p at q, refl)
+runs_more answers old mid new (d ∷ es) e p q = (p.0, p.1, runs_more answers p.0 mid new es e p.2 q)
+
+pub told_more : (es : List Exchange) (e : Exchange) → told (es ++ e ∷ []) ≡ told es ++ exchange_text e
+told_more [] e = append-nil (exchange_text e)
+told_more (d ∷ es) e = ap (λ v. exchange_text d ++ v) (told_more es e)
+    ∙ sym (append_assoc (exchange_text d) (told es) (exchange_text e))
+
+-- the interim text is due
+pub may_interim : {bytes : List ℕ} {head : Head} {h : RequestHead} (read : List ℕ) → IsHead bytes head h
+    → MayInterim (bytes ++ read) h
+may_interim {bytes} {head} {h} read p = record {
+  after = drop head.len bytes ++ read;
+  frame = frame_by head.kind;
+  head = has_head_more read p.has;
+  framed = p.framing;
+  short = p.fits;
+}
+
+pub due_interim : {H : Type 0} (answers : H → Request → Answer → H → Type 0) (s : H) {bytes : List ℕ} {head : Head}
+    {h : RequestHead} (read front missing : List ℕ) → IsHead bytes head h
+    → (if head.expects then continue_text else []) ≡ front ++ missing → Due answers s (bytes ++ read) s (front
+    ++ missing)
+due_interim answers s {bytes} {head} {h} read front missing p e =
+    let t : interim_text h ≡ front ++ missing = ap (λ (b : Bool). if b then continue_text else []) (sym p.says.expects)
+    ∙ e in
+    rw (← t) (interim h (may_interim read p) refl)
+
+-- what was written for a message: the interim text and then the reply
+pub first_moves : {r0 r1 r2 s0 s1 s2 : Option (List ℕ)} {read : List ℕ} (due : Bool) (h : RequestHead)
+    → due ≡ expects h → Moves r0 r1 s0 s1 [] (if due then continue_text else []) → Moves r1 r2 s1 s2 read []
+    → Moves r0 r2 s0 s2 read (interim_text h)
+first_moves due h e p q = then_to p q refl (append-nil _ ∙ ap (λ (b : Bool). if b then continue_text else []) e)
+
+pub all_moves : {r0 r1 r2 r3 s0 s1 s2 s3 : Option (List ℕ)} {read text : List ℕ} (due : Bool) (h : RequestHead)
+    → due ≡ expects h → Moves r0 r1 s0 s1 [] (if due then continue_text else []) → Moves r1 r2 s1 s2 read []
+    → Moves r2 r3 s2 s3 [] text → Moves r0 r3 s0 s3 read (interim_text h ++ text)
+all_moves {read = read} due h e p q r = then_to (first_moves due h e p q) r (append-nil read) refl
+
+pub reply_whole : {H : Type 0} (answers : H → Request → Answer → H
+    → Type 0) {old new : H} {m : Message} {text missing : List ℕ} (p : Replies answers old new m text missing)
+    → exchange_text (record { message = m; reply = p.reply }) ≡ (interim_text m.head ++ text) ++ missing
+unfolding exchange_text
+reply_whole answers {old} {new} {m} {text} {missing} p = ap (λ v. interim_text m.head ++ v) p.text
+    ∙ sym (append_assoc (interim_text m.head) text missing)
+
+pub due_reply : {H : Type 0} (answers : H → Request → Answer → H
+    → Type 0) {old new : H} {m : Message} {text missing : List ℕ} (bytes after : List ℕ) → HasMessage bytes m after
+    → Replies answers old new m text missing → Due answers old bytes new ((interim_text m.head ++ text) ++ missing)
+due_reply answers {old} {new} {m} {text} {missing} bytes after has p =
+    rw (← reply_whole answers p) (replying (record { message = m; reply = p.reply }) after has p.answered)
+
+-- the message whose head was there and whose body has come
+pub whole_message : {bytes : List ℕ} {head : Head} {h : RequestHead} (read body after : List ℕ) → IsHead bytes head h
+    → HasBody (frame_by head.kind) (drop head.len bytes ++ read) body after → length body ≤ max_body
+    → HasMessage (bytes ++ read) (message_with h body) after
+whole_message {bytes} {head} {h} read body after p b short = record {
+  after_head = drop head.len bytes ++ read;
+  head = has_head_more read p.has;
+  frame = frame_by head.kind;
+  framed = p.framing;
+  body = b;
+  size = short;
+}
+
+-- the same from an earlier moment, before these bytes were read
+pub goes_after : {H : Type 0} {answers : H → Request → Answer → H
+    → Type 0} {old new : H} {r0 r1 r2 s0 s1 s2 : Option (List ℕ)} {b0 b1 after read : List ℕ}
+    → Moves r0 r1 s0 s1 read [] → b1 ≡ b0 ++ read → GoesOn answers old new r1 r2 s1 s2 b1 after
+    → GoesOn answers old new r0 r2 s0 s2 b0 after
+goes_after {H} {answers} {old} {new} {r0} {r1} {r2} {s0} {s1} {s2} {b0} {b1} {after} {read} p e q = record {
+  read = read ++ q.read;
+  exchange = q.exchange;
+  moves = then_to p q.moves refl refl;
+  has = rw (← append_assoc b0 read q.read, ← e) q.has;
+  stays = q.stays;
+  answered = q.answered;
+}
+
+pub over_after : {H : Type 0} {answers : H → Request → Answer → H
+    → Type 0} {old new : H} {r0 r1 r2 s0 s1 s2 : Option (List ℕ)} {b0 b1 read : List ℕ} {ended1 ended0 : Type 0}
+    → (ended1 → ended0) → Moves r0 r1 s0 s1 read [] → b1 ≡ b0 ++ read
+    → IsOver answers old new r1 r2 s1 s2 ended1 b1 → IsOver answers old new r0 r2 s0 s2 ended0 b0
+over_after {H} {answers} {old} {new} {r0} {r1} {r2} {s0} {s1} {s2} {b0} {b1} {read} {ended1} {ended0} since p e
+    q = record {
+      read = read ++ q.read;
+      text = q.text;
+      over = q.over;
+      moves = then_to p q.moves refl refl;
+      ends = rw (← append_assoc b0 read q.read, ← e) q.ends;
+      end = λ f. since (q.end f);
+    }
+
+pub cut_after : {H : Type 0} {answers : H → Request → Answer → H
+    → Type 0} {old new : H} {r0 r1 r2 s0 s1 s2 : Option (List ℕ)} {b0 b1 read : List ℕ} → Moves r0 r1 s0 s1 read []
+    → b1 ≡ b0 ++ read → IsCut answers old new r1 r2 s1 s2 b1 → IsCut answers old new r0 r2 s0 s2 b0
+cut_after {H} {answers} {old} {new} {r0} {r1} {r2} {s0} {s1} {s2} {b0} {b1} {read} p e q = record {
+  read = read ++ q.read;
+  written = q.written;
+  moves = then_to p q.moves refl refl;
+  missing = q.missing;
+  due = rw (← append_assoc b0 read q.read, ← e) q.due;
+}
+
+pub not_is : (b went : Bool) → went ≡ not b → went ≡ true → b ≡ false
+not_is true went e f = absurd (let x : false ≡ true = sym e ∙ f in cc)
+not_is false went e f = refl
+
+pub not_is_not : (b went : Bool) → went ≡ not b → went ≡ false → b ≡ true
+not_is_not true went e f = refl
+not_is_not false went e f = absurd (let x : true ≡ false = sym e ∙ f in cc)
+
+-- where a text is broken off, so is the whole that it ends
+pub cut_text : (front : List ℕ) {text : List ℕ} (written missing : List ℕ) → text ≡ written ++ missing
+    → front ++ text ≡ (front ++ written) ++ missing
+cut_text front {text} written missing e = ap (λ v. front ++ v) e ∙ sym (append_assoc front written missing)

@@ -1,0 +1,28 @@
+use Rattle.std.proofs.Common.{[], Some, None, ◌∙◌, sym}
+use Rattle.std.proofs.lemmas.Bool.{lt-ltb}
+use Rattle.http_edge.specs.Post.{bad_framing}
+use Rattle.http_edge.proofs.Moved.{stays}
+use Rattle.http_edge.proofs.Answered.{told_after, final_read}
+use Rattle.http_edge.proofs.answer.read_after.Goals as goal
+
+pub returns-in-None-clause-ok : goal.returns-in-None-clause-ok
+returns-in-None-clause-ok g c = λ h is.
+    ([], stays _ _, λ before final. bad_framing h _ (final_read [] final) (sym is.framing ∙ c.in-None.is))
+
+pub returns-in-None-2-clause-ok : goal.returns-in-None-2-clause-ok
+returns-in-None-2-clause-ok g c = λ h is.
+    let b = rw (c.in-None-2.is, c.in_ok-drop_front-in-Some.ensures) at c.in_ok-read_answer_body-in-Some.ensures.ok in (
+      b.0,
+      b.1,
+      λ before final. told_after b.0 _ c.args.head c.in-Some.framing (λ e. lt-ltb _ _ e) is c.in-Some.is final
+          None b.2,
+    )
+
+pub returns-in-Some-2-clause-ok : goal.returns-in-Some-2-clause-ok
+returns-in-Some-2-clause-ok g c = λ h is.
+    let b = rw (c.in-Some-2.is, c.in_ok-drop_front-in-Some.ensures) at c.in_ok-read_answer_body-in-Some.ensures.ok in (
+      b.0,
+      b.1,
+      λ before final. told_after b.0 _ c.args.head c.in-Some.framing (λ e. lt-ltb _ _ e) is c.in-Some.is final
+          (Some c.in-Some-2.body.items) b.2,
+    )

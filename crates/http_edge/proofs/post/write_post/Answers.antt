@@ -1,0 +1,39 @@
+use Rattle.std.proofs.Common.{◌≡◌, ◌++◌, refl, sym, ap, ◌∙◌, append_assoc, length}
+use Rattle.std.proofs.lemmas.Result.{err_from_is_err_and}
+use Rattle.http_edge.specs.Post.{post_head}
+use Rattle.http_edge.proofs.Moved.{then_to}
+use Rattle.http_edge.proofs.Served.{cut_text}
+use Rattle.http_edge.proofs.post.write_post.Goals as goal
+
+pub returns-in_err-send-clause-err : goal.returns-in_err-send-clause-err
+returns-in_err-send-clause-err g c =
+    let e = c.in_err-send.ensures.err in
+    let head : c.as_slice.result.now ≡ post_head c.args.host.now (length c.args.payload.now) = c.as_slice.ensures.value
+    ∙ c.in_ok-head.ensures in
+    let p = err_from_is_err_and c.from_residual-in_err-send.result c.from_residual-in_err-send.ensures.1 in
+    rw p.1 (
+      e.0,
+      e.1 ++ c.args.payload.now,
+      ap (λ v. v ++ c.args.payload.now) (sym head ∙ e.2)
+          ∙ append_assoc e.0 e.1 c.args.payload.now,
+      e.3,
+    )
+
+pub returns-in_err-send-2-clause-err : goal.returns-in_err-send-2-clause-err
+returns-in_err-send-2-clause-err g c =
+    let e = c.in_err-send-2.ensures.err in
+    let head : c.as_slice.result.now ≡ post_head c.args.host.now (length c.args.payload.now) = c.as_slice.ensures.value
+    ∙ c.in_ok-head.ensures in
+    let p = err_from_is_err_and c.from_residual-in_err-send-2.result c.from_residual-in_err-send-2.ensures.1 in
+    rw p.1 (
+      post_head c.args.host.now (length c.args.payload.now) ++ e.0,
+      e.1,
+      cut_text (post_head c.args.host.now (length c.args.payload.now)) e.0 e.1 e.2,
+      then_to c.in_ok-send.ensures.ok e.3 refl (ap (λ v. v ++ e.0) head),
+    )
+
+pub returns-clause-ok : goal.returns-clause-ok
+returns-clause-ok g c =
+    let head : c.as_slice.result.now ≡ post_head c.args.host.now (length c.args.payload.now) = c.as_slice.ensures.value
+    ∙ c.in_ok-head.ensures in
+    then_to c.in_ok-send.ensures.ok c.in_ok-send-2.ensures.ok refl (ap (λ v. v ++ c.args.payload.now) head)

@@ -1,0 +1,75 @@
+use Rattle.std.proofs.Common.{Ok, [], refl, ap, append-nil, true, false, arith}
+use Rattle.std.proofs.lemmas.Result.{err_from_is_err_and}
+use Rattle.http_edge.specs.Talk.{RefusesHead, at_head, nothing, refusing, waits, refuses, in_head}
+use Rattle.http_edge.specs.Reply.{refusal_text}
+use Rattle.http_edge.specs.Stages.{IsBegin}
+use Rattle.http_edge.specs.declared.head.Begin.TheVariants.{More}
+use Rattle.http_edge.proofs.Moved.{then_to}
+use Rattle.http_edge.proofs.Served.{goes_after, over_after, cut_after}
+use Rattle.http_edge.proofs.server.exchange.Goals as goal
+
+pub returns-in_err-read_head-clause-cut : goal.returns-in_err-read_head-clause-cut
+returns-in_err-read_head-clause-cut g c =
+    let e = c.in_err-read_head.ensures.err in
+    let p = err_from_is_err_and c.from_residual.result c.from_residual.ensures.1 in
+    rw p.1 (record { read = e.0; written = []; moves = e.1; missing = []; due = nothing refl })
+
+pub returns-in_err-refuse-in-Refuse-clause-cut : goal.returns-in_err-refuse-in-Refuse-clause-cut
+returns-in_err-refuse-in-Refuse-clause-cut g c =
+    let e = c.in_ok-read_head.ensures.ok in
+    let begin : RefusesHead c.read_head.new.buffer.items (refusal_text c.in-Refuse.bodiless
+    c.in-Refuse.status) = rw c.in-Refuse.is at e.3 in
+    let f = c.in_err-refuse-in-Refuse.ensures.err in
+    let p = err_from_is_err_and c.from_residual-in_err-refuse-in-Refuse.result
+    c.from_residual-in_err-refuse-in-Refuse.ensures.1 in
+    rw p.1 (record {
+      read = e.0;
+      written = f.0;
+      moves = then_to e.1 f.3 (append-nil _) refl;
+      missing = f.1;
+      due = rw (← e.2, ← f.2) (refusing _ (at_head _ begin) refl);
+    })
+
+pub returns-in-More-clause-over : goal.returns-in-More-clause-over
+returns-in-More-clause-over g c = λ _.
+    let e = c.in_ok-read_head.ensures.ok in
+    let begin : IsBegin c.read_head.new.buffer.items More = rw c.in-More.is at e.3 in
+    record {
+      read = e.0;
+      text = [];
+      over = false;
+      moves = e.1;
+      ends = rw (← e.2) (waits [] (in_head (c.in_ok-read_head.ensures.short (ap Ok c.in-More.is)) begin.0 begin.1)
+          refl);
+      end = λ _. c.in_ok-read_head.ensures.end (ap Ok c.in-More.is);
+    }
+
+pub returns-in_ok-refuse-in-Refuse-clause-over : goal.returns-in_ok-refuse-in-Refuse-clause-over
+returns-in_ok-refuse-in-Refuse-clause-over g c = λ _.
+    let e = c.in_ok-read_head.ensures.ok in
+    let begin : RefusesHead c.read_head.new.buffer.items (refusal_text c.in-Refuse.bodiless
+    c.in-Refuse.status) = rw c.in-Refuse.is at e.3 in
+    record {
+      read = e.0;
+      text = refusal_text c.in-Refuse.bodiless c.in-Refuse.status;
+      over = true;
+      moves = then_to e.1 c.in_ok-refuse-in-Refuse.ensures.ok (append-nil _) refl;
+      ends = rw (← e.2) (refuses _ (at_head _ begin) refl);
+      end = λ f. cc;
+    }
+
+pub returns-in_ok-goes-in-Whole-clause-on : goal.returns-in_ok-goes-in-Whole-clause-on
+returns-in_ok-goes-in-Whole-clause-on g c = λ eq.
+    let e = c.in_ok-read_head.ensures.ok in goes_after e.1 e.2 (c.in_ok-goes-in-Whole.ensures.on eq)
+
+pub returns-in_ok-goes-in-Whole-clause-over : goal.returns-in_ok-goes-in-Whole-clause-over
+returns-in_ok-goes-in-Whole-clause-over g c = λ eq.
+    let e = c.in_ok-read_head.ensures.ok in over_after (λ w. omega (arith, w, c.in_ok-read_head.ensures.ends)) e.1 e.2
+    (c.in_ok-goes-in-Whole.ensures.over eq)
+
+pub returns-in_err-goes-in-Whole-clause-cut : goal.returns-in_err-goes-in-Whole-clause-cut
+returns-in_err-goes-in-Whole-clause-cut g c =
+    let e = c.in_ok-read_head.ensures.ok in
+    let p = err_from_is_err_and c.from_residual-in_err-goes-in-Whole.result
+    c.from_residual-in_err-goes-in-Whole.ensures.1 in
+    rw p.1 (cut_after e.1 e.2 c.in_err-goes-in-Whole.ensures.cut)

@@ -1,0 +1,119 @@
+//! Answers of a back end.
+ghost use Rattle.std.specs.Prelude.{◌≡◌, ◌≢◌, ℕ, ◌/◌, ◌<◌, ◌≤◌, ◌==◌, ◌&&◌, nat_lt, not, List, [], ◌++◌, drop, length, IfOk, OnOk, OnErr, Ok, Err};
+ghost use Rattle.httparse.specs.Grammar.{ResponseHead};
+ghost use Rattle.send_retry.specs.Class.{answer_view};
+ghost use Rattle.http_edge.specs.Steps.{Moves, HasFailed};
+ghost use Rattle.http_edge.specs.Post.{Tells, OneAnswer, HasFinalHead};
+ghost use Rattle.http_edge.specs.Kept.{IsFinal, IsAnswerHead};
+
+use crate::answer_body::read_answer_body;
+use crate::answer_head::{AnswerBegin, AnswerHead, read_answer_head};
+use crate::wire::{EdgeFault, drop_front};
+use http_line::Line;
+use send_retry::Answer;
+use std::alloc::Global;
+
+const MOST_INTERIMS: usize = 16;
+
+/// Reads the answer to a post. `Answer::Failed` is no whole answer: a bad head, framing or body, or an end too early.
+pub fn read_answer<L: Line>(alloc: Global, line: &mut L) -> Result<Answer, EdgeFault>
+    // The answer is what the bytes read tell.
+    ensures ok { IfOk result (λ answer. (read : List ℕ)
+        × Moves (L.received line.old) (L.received line.new) (L.sent line.old) (L.sent line.new) read []
+        × Tells read (nat_lt (L.ends line.old) (L.ends line.new)) (answer_view answer)) }
+    ensures err { OnErr result ((read : List ℕ)
+        × Moves (L.received line.old) (L.received line.new) (L.sent line.old) (L.sent line.new) read []) }
+    ensures failed { result ≡ Err EdgeFault.ReadFailed → HasFailed (L.failed line.old) (L.failed line.new) }
+    ensures no_write { result ≢ Err EdgeFault.WriteFailed }
+{
+    let mut buffer = Vec::new(alloc);
+    match read_final_head(alloc, line, &mut buffer)? {
+        None => Ok(Answer::Failed),
+        Some(head) => {
+            let answer = read_after(alloc, line, &mut buffer, head)?;
+            Ok(answer)
+        }
+    }
+}
+
+/// Reads the head that no other head follows, after at most so many interim ones. None: none comes.
+fn read_final_head<L: Line>(
+    alloc: Global,
+    line: &mut L,
+    buffer: &mut Vec<u8>,
+) -> Result<Option<AnswerHead>, EdgeFault>
+    requires { buffer.old.items ≡ [] }
+    ensures ok { IfOk result (λ found. (read : List ℕ)
+        × Moves (L.received line.old) (L.received line.new) (L.sent line.old) (L.sent line.new) read []
+        × IsFinal read (nat_lt (L.ends line.old) (L.ends line.new)) buffer.new.items found) }
+    ensures err { OnErr result ((read : List ℕ)
+        × Moves (L.received line.old) (L.received line.new) (L.sent line.old) (L.sent line.new) read []) }
+    ensures ends { L.ends line.old ≤ L.ends line.new }
+    ensures kept { OnOk result (L.failed line.new ≡ L.failed line.old) }
+    ensures failed { result ≡ Err EdgeFault.ReadFailed → HasFailed (L.failed line.old) (L.failed line.new) }
+    ensures no_write { result ≢ Err EdgeFault.WriteFailed }
+{
+    let mut interims = 0;
+    'heads: loop {
+        match read_answer_head(line, buffer)? {
+            AnswerBegin::More => return Ok(None),
+            AnswerBegin::Bad => return Ok(None),
+            AnswerBegin::Whole(head) => {
+                if !is_interim(head.status) {
+                    return Ok(Some(head));
+                }
+                if interims == MOST_INTERIMS {
+                    return Ok(None);
+                }
+                interims += 1;
+                drop_front(alloc, buffer, head.len)?;
+            }
+        }
+    }
+}
+
+/// Whether another head follows a head with this status.
+fn is_interim(status: u16) -> bool
+    ensures { result ≡ ((status / 100 == 1) && not (status == 101)) }
+{
+    status / 100 == 1 && status != 101
+}
+
+/// Reads what comes after the head.
+fn read_after<L: Line>(
+    alloc: Global,
+    line: &mut L,
+    buffer: &mut Vec<u8>,
+    head: AnswerHead,
+) -> Result<Answer, EdgeFault>
+    requires { head.len ≤ length buffer.old.items }
+    ensures ok { IfOk result (λ answer. (h : ResponseHead) → IsAnswerHead buffer.old.items head h → (read : List ℕ)
+        × Moves (L.received line.old) (L.received line.new) (L.sent line.old) (L.sent line.new) read []
+        × ((before : List ℕ) → HasFinalHead before h (drop head.len buffer.old.items)
+        → Tells (before ++ read) (nat_lt (L.ends line.old) (L.ends line.new)) (answer_view answer))) }
+    ensures err { OnErr result ((read : List ℕ)
+        × Moves (L.received line.old) (L.received line.new) (L.sent line.old) (L.sent line.new) read []) }
+    ensures ends { L.ends line.old ≤ L.ends line.new }
+    ensures failed { result ≡ Err EdgeFault.ReadFailed → HasFailed (L.failed line.old) (L.failed line.new) }
+    ensures no_write { result ≢ Err EdgeFault.WriteFailed }
+{
+    match head.framing {
+        None => Ok(Answer::Failed),
+        Some(framing) => {
+            drop_front(alloc, buffer, head.len)?;
+            match read_answer_body(alloc, line, buffer, framing)? {
+                None => Ok(Answer::Failed),
+                Some(body) => Ok(Answer::Http {
+                    status: head.status,
+                    retry_after: head.retry_after,
+                    body,
+                }),
+            }
+        }
+    }
+}
+
+/// What is read settles the answer.
+pub fn one_answer()
+    ensures { OneAnswer }
+{}

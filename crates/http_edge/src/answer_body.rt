@@ -1,0 +1,124 @@
+//! The body of an answer.
+ghost use Rattle.std.specs.Prelude.{◌≡◌, ◌≢◌, ℕ, ◌<◌, ◌≤◌, List, [], ◌++◌, length, drop, option_map, IfOk, OnOk, OnErr, Err};
+ghost use Rattle.http_edge.specs.Steps.{Moves, HasFailed};
+ghost use Rattle.http_edge.specs.Kept.{Keeps, HasCome, IsAnswerPieces, IsAnswerBody};
+
+use crate::wire::{EdgeFault, drop_front, fill};
+use http_line::Line;
+use http1::Limits;
+use http1::decode::{Decoded, Decoder};
+use http1::framing::Framing;
+use httparse::spans::EMPTY_HEADER_SPAN;
+use std::alloc::{AllocError, Global};
+
+const MAX_KEPT: usize = 4_194_304;
+
+const MAX_FIELDS: usize = 64;
+
+const MAX_PART: usize = 65536;
+
+/// The body of an answer as far as it has come: its bytes, and none once there are too many.
+#[derive(Drop)]
+pub(crate) struct Kept {
+    pub bytes: Vec<u8>,
+    pub is_over: bool,
+}
+
+impl Kept {
+    /// Takes one piece more.
+    fn add(&mut self, piece: &[u8]) -> Result<(), AllocError>
+        ensures { OnOk result ((body : List ℕ) → Keeps body self.old → Keeps (body ++ piece.now) self.new) }
+    {
+        if self.is_over {
+            return Ok(());
+        }
+        if piece.len() > MAX_KEPT || self.bytes.len() > MAX_KEPT - piece.len() {
+            self.bytes.clear();
+            self.is_over = true;
+            return Ok(());
+        }
+        self.bytes.extend_from_slice(piece)
+    }
+}
+
+/// Why there are no more pieces of a body in the buffer.
+#[derive(Clone, Copy, Debug, Drop, PartialEq, Eq)]
+pub(crate) enum AnswerPieces {
+    End,
+    More,
+    Bad,
+}
+
+/// Takes what the bytes have of a body, and says how many of them were taken.
+fn take_answer(
+    bytes: &[u8],
+    decoder: &mut Decoder,
+    kept: &mut Kept,
+) -> Result<(usize, AnswerPieces), AllocError>
+    ensures within { IfOk result (λ r. r.0 ≤ length bytes.now) }
+    ensures pieces { IfOk result (λ r. (framing : Framing) (stream body : List ℕ)
+        → HasCome framing stream decoder.old body bytes.now
+        → Keeps body kept.old → IsAnswerPieces framing stream decoder.new kept.new (drop r.0 bytes.now) r.1) }
+{
+    let mut spans = [EMPTY_HEADER_SPAN; MAX_FIELDS];
+    let mut at = 0;
+    'pieces: loop {
+        let rest = &bytes[at..];
+        match decoder.decode(rest, &mut spans) {
+            Ok(Decoded::Data(span)) => {
+                kept.add(span.of(rest))?;
+                at += span.end;
+            }
+            Ok(Decoded::NeedMore(len)) => return Ok((at + len, AnswerPieces::More)),
+            Ok(Decoded::End { len, .. }) => return Ok((at + len, AnswerPieces::End)),
+            Err(_) => return Ok((at, AnswerPieces::Bad)),
+        }
+    }
+}
+
+/// Reads the body of an answer, which is left out where it is above the limit. None: no whole one came.
+pub(crate) fn read_answer_body<L: Line>(
+    alloc: Global,
+    line: &mut L,
+    buffer: &mut Vec<u8>,
+    framing: Framing,
+) -> Result<Option<Vec<u8>>, EdgeFault>
+    ensures ok { IfOk result (λ found. (read : List ℕ)
+        × Moves (L.received line.old) (L.received line.new) (L.sent line.old) (L.sent line.new) read []
+        × IsAnswerBody framing (buffer.old.items ++ read) (L.ends line.old < L.ends line.new) (option_map (λ v.
+        v.items) found)) }
+    ensures err { OnErr result ((read : List ℕ)
+        × Moves (L.received line.old) (L.received line.new) (L.sent line.old) (L.sent line.new) read []) }
+    ensures ends { L.ends line.old ≤ L.ends line.new }
+    ensures kept { OnOk result (L.failed line.new ≡ L.failed line.old) }
+    ensures failed { result ≡ Err EdgeFault.ReadFailed → HasFailed (L.failed line.old) (L.failed line.new) }
+    ensures no_write { result ≢ Err EdgeFault.WriteFailed }
+{
+    let limits = Limits {
+        max_head_len: MAX_PART,
+        max_extensions_len: MAX_PART,
+        max_trailers_len: MAX_PART,
+    };
+    let mut decoder = Decoder::new(framing, &limits);
+    let mut kept = Kept {
+        bytes: Vec::new(alloc),
+        is_over: false,
+    };
+    'reads: loop {
+        let (taken, pieces) = take_answer(buffer, &mut decoder, &mut kept)?;
+        drop_front(alloc, buffer, taken)?;
+        match pieces {
+            AnswerPieces::End => return Ok(Some(kept.bytes)),
+            AnswerPieces::Bad => return Ok(None),
+            AnswerPieces::More => {}
+        }
+        if !fill(line, buffer)? {
+            match framing {
+                Framing::UntilClose => return Ok(Some(kept.bytes)),
+                Framing::NoBody => return Ok(None),
+                Framing::Length(_) => return Ok(None),
+                Framing::Chunked => return Ok(None),
+            }
+        }
+    }
+}

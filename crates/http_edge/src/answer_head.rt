@@ -1,0 +1,152 @@
+//! The head of an answer.
+ghost use Rattle.std.specs.Prelude.{◌≡◌, ◌≢◌, ℕ, ◌<◌, ◌≤◌, List, [], ◌++◌, length, map, All, IfOk, OnOk, OnErr, Ok, Err};
+ghost use Rattle.httparse.specs.Spans.{IsResponseOf, IsResponseWithin, IsHeaderWithin, header_bytes};
+ghost use Rattle.http_edge.specs.Message.{max_head};
+ghost use Rattle.http_edge.specs.Steps.{Moves, work, HasFailed};
+ghost use Rattle.http_edge.specs.Post.{is_bodiless_status, answer_framing_in, retry_after_in, seconds_of};
+ghost use Rattle.http_edge.specs.Kept.{IsAnswerBegin};
+
+use crate::fields::{Single, field, framing_in, number};
+use crate::wire::{EdgeFault, fill, is_worth_a_look};
+use http_line::Line;
+use http1::framing::Framing;
+use httparse::Status;
+use httparse::spans::{EMPTY_HEADER_SPAN, HeaderSpan, ResponseSpans, parse_response};
+
+const MAX_HEAD: usize = 65536;
+
+const MAX_FIELDS: usize = 64;
+
+const MOST_DIGITS: usize = 10;
+
+/// A whole head: its length in bytes, how the end of its body is found where that is sound, and its `Retry-After` in
+/// seconds.
+#[derive(Clone, Copy, Drop)]
+pub(crate) struct AnswerHead {
+    pub len: usize,
+    pub status: u16,
+    pub framing: Option<Framing>,
+    pub retry_after: Option<u32>,
+}
+
+/// What the buffer begins with.
+#[derive(Clone, Copy, Drop)]
+pub(crate) enum AnswerBegin {
+    Whole(AnswerHead),
+    More,
+    Bad,
+}
+
+/// Reads until a head is there, a bad one, or the end.
+pub(crate) fn read_answer_head<L: Line>(
+    line: &mut L,
+    buffer: &mut Vec<u8>,
+) -> Result<AnswerBegin, EdgeFault>
+    ensures ok { IfOk result (λ begin. (read : List ℕ)
+        × Moves (L.received line.old) (L.received line.new) (L.sent line.old) (L.sent line.new) read []
+        × (buffer.new.items ≡ buffer.old.items ++ read)
+        × IsAnswerBegin buffer.new.items begin) }
+    ensures end { result ≡ Ok AnswerBegin.More → L.ends line.old < L.ends line.new }
+    ensures err { OnErr result ((read : List ℕ)
+        × Moves (L.received line.old) (L.received line.new) (L.sent line.old) (L.sent line.new) read []) }
+    ensures ends { L.ends line.old ≤ L.ends line.new }
+    ensures kept { OnOk result (L.failed line.new ≡ L.failed line.old) }
+    ensures failed { result ≡ Err EdgeFault.ReadFailed → HasFailed (L.failed line.old) (L.failed line.new) }
+    ensures no_write { result ≢ Err EdgeFault.WriteFailed }
+{
+    let mut seen = 0;
+    'looks: loop {
+        if is_worth_a_look(buffer, seen) {
+            match answer_head_at(buffer) {
+                AnswerBegin::More => {}
+                begin => return Ok(begin),
+            }
+        }
+        seen = buffer.len();
+        if !fill(line, buffer)? {
+            return Ok(answer_head_at(buffer));
+        }
+    }
+}
+
+/// What the bytes begin with. More of a head than there is room for is bad.
+fn answer_head_at(bytes: &[u8]) -> AnswerBegin
+    ensures { IsAnswerBegin bytes.now result }
+{
+    if bytes.len() < MAX_HEAD {
+        return answer_begin_at(bytes);
+    }
+    match answer_begin_at(&bytes[..MAX_HEAD]) {
+        AnswerBegin::More => AnswerBegin::Bad,
+        AnswerBegin::Whole(head) => AnswerBegin::Whole(head),
+        AnswerBegin::Bad => AnswerBegin::Bad,
+    }
+}
+
+fn answer_begin_at(bytes: &[u8]) -> AnswerBegin
+    requires { length bytes.now ≤ max_head }
+    ensures { IsAnswerBegin bytes.now result }
+{
+    let mut spans = [EMPTY_HEADER_SPAN; MAX_FIELDS];
+    match parse_response(bytes, &mut spans) {
+        Ok(Status::Complete(found)) => AnswerBegin::Whole(answer_head(bytes, found, &spans)),
+        Ok(Status::Partial) => AnswerBegin::More,
+        Err(_) => AnswerBegin::Bad,
+    }
+}
+
+/// What a head says.
+fn answer_head(bytes: &[u8], found: ResponseSpans, spans: &[HeaderSpan]) -> AnswerHead
+    requires size { length bytes.now ≤ max_head }
+    requires room { length spans.now ≤ 64 }
+    requires within { IsResponseWithin bytes.now spans.now found }
+    requires head { IsResponseOf bytes.now spans.now found }
+    ensures { IsAnswerBegin bytes.now (AnswerBegin.Whole result) }
+{
+    let fields = &spans[..found.headers];
+    AnswerHead {
+        len: found.len,
+        status: found.code,
+        framing: answer_framing(bytes, fields, found.code),
+        retry_after: retry_after(bytes, fields),
+    }
+}
+
+/// How the end of the body is found.
+fn answer_framing(bytes: &[u8], spans: &[HeaderSpan], status: u16) -> Option<Framing>
+    requires { All (IsHeaderWithin (length bytes.now)) spans.now }
+    ensures { result ≡ answer_framing_in status (map (header_bytes bytes.now) spans.now) }
+{
+    if is_bodiless_status(status) {
+        Some(Framing::NoBody)
+    } else {
+        framing_in(bytes, spans, Framing::UntilClose)
+    }
+}
+
+fn is_bodiless_status(status: u16) -> bool
+    ensures { result ≡ is_bodiless_status status }
+{
+    status == 101 || status == 204 || status == 304
+}
+
+/// The seconds that `Retry-After` names.
+fn retry_after(bytes: &[u8], spans: &[HeaderSpan]) -> Option<u32>
+    requires { All (IsHeaderWithin (length bytes.now)) spans.now }
+    ensures { result ≡ retry_after_in (map (header_bytes bytes.now) spans.now) }
+{
+    match field(bytes, spans, b"retry-after") {
+        Single::Absent => None,
+        Single::One(text) => seconds(number(text, MOST_DIGITS)),
+        Single::Repeated => None,
+    }
+}
+
+fn seconds(number: Option<u64>) -> Option<u32>
+    ensures { result ≡ seconds_of number }
+{
+    match number {
+        Some(number) => Some(number.min(u64::from(u32::MAX)) as u32),
+        None => None,
+    }
+}

@@ -1,0 +1,28 @@
+//! HTTP/1.1 over a line of bytes, at both edges of the collector.
+//!
+//! [`serve`] reads messages and writes a [`Handler`]'s replies; [`write_post`] writes a post to a back end, and
+//! [`read_answer`] reads what it answers. What is written and answered is settled by the bytes read, however they were
+//! cut ([`one_talk`], [`one_answer`]).
+//!
+//! Rules are those of RFC 9110 and RFC 9112, with this project's own choices where they leave one (docs/HTTP.md). Heads
+//! are read by `httparse`, bodies in chunks by `http1`.
+#![tactic(auto)]
+
+mod answer;
+mod answer_body;
+mod answer_head;
+mod body;
+mod fields;
+mod head;
+mod message;
+mod post;
+mod reply;
+mod server;
+mod wire;
+
+pub use crate::answer::{one_answer, read_answer};
+pub use crate::message::{Handler, Header, HttpMessage, Reply, one_talk};
+pub use crate::post::write_post;
+pub use crate::reply::reply_bytes;
+pub use crate::server::serve;
+pub use crate::wire::EdgeFault;

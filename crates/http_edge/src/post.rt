@@ -1,0 +1,41 @@
+//! Posts to a back end.
+ghost use Rattle.std.specs.Prelude.{◌≡◌, ◌≢◌, ℕ, List, [], ◌++◌, length, IfOk, OnOk, OnErr, Err};
+ghost use Rattle.http_edge.specs.Steps.{Moves, HasFailed};
+ghost use Rattle.http_edge.specs.Post.{post_head, post_text};
+
+use crate::reply::decimal;
+use crate::wire::{EdgeFault, send};
+use http_line::Line;
+use std::alloc::{AllocError, Global};
+
+/// Writes a post of a payload.
+pub fn write_post<L: Line>(
+    alloc: Global,
+    line: &mut L,
+    host: &str,
+    payload: &[u8],
+) -> Result<(), EdgeFault>
+    ensures ok { OnOk result (Moves (L.received line.old) (L.received line.new) (L.sent line.old) (L.sent line.new) []
+        (post_text host.now payload.now)) }
+    ensures err { OnErr result ((front : List ℕ) × (missing : List ℕ) × (post_text host.now payload.now ≡ front
+        ++ missing)
+        × Moves (L.received line.old) (L.received line.new) (L.sent line.old) (L.sent line.new) [] front) }
+    ensures failed { result ≡ Err EdgeFault.WriteFailed → HasFailed (L.failed line.old) (L.failed line.new) }
+    ensures no_read { result ≢ Err EdgeFault.ReadFailed }
+{
+    let head = post_head(alloc, host, payload.len())?;
+    send(line, head.as_slice())?;
+    send(line, payload)?;
+    Ok(())
+}
+
+fn post_head(alloc: Global, host: &str, len: usize) -> Result<Vec<u8>, AllocError>
+    ensures { IfOk result (λ v. v.items ≡ post_head host.now len) }
+{
+    let mut text = Vec::from_slice(alloc, b"POST /v1/traces HTTP/1.1\r\nHost: ")?;
+    text.extend_from_slice(host.as_bytes())?;
+    text.extend_from_slice(b"\r\nContent-Type: application/x-protobuf\r\nContent-Length: ")?;
+    text.extend_from_slice(&decimal(alloc, len)?)?;
+    text.extend_from_slice(b"\r\nConnection: close\r\n\r\n")?;
+    Ok(text)
+}

@@ -1,0 +1,143 @@
+//! Replies as bytes.
+ghost use Rattle.std.specs.Prelude.{◌≡◌, IfOk, false, decimal, if◌then◌else◌};
+ghost use Rattle.http_edge.specs.Seen.{answer_of};
+ghost use Rattle.http_edge.specs.Reply.{phrase_of, advice_of, close_line, head_text_of, plain_text, reply_text, out_of_memory, is_for_no_memory, status_body, refusal_message};
+
+use crate::message::Reply;
+use std::alloc::{AllocError, Global};
+
+/// The bytes of a reply, after which the connection closes or not. A 503 without a body gets the body that says that
+/// there was no memory.
+#[tactic(auto, unfolding(crate::specs::Reply::reply_text))]
+pub fn reply_bytes(alloc: Global, reply: &Reply, close: bool) -> Result<Vec<u8>, AllocError>
+    ensures { IfOk result (λ v. v.items ≡ reply_text false close (answer_of reply.now)) }
+{
+    if is_for_no_memory(reply) {
+        Vec::from_slice(alloc, no_memory_bytes(close, false))
+    } else {
+        plain_bytes(alloc, reply, close, false)
+    }
+}
+
+/// Whether the reply stands for the one that is written where there is no memory for another.
+pub(crate) fn is_for_no_memory(reply: &Reply) -> bool
+    ensures { result ≡ is_for_no_memory (answer_of reply.now) }
+{
+    reply.status == 503 && reply.body.len() == 0
+}
+
+/// The bytes of the reply that says that there was no memory. They take none.
+#[tactic(auto, unfolding(crate::specs::Reply::head_text_of))]
+pub(crate) fn no_memory_bytes(close: bool, bodiless: bool) -> &'static [u8]
+    ensures { result.now ≡ plain_text bodiless close out_of_memory }
+{
+    match (close, bodiless) {
+        (false, false) =>
+            b"HTTP/1.1 503 Service Unavailable\r\nContent-Type: application/x-protobuf\r\n\
+Content-Length: 15\r\n\r\n\x12\x0dout of memory",
+        (false, true) =>
+            b"HTTP/1.1 503 Service Unavailable\r\nContent-Type: application/x-protobuf\r\n\
+Content-Length: 15\r\n\r\n",
+        (true, false) =>
+            b"HTTP/1.1 503 Service Unavailable\r\nContent-Type: application/x-protobuf\r\n\
+Connection: close\r\nContent-Length: 15\r\n\r\n\x12\x0dout of memory",
+        (true, true) =>
+            b"HTTP/1.1 503 Service Unavailable\r\nContent-Type: application/x-protobuf\r\n\
+Connection: close\r\nContent-Length: 15\r\n\r\n",
+    }
+}
+
+/// The bytes of a reply as it stands, without its body where the request was HEAD.
+pub(crate) fn plain_bytes(
+    alloc: Global,
+    reply: &Reply,
+    close: bool,
+    bodiless: bool,
+) -> Result<Vec<u8>, AllocError>
+    ensures { IfOk result (λ v. v.items ≡ plain_text bodiless close (answer_of reply.now)) }
+{
+    let mut text = head_bytes(alloc, reply.status, reply.body.len(), close)?;
+    if !bodiless {
+        text.extend_from_slice(&reply.body)?;
+    }
+    Ok(text)
+}
+
+fn head_bytes(alloc: Global, status: u16, len: usize, close: bool) -> Result<Vec<u8>, AllocError>
+    ensures { IfOk result (λ v. v.items ≡ head_text_of close status len) }
+{
+    let mut text = Vec::from_slice(alloc, b"HTTP/1.1 ")?;
+    text.extend_from_slice(&status_digits(alloc, status)?)?;
+    text.extend_from_slice(b" ")?;
+    text.extend_from_slice(phrase(status))?;
+    text.extend_from_slice(b"\r\nContent-Type: application/x-protobuf\r\n")?;
+    text.extend_from_slice(advice(status))?;
+    text.extend_from_slice(closing_line(close))?;
+    text.extend_from_slice(b"Content-Length: ")?;
+    text.extend_from_slice(&decimal(alloc, len)?)?;
+    text.extend_from_slice(b"\r\n\r\n")?;
+    Ok(text)
+}
+
+/// The decimal digits of a status.
+fn status_digits(alloc: Global, status: u16) -> Result<Vec<u8>, AllocError>
+    ensures { IfOk result (λ v. v.items ≡ decimal status) }
+{
+    let text = format!(in alloc; "{status}")?;
+    Ok(text.into_bytes())
+}
+
+/// The decimal digits of a number.
+pub(crate) fn decimal(alloc: Global, n: usize) -> Result<Vec<u8>, AllocError>
+    ensures { IfOk result (λ v. v.items ≡ decimal n) }
+{
+    let text = format!(in alloc; "{n}")?;
+    Ok(text.into_bytes())
+}
+
+/// The reason phrase of a status.
+fn phrase(status: u16) -> &'static [u8]
+    ensures { result.now ≡ phrase_of status }
+{
+    match status {
+        200 => b"OK",
+        400 => b"Bad Request",
+        403 => b"Forbidden",
+        404 => b"Not Found",
+        405 => b"Method Not Allowed",
+        413 => b"Content Too Large",
+        415 => b"Unsupported Media Type",
+        429 => b"Too Many Requests",
+        431 => b"Request Header Fields Too Large",
+        503 => b"Service Unavailable",
+        _ => b"",
+    }
+}
+
+/// The line that some statuses have beside.
+fn advice(status: u16) -> &'static [u8]
+    ensures { result.now ≡ advice_of status }
+{
+    match status {
+        405 => b"Allow: POST\r\n",
+        429 => b"Retry-After: 1\r\n",
+        _ => b"",
+    }
+}
+
+fn closing_line(close: bool) -> &'static [u8]
+    ensures { result.now ≡ close_line close }
+{
+    if close { b"Connection: close\r\n" } else { b"" }
+}
+
+/// The body of the reply to a bad message.
+pub(crate) fn refusal_body(status: u16) -> &'static [u8]
+    ensures { result.now ≡ status_body (refusal_message status) }
+{
+    match status {
+        413 => b"\x12\x0ebody too large",
+        431 => b"\x12\x16too many header fields",
+        _ => b"\x12\x0bbad request",
+    }
+}

@@ -1,0 +1,307 @@
+//! The loop over messages.
+ghost use Rattle.std.specs.Prelude.{◌≡◌, ◌≢◌, ℕ, ◌+◌, ◌<◌, ◌≤◌, ◌⊎◌, Bool, not, List, [], ◌++◌, length, map, take, drop, if◌then◌else◌, IfOk, IfSome, OnOk, OnErr, Some, None, true, false, Ok, Err};
+ghost use Rattle.httparse.specs.Grammar.{RequestHead};
+ghost use Rattle.http_edge.specs.Talk.{Talk, Begins};
+ghost use Rattle.http_edge.specs.Reply.{refusal_text, reply_text, continue_text};
+ghost use Rattle.http_edge.specs.Message.{closes, max_head};
+ghost use Rattle.http_edge.specs.Steps.{Moves, work, HasFailed};
+ghost use Rattle.http_edge.specs.Seen.{seen, header_of, answer_of};
+ghost use Rattle.http_edge.specs.Stages.{IsBegin, IsHeadOf, message_with, Replies, GoesOn, IsOver, IsCut};
+
+use crate::body::{BodyRead, read_body};
+use crate::head::{Begin, Head, head_at};
+use crate::message::{Handler, HttpMessage, Reply};
+use crate::reply::{is_for_no_memory, no_memory_bytes, plain_bytes, refusal_body};
+use crate::wire::{EdgeFault, drop_front, fill, is_worth_a_look, send};
+use http_line::Line;
+use std::alloc::{AllocError, Global};
+
+/// Reads messages and writes the handler's replies, until the connection is to close, a message is
+/// bad, or the input ends.
+pub fn serve<L: Line, H: Handler>(
+    alloc: Global,
+    line: &mut L,
+    handler: &mut H,
+) -> Result<(), EdgeFault>
+    // The bytes written are the replies to the messages in the bytes read.
+    ensures talk { OnOk result ((read : List ℕ) × (written : List ℕ) × (over : Bool)
+        × Moves (L.received line.old) (L.received line.new) (L.sent line.old) (L.sent line.new) read written
+        × Talk H.answers handler.old read handler.new written over
+        × (over ≡ false → L.ends line.old < L.ends line.new)) }
+    // After a fault they are a beginning of that.
+    ensures fault { OnErr result ((read : List ℕ) × (written : List ℕ)
+        × Moves (L.received line.old) (L.received line.new) (L.sent line.old) (L.sent line.new) read written
+        × Begins H.answers handler.old read handler.new written) }
+    ensures read { result ≡ Err EdgeFault.ReadFailed → HasFailed (L.failed line.old) (L.failed line.new) }
+    ensures write { result ≡ Err EdgeFault.WriteFailed → HasFailed (L.failed line.old) (L.failed line.new) }
+{
+    let mut buffer = Vec::new(alloc);
+    'messages: while exchange(alloc, line, handler, &mut buffer)? {}
+    Ok(())
+}
+
+/// One message, and whether the connection goes on after it.
+fn exchange<L: Line, H: Handler>(
+    alloc: Global,
+    line: &mut L,
+    handler: &mut H,
+    buffer: &mut Vec<u8>,
+) -> Result<bool, EdgeFault>
+    ensures on { result ≡ Ok true → GoesOn H.answers handler.old handler.new
+        (L.received line.old) (L.received line.new) (L.sent line.old) (L.sent line.new) buffer.old.items
+        buffer.new.items }
+    ensures over { result ≡ Ok false → IsOver H.answers handler.old handler.new
+        (L.received line.old) (L.received line.new) (L.sent line.old) (L.sent line.new) (L.ends line.old < L.ends
+        line.new) buffer.old.items }
+    ensures cut { OnErr result (IsCut H.answers handler.old handler.new
+        (L.received line.old) (L.received line.new) (L.sent line.old) (L.sent line.new) buffer.old.items) }
+    ensures work { result ≡ Ok true → work (L.reads_left line.new) buffer.new.items < work (L.reads_left line.old)
+        buffer.old.items }
+    ensures ends { L.ends line.old ≤ L.ends line.new }
+    ensures kept { OnOk result (L.failed line.new ≡ L.failed line.old) }
+    ensures read { result ≡ Err EdgeFault.ReadFailed → HasFailed (L.failed line.old) (L.failed line.new) }
+    ensures write { result ≡ Err EdgeFault.WriteFailed → HasFailed (L.failed line.old) (L.failed line.new) }
+{
+    match read_head(alloc, line, buffer)? {
+        Begin::More => Ok(false),
+        Begin::Refuse { status, bodiless } => {
+            refuse(alloc, line, status, bodiless)?;
+            Ok(false)
+        }
+        Begin::Whole(head) => {
+            let goes = attend(alloc, line, handler, buffer, head)?;
+            Ok(goes)
+        }
+    }
+}
+
+/// Reads until a head is there, a bad message, or the end.
+fn read_head<L: Line>(alloc: Global, line: &mut L, buffer: &mut Vec<u8>) -> Result<Begin, EdgeFault>
+    ensures ok { IfOk result (λ begin. (read : List ℕ)
+        × Moves (L.received line.old) (L.received line.new) (L.sent line.old) (L.sent line.new) read []
+        × (buffer.new.items ≡ buffer.old.items ++ read)
+        × IsBegin buffer.new.items begin) }
+    ensures end { result ≡ Ok Begin.More → L.ends line.old < L.ends line.new }
+    ensures short { result ≡ Ok Begin.More → length buffer.new.items < max_head }
+    ensures err { OnErr result ((read : List ℕ)
+        × Moves (L.received line.old) (L.received line.new) (L.sent line.old) (L.sent line.new) read []) }
+    ensures work { OnOk result (work (L.reads_left line.new) buffer.new.items ≤ work (L.reads_left line.old)
+        buffer.old.items) }
+    ensures ends { L.ends line.old ≤ L.ends line.new }
+    ensures kept { OnOk result (L.failed line.new ≡ L.failed line.old) }
+    ensures failed { result ≡ Err EdgeFault.ReadFailed → HasFailed (L.failed line.old) (L.failed line.new) }
+    ensures no_write { result ≢ Err EdgeFault.WriteFailed }
+{
+    let mut seen = 0;
+    'looks: loop {
+        let len = buffer.len();
+        if let Some(begin) = look(alloc, line, buffer, seen)? {
+            return Ok(begin);
+        }
+        seen = len;
+    }
+}
+
+/// Looks for a head where new bytes may have completed one, and else reads.
+fn look<L: Line>(
+    alloc: Global,
+    line: &mut L,
+    buffer: &mut Vec<u8>,
+    seen: usize,
+) -> Result<Option<Begin>, EdgeFault>
+    ensures ok { OnOk result ((read : List ℕ)
+        × Moves (L.received line.old) (L.received line.new) (L.sent line.old) (L.sent line.new) read []
+        × (buffer.new.items ≡ buffer.old.items ++ read)) }
+    ensures found { IfOk result (λ found. IfSome found (IsBegin buffer.new.items)) }
+    ensures end { result ≡ Ok (Some Begin.More) → L.ends line.old < L.ends line.new }
+    ensures short { result ≡ Ok (Some Begin.More) → length buffer.new.items < max_head }
+    ensures err { OnErr result ((read : List ℕ)
+        × Moves (L.received line.old) (L.received line.new) (L.sent line.old) (L.sent line.new) read []) }
+    ensures work { OnOk result (work (L.reads_left line.new) buffer.new.items ≤ work (L.reads_left line.old)
+        buffer.old.items) }
+    ensures less { result ≡ Ok None → work (L.reads_left line.new) buffer.new.items < work (L.reads_left line.old)
+        buffer.old.items }
+    ensures ends { L.ends line.old ≤ L.ends line.new }
+    ensures kept { OnOk result (L.failed line.new ≡ L.failed line.old) }
+    ensures failed { result ≡ Err EdgeFault.ReadFailed → HasFailed (L.failed line.old) (L.failed line.new) }
+    ensures no_write { result ≢ Err EdgeFault.WriteFailed }
+{
+    if is_worth_a_look(buffer, seen) {
+        match head_at(alloc, buffer)? {
+            Begin::More => {}
+            begin => return Ok(Some(begin)),
+        }
+    }
+    if fill(line, buffer)? {
+        return Ok(None);
+    }
+    Ok(Some(head_at(alloc, buffer)?))
+}
+
+/// Writes the reply to a bad message.
+fn refuse<L: Line>(
+    alloc: Global,
+    line: &mut L,
+    status: u16,
+    bodiless: bool,
+) -> Result<(), EdgeFault>
+    ensures ok { OnOk result (Moves (L.received line.old) (L.received line.new) (L.sent line.old) (L.sent line.new) []
+        (refusal_text bodiless status)) }
+    ensures err { OnErr result ((front : List ℕ) × (missing : List ℕ) × (refusal_text bodiless status ≡ front
+        ++ missing)
+        × Moves (L.received line.old) (L.received line.new) (L.sent line.old) (L.sent line.new) [] front) }
+    ensures end { L.ends line.new ≡ L.ends line.old }
+    ensures reads { L.reads_left line.new ≡ L.reads_left line.old }
+    ensures kept { OnOk result (L.failed line.new ≡ L.failed line.old) }
+    ensures failed { result ≡ Err EdgeFault.WriteFailed → HasFailed (L.failed line.old) (L.failed line.new) }
+    ensures no_read { result ≢ Err EdgeFault.ReadFailed }
+{
+    let reply = Reply {
+        status,
+        body: Vec::from_slice(alloc, refusal_body(status))?,
+    };
+    say(alloc, line, &reply, true, bodiless)
+}
+
+/// Reads the body of a head's message, and answers it.
+fn attend<L: Line, H: Handler>(
+    alloc: Global,
+    line: &mut L,
+    handler: &mut H,
+    buffer: &mut Vec<u8>,
+    head: Head,
+) -> Result<bool, EdgeFault>
+    requires { IsBegin buffer.old.items (Begin.Whole head) }
+    ensures on { result ≡ Ok true → GoesOn H.answers handler.old handler.new
+        (L.received line.old) (L.received line.new) (L.sent line.old) (L.sent line.new) buffer.old.items
+        buffer.new.items }
+    ensures over { result ≡ Ok false → IsOver H.answers handler.old handler.new
+        (L.received line.old) (L.received line.new) (L.sent line.old) (L.sent line.new) (L.ends line.old < L.ends
+        line.new) buffer.old.items }
+    ensures cut { OnErr result (IsCut H.answers handler.old handler.new
+        (L.received line.old) (L.received line.new) (L.sent line.old) (L.sent line.new) buffer.old.items) }
+    ensures work { result ≡ Ok true → work (L.reads_left line.new) buffer.new.items < work (L.reads_left line.old)
+        buffer.old.items }
+    ensures ends { L.ends line.old ≤ L.ends line.new }
+    ensures kept { OnOk result (L.failed line.new ≡ L.failed line.old) }
+    ensures read { result ≡ Err EdgeFault.ReadFailed → HasFailed (L.failed line.old) (L.failed line.new) }
+    ensures write { result ≡ Err EdgeFault.WriteFailed → HasFailed (L.failed line.old) (L.failed line.new) }
+{
+    interim(line, head.expects)?;
+    drop_front(alloc, buffer, head.len)?;
+    match read_body(alloc, line, buffer, head.kind)? {
+        BodyRead::Ended => Ok(false),
+        BodyRead::TooLong => {
+            refuse(alloc, line, 413, head.bodiless)?;
+            Ok(false)
+        }
+        BodyRead::Bad => {
+            refuse(alloc, line, 400, head.bodiless)?;
+            Ok(false)
+        }
+        BodyRead::Whole(body) => {
+            let goes = answer(alloc, line, handler, head, body)?;
+            Ok(goes)
+        }
+    }
+}
+
+/// Writes 100 Continue where it is due.
+fn interim<L: Line>(line: &mut L, due: bool) -> Result<(), EdgeFault>
+    ensures ok { OnOk result (Moves (L.received line.old) (L.received line.new) (L.sent line.old) (L.sent line.new) []
+        (if due then continue_text else [])) }
+    ensures err { OnErr result ((front : List ℕ) × (missing : List ℕ) × ((if due then continue_text else []) ≡ front
+        ++ missing)
+        × Moves (L.received line.old) (L.received line.new) (L.sent line.old) (L.sent line.new) [] front) }
+    ensures end { L.ends line.new ≡ L.ends line.old }
+    ensures reads { L.reads_left line.new ≡ L.reads_left line.old }
+    ensures kept { OnOk result (L.failed line.new ≡ L.failed line.old) }
+    ensures failed { result ≡ Err EdgeFault.WriteFailed → HasFailed (L.failed line.old) (L.failed line.new) }
+    ensures no_read { result ≢ Err EdgeFault.ReadFailed }
+{
+    let text: &[u8] = if due {
+        b"HTTP/1.1 100 Continue\r\n\r\n"
+    } else {
+        b""
+    };
+    send(line, text)
+}
+
+/// Answers a message.
+fn answer<L: Line, H: Handler>(
+    alloc: Global,
+    line: &mut L,
+    handler: &mut H,
+    head: Head,
+    body: Vec<u8>,
+) -> Result<bool, EdgeFault>
+    ensures ok { IfOk result (λ goes. (h : RequestHead) → IsHeadOf head h → (text : List ℕ)
+        × Moves (L.received line.old) (L.received line.new) (L.sent line.old) (L.sent line.new) [] text
+        × Replies H.answers handler.old handler.new (message_with h body.items) text []
+        × (goes ≡ not (closes h))) }
+    ensures err { OnErr result ((h : RequestHead) → IsHeadOf head h → (text : List ℕ)
+        × Moves (L.received line.old) (L.received line.new) (L.sent line.old) (L.sent line.new) [] text
+        × ((missing : List ℕ) × Replies H.answers handler.old handler.new (message_with h body.items) text missing)) }
+    ensures end { L.ends line.new ≡ L.ends line.old }
+    ensures reads { L.reads_left line.new ≡ L.reads_left line.old }
+    ensures kept { OnOk result (L.failed line.new ≡ L.failed line.old) }
+    ensures failed { result ≡ Err EdgeFault.WriteFailed → HasFailed (L.failed line.old) (L.failed line.new) }
+    ensures no_read { result ≢ Err EdgeFault.ReadFailed }
+{
+    let closes = head.closes;
+    let bodiless = head.bodiless;
+    let message = message_of(head, body);
+    let reply = handler.handle(&message);
+    say(alloc, line, &reply, closes, bodiless)?;
+    Ok(!closes)
+}
+
+/// Writes a reply.
+#[tactic(auto, unfolding(crate::specs::Reply::reply_text))]
+fn say<L: Line>(
+    alloc: Global,
+    line: &mut L,
+    reply: &Reply,
+    close: bool,
+    bodiless: bool,
+) -> Result<(), EdgeFault>
+    ensures ok { OnOk result (Moves (L.received line.old) (L.received line.new) (L.sent line.old) (L.sent line.new) []
+        (reply_text bodiless close (answer_of reply.now))) }
+    ensures err { OnErr result ((front : List ℕ) × (missing : List ℕ)
+        × (reply_text bodiless close (answer_of reply.now) ≡ front ++ missing)
+        × Moves (L.received line.old) (L.received line.new) (L.sent line.old) (L.sent line.new) [] front) }
+    ensures end { L.ends line.new ≡ L.ends line.old }
+    ensures reads { L.reads_left line.new ≡ L.reads_left line.old }
+    ensures kept { OnOk result (L.failed line.new ≡ L.failed line.old) }
+    ensures failed { result ≡ Err EdgeFault.WriteFailed → HasFailed (L.failed line.old) (L.failed line.new) }
+    ensures no_read { result ≢ Err EdgeFault.ReadFailed }
+{
+    if is_for_no_memory(reply) {
+        return send(line, no_memory_bytes(close, bodiless));
+    }
+    let bytes = plain_bytes(alloc, reply, close, bodiless)?;
+    send(line, &bytes)
+}
+
+/// The message of a head and a body.
+fn message_of(head: Head, body: Vec<u8>) -> HttpMessage
+    ensures { seen result ≡ record {
+      method = head.method;
+      target = head.target.items;
+      headers = map header_of head.headers.items;
+      body = body.items;
+    } }
+{
+    let Head {
+        method,
+        target,
+        headers,
+        ..
+    } = head;
+    HttpMessage {
+        method,
+        target,
+        headers,
+        body,
+    }
+}
