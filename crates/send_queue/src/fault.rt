@@ -1,10 +1,8 @@
 //! Why a call changed nothing.
 
 ghost use Rattle.std.specs.Prelude.{◌≡◌};
-ghost use Rattle.send_queue.specs.declared.fault.OfferFault.TheVariants.{OutOfMemory};
 
 use crate::batch::Batch;
-use std::alloc::AllocFailed;
 use thiserror::Error;
 
 /// Why a batch wasn't taken into the queue. It comes back.
@@ -16,14 +14,6 @@ pub enum OfferFault {
     /// Memory was refused.
     #[error("out of memory")]
     OutOfMemory(Batch),
-}
-
-impl From<AllocFailed<Batch>> for OfferFault {
-    ghost from_gives = { λ failed fault. fault ≡ OutOfMemory failed.value };
-
-    fn from(failed: AllocFailed<Batch>) -> OfferFault {
-        OfferFault::OutOfMemory(failed.value)
-    }
 }
 
 /// Why an answer settles nothing.

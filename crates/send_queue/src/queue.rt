@@ -90,7 +90,13 @@ impl SendQueue {
         if self.queue.len() >= self.sending.queue_size as usize {
             return Err(OfferFault::Full(batch));
         }
-        self.queue.push_back(batch)?;
+        match self.queue.reserve(1) {
+            Ok(()) => {}
+            Err(AllocError) => return Err(OfferFault::OutOfMemory(batch)),
+        }
+        let Ok(()) = self.queue.push_back(batch) else {
+            unreachable!()
+        };
         Ok(())
     }
 
