@@ -80,7 +80,8 @@ AreInOrder (a ∷ rest) = AllAfter a.ticket rest × AreInOrder rest
 
 -- what is kept fits together: the active batches stand by their tickets, of which none is later than the last one that
 -- was handed out; the heap, of so many retries and with room for so many, has those that active batches wait for
-pub record IsWhole (batches : List ActiveData) (heap : List (Reverse Retry)) (count capacity consumers handed_out : ℕ) : Type 0 where
+pub record IsWhole (batches : List ActiveData) (heap : List (Reverse Retry))
+    (count capacity consumers handed_out : ℕ) : Type 0 where
   pub ordered : AreInOrder batches
   pub latest : AllUpTo handed_out batches
   pub few : length batches ≤ consumers

@@ -1,7 +1,8 @@
--- The sender of one tenant, step by step: batches wait in a queue, are handed out as jobs under tickets, and are settled
--- by what the back end answers, or wait to be sent again. How many batches wait and how many are sent at a time, and
--- that a full queue takes no more, are of the Collector's exporterhelper (its README, "Sending Queue"); what an answer
--- means and when a batch is sent again are of `send_retry`; tickets and which job is next are this project's own rule.
+-- The sender of one tenant, step by step: batches wait in a queue, are handed out as jobs under tickets, and are
+-- settled by what the back end answers, or wait to be sent again. How many batches wait and how many are sent at a
+-- time, and that a full queue takes no more, are of the Collector's exporterhelper (its README, "Sending Queue"); what
+-- an answer means and when a batch is sent again are of `send_retry`; tickets and which job is next are this project's
+-- own rule.
 use Rattle.std.specs.Prelude.{ℕ, ◌+◌, ◌-◌, ◌^◌, min, Bool, nat_lt, nat_le, ◌==◌, ◌&&◌, ◌||◌, if◌then◌else◌, List, [], ◌∷◌, ◌++◌, length, take, drop, Option, Some, None, is_some, option_map}
 use Rattle.tail_settings.specs.SendingQueue.{SendingQueueData}
 use Rattle.tail_settings.specs.RetryOnFailure.{RetryData}

@@ -70,7 +70,8 @@ impl Active {
     /// What an answer at the moment `now`, in milliseconds, makes of the batch; the word picks the delay.
     pub(crate) fn fate(&self, now: u64, word: u32, answer: &Answer) -> Fate
         requires moment { now ≤ 2 ^ 62 }
-        ensures { fate_view result ≡ fate_of (state_view self.now.retry) self.now.batch.spans now word (answer_view answer.now) }
+        ensures { fate_view result ≡
+            fate_of (state_view self.now.retry) self.now.batch.spans now word (answer_view answer.now) }
     {
         let spans = self.batch.spans;
         match classify(answer) {

@@ -108,8 +108,8 @@ impl SendQueue {
         self.queue.pop_back()
     }
 
-    /// The next job at a moment, in milliseconds: its ticket and its payload. A batch that waits to be sent again and is
-    /// due by then goes first; else the oldest of the queue does, where a consumer is free; else there is none. The
+    /// The next job at a moment, in milliseconds: its ticket and its payload. A batch that waits to be sent again and
+    /// is due by then goes first; else the oldest of the queue does, where a consumer is free; else there is none. The
     /// batch is in flight until its ticket is answered. Where memory is refused nothing has changed.
     pub fn take_job(&mut self, moment: u64) -> Result<Option<(u64, Bytes)>, AllocError>
         ensures job { IfOk result (λ taken. taken ≡ job moment self.old) }
@@ -191,8 +191,8 @@ impl SendQueue {
     }
 
     /// The batch in flight under a ticket was answered at the moment `now`, in milliseconds: it is settled, or waits to
-    /// be sent again after a delay that the word picks. Nothing changes where no batch is in flight under the ticket. It
-    /// takes no memory.
+    /// be sent again after a delay that the word picks. Nothing changes where no batch is in flight under the ticket.
+    /// It takes no memory.
     pub fn settle(
         &mut self,
         ticket: u64,
