@@ -1,6 +1,7 @@
-//! What the definitions say of ledgers, answers and delays, on examples that were worked out by hand.
+//! What the definitions say of ledgers, answers, delays and senders, on examples that were worked out by hand.
 
 ghost use Rattle.sending_tests.specs.Ledgers.{Orders, Steps, Soundness, Reports};
+ghost use Rattle.sending_tests.specs.Queues.{Offers, Retried, Settles, Order, Tickets};
 ghost use Rattle.sending_tests.specs.Retries.{Refused, Classes, Delays, Attempts};
 
 /// The definitions, on small ledgers, give what was worked out by hand.
@@ -17,4 +18,13 @@ fn answers_and_delays()
     ensures classes { Classes }
     ensures delays { Delays }
     ensures attempts { Attempts }
+{}
+
+/// The definitions, on small senders, give what was worked out by hand.
+fn senders()
+    ensures offers { Offers }
+    ensures retried { Retried }
+    ensures settles { Settles }
+    ensures order { Order }
+    ensures tickets { Tickets }
 {}

@@ -1,0 +1,4 @@
+pub mod Entries
+pub mod Batches
+pub mod First
+pub mod Whole

@@ -1,0 +1,3 @@
+pub mod Sender
+pub mod View
+pub mod Inside

@@ -1,0 +1,256 @@
+//! The batches of one tenant that wait to be sent or are being sent.
+
+ghost use Rattle.std.specs.Prelude.{◌≡◌, ◌<◌, ◌≤◌, ◌^◌, ◌↔◌, true, Err, IfOk, IfErr, OnOk, OnErr, Some, None, option_map, ok_or, IsTrue, []};
+ghost use Rattle.tail_settings.specs.SendingQueue.{sending_queue_view};
+ghost use Rattle.tail_settings.specs.RetryOnFailure.{retry_view};
+ghost use Rattle.send_retry.specs.Class.{answer_view};
+ghost use Rattle.send_queue.specs.Sender.{no_batches, is_full, offered, newest, taken_back, first_retry, has_consumer, under, job, job_of, asked, handed_of, choice_by, retried, settled, answered, ready, lesser};
+ghost use Rattle.send_queue.specs.View.{batch_view, batch_in};
+ghost use Rattle.send_queue.specs.declared.fault.OfferFault.TheVariants.{Full};
+ghost use Rattle.send_queue.specs.declared.fault.SettleFault.TheVariants.{UnknownTicket};
+
+use crate::active::{Active, Fate, Retry};
+use crate::actives::Actives;
+use crate::batch::Batch;
+use crate::fault::{OfferFault, SettleFault};
+use crate::settled::Settled;
+use bytes::Bytes;
+use send_retry::{Answer, RetryState};
+use std::alloc::{AllocError, Global};
+use std::cmp::Reverse;
+use std::collections::{BinaryHeap, VecDeque};
+use std::marker::Model;
+use tail_settings::{RetryOnFailure, SendingQueue};
+
+/// So many tickets are handed out at most.
+const MOST_TICKETS: u64 = 1 << 62;
+
+/// The batches of one tenant that wait to be sent or are being sent.
+#[derive(Drop)]
+pub struct SendQueue {
+    sending: SendingQueue,
+    retry: RetryOnFailure,
+    // The oldest first.
+    queue: VecDeque<Batch>,
+    // By the ticket that each had last, those that wait for a retry among them.
+    active: Actives,
+    // Those of them that wait, the one that is sent first on top. There is room for as many as may be active.
+    retries: BinaryHeap<Reverse<Retry>>,
+    // The number of tickets handed out, which is the last one.
+    handed_out: u64,
+}
+
+impl Model for SendQueue {
+    ghost use Rattle.send_queue.specs.Sender.{SenderData};
+
+    ghost Value = { SenderData };
+
+    ghost use Rattle.send_queue.specs.Inside.{inside_view, IsSound};
+
+    ghost view = { inside_view };
+
+    ghost invariant = { IsSound };
+}
+
+impl SendQueue {
+    /// No batches, and room for the retries of as many as may be active.
+    pub fn new(
+        alloc: Global,
+        sending: &SendingQueue,
+        retry: &RetryOnFailure,
+    ) -> Result<SendQueue, AllocError>
+        ensures { IfOk result (λ q. q ≡ no_batches (sending_queue_view sending.now) (retry_view retry.now)) }
+    {
+        let retries = BinaryHeap::with_capacity(alloc, sending.num_consumers as usize)?;
+        Ok(SendQueue {
+            sending: *sending,
+            retry: *retry,
+            queue: VecDeque::new(alloc),
+            active: Actives::new(alloc),
+            retries,
+            handed_out: 0,
+        })
+    }
+
+    /// Whether no batch waits to be sent and none is active.
+    pub fn is_empty(&self) -> bool
+        ensures { IsTrue result ↔ ((self.now.queue ≡ []) × (self.now.active ≡ [])) }
+    {
+        self.queue.is_empty() && self.active.len() == 0
+    }
+
+    /// A batch that formed waits to be sent, behind the others. It comes back where the queue is full, and where memory
+    /// is refused; nothing has changed then.
+    pub fn offer(&mut self, batch: Batch) -> Result<(), OfferFault>
+        ensures full { (result ≡ Err (Full batch)) ↔ (is_full self.old ≡ true) }
+        ensures ok { OnOk result (self.new ≡ offered (batch_view batch) self.old) }
+        ensures back { IfErr result (λ fault. batch_in fault ≡ batch) }
+        ensures refused { OnErr result (self.new ≡ self.old) }
+    {
+        if self.queue.len() >= self.sending.queue_size as usize {
+            return Err(OfferFault::Full(batch));
+        }
+        match self.queue.reserve(1) {
+            Ok(()) => {}
+            Err(AllocError) => return Err(OfferFault::OutOfMemory(batch)),
+        }
+        let Ok(()) = self.queue.push_back(batch) else {
+            unreachable!()
+        };
+        Ok(())
+    }
+
+    /// The batch that was offered last is taken back, where it still waits. It takes no memory.
+    pub fn undo_offer(&mut self) -> Option<Batch>
+        ensures batch { option_map batch_view result ≡ newest self.old.queue }
+        ensures rest { self.new ≡ taken_back self.old }
+    {
+        self.queue.pop_back()
+    }
+
+    /// The next job at a moment, in milliseconds: its ticket and its payload. A batch that waits to be sent again and
+    /// is due by then goes first; else the oldest of the queue does, where a consumer is free; else there is none. The
+    /// batch is in flight until its ticket is answered. Where memory is refused nothing has changed.
+    pub fn take_job(&mut self, moment: u64) -> Result<Option<(u64, Bytes)>, AllocError>
+        ensures job { IfOk result (λ taken. taken ≡ job moment self.old) }
+        ensures asked { OnOk result (self.new ≡ asked moment self.old) }
+        ensures refused { OnErr result (self.new ≡ self.old) }
+    {
+        if self.handed_out == MOST_TICKETS {
+            return Ok(None);
+        }
+        match self.first_retry() {
+            Some(retry) if retry.due <= moment => Ok(Some(self.send_again(retry)?)),
+            _ => self.send_first(moment),
+        }
+    }
+
+    /// The retry that comes first.
+    fn first_retry(&self) -> Option<Retry>
+        ensures { result ≡ first_retry self.now.active }
+    {
+        match self.retries.peek() {
+            Some(first) => Some(first.0),
+            None => None,
+        }
+    }
+
+    /// Whether a consumer is free.
+    fn has_consumer(&self) -> bool
+        ensures { result ≡ has_consumer self.now }
+    {
+        self.active.len() < self.sending.num_consumers as usize
+    }
+
+    /// The batch that comes first of those that wait is in flight again, under the next ticket.
+    fn send_again(&mut self, retry: Retry) -> Result<(u64, Bytes), AllocError>
+        requires tickets { self.old.handed_out < 2 ^ 62 }
+        requires first { first_retry self.old.active ≡ Some retry }
+        ensures job { IfOk result (λ job. Some job ≡ job_of (retried (under retry.ticket self.old.active)) self.old) }
+        ensures asked { OnOk result
+            (self.new ≡ handed_of 0 (retried (under retry.ticket self.old.active)) self.old) }
+        ensures refused { OnErr result (self.new ≡ self.old) }
+    {
+        let Some(active) = self.active.get(retry.ticket) else {
+            unreachable!()
+        };
+        let again = active.sent_again()?;
+        let ticket = self.handed_out + 1;
+        self.active.put(ticket, again)?;
+        let Some(sent) = self.active.remove(retry.ticket) else {
+            unreachable!()
+        };
+        let Some(_) = self.retries.pop() else {
+            unreachable!()
+        };
+        self.handed_out = ticket;
+        Ok((ticket, sent.batch.payload))
+    }
+
+    /// The oldest batch of the queue is in flight under the next ticket, where there is one and a consumer is free.
+    fn send_first(&mut self, moment: u64) -> Result<Option<(u64, Bytes)>, AllocError>
+        requires tickets { self.old.handed_out < 2 ^ 62 }
+        ensures job { IfOk result (λ job. job ≡ job_of (choice_by None self.old) self.old) }
+        ensures asked { OnOk result (self.new ≡ handed_of moment (choice_by None self.old) self.old) }
+        ensures refused { OnErr result (self.new ≡ self.old) }
+    {
+        if !self.has_consumer() {
+            return Ok(None);
+        }
+        let Some(batch) = self.queue.front() else {
+            return Ok(None);
+        };
+        let active = Active::new(batch.clone()?, RetryState::new(&self.retry, moment));
+        let ticket = self.handed_out + 1;
+        self.active.put(ticket, active)?;
+        let Some(batch) = self.queue.pop_front() else {
+            unreachable!()
+        };
+        self.handed_out = ticket;
+        Ok(Some((ticket, batch.payload)))
+    }
+
+    /// The batch in flight under a ticket was answered at the moment `now`, in milliseconds: it is settled, or waits to
+    /// be sent again after a delay that the word picks. Nothing changes where no batch is in flight under the ticket.
+    /// It takes no memory.
+    pub fn settle(
+        &mut self,
+        ticket: u64,
+        now: u64,
+        word: u32,
+        answer: &Answer,
+    ) -> Result<Settled, SettleFault>
+        requires moment { now ≤ 2 ^ 62 }
+        ensures settled { result ≡ ok_or (settled ticket now word (answer_view answer.now) self.old) UnknownTicket }
+        ensures answered { self.new ≡ answered ticket now word (answer_view answer.now) self.old }
+        ensures refused { OnErr result (self.new ≡ self.old) }
+    {
+        let (spans, fate) = match self.active.get(ticket) {
+            Some(active) if active.due.is_none() => {
+                (active.batch.spans, active.fate(now, word, answer))
+            }
+            _ => return Err(SettleFault::UnknownTicket),
+        };
+        match fate {
+            Fate::Leaves(settled) => {
+                let _ = self.active.remove(ticket);
+                Ok(settled)
+            }
+            Fate::Waits { due, state } => {
+                self.active.set_waiting(ticket, due, state);
+                let Ok(()) = self.retries.push(Reverse(Retry { due, ticket })) else {
+                    unreachable!()
+                };
+                Ok(Settled::Waits { spans, due })
+            }
+        }
+    }
+
+    /// From when on there is a job to hand out, in milliseconds; none where nothing waits for that, no consumer is free
+    /// for what waits, or no tickets are left.
+    pub fn ready(&self) -> Option<u64>
+        ensures { result ≡ ready self.now }
+    {
+        if self.handed_out == MOST_TICKETS {
+            return None;
+        }
+        let retry = self.first_retry().map(|retry| retry.due);
+        let formed = if self.has_consumer() {
+            self.queue.front().map(|batch| batch.moment)
+        } else {
+            None
+        };
+        lesser(retry, formed)
+    }
+}
+
+/// The lesser of two moments, of which one or both may be none.
+fn lesser(one: Option<u64>, other: Option<u64>) -> Option<u64>
+    ensures { result ≡ lesser one other }
+{
+    match (one, other) {
+        (None, other) => other,
+        (Some(one), None) => Some(one),
+        (Some(one), Some(other)) => Some(one.min(other)),
+    }
+}
