@@ -3,7 +3,6 @@ use Rattle.std.proofs.Common.{◌≡◌, ℕ, List, [], ◌∷◌, ◌++◌, Opt
 use Rattle.std.specs.List.{AllByRecursion}
 use Rattle.otlp_trace.specs.Text.{bytes_field, embedded, repeated}
 use Rattle.otlp_canonical.specs.Parts.{Whole, Front}
-use Rattle.otlp_canonical.proofs.Parts.{ends}
 
 module _ {A : Type 0} (n : ℕ) (write : A → List ℕ) (Sound : A → Type 0) where
   pub none_more : (text : List ℕ) → Front (repeated n write) (AllByRecursion Sound) text text
@@ -18,9 +17,6 @@ module _ {A : Type 0} (n : ℕ) (write : A → List ℕ) (Sound : A → Type 0) 
 
   pub embedded_front : (text bs rest : List ℕ) → text ≡ bytes_field n bs ++ rest → Whole write Sound bs → Front (λ o. embedded n (option_map write o)) (λ o. IfSome o Sound) text rest
   embedded_front text bs rest parts w = record { value = Some w.value; sound = w.sound; parts = parts ∙ ap (λ (t : List ℕ). bytes_field n t ++ rest) w.same }
-
-pub whole_front : {A : Type 0} {write : A → List ℕ} {Sound : A → Type 0} (text rest : List ℕ) → Front write Sound text rest → rest ≡ [] → Whole write Sound text
-whole_front {write = write} text rest f none = record { value = f.value; sound = f.sound; same = ends (write f.value) f.parts none }
 
 pub all_of : {A : Type 0} {P Q : A → Type 0} (xs : List A) → ((x : A) → P x → Q x) → AllByRecursion P xs → AllByRecursion Q xs
 all_of [] to all = tt

@@ -1,7 +1,8 @@
 -- Fields at the front of a text.
-use Rattle.std.proofs.Common.{◌≡◌, ℕ, pos, ◌+◌, ◌*◌, ◌<◌, ◌^◌, ◌==◌, false, FitsSigned, List, [], ◌∷◌, ◌++◌, length, refl, sym, ap, ◌∙◌, arith}
+use Rattle.std.proofs.Common.{◌≡◌, ◌⊎◌, inl, inr, ℕ, ℤ, pos, negsuc, suc, ◌-◌, ◌≤◌, nat_lt, ◌+◌, ◌*◌, ◌<◌, ◌^◌, ◌==◌, false, FitsSigned, List, [], ◌∷◌, ◌++◌, length, refl, sym, ap, ◌∙◌, arith}
 use Rattle.std.proofs.lemmas.Bool.Decides.{nat_tests}
-use Rattle.std.specs.Int.{w32, w64, to_le_bytes}
+use Rattle.std.proofs.lemmas.Int.{of_z-to_z, to_z_pos}
+use Rattle.std.specs.Int.{w32, w64, cast_signed, cast_unsigned, to_le_bytes}
 use Rattle.pb_wire.specs.declared.field.WireType.{WireType}
 use Rattle.pb_wire.specs.declared.field.WireType.TheVariants as types
 use Rattle.pb_wire.specs.Grammar.{code}
@@ -36,12 +37,22 @@ number_front n byte x text behind rest is small p q some fits = record {
   parts = tagged n types.Varint byte text behind (varint_text x) rest (omega arith) small p q ∙ ap (λ (t : List ℕ). t ++ rest) (sym (unless_some x (number_field n x) some));
 }
 
-pub signed_front : (n byte x : ℕ) (text behind rest : List ℕ) → byte ≡ 8 * n → byte < 128 → text ≡ byte ∷ behind → behind ≡ varint_text x ++ rest → 0 < x → x < 2 ^ 31 → Front (some_signed n) (FitsSigned w32) text rest
-signed_front n byte x text behind rest is small p q some fits = record {
-  value = pos x;
-  sound = record { sfits = omega arith };
-  parts = tagged n types.Varint byte text behind (varint_text x) rest (omega arith) small p q ∙ ap (λ (t : List ℕ). t ++ rest) (sym (unless_some x (number_field n x) some));
-}
+-- a number of 64 bits that one of 32 bits is widened to
+pub signed_fits : (x : ℕ) → x < 2 ^ 64 → (x < 2 ^ 31) ⊎ (2 ^ 64 - 2 ^ 31 ≤ x) → FitsSigned w32 (cast_signed w64 x)
+signed_fits x fits (inl low) = let e : cast_signed w64 x ≡ pos x = to_z_pos w64 x (omega (arith, low)) in rw e (record { sfits = omega (arith, low) })
+signed_fits x fits (inr high) =
+    let not : nat_lt x (2 ^ 63) ≡ false = grind (arith, nat_tests, high) in
+    let e : cast_signed w64 x ≡ negsuc (2 ^ 64 - suc x) = rw not refl in
+    rw e (record { sfits = omega (arith, high, fits) })
+
+pub signed_front : (n byte x : ℕ) (text behind rest : List ℕ) → byte ≡ 8 * n → byte < 128 → text ≡ byte ∷ behind → behind ≡ varint_text x ++ rest → 0 < x → x < 2 ^ 64 → (x < 2 ^ 31) ⊎ (2 ^ 64 - 2 ^ 31 ≤ x) → Front (some_signed n) (FitsSigned w32) text rest
+signed_front n byte x text behind rest is small p q some fits which =
+    let same : cast_unsigned w64 (cast_signed w64 x) ≡ x = of_z-to_z w64 x fits in
+    record {
+      value = cast_signed w64 x;
+      sound = signed_fits x fits which;
+      parts = tagged n types.Varint byte text behind (varint_text x) rest (omega arith) small p q ∙ ap (λ (t : List ℕ). t ++ rest) (sym (unless_some x (number_field n x) some) ∙ ap (some_number n) (sym same));
+    }
 
 abbrev pub Eight : ℕ → Type 0
 Eight x = (0 < x) × (x < 2 ^ 64)

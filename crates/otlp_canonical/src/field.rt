@@ -21,15 +21,6 @@ pub fn bytes_field(text: &[u8], number: u8) -> Option<(&[u8], &[u8])>
     Some((bytes, rest))
 }
 
-/// What such a field holds that is all of the text.
-pub fn only_bytes(text: &[u8], number: u8) -> Option<&[u8]>
-    requires fits { number < 16 }
-    ensures { IfSome result (λ bytes. text.now ≡ bytes_field number bytes.now) }
-{
-    let (bytes, rest) = bytes_field(text, number)?;
-    if rest.is_empty() { Some(bytes) } else { None }
-}
-
 /// Whether the text begins with a field of this number and wire type `Bytes`.
 pub fn begins(text: &[u8], number: u8) -> bool
     requires fits { number < 16 }
@@ -83,7 +74,7 @@ pub fn some_number(text: &[u8], number: u8) -> Option<&[u8]>
     if value >= 1 << 32 { None } else { Some(rest) }
 }
 
-/// What stands behind a number with a sign that is left out where it is 0. Negative ones aren't taken.
+/// What stands behind a number of 32 bits with a sign that is left out where it is 0. A negative one has ten bytes.
 pub fn some_signed(text: &[u8], number: u8) -> Option<&[u8]>
     requires fits { number < 16 }
     ensures { IfSome result (λ rest. Front (some_signed number) (FitsSigned w32) text.now rest.now) }
@@ -95,7 +86,15 @@ pub fn some_signed(text: &[u8], number: u8) -> Option<&[u8]>
     if value == 0 {
         return None;
     }
-    if value >= 1 << 31 { None } else { Some(rest) }
+    if value < 1 << 31 {
+        return Some(rest);
+    }
+    // A negative number is written as one of 64 bits.
+    if value < u64::MAX - 0x7fff_ffff {
+        None
+    } else {
+        Some(rest)
+    }
 }
 
 /// What stands behind a number of eight bytes, which isn't 0.

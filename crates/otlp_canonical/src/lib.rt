@@ -16,6 +16,7 @@ mod number;
 mod request;
 mod span;
 mod text;
+mod unknown;
 mod value;
 
 pub use text::{is_request_text, is_resource_text, is_scope_text, is_span_text};

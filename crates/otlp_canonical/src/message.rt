@@ -1,6 +1,6 @@
 //! Messages inside others, resources and scopes.
 
-ghost use Rattle.std.specs.Prelude.{◌≡◌, ◌<◌, ℕ, List, option_map, IfSome, IsTrue};
+ghost use Rattle.std.specs.Prelude.{◌≡◌, ◌<◌, ℕ, List, option_map, IfSome};
 ghost use Rattle.std.specs.List.{AllByRecursion};
 ghost use Rattle.otlp_trace.specs.Data.{KeyValueData, ResourceData, ScopeData};
 ghost use Rattle.otlp_trace.specs.Text.{embedded, repeated, key_value_text, resource_text, scope_text};
@@ -8,7 +8,8 @@ ghost use Rattle.otlp_canonical.specs.Parts.{Whole, Front};
 ghost use Rattle.otlp_canonical.specs.Sound.{SoundKeyValue, SoundResource, SoundScope};
 
 use crate::field::{begins, bytes_field, some_number, some_string};
-use crate::value::is_key_value;
+use crate::unknown::unknown;
+use crate::value::key_value;
 use otlp_trace::{InstrumentationScope, KeyValue, Resource};
 
 /// A message of which it can be found out whether a text is its canonical text.
@@ -19,9 +20,9 @@ pub trait Canonical {
 
     ghost sound: { ℕ → Data → Type 0 };
 
-    /// Whether the text is canonical, with room for so many levels, the message's own among them.
-    fn is_text(text: &[u8], room: u32) -> bool
-        ensures { IsTrue result → Whole write (sound room) text.now };
+    /// Goes over the text where it is canonical, with room for so many levels, the message's own among them.
+    fn check(text: &[u8], room: u32) -> Option<()>
+        ensures { IfSome result (λ u. Whole write (sound room) text.now) };
 }
 
 /// What stands behind the messages of a repeated field.
@@ -33,9 +34,7 @@ pub fn each<M: Canonical>(text: &[u8], number: u8, room: u32) -> Option<&[u8]>
     let mut left = text;
     'messages: while begins(left, number) {
         let (message, rest) = bytes_field(left, number)?;
-        if !M::is_text(message, room) {
-            return None;
-        }
+        M::check(message, room)?;
         left = rest;
     }
     Some(left)
@@ -51,9 +50,7 @@ pub fn some_message<M: Canonical>(text: &[u8], number: u8, room: u32) -> Option<
         return Some(text);
     }
     let (message, rest) = bytes_field(text, number)?;
-    if !M::is_text(message, room) {
-        return None;
-    }
+    M::check(message, room)?;
     Some(rest)
 }
 
@@ -64,21 +61,9 @@ impl Canonical for KeyValue {
 
     ghost sound = { SoundKeyValue };
 
-    fn is_text(text: &[u8], room: u32) -> bool {
-        is_key_value(text, room)
+    fn check(text: &[u8], room: u32) -> Option<()> {
+        key_value(text, room)
     }
-}
-
-/// What stands behind a resource's fields.
-fn resource(text: &[u8], room: u32) -> Option<&[u8]>
-    ensures { IfSome result (λ rest. Front resource_text (SoundResource room) text.now rest.now) }
-{
-    if room == 0 {
-        return None;
-    }
-    let attributes = each::<KeyValue>(text, 1, room - 1)?;
-    let count = some_number(attributes, 2)?;
-    Some(count)
 }
 
 impl Canonical for Resource {
@@ -88,26 +73,15 @@ impl Canonical for Resource {
 
     ghost sound = { SoundResource };
 
-    fn is_text(text: &[u8], room: u32) -> bool {
-        match resource(text, room) {
-            Some(rest) => rest.is_empty(),
-            None => false,
+    fn check(text: &[u8], room: u32) -> Option<()> {
+        if room == 0 {
+            return None;
         }
+        let attributes = each::<KeyValue>(text, 1, room - 1)?;
+        let count = some_number(attributes, 2)?;
+        unknown::<Resource>(count, room - 1)?;
+        Some(())
     }
-}
-
-/// What stands behind a scope's fields.
-fn scope(text: &[u8], room: u32) -> Option<&[u8]>
-    ensures { IfSome result (λ rest. Front scope_text (SoundScope room) text.now rest.now) }
-{
-    if room == 0 {
-        return None;
-    }
-    let name = some_string(text, 1)?;
-    let version = some_string(name, 2)?;
-    let attributes = each::<KeyValue>(version, 3, room - 1)?;
-    let count = some_number(attributes, 4)?;
-    Some(count)
 }
 
 impl Canonical for InstrumentationScope {
@@ -117,10 +91,15 @@ impl Canonical for InstrumentationScope {
 
     ghost sound = { SoundScope };
 
-    fn is_text(text: &[u8], room: u32) -> bool {
-        match scope(text, room) {
-            Some(rest) => rest.is_empty(),
-            None => false,
+    fn check(text: &[u8], room: u32) -> Option<()> {
+        if room == 0 {
+            return None;
         }
+        let name = some_string(text, 1)?;
+        let version = some_string(name, 2)?;
+        let attributes = each::<KeyValue>(version, 3, room - 1)?;
+        let count = some_number(attributes, 4)?;
+        unknown::<InstrumentationScope>(count, room - 1)?;
+        Some(())
     }
 }

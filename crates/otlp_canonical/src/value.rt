@@ -1,164 +1,154 @@
-//! Attributes and their values.
+//! Attributes and their values, which hold others. A value goes to its member, an array or a list to each of its values.
 
-ghost use Rattle.std.specs.Prelude.{◌≡◌, ℕ, IsTrue};
+ghost use Rattle.std.specs.Prelude.{◌≡◌, ℕ, IfSome};
 ghost use Rattle.otlp_trace.specs.Text.{any_text, kind_text, array_text, list_text, key_value_text};
-ghost use Rattle.otlp_canonical.specs.Parts.{Whole};
+ghost use Rattle.otlp_canonical.specs.Parts.{Whole, Front};
 ghost use Rattle.otlp_canonical.specs.Sound.{SoundAny, SoundKind, SoundArray, SoundList, SoundKeyValue};
 
-use crate::field::{bytes_field, only_bytes, some_string};
-use crate::number::{behind, shortest};
+use crate::field::{begins, bytes_field, some_string};
+use crate::number::{behind, shortest, split};
+use crate::unknown::unknown;
+use otlp_trace::{AnyValue, ArrayValue, KeyValue, KeyValueList};
 
-/// A bool, 0 or 1.
-fn is_bool(text: &[u8]) -> bool
-    ensures { IsTrue result → (room : ℕ) → Whole kind_text (SoundKind room) text.now }
+/// What stands behind a string.
+fn string(text: &[u8]) -> Option<&[u8]>
+    ensures { (room : ℕ) → IfSome result (λ rest. Front kind_text (SoundKind room) text.now rest.now) }
 {
-    let Some(value) = behind(text, 0x10) else {
-        return false;
-    };
-    let Some((value, rest)) = shortest(value, 9) else {
-        return false;
-    };
-    if !rest.is_empty() {
-        return false;
+    let (bytes, rest) = bytes_field(text, 1)?;
+    if str::from_utf8(bytes).is_err() {
+        return None;
     }
-    value < 2
+    Some(rest)
 }
 
-/// A number.
-fn is_int(text: &[u8]) -> bool
-    ensures { IsTrue result → (room : ℕ) → Whole kind_text (SoundKind room) text.now }
+/// What stands behind a bool, which is 0 or 1.
+fn boolean(text: &[u8]) -> Option<&[u8]>
+    ensures { (room : ℕ) → IfSome result (λ rest. Front kind_text (SoundKind room) text.now rest.now) }
 {
-    let Some(value) = behind(text, 0x18) else {
-        return false;
-    };
-    let Some((_value, rest)) = shortest(value, 9) else {
-        return false;
-    };
-    rest.is_empty()
+    let value = behind(text, 0x10)?;
+    let (value, rest) = shortest(value, 9)?;
+    if value < 2 { Some(rest) } else { None }
 }
 
-/// Eight bytes.
-fn is_double(text: &[u8]) -> bool
-    ensures { IsTrue result → (room : ℕ) → Whole kind_text (SoundKind room) text.now }
+/// What stands behind a number.
+fn int(text: &[u8]) -> Option<&[u8]>
+    ensures { (room : ℕ) → IfSome result (λ rest. Front kind_text (SoundKind room) text.now rest.now) }
 {
-    let Some(value) = behind(text, 0x21) else {
-        return false;
-    };
-    value.len() == 8
+    let value = behind(text, 0x18)?;
+    let (_value, rest) = shortest(value, 9)?;
+    Some(rest)
 }
 
-/// A string or bytes, by their tag.
-fn is_text(text: &[u8]) -> bool
-    ensures { IsTrue result → (room : ℕ) → Whole kind_text (SoundKind room) text.now }
+/// What stands behind a double.
+fn double(text: &[u8]) -> Option<&[u8]>
+    ensures { (room : ℕ) → IfSome result (λ rest. Front kind_text (SoundKind room) text.now rest.now) }
 {
-    let Some(bytes) = only_bytes(text, 1) else {
-        return false;
-    };
-    str::from_utf8(bytes).is_ok()
+    let value = behind(text, 0x21)?;
+    let (_value, rest) = split(value, 8)?;
+    Some(rest)
 }
 
-fn is_bytes(text: &[u8]) -> bool
-    ensures { IsTrue result → (room : ℕ) → Whole kind_text (SoundKind room) text.now }
+/// What stands behind bytes.
+fn bytes(text: &[u8]) -> Option<&[u8]>
+    ensures { (room : ℕ) → IfSome result (λ rest. Front kind_text (SoundKind room) text.now rest.now) }
 {
-    match only_bytes(text, 7) {
-        Some(_bytes) => true,
-        None => false,
-    }
+    let (_bytes, rest) = bytes_field(text, 7)?;
+    Some(rest)
 }
 
-/// The member of a value's oneof, or none, with room for so many levels inside it.
+/// What stands behind the member of a value's oneof, where one is chosen. There is room for so many levels inside the
+/// value.
 #[cycle(any)]
-fn is_kind(text: &[u8], room: u32) -> bool
-    ensures { IsTrue result → Whole kind_text (SoundKind room) text.now }
+fn kind(text: &[u8], room: u32) -> Option<&[u8]>
+    ensures { IfSome result (λ rest. Front kind_text (SoundKind room) text.now rest.now) }
 {
-    if text.is_empty() {
-        return true;
-    }
-    match text[0] {
-        0x0a => is_text(text),
-        0x10 => is_bool(text),
-        0x18 => is_int(text),
-        0x21 => is_double(text),
-        0x2a => match only_bytes(text, 5) {
-            Some(array) => is_array(array, room),
-            None => false,
-        },
-        0x32 => match only_bytes(text, 6) {
-            Some(list) => is_list(list, room),
-            None => false,
-        },
-        0x3a => is_bytes(text),
-        _ => false,
+    let Some(first) = text.first() else {
+        return Some(text);
+    };
+    match *first {
+        0x0a => string(text),
+        0x10 => boolean(text),
+        0x18 => int(text),
+        0x21 => double(text),
+        0x2a => {
+            let (inside, rest) = bytes_field(text, 5)?;
+            array(inside, room)?;
+            Some(rest)
+        }
+        0x32 => {
+            let (inside, rest) = bytes_field(text, 6)?;
+            list(inside, room)?;
+            Some(rest)
+        }
+        0x3a => bytes(text),
+        _ => Some(text),
     }
 }
 
-/// A value, with room for so many levels, its own among them.
+/// Goes over a value, with room for so many levels, its own among them.
 #[cycle(any)]
-pub fn is_any(text: &[u8], room: u32) -> bool
-    ensures { IsTrue result → Whole any_text (SoundAny room) text.now }
+fn any(text: &[u8], room: u32) -> Option<()>
+    ensures { IfSome result (λ u. Whole any_text (SoundAny room) text.now) }
 {
     if room == 0 {
-        return false;
+        return None;
     }
-    is_kind(text, room - 1)
+    let rest = kind(text, room - 1)?;
+    unknown::<AnyValue>(rest, room - 1)?;
+    Some(())
 }
 
+/// Goes over an array.
 #[cycle(any)]
-fn is_array(text: &[u8], room: u32) -> bool
-    ensures { IsTrue result → Whole array_text (SoundArray room) text.now }
+fn array(text: &[u8], room: u32) -> Option<()>
+    ensures { IfSome result (λ u. Whole array_text (SoundArray room) text.now) }
 {
     if room == 0 {
-        return false;
+        return None;
     }
     let mut left = text;
-    'values: while !left.is_empty() {
-        let Some((value, rest)) = bytes_field(left, 1) else {
-            return false;
-        };
-        if !is_any(value, room - 1) {
-            return false;
-        }
+    'values: while begins(left, 1) {
+        let (value, rest) = bytes_field(left, 1)?;
+        any(value, room - 1)?;
         left = rest;
     }
-    true
+    unknown::<ArrayValue>(left, room - 1)?;
+    Some(())
 }
 
+/// Goes over a list of keys with their values.
 #[cycle(any)]
-fn is_list(text: &[u8], room: u32) -> bool
-    ensures { IsTrue result → Whole list_text (SoundList room) text.now }
+fn list(text: &[u8], room: u32) -> Option<()>
+    ensures { IfSome result (λ u. Whole list_text (SoundList room) text.now) }
 {
     if room == 0 {
-        return false;
+        return None;
     }
     let mut left = text;
-    'values: while !left.is_empty() {
-        let Some((value, rest)) = bytes_field(left, 1) else {
-            return false;
-        };
-        if !is_key_value(value, room - 1) {
-            return false;
-        }
+    'values: while begins(left, 1) {
+        let (value, rest) = bytes_field(left, 1)?;
+        key_value(value, room - 1)?;
         left = rest;
     }
-    true
+    unknown::<KeyValueList>(left, room - 1)?;
+    Some(())
 }
 
-/// A key with or without a value.
+/// Goes over a key with or without a value.
 #[cycle(any)]
-pub fn is_key_value(text: &[u8], room: u32) -> bool
-    ensures { IsTrue result → Whole key_value_text (SoundKeyValue room) text.now }
+pub fn key_value(text: &[u8], room: u32) -> Option<()>
+    ensures { IfSome result (λ u. Whole key_value_text (SoundKeyValue room) text.now) }
 {
     if room == 0 {
-        return false;
+        return None;
     }
-    let Some(rest) = some_string(text, 1) else {
-        return false;
-    };
-    if rest.is_empty() {
-        return true;
+    let key = some_string(text, 1)?;
+    if !begins(key, 2) {
+        unknown::<KeyValue>(key, room - 1)?;
+        return Some(());
     }
-    let Some(value) = only_bytes(rest, 2) else {
-        return false;
-    };
-    is_any(value, room - 1)
+    let (value, rest) = bytes_field(key, 2)?;
+    any(value, room - 1)?;
+    unknown::<KeyValue>(rest, room - 1)?;
+    Some(())
 }
