@@ -1,13 +1,14 @@
 //! Whether bytes are the canonical text of a message of OTLP traces already.
 //!
 //! A client's body is mostly written as `otlp_trace` writes it: known fields by rising number, numbers as short as they
-//! can be, and what has its proto3 default left out. Whoever wants a message's canonical text then need not read the
-//! message and write it again: the bytes that stand there are the text. The four functions here find that out. Where one
-//! answers `true`, the bytes are the canonical text of the very value that `otlp_read` gives them. They take no memory,
-//! walk from left to right, and call themselves only where a message or a value stands in another.
+//! can be, what has its proto3 default left out, and what isn't known last. Whoever wants a message's canonical text
+//! then need not read the message and write it again: the bytes that stand there are the text. The four functions here
+//! find that out. Where one answers `true`, the bytes are the canonical text of the very value that `otlp_read` gives
+//! them. They take no memory, walk from left to right, and call themselves only where a message or a value stands in
+//! another.
 //!
-//! It stands on `pb_wire`, `otlp_trace` and `otlp_read`. The rules are those of the proto3 language guide and the Protocol
-//! Buffers encoding guide, over the messages of OTLP 1.x.
+//! It stands on `pb_wire`, `otlp_trace` and `otlp_read`. The rules are those of the proto3 language guide and the
+//! Protocol Buffers encoding guide, over the messages of OTLP 1.x.
 #![tactic(auto)]
 
 mod field;

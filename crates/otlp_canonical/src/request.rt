@@ -1,4 +1,5 @@
-//! Spans by scope and resource. These messages drop what they don't know, so that nothing may stand behind their fields.
+//! Spans by scope and resource. These messages drop what they don't know, so that nothing may stand behind their
+//! fields.
 
 ghost use Rattle.std.specs.Prelude.{◌≡◌, IfSome};
 ghost use Rattle.otlp_trace.specs.Data.{ScopeSpansData, ResourceSpansData};

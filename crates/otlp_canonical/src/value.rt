@@ -1,4 +1,5 @@
-//! Attributes and their values, which hold others. A value goes to its member, an array or a list to each of its values.
+//! Attributes and their values, which hold others. A value goes to its member, an array or a list to each of its
+//! values.
 
 ghost use Rattle.std.specs.Prelude.{◌≡◌, ℕ, IfSome};
 ghost use Rattle.otlp_trace.specs.Text.{any_text, kind_text, array_text, list_text, key_value_text};
