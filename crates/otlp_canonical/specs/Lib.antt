@@ -1,0 +1,3 @@
+pub mod Canonical
+pub mod Parts
+pub mod Sound

@@ -1,0 +1,23 @@
+//! Whether bytes are the canonical text of a message of OTLP traces already.
+//!
+//! A client's body is mostly written as `otlp_trace` writes it: known fields by rising number, numbers as short as they
+//! can be, what has its proto3 default left out, and what isn't known last. Whoever wants a message's canonical text
+//! then need not read the message and write it again: the bytes that stand there are the text. The four functions here
+//! find that out. Where one answers `true`, the bytes are the canonical text of the very value that `otlp_read` gives
+//! them. They take no memory, walk from left to right, and call themselves only where a message or a value stands in
+//! another.
+//!
+//! It stands on `pb_wire`, `otlp_trace` and `otlp_read`. The rules are those of the proto3 language guide and the
+//! Protocol Buffers encoding guide, over the messages of OTLP 1.x.
+#![tactic(auto)]
+
+mod field;
+mod message;
+mod number;
+mod request;
+mod span;
+mod text;
+mod unknown;
+mod value;
+
+pub use text::{is_request_text, is_resource_text, is_scope_text, is_span_text};

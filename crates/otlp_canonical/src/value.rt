@@ -1,0 +1,155 @@
+//! Attributes and their values, which hold others. A value goes to its member, an array or a list to each of its
+//! values.
+
+ghost use Rattle.std.specs.Prelude.{◌≡◌, ℕ, IfSome};
+ghost use Rattle.otlp_trace.specs.Text.{any_text, kind_text, array_text, list_text, key_value_text};
+ghost use Rattle.otlp_canonical.specs.Parts.{Whole, Front};
+ghost use Rattle.otlp_canonical.specs.Sound.{SoundAny, SoundKind, SoundArray, SoundList, SoundKeyValue};
+
+use crate::field::{begins, bytes_field, some_string};
+use crate::number::{behind, shortest, split};
+use crate::unknown::unknown;
+use otlp_trace::{AnyValue, ArrayValue, KeyValue, KeyValueList};
+
+/// What stands behind a string.
+fn string(text: &[u8]) -> Option<&[u8]>
+    ensures { (room : ℕ) → IfSome result (λ rest. Front kind_text (SoundKind room) text.now rest.now) }
+{
+    let (bytes, rest) = bytes_field(text, 1)?;
+    if str::from_utf8(bytes).is_err() {
+        return None;
+    }
+    Some(rest)
+}
+
+/// What stands behind a bool, which is 0 or 1.
+fn boolean(text: &[u8]) -> Option<&[u8]>
+    ensures { (room : ℕ) → IfSome result (λ rest. Front kind_text (SoundKind room) text.now rest.now) }
+{
+    let value = behind(text, 0x10)?;
+    let (value, rest) = shortest(value, 9)?;
+    if value < 2 { Some(rest) } else { None }
+}
+
+/// What stands behind a number.
+fn int(text: &[u8]) -> Option<&[u8]>
+    ensures { (room : ℕ) → IfSome result (λ rest. Front kind_text (SoundKind room) text.now rest.now) }
+{
+    let value = behind(text, 0x18)?;
+    let (_value, rest) = shortest(value, 9)?;
+    Some(rest)
+}
+
+/// What stands behind a double.
+fn double(text: &[u8]) -> Option<&[u8]>
+    ensures { (room : ℕ) → IfSome result (λ rest. Front kind_text (SoundKind room) text.now rest.now) }
+{
+    let value = behind(text, 0x21)?;
+    let (_value, rest) = split(value, 8)?;
+    Some(rest)
+}
+
+/// What stands behind bytes.
+fn bytes(text: &[u8]) -> Option<&[u8]>
+    ensures { (room : ℕ) → IfSome result (λ rest. Front kind_text (SoundKind room) text.now rest.now) }
+{
+    let (_bytes, rest) = bytes_field(text, 7)?;
+    Some(rest)
+}
+
+/// What stands behind the member of a value's oneof, where one is chosen. There is room for so many levels inside the
+/// value.
+#[cycle(any)]
+fn kind(text: &[u8], room: u32) -> Option<&[u8]>
+    ensures { IfSome result (λ rest. Front kind_text (SoundKind room) text.now rest.now) }
+{
+    let Some(first) = text.first() else {
+        return Some(text);
+    };
+    match *first {
+        0x0a => string(text),
+        0x10 => boolean(text),
+        0x18 => int(text),
+        0x21 => double(text),
+        0x2a => {
+            let (inside, rest) = bytes_field(text, 5)?;
+            array(inside, room)?;
+            Some(rest)
+        }
+        0x32 => {
+            let (inside, rest) = bytes_field(text, 6)?;
+            list(inside, room)?;
+            Some(rest)
+        }
+        0x3a => bytes(text),
+        _ => Some(text),
+    }
+}
+
+/// Goes over a value, with room for so many levels, its own among them.
+#[cycle(any)]
+fn any(text: &[u8], room: u32) -> Option<()>
+    ensures { IfSome result (λ u. Whole any_text (SoundAny room) text.now) }
+{
+    if room == 0 {
+        return None;
+    }
+    let rest = kind(text, room - 1)?;
+    unknown::<AnyValue>(rest, room - 1)?;
+    Some(())
+}
+
+/// Goes over an array.
+#[cycle(any)]
+fn array(text: &[u8], room: u32) -> Option<()>
+    ensures { IfSome result (λ u. Whole array_text (SoundArray room) text.now) }
+{
+    if room == 0 {
+        return None;
+    }
+    let mut left = text;
+    'values: while begins(left, 1) {
+        let (value, rest) = bytes_field(left, 1)?;
+        any(value, room - 1)?;
+        left = rest;
+    }
+    unknown::<ArrayValue>(left, room - 1)?;
+    Some(())
+}
+
+/// Goes over a list of keys with their values.
+#[cycle(any)]
+fn list(text: &[u8], room: u32) -> Option<()>
+    ensures { IfSome result (λ u. Whole list_text (SoundList room) text.now) }
+{
+    if room == 0 {
+        return None;
+    }
+    let mut left = text;
+    'values: while begins(left, 1) {
+        let (value, rest) = bytes_field(left, 1)?;
+        key_value(value, room - 1)?;
+        left = rest;
+    }
+    unknown::<KeyValueList>(left, room - 1)?;
+    Some(())
+}
+
+/// Goes over a key with or without a value.
+#[cycle(any)]
+pub fn key_value(text: &[u8], room: u32) -> Option<()>
+    ensures { IfSome result (λ u. Whole key_value_text (SoundKeyValue room) text.now) }
+{
+    if room == 0 {
+        return None;
+    }
+    let key = some_string(text, 1)?;
+    if !begins(key, 2) {
+        unknown::<KeyValue>(key, room - 1)?;
+        return Some(());
+    }
+    let (value, rest) = bytes_field(key, 2)?;
+    any(value, room - 1)?;
+    unknown::<KeyValue>(rest, room - 1)?;
+    Some(())
+}
