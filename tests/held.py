@@ -6,14 +6,19 @@
 
 Each of the tests of crates/store_tests/src/load.rt lets a million spans pass: they come, join the rows of their traces,
 ten spans each, are decided and leave. They differ in how many spans are held at a time, and of how many tenants. Time
-is the test's own processor time for each span, and memory the most that the process had, less what it has with
-no span at all, for each span that was held. Time is compared with the first line.
+is the processor time of the program for each span that passes, and beside it what the system took of it; memory is the
+most bytes that were allocated at a time, for each span that was held. In brackets: as against the first line. It needs
+a C compiler, `cc`.
 """
+import os
 import pathlib
+import re
 import subprocess
 import sys
+import tempfile
 
-ROOT = pathlib.Path(__file__).resolve().parent.parent
+from refused import ROOT, built
+
 BINARY = ROOT / "crates" / "store_tests" / "out" / "store_tests_tests"
 SPANS = 1_000_000
 TESTS = [
@@ -22,35 +27,36 @@ TESTS = [
     ("load::a_million_held_of_one_tenant", 1_000_000),
     ("load::a_million_held_of_a_thousand_tenants", 1_000_000),
 ]
-CHILD = """
-import resource, subprocess, sys
-done = subprocess.run(sys.argv[1:], stdout=subprocess.DEVNULL)
-used = resource.getrusage(resource.RUSAGE_CHILDREN)
-print(done.returncode, used.ru_utime + used.ru_stime, used.ru_maxrss)
-"""
 
 
-def run(*words):
-    """Status, seconds and kilobytes of a run, in a process whose only child it is."""
-    told = subprocess.run([sys.executable, "-c", CHILD, *words], capture_output=True, text=True, check=True).stdout
-    status, seconds, kilobytes = told.split()
-    return int(status), float(seconds), int(kilobytes)
+def seconds(test):
+    """The processor time of a run, its own and the system's."""
+    before = os.times()
+    subprocess.run([BINARY, test], stdout=subprocess.DEVNULL, check=True)
+    after = os.times()
+    return after.children_user - before.children_user, after.children_system - before.children_system
+
+
+def most_bytes(test, shim):
+    """The most bytes that a run had at a time."""
+    environment = dict(os.environ, LD_PRELOAD=str(shim), REFUSE="0")
+    done = subprocess.run([BINARY, test], capture_output=True, text=True, check=True, env=environment)
+    return int(re.findall(r"^bytes (\d+)$", done.stderr, re.M)[-1])
 
 
 def main():
     rounds = int(sys.argv[1]) if len(sys.argv) > 1 else 3
     if not BINARY.exists():
         sys.exit(f"held: {BINARY} isn't there: run `rt test` in crates/store_tests")
-    bare = min(run(str(BINARY), "--list")[2] for _ in range(rounds))
     first = None
-    for test, held in TESTS:
-        runs = [run(str(BINARY), test) for _ in range(rounds)]
-        if any(status for status, _, _ in runs):
-            sys.exit(f"held: {test} doesn't pass")
-        nanos = min(seconds for _, seconds, _ in runs) * 1e9 / SPANS
-        bytes_each = (min(kilobytes for _, _, kilobytes in runs) - bare) * 1024 / held
-        first = first or nanos
-        print(f"{test}: {nanos:.0f} ns a span ({nanos / first:.2f}), {bytes_each:.0f} bytes a span held")
+    with tempfile.TemporaryDirectory() as folder:
+        shim = built(pathlib.Path(folder))
+        for test, held in TESTS:
+            own, system = min((seconds(test) for _ in range(rounds)), key=sum)
+            nanos, size = (own + system) * 1e9 / SPANS, most_bytes(test, shim) / held
+            first = first or (nanos, size)
+            print(f"{test}: {nanos:.0f} ns a span ({nanos / first[0]:.2f}; {system * 1e9 / SPANS:.0f} of it the "
+                  f"system's), {size:.0f} bytes a span held ({size / first[1]:.2f})")
 
 
 if __name__ == "__main__":
