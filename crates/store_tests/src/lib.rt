@@ -7,4 +7,6 @@ mod agenda;
 #[cfg(test)]
 mod batcher;
 #[cfg(test)]
+mod load;
+#[cfg(test)]
 mod rows;

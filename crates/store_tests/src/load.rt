@@ -1,0 +1,160 @@
+//! Many spans pass through a pool and a table of rows, which hold so many of them at a time. tests/held.py takes the
+//! time and the memory of each test here.
+
+use bytes::Bytes;
+use span_pool::{Numbers, SchemaUrls, SpanPool, StoredSpan};
+use span_view::is_text;
+use std::alloc::{AllocError, Global};
+use std::process::Abort;
+use std::test::Fail;
+use trace_rows::{Keys, Row, TraceRows};
+
+/// How many spans pass in each test.
+const SPANS: u64 = 1_000_000;
+
+/// How many spans a trace has, which come one after the other.
+const SPANS_OF_A_TRACE: u64 = 10;
+
+/// A span's text: a name.
+const TEXT: &[u8] = b"\x2a\x12the name of a span";
+
+/// The stores, and whose spans come: a trace of each tenant in turn.
+#[derive(Drop)]
+struct Load {
+    pool: SpanPool,
+    table: TraceRows<u64>,
+    tenants: u32,
+}
+
+/// A trace's tenant, and its number among the tenant's.
+fn place(load: &Load, trace: u64) -> (u32, u64) {
+    let tenants = u64::from(load.tenants.max(1));
+    ((trace % tenants) as u32, trace / tenants)
+}
+
+/// A trace's id, of which neighbours are far from each other.
+fn trace_id(trace: u64) -> [u8; 16] {
+    let [a, b, c, d, e, f, g, h] = trace.wrapping_mul(0x9e37_79b9_7f4a_7c15).to_be_bytes();
+    let [i, j, k, l, m, n, o, p] = trace.to_be_bytes();
+    [a, b, c, d, e, f, g, h, i, j, k, l, m, n, o, p]
+}
+
+/// A span of this tenant, with a text of its own.
+fn stored(rt: &impl Abort, alloc: Global, tenant: u32) -> Result<StoredSpan, AllocError> {
+    assert!(rt; is_text(TEXT, b""));
+    let urls = SchemaUrls {
+        resource: Bytes::new(),
+        scope: Bytes::new(),
+    };
+    let numbers = Numbers {
+        resource: 0,
+        scope: 0,
+    };
+    let text = Bytes::copy_from_slice(alloc, TEXT)?;
+    Ok(StoredSpan::of(tenant, None, None, urls, text, numbers))
+}
+
+/// A span comes into the pool, and joins its trace's row or opens it.
+fn come(rt: &impl Abort, alloc: Global, load: &mut Load, span: u64) -> Result<(), AllocError> {
+    let trace = span / SPANS_OF_A_TRACE;
+    let (tenant, number) = place(load, trace);
+    let key = load.pool.put(stored(rt, alloc, tenant)?)?;
+    if let Some(seat) = load.table.seat(tenant, trace_id(trace)) {
+        let note = match load.table.row(tenant, seat) {
+            Some(row) => row.note.max(span),
+            None => span,
+        };
+        return load.table.join(tenant, seat, key, note);
+    }
+    assert!(rt; load.table.row(tenant, number).is_none());
+    let row = Row {
+        trace: trace_id(trace),
+        due: span,
+        keys: Keys::one(alloc, key)?,
+        note: span,
+        sampled: false,
+    };
+    load.table.open(tenant, number, row)?;
+    Ok(())
+}
+
+/// A trace is decided: its spans leave the pool, and its row the table. The answer is how many spans it had.
+fn leave(alloc: Global, load: &mut Load, trace: u64) -> u64 {
+    let (tenant, number) = place(load, trace);
+    let keys = load.table.settle(alloc, tenant, number, true);
+    load.pool.take_all(tenant, keys.as_slice());
+    let _ = load.table.sweep(alloc, tenant, number);
+    keys.as_slice().len() as u64
+}
+
+/// The spans of a trace come.
+fn trace_comes(
+    rt: &impl Abort,
+    alloc: Global,
+    load: &mut Load,
+    trace: u64,
+) -> Result<(), AllocError> {
+    let first = trace.saturating_mul(SPANS_OF_A_TRACE);
+    for span in 0..SPANS_OF_A_TRACE {
+        come(rt, alloc, load, first.saturating_add(span))?;
+    }
+    Ok(())
+}
+
+/// All spans come, and the oldest trace leaves where more than so many spans would be held. The answer is how many
+/// left.
+fn all_come(rt: &impl Abort, alloc: Global, load: &mut Load, held: u64) -> Result<u64, AllocError> {
+    let kept = held / SPANS_OF_A_TRACE;
+    let mut left: u64 = 0;
+    for trace in 0..SPANS / SPANS_OF_A_TRACE {
+        if trace >= kept {
+            left = left.saturating_add(leave(alloc, load, trace - kept));
+        }
+        trace_comes(rt, alloc, load, trace)?;
+    }
+    Ok(left)
+}
+
+/// All traces leave. The answer is how many spans left.
+fn all_leave(alloc: Global, load: &mut Load) -> u64 {
+    let mut left: u64 = 0;
+    for trace in 0..SPANS / SPANS_OF_A_TRACE {
+        left = left.saturating_add(leave(alloc, load, trace));
+    }
+    left
+}
+
+/// All spans pass through the stores, which hold so many of them. The answer is how many left.
+fn passed(rt: &impl Abort, alloc: Global, held: u64, tenants: u32) -> Result<u64, AllocError> {
+    let mut load = Load {
+        pool: SpanPool::new(alloc),
+        table: TraceRows::new(alloc),
+        tenants,
+    };
+    let left = all_come(rt, alloc, &mut load, held)?;
+    Ok(left.saturating_add(all_leave(alloc, &mut load)))
+}
+
+#[test]
+fn a_thousand_held_of_one_tenant(rt: HostRuntime) -> Result<(), Fail> {
+    assert!(rt; passed(&rt, rt.alloc(), 1_000, 1)? == SPANS);
+    Ok(())
+}
+
+#[test]
+fn a_million_held_of_one_tenant(rt: HostRuntime) -> Result<(), Fail> {
+    assert!(rt; passed(&rt, rt.alloc(), 1_000_000, 1)? == SPANS);
+    Ok(())
+}
+
+#[test]
+fn a_thousand_held_of_a_thousand_tenants(rt: HostRuntime) -> Result<(), Fail> {
+    assert!(rt; passed(&rt, rt.alloc(), 1_000, 1_000)? == SPANS);
+    Ok(())
+}
+
+#[test]
+fn a_million_held_of_a_thousand_tenants(rt: HostRuntime) -> Result<(), Fail> {
+    assert!(rt; passed(&rt, rt.alloc(), 1_000_000, 1_000)? == SPANS);
+    Ok(())
+}

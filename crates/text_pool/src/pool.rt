@@ -1,0 +1,174 @@
+//! The texts of all tenants of a shard, each under a key.
+
+ghost use Rattle.std.specs.Prelude.{◌≡◌, ◌≢◌, ◌<◌, ◌+◌, ◌^◌, ℕ, None, Some, IfOk, OnOk, OnErr, IfSome, option_copied};
+ghost use Rattle.slab.specs.Slab.{get, ContainsKey, Updates};
+ghost use Rattle.text_pool.specs.Part.{part, with_text, with_uses, held, released, text_of, same_text};
+
+use crate::text::Text;
+use bytes::Bytes;
+use slab::Slab;
+use std::alloc::{AllocError, Global};
+use std::collections::BTreeMap;
+use std::marker::Model;
+
+/// A text that is kept, and how often.
+#[derive(Drop)]
+pub struct Kept {
+    /// The number of the tenant whose text it is.
+    pub owner: u32,
+    /// The text.
+    pub text: Text,
+    /// For how many it is kept, at least one.
+    pub uses: u64,
+}
+
+/// All tenants' texts, by keys that the pool gives out. A key is given out anew once its text was released as often as
+/// it was held.
+#[derive(Drop)]
+pub struct TextPool {
+    texts: Slab<Kept>,
+    // By tenant and digest, a key that may have the text. A text is looked at before its key is taken from here.
+    keys: BTreeMap<(u32, [u8; 32]), usize>,
+}
+
+impl Model for TextPool {
+    ghost use Rattle.slab.specs.Slab.{Slab as Slots, slab_code};
+    ghost use Rattle.text_pool.specs.declared.pool.Kept.{Kept};
+
+    ghost Value = { Slots Kept };
+
+    ghost view = { λ p. p.texts };
+}
+
+impl TextPool {
+    /// No texts of any tenant, which take no memory.
+    pub fn new(alloc: Global) -> Self
+        ensures { (tenant : ℕ) → part tenant result ≡ λ _. None }
+    {
+        TextPool {
+            texts: Slab::new(alloc),
+            keys: BTreeMap::new(alloc),
+        }
+    }
+
+    /// One use more of a text of the tenant's, which is kept from now on if it wasn't. The answer is its key.
+    pub fn hold(&mut self, tenant: u32, text: Text) -> Result<usize, AllocError>
+        ensures own { IfOk result (λ key. part tenant self.new ≡
+            with_text key (held tenant text (part tenant self.old key)) (part tenant self.old)) }
+        ensures same { IfOk result (λ key. IfSome (part tenant self.old key) (λ kept. kept.text ≡ text)) }
+
+        // Other tenants' parts stay as they were, and where memory is refused this tenant's too.
+        ensures others { (other : ℕ) → other ≢ tenant → part other self.new ≡ part other self.old }
+        ensures refused { OnErr result (part tenant self.new ≡ part tenant self.old) }
+    {
+        let Some((key, uses)) = self.known(tenant, &text) else {
+            return self.put(tenant, text);
+        };
+        self.set_uses(key, uses + 1);
+        Ok(key)
+    }
+
+    /// The key of the tenant's text and its uses, where the key is known and one more use can be counted.
+    fn known(&self, tenant: u32, text: &Text) -> Option<(usize, u64)>
+        ensures known { IfSome result (λ found. part tenant self.now found.0 ≡
+            Some (record { owner = tenant; text = text.now; uses = found.1 })) }
+        ensures few { IfSome result (λ found. found.1 + 1 < 2 ^ 64) }
+    {
+        let key = *self.keys.get(&(tenant, text.digest()))?;
+        let kept = self.owned(tenant, key)?;
+        if kept.uses < u64::MAX && kept.text.is_same(text) {
+            Some((key, kept.uses))
+        } else {
+            None
+        }
+    }
+
+    /// The text at this key is kept for so many.
+    fn set_uses(&mut self, key: usize, uses: u64)
+        ensures changed { get self.new key ≡ with_uses uses (get self.old key) }
+        ensures others { (other : ℕ) → other ≢ key → get self.new other ≡ get self.old other }
+    {
+        if let Some(kept) = self.texts.get_mut(key) {
+            kept.uses = uses;
+        }
+    }
+
+    /// A text comes under a key that was vacant.
+    fn put(&mut self, tenant: u32, text: Text) -> Result<usize, AllocError>
+        ensures vacant { IfOk result (λ key. part tenant self.old key ≡ None) }
+        ensures own { IfOk result (λ key. part tenant self.new ≡
+            with_text key (held tenant text None) (part tenant self.old)) }
+        ensures others { (other : ℕ) → other ≢ tenant → part other self.new ≡ part other self.old }
+        ensures refused { OnErr result (part tenant self.new ≡ part tenant self.old) }
+    {
+        self.texts.reserve(1)?;
+        self.keys
+            .insert((tenant, text.digest()), self.texts.vacant_key())?;
+        Ok(
+            self.texts.insert_reserved(Kept {
+                owner: tenant,
+                text,
+                uses: 1,
+            }),
+        )
+    }
+
+    /// One use less of the tenant's text at this key, which leaves with the last one. It takes no memory.
+    pub fn release(&mut self, tenant: u32, key: usize)
+        ensures own { part tenant self.new ≡
+            with_text key (released (part tenant self.old key)) (part tenant self.old) }
+        ensures others { (other : ℕ) → other ≢ tenant → part other self.new ≡ part other self.old }
+    {
+        let Some(kept) = self.owned(tenant, key) else {
+            return;
+        };
+        if kept.uses == 1 {
+            self.remove(tenant, key);
+        } else {
+            let uses = kept.uses.saturating_sub(1);
+            self.set_uses(key, uses);
+        }
+    }
+
+    /// The text at this key leaves, and what led to it.
+    fn remove(&mut self, tenant: u32, key: usize)
+        requires { ContainsKey self.old key }
+        ensures { Updates self.old self.new key None }
+    {
+        let kept = self.texts.remove(key);
+        let place = (tenant, kept.text.digest());
+        if self.keys.get(&place) == Some(&key) {
+            self.keys.remove(&place);
+        }
+    }
+
+    /// The tenant's text at a key.
+    pub fn text(&self, tenant: u32, key: usize) -> Option<&Bytes>
+        ensures { option_copied result ≡ text_of (part tenant self.now key) }
+    {
+        Some(self.owned(tenant, key)?.text.bytes())
+    }
+
+    /// Whether the tenant's texts at two keys are the same, or missing at both.
+    pub fn is_same(&self, tenant: u32, one: usize, other: usize) -> bool
+        ensures { result ≡ same_text (part tenant self.now one) (part tenant self.now other) }
+    {
+        if one == other {
+            return true;
+        }
+        match (self.owned(tenant, one), self.owned(tenant, other)) {
+            (Some(one), Some(other)) => one.text.is_same(&other.text),
+            (None, None) => true,
+            _ => false,
+        }
+    }
+
+    fn owned(&self, tenant: u32, key: usize) -> Option<&Kept>
+        ensures { option_copied result ≡ part tenant self.now key }
+    {
+        match self.texts.get(key) {
+            Some(kept) if kept.owner == tenant => Some(kept),
+            _ => None,
+        }
+    }
+}
