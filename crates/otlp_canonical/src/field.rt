@@ -149,14 +149,22 @@ pub fn some_four(text: &[u8], number: u8) -> Option<&[u8]>
     }
 }
 
+/// What stands behind a tag of these two bytes, where the text begins with it.
+fn behind_two(text: &[u8], first: u8, second: u8) -> Option<&[u8]>
+    ensures parts { IfSome result (λ rest. text.now ≡ first ∷ second ∷ rest.now) }
+{
+    let text = behind(text, first)?;
+    let text = behind(text, second)?;
+    Some(text)
+}
+
 /// The same in a field of number 16, whose tag has two bytes.
 pub fn some_flags(text: &[u8]) -> Option<&[u8]>
     ensures { IfSome result (λ rest. Front (some_four 16) (λ x. x < 2 ^ 32) text.now rest.now) }
 {
-    match behind(text, 0x85) {
+    match behind_two(text, 0x85, 0x01) {
         None => Some(text),
-        Some(second) => {
-            let value = behind(second, 0x01)?;
+        Some(value) => {
             let rest = four(value)?;
             Some(rest)
         }

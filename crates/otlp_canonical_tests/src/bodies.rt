@@ -1,5 +1,8 @@
 //! Bodies of Protocol Buffers' own libraries (tests/otlp), and one in which bytes are changed.
 
+ghost use Rattle.std.specs.Prelude.{◌<◌};
+
+use crate::texts::is_written_again;
 use crate::vectors::{FAULTS, VECTORS};
 use otlp_canonical::is_request_text;
 use std::alloc::Global;
@@ -59,6 +62,32 @@ const BODY: [u8; 59] = *b"\x0a\x39\x0a\x0c\x0a\x06\x12\x04\x0a\x02ab\x0a\0\x10\x
     \x12\x29\x0a\x03\x0a\x01s\x12\x1d\x2a\x01n\x30\x02\
     \x4a\x09\x0a\x01k\x12\x04\x2a\x02\x0a\0\
     \x7a\x05\x12\x01m\x18\x02\x85\x01\x01\0\0\0\x1a\x03url";
+
+/// Whether the answer is that of reading and writing, whatever stands at this place.
+fn answers(alloc: Global, body: &mut [u8; 59], at: usize) -> Result<bool, Fail>
+    requires { at < 59 }
+{
+    let was = body[at];
+    for byte in 0..=255u8 {
+        body[at] = byte;
+        if is_request_text(body) != is_written_again(alloc, body)? {
+            return Ok(false);
+        }
+    }
+    body[at] = was;
+    Ok(true)
+}
+
+#[test]
+fn the_answer_is_that_of_reading_and_writing(rt: HostRuntime) -> Result<(), Fail> {
+    let alloc = rt.alloc();
+    assert!(rt; is_request_text(&BODY));
+    let mut body = BODY;
+    for at in 0..59 {
+        assert!(rt; answers(alloc, &mut body, at)?);
+    }
+    Ok(())
+}
 
 #[test]
 fn no_front_of_a_body_is_canonical(rt: HostRuntime) {

@@ -50,6 +50,9 @@ fn what_is_not_known_stands_last(rt: HostRuntime) {
         (b"\x2a\x01n\x08\x05".as_slice(), true),
         (b"\xa3\x06\x08\x05\xa4\x06".as_slice(), true),
         (b"\x81\x01\0\0\0\0\0\0\0\0".as_slice(), true),
+        // Field 32 in four bytes, whose tag begins as that of the flags does; and the flags' tag in three bytes.
+        (b"\x85\x02\0\0\0\0".as_slice(), true),
+        (b"\x85\x81\0\x01\0\0\0".as_slice(), false),
         // They stay as they were spelled, also longer than need be.
         (b"\xa0\x06\x81\0".as_slice(), true),
         // In a status, an event and a link.
