@@ -10,4 +10,6 @@ mod definition_tests;
 #[cfg(test)]
 mod ledger_tests;
 #[cfg(test)]
+mod queue_tests;
+#[cfg(test)]
 mod retry_tests;
