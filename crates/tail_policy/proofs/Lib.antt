@@ -1,2 +1,2 @@
 mod Lists
-mod Ends
+mod Joined

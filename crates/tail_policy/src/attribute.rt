@@ -38,7 +38,7 @@ fn is_within(low: i64, high: i64, value: ValueRef<'_>) -> bool
 }
 
 /// Whether a value is such a one.
-fn is_wanted(wanted: Wanted<'_>, value: ValueRef<'_>) -> bool
+pub fn is_wanted(wanted: Wanted<'_>, value: ValueRef<'_>) -> bool
     ensures { result ≡ is_wanted wanted.entry (value_shown value.entry) }
 {
     match wanted {

@@ -2,23 +2,29 @@
 //!
 //! A trace is sampled where one of its tenant's policies samples it (`specs/Meaning`, after the documents of the
 //! OpenTelemetry Collector's `tail_sampling` processor). Each policy looks at all spans of the trace, each with its
-//! resource. [`keeps`] answers exactly that.
+//! resource. [`keeps`] answers exactly that. [`TenantPolicies`] answer the same by notes: what is kept of each span is
+//! of one size and joins, so a trace is decided without its spans.
 //!
 //! It stands on `span_view`, for what a policy asks of a span, and on `tail_settings`, for what a policy is.
 #![tactic(auto)]
 
 mod attribute;
+mod bits;
+mod note;
 mod policy;
 mod status;
+mod tenant;
 mod time;
 
 ghost use Rattle.std.specs.Prelude.{◌≡◌, ◌<◌, length, map};
 ghost use Rattle.tail_settings.specs.Policy.{policy_view};
 ghost use Rattle.tail_policy.specs.Meaning.{keeps};
 
+pub use note::TraceNote;
 use policy::policy_samples;
 use span_view::SpanRef;
 use tail_settings::PolicySpec;
+pub use tenant::{Policy, TenantPolicies};
 
 /// Whether the trace that has these spans is sampled: whether one of the policies samples it.
 ///

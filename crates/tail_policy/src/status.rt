@@ -2,6 +2,7 @@
 
 ghost use Rattle.std.specs.Prelude.{◌≡◌, map};
 ghost use Rattle.std.specs.List.{list_any};
+ghost use Rattle.std.specs.Ordering.{int_eq};
 ghost use Rattle.tail_settings.specs.Policy.{status_view};
 ghost use Rattle.tail_policy.specs.Meaning.{number_of, has_status};
 
@@ -19,12 +20,18 @@ fn number_of(code: StatusCode) -> i32
     }
 }
 
-/// Whether the span's status is one of these. A missing one counts as UNSET, and other numbers match none.
+/// Whether a status is one of these. Numbers that no code has match none.
+pub fn is_listed(codes: &[StatusCode], status: i32) -> bool
+    ensures { result ≡ list_any (λ code. int_eq status (number_of code)) (map status_view codes.now) }
+{
+    codes.iter().any(|code| status == number_of(*code))
+}
+
+/// Whether the span's status is one of these. A missing one counts as UNSET.
 fn has_status(codes: &[StatusCode], span: &SpanRef<'_>) -> bool
     ensures { result ≡ has_status (map status_view codes.now) span.now }
 {
-    let status = span.status();
-    codes.iter().any(|code| status == number_of(*code))
+    is_listed(codes, span.status())
 }
 
 /// Whether one of the spans has one of these statuses.

@@ -1,7 +1,7 @@
 //! How long a trace lasts.
 
-ghost use Rattle.std.specs.Prelude.{◌≡◌};
-ghost use Rattle.tail_policy.specs.Meaning.{duration};
+ghost use Rattle.std.specs.Prelude.{◌≡◌, ◌-◌, ◌/◌};
+ghost use Rattle.tail_policy.specs.Meaning.{duration, nanoseconds};
 
 use span_view::SpanRef;
 
@@ -22,5 +22,13 @@ pub fn duration(spans: &[SpanRef<'_>]) -> u64
         start = start.min(span.start());
         end = end.max(span.end());
     }
+    whole_milliseconds(start, end)
+}
+
+/// From a start to an end, both in nanoseconds, in whole milliseconds, rounded down; 0 where the end is before the
+/// start.
+pub fn whole_milliseconds(start: u64, end: u64) -> u64
+    ensures { result ≡ (end - start) / nanoseconds }
+{
     end.saturating_sub(start) / NANOSECONDS
 }

@@ -1,7 +1,7 @@
 use Rattle.std.proofs.Common.{◌≡◌, ◌≤◌, length, sym, ◌∙◌, arith}
 use Rattle.std.proofs.lemmas.List.{at_drop_all}
 use Rattle.tail_policy.specs.Meaning.{earliest_start, latest_end}
-use Rattle.tail_policy.proofs.Ends.{least, greatest, least-starts, greatest-ends}
+use Rattle.tail_policy.specs.Ends.{least, greatest, least-starts, greatest-ends}
 use Rattle.tail_policy.proofs.time.duration.Goals as goal
 
 pub returns : goal.returns
@@ -16,4 +16,4 @@ returns c =
     sym (at_drop_all (least seen.start) others seen.span-index done) ∙ seen.invariant.start ∙ started in
     let end : seen.end ≡ latest_end first others =
     sym (at_drop_all (greatest seen.end) others seen.span-index done) ∙ seen.invariant.end ∙ ended in
-    rw (c.in-Some.ensures.cases.0, ← start, ← end) (omega (arith, c.saturating_sub.ensures))
+    rw (c.in-Some.ensures.cases.0, ← start, ← end) c.whole_milliseconds.ensures

@@ -1,5 +1,5 @@
 use Rattle.std.proofs.Common.{◌≡◌, drop}
-use Rattle.tail_policy.proofs.Ends.{least, greatest}
+use Rattle.tail_policy.specs.Ends.{least, greatest}
 use Rattle.tail_policy.proofs.time.duration.Given as goal
 
 abbrev pub invariant-loop-span : goal.invariant-loop-span
