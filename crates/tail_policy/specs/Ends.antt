@@ -23,13 +23,13 @@ least-min : (a b : ℕ) (spans : List SpanFacts) → least (min a b) spans ≡ m
 least-min a b [] = refl
 least-min a b (span ∷ spans) =
     ap (λ n. least n spans) (min_assoc a b span.start_time_unix_nano)
-        ∙ least-min a (min b span.start_time_unix_nano) spans
+    ∙ least-min a (min b span.start_time_unix_nano) spans
 
 greatest-max : (a b : ℕ) (spans : List SpanFacts) → greatest (max a b) spans ≡ max a (greatest b spans)
 greatest-max a b [] = refl
 greatest-max a b (span ∷ spans) =
     ap (λ n. greatest n spans) (max_assoc a b span.end_time_unix_nano)
-        ∙ greatest-max a (max b span.end_time_unix_nano) spans
+    ∙ greatest-max a (max b span.end_time_unix_nano) spans
 
 -- from the first start on, the least is the earliest start
 pub least-starts : (span : SpanFacts) (others : List SpanFacts)
@@ -37,7 +37,7 @@ pub least-starts : (span : SpanFacts) (others : List SpanFacts)
 least-starts span [] = refl
 least-starts span (other ∷ others) =
     least-min span.start_time_unix_nano other.start_time_unix_nano others
-        ∙ ap (λ n. min span.start_time_unix_nano n) (least-starts other others)
+    ∙ ap (λ n. min span.start_time_unix_nano n) (least-starts other others)
 
 -- from the first end on, the greatest is the latest end
 pub greatest-ends : (span : SpanFacts) (others : List SpanFacts)
@@ -45,4 +45,4 @@ pub greatest-ends : (span : SpanFacts) (others : List SpanFacts)
 greatest-ends span [] = refl
 greatest-ends span (other ∷ others) =
     greatest-max span.end_time_unix_nano other.end_time_unix_nano others
-        ∙ ap (λ n. max span.end_time_unix_nano n) (greatest-ends other others)
+    ∙ ap (λ n. max span.end_time_unix_nano n) (greatest-ends other others)

@@ -39,14 +39,14 @@ onto ls note spans = record {
 
 behind : (policies : List PolicyData) (note : TraceNote) (span : SpanFacts) (spans : List SpanFacts)
     → onto (leaves_in policies) (joined note (note_of policies span)) spans
-        ≡ onto (leaves_in policies) note (span ∷ spans)
+    ≡ onto (leaves_in policies) note (span ∷ spans)
 unfolding joined note_of
 behind policies note span spans =
     let ls : List LeafData = leaves_in policies in
     let bits : bit_or (bit_or note.met (bits_of (span_meets span) ls)) (bits_of (any_meets spans) ls)
-        ≡ bit_or note.met (bits_of (any_meets (span ∷ spans)) ls) =
+    ≡ bit_or note.met (bits_of (any_meets (span ∷ spans)) ls) =
     or_assoc note.met (bits_of (span_meets span) ls) (bits_of (any_meets spans) ls)
-        ∙ ap (bit_or note.met) (or_bits (span_meets span) (any_meets spans) ls) in
+    ∙ ap (bit_or note.met) (or_bits (span_meets span) (any_meets spans) ls) in
     rw bits refl
 
 gathers : (policies : List PolicyData) (note : TraceNote) (spans : List SpanFacts)
@@ -72,8 +72,12 @@ gathers_all : (policies : List PolicyData) (span : SpanFacts) (spans : List Span
 unfolding note_of
 gathers_all policies span spans =
     gathers policies (note_of policies span) spans
-    ∙ rw (or_bits (span_meets span) (any_meets spans)
-        (leaves_in policies), least-starts span spans, greatest-ends span spans) refl
+    ∙ rw (
+      or_bits (span_meets span) (any_meets spans)
+          (leaves_in policies),
+      least-starts span spans,
+      greatest-ends span spans,
+    ) refl
 
 -- ---- the verdict
 
@@ -109,7 +113,7 @@ module _ (span : SpanFacts) (spans : List SpanFacts) (note : TraceNote) (starts 
 
   all_is : (ls : List LeafData) (n : ℕ)
       → all_verdict note ls (bits_below (any_meets (span ∷ spans)) ls n)
-          ≡ list_all (λ l. leaf_samples l (span ∷ spans)) ls
+      ≡ list_all (λ l. leaf_samples l (span ∷ spans)) ls
   all_is [] n = refl
   all_is (l ∷ ls) n =
       let m : ℕ = bits_below (any_meets (span ∷ spans)) ls n in
@@ -119,7 +123,7 @@ module _ (span : SpanFacts) (spans : List SpanFacts) (note : TraceNote) (starts 
 
   any_is : (policies : List PolicyData)
       → any_verdict note policies (bits_of (any_meets (span ∷ spans)) (leaves_in policies))
-          ≡ list_any (λ policy. policy_samples policy (span ∷ spans)) policies
+      ≡ list_any (λ policy. policy_samples policy (span ∷ spans)) policies
   any_is [] = refl
   any_is (leaf l ∷ policies) =
       let m : ℕ = bits_of (any_meets (span ∷ spans)) (leaves_in policies) in
@@ -131,14 +135,14 @@ module _ (span : SpanFacts) (spans : List SpanFacts) (note : TraceNote) (starts 
       let all : Bool = list_all (λ l. leaf_samples l (span ∷ spans)) ls in
       ap (any_verdict note (and ls ∷ policies)) (bits_below-append (any_meets (span ∷ spans)) ls (leaves_in policies) 0)
       ∙ ap (λ b. b || any_verdict note policies (bits_below (any_meets (span ∷ spans)) ls m / 2 ^ length ls))
-          (all_is ls m)
+      (all_is ls m)
       ∙ ap (λ k. all || any_verdict note policies k) (above_is (any_meets (span ∷ spans)) ls m)
       ∙ ap (λ b. all || b) (any_is policies)
 
 -- the verdict of the joined notes of a trace's spans is what the policies mean
 pub means : (policies : List PolicyData) (span : SpanFacts) (spans : List SpanFacts)
     → verdict_of policies (fold joined (note_of policies span) (map (note_of policies) spans))
-        ≡ keeps policies (span ∷ spans)
+    ≡ keeps policies (span ∷ spans)
 unfolding verdict_of keeps
 means policies span spans =
     ap (verdict_of policies) (gathers_all policies span spans)

@@ -49,7 +49,7 @@ assoc_below (suc k) a b c few =
     let third : c / 2 * 2 + c % 2 ≡ c = omega arith in
     let half : a / 2 ≤ k = omega (arith, few) in
     let all = assoc_by (a / 2) (b / 2) (c / 2) (a % 2) (b % 2) (c % 2) (omega arith) (omega arith) (omega arith)
-        (assoc_below k (a / 2) (b / 2) (c / 2) half) in
+    (assoc_below k (a / 2) (b / 2) (c / 2) half) in
     rw (first, second, third) at all
 
 -- three numbers in any grouping
@@ -63,11 +63,11 @@ or_bit true true m n = or_block 1 m n 1 1 (omega arith) (omega arith)
 or_bit true false m n =
     let even : n * 2 ≡ n * 2 + 0 = omega arith in
     ap (bit_or (m * 2 + 1)) even ∙ or_block 1 m n 1 0 (omega arith) (omega arith)
-        ∙ ap (λ r. bit_or m n * 2 + r) (or_none 1)
+    ∙ ap (λ r. bit_or m n * 2 + r) (or_none 1)
 or_bit false true m n =
     let even : m * 2 ≡ m * 2 + 0 = omega arith in
     ap (λ r. bit_or r (n * 2 + 1)) even ∙ or_block 1 m n 0 1 (omega arith) (omega arith)
-        ∙ ap (λ r. bit_or m n * 2 + r) (none_or 1)
+    ∙ ap (λ r. bit_or m n * 2 + r) (none_or 1)
 or_bit false false m n =
     let first : m * 2 ≡ m * 2 + 0 = omega arith in
     let second : n * 2 ≡ n * 2 + 0 = omega arith in
@@ -141,4 +141,4 @@ leaves_in-count (leaf l ∷ ps) =
     one_more ∙ sym sum
 leaves_in-count (and ms ∷ ps) =
     length-append ms (leaves_in ps) ∙ ap (λ n. length ms + n) (leaves_in-count ps)
-        ∙ sym (sum_by-cons leaf_count (and ms) ps)
+    ∙ sym (sum_by-cons leaf_count (and ms) ps)
