@@ -3,7 +3,7 @@
 
 Run by hand, with Debian's protobuf-compiler and python3-protobuf (README.md names the versions):
 
-    /usr/bin/python3 tests/otlp/make_vectors.py [crates/NAME/src/vectors.rt]
+    /usr/bin/python3 tests/otlp/make_vectors.py [crates/otlp_vectors/src/vectors.rt]
 
 A crate's tests can't read a file. With a path the same lines are written there too, as constants.
 

@@ -1,10 +1,10 @@
 //! What Protocol Buffers' own libraries make of the same bodies (tests/otlp).
 
-use crate::vectors::{FAULTS, RESPONSES, VECTORS};
 use otlp_read::{read_request, read_response};
 use otlp_trace::{
     ExportTracePartialSuccess, ExportTraceServiceResponse, write_request, write_response,
 };
+use otlp_vectors::{FAULTS, RESPONSES, VECTORS};
 use std::alloc::Global;
 use std::test::Fail;
 

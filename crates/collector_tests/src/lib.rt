@@ -15,5 +15,3 @@ mod replays;
 mod script;
 #[cfg(test)]
 mod script_definitions;
-#[cfg(test)]
-mod vectors;

@@ -1,6 +1,6 @@
 //! Scripts with their answers written in.
 
-use crate::vectors::FAULTS;
+use otlp_vectors::FAULTS;
 use std::alloc::Global;
 use std::io;
 use std::io::{BufReader, Read, Write};

@@ -3,8 +3,8 @@
 ghost use Rattle.std.specs.Prelude.{◌<◌};
 
 use crate::texts::is_written_again;
-use crate::vectors::{FAULTS, VECTORS};
 use otlp_canonical::is_request_text;
+use otlp_vectors::{FAULTS, VECTORS};
 use std::alloc::Global;
 use std::test::Fail;
 

@@ -14,5 +14,3 @@ mod messages;
 mod spans;
 #[cfg(test)]
 mod texts;
-#[cfg(test)]
-mod vectors;
