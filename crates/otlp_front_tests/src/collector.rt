@@ -125,7 +125,8 @@ impl Handler for Collector<'_> {
     }
 }
 
-/// What is written for this input, which comes in pieces of these lengths and then as it is.
+/// What is written for this input, which comes in pieces of these lengths and then as it is. The line has room for it
+/// from the first, so that no write of its own fails for want of memory.
 pub fn talk<H: Handler>(
     alloc: Global,
     handler: &mut H,
@@ -135,7 +136,7 @@ pub fn talk<H: Handler>(
     let mut line = MemoryLine::new(
         Vec::from_slice(alloc, input)?,
         Vec::from_slice(alloc, pieces)?,
-        Vec::new(alloc),
+        Vec::with_capacity(alloc, 4096)?,
         0,
     );
     serve(alloc, &mut line, handler)?;
