@@ -1,0 +1,64 @@
+//! `edge_bench FILE ROUNDS`: reads the message in that file so many times from one connection in memory, says for each
+//! to which tenant it goes and writes its reply, and prints how many messages and bytes a second that is; then the same
+//! of the parser of heads alone. With no arguments it serves the stored `post.http` once and prints what was read and
+//! written. Statuses: 0 done; 1 a message that is no post of the tenant `bench`, or a fault of the file or the output;
+//! 2 wrong usage; 3 no memory. A fault is told in one line on standard error.
+//!
+//! Nothing that is measured is proved. It stands on `http_edge` and `otlp_front`.
+#![tactic(auto)]
+
+mod fault;
+mod measure;
+mod serving;
+mod task;
+
+ghost use Rattle.std.specs.Prelude.{◌≡◌};
+ghost use Rattle.std.specs.Process.{exit_status};
+ghost use Rattle.edge_bench.specs.Status.{end_status};
+
+use fault::BenchFault;
+use measure::{check, measure};
+use std::process::ExitCode;
+use std::rt::{Clock, Env, Files};
+use std::{env, fs};
+use task::{Task, asked_task};
+
+/// The stored message.
+const STORED: &str = "post.http";
+
+fn main(rt: HostRuntime) -> ExitCode {
+    ended(&rt, run(&rt))
+}
+
+/// The status with which the program ends. A fault is told on standard error.
+fn ended(rt: &impl Eprint, end: Result<(), BenchFault>) -> ExitCode
+    ensures { exit_status result ≡ end_status end }
+{
+    match end {
+        Ok(()) => ExitCode::SUCCESS,
+        Err(fault) => {
+            let status = fault.status();
+            // Where standard error can't be written, the status has to do.
+            let _ = rt.eprintln(fault);
+            ExitCode::from(status)
+        }
+    }
+}
+
+fn run(rt: &(impl Env + Files + Clock + Print + AllocGlobal)) -> Result<(), BenchFault> {
+    let mut args = Vec::new(rt.alloc());
+    for arg in env::args(rt)?.skip(1) {
+        args.push(arg)?;
+    }
+    match asked_task(args.as_slice()) {
+        Some(Task::CheckStored) => {
+            let message = fs::read(rt, STORED)?;
+            check(rt, message.as_slice())
+        }
+        Some(Task::Measure { path, rounds }) => {
+            let message = fs::read(rt, path)?;
+            measure(rt, message.as_slice(), rounds)
+        }
+        None => Err(BenchFault::Usage),
+    }
+}

@@ -1,0 +1,98 @@
+//! Rounds by the clock.
+
+ghost use Rattle.std.specs.Prelude.{◌≡◌, ◌*◌, ◌/◌, max, IfOk};
+ghost use Rattle.edge_bench.specs.Repeated.{repeated};
+
+use crate::fault::BenchFault;
+use crate::serving::Connection;
+use httparse::Status;
+use httparse::spans::{EMPTY_HEADER_SPAN, parse_request};
+use std::alloc::{AllocError, Global};
+use std::rt::Clock;
+use std::time::Instant;
+
+/// Nanoseconds in a second.
+const SECOND: u128 = 1_000_000_000;
+
+/// A head has room for so many fields.
+const MAX_FIELDS: usize = 64;
+
+/// Serves the message once, which has to be a post.
+pub(crate) fn check(rt: &(impl Print + AllocGlobal), message: &[u8]) -> Result<(), BenchFault> {
+    let input = repeated(rt.alloc(), message, 1)?;
+    let mut connection = Connection::open(rt.alloc(), input)?;
+    let served = connection.serve()?;
+    if served.posts != 1 {
+        return Err(BenchFault::NotPosted);
+    }
+    let bytes = message.len();
+    let written = served.written;
+    println!(rt; "served one post: {bytes} bytes read, {written} bytes written")?;
+    Ok(())
+}
+
+/// Serves so many copies of the message from one connection, and parses its head so many times, and prints for each how
+/// many messages and bytes a second it took.
+pub(crate) fn measure(
+    rt: &(impl Clock + Print + AllocGlobal),
+    message: &[u8],
+    rounds: u32,
+) -> Result<(), BenchFault> {
+    let input = repeated(rt.alloc(), message, rounds)?;
+    let mut connection = Connection::open(rt.alloc(), input)?;
+    let start = Instant::now(rt)?;
+    let served = connection.serve()?;
+    report(rt, "served", message.len(), rounds, start)?;
+    if served.posts != u64::from(rounds) {
+        return Err(BenchFault::NotPosted);
+    }
+    let start = Instant::now(rt)?;
+    let head = parsed(message, rounds)?;
+    report(rt, "heads parsed", head, rounds, start)
+}
+
+/// So many copies of the message, one after another.
+fn repeated(alloc: Global, message: &[u8], rounds: u32) -> Result<Vec<u8>, AllocError>
+    ensures { IfOk result (λ text. text.items ≡ repeated message.now rounds) }
+{
+    let mut text = Vec::new(alloc);
+    'each: for _round in 0..rounds {
+        text.extend_from_slice(message)?;
+    }
+    Ok(text)
+}
+
+/// Parses the message's head so many times, and says how long it is.
+fn parsed(message: &[u8], rounds: u32) -> Result<usize, BenchFault> {
+    let mut len = 0;
+    'each: for _round in 0..rounds {
+        let mut spans = [EMPTY_HEADER_SPAN; MAX_FIELDS];
+        match parse_request(message, &mut spans) {
+            Ok(Status::Complete(found)) => len = found.len,
+            Ok(Status::Partial) | Err(_) => return Err(BenchFault::NotPosted),
+        }
+    }
+    Ok(len)
+}
+
+/// Prints how many messages and bytes a second this is, since that moment.
+fn report(
+    rt: &(impl Clock + Print),
+    what: &str,
+    bytes: usize,
+    rounds: u32,
+    start: Instant,
+) -> Result<(), BenchFault> {
+    let nanos = start.elapsed(rt)?.as_nanos();
+    let messages = per_second(1, rounds, nanos);
+    let bytes = per_second(bytes, rounds, nanos);
+    println!(rt; "{what}: {messages} messages/s, {bytes} bytes/s")?;
+    Ok(())
+}
+
+/// How much a second it is, rounded down, where each round took that much. A time of 0 is taken for a nanosecond.
+fn per_second(amount: usize, rounds: u32, nanos: u128) -> u128
+    ensures { result ≡ amount * rounds * 1_000_000_000 / max 1 nanos }
+{
+    amount as u128 * u128::from(rounds) * SECOND / nanos.max(1)
+}

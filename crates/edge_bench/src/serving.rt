@@ -1,0 +1,79 @@
+//! A connection in memory, and who answers what comes from it.
+ghost use Rattle.std.specs.Prelude.{ℕ};
+
+use crate::fault::BenchFault;
+use http_edge::{Handler, HttpMessage, Reply, serve};
+use http_line::MemoryLine;
+use otlp_front::{Route, route};
+use std::alloc::Global;
+use tail_settings::{Settings, load};
+
+const SETTINGS: &str =
+    "tenant = [{ name = \"bench\", tail_sampling = { policy = [{ type = \"always_sample\" }] } }]";
+
+/// Says where each message goes, and answers a post at once: what is done with a body isn't measured here.
+#[derive(Drop)]
+struct Front {
+    alloc: Global,
+    settings: Settings,
+    posts: u64,
+}
+
+impl Handler for Front {
+    ghost answers = { λ _ _ _ _. Unit {0} };
+
+    fn handle(&mut self, message: &HttpMessage) -> Reply {
+        match route(&self.settings, message) {
+            Route::Post { tenant: _ } => {
+                self.posts = self.posts.saturating_add(1);
+                empty(self.alloc, 200)
+            }
+            Route::Refuse(refusal) => empty(self.alloc, refusal.status()),
+        }
+    }
+}
+
+fn empty(alloc: Global, status: u16) -> Reply {
+    Reply {
+        status,
+        body: Vec::new(alloc),
+    }
+}
+
+/// What became of a connection: how many messages were posts, and how many bytes were written.
+#[derive(Clone, Copy, Debug)]
+pub(crate) struct Served {
+    pub posts: u64,
+    pub written: usize,
+}
+
+/// A connection, and who answers.
+#[derive(Drop)]
+pub(crate) struct Connection {
+    alloc: Global,
+    line: MemoryLine,
+    front: Front,
+}
+
+impl Connection {
+    pub(crate) fn open(alloc: Global, input: Vec<u8>) -> Result<Connection, BenchFault> {
+        Ok(Connection {
+            alloc,
+            line: MemoryLine::new(input, Vec::new(alloc), Vec::new(alloc), 0),
+            front: Front {
+                alloc,
+                settings: load(alloc, SETTINGS)?,
+                posts: 0,
+            },
+        })
+    }
+
+    /// Reads and answers to the end of the input.
+    pub(crate) fn serve(&mut self) -> Result<Served, BenchFault> {
+        serve(self.alloc, &mut self.line, &mut self.front)?;
+        Ok(Served {
+            posts: self.front.posts,
+            written: self.line.output().len(),
+        })
+    }
+}

@@ -1,0 +1,5 @@
+mod Named
+mod Texts
+mod Names
+mod Plain
+mod Cases

@@ -1,0 +1,6 @@
+pub mod Target
+pub mod Fields
+pub mod Route
+pub mod Seen
+pub mod Passes
+pub mod Singles

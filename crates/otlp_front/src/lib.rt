@@ -1,0 +1,26 @@
+//! The front of the collector, behind HTTP: which tenant a message is for.
+//!
+//! [`route`] looks at a message's target, method and fields and says to which tenant its body is posted, or with which
+//! reply it is refused: that of the first rule that fails. The body isn't looked at. It takes no memory, and no
+//! tenant's section has a say.
+//!
+//! Rules are those of OTLP/HTTP (OTLP 1.x) and RFC 9110, with this project's own choices where they leave one
+//! (docs/HTTP.md). It stands on `http_edge` for messages and replies, and on `tail_settings` for the tenants' names.
+#![tactic(auto)]
+
+ghost use Rattle.otlp_front.specs.Passes.{PostsPass};
+
+mod destination;
+mod fields;
+mod refusal;
+mod rules;
+mod target;
+
+pub use crate::destination::Route;
+pub use crate::refusal::RouteRefusal;
+pub use crate::rules::route;
+
+/// A message is posted to a tenant exactly where it passes every rule: a law over the definitions.
+pub fn posts_pass()
+    ensures { PostsPass }
+{}
