@@ -1,0 +1,10 @@
+pub mod Places
+pub mod Values
+pub mod Alone
+pub mod Wrapped
+pub mod Fates
+pub mod Again
+pub mod Commutes
+pub mod Answer
+pub mod Inner
+pub mod Ids

@@ -1,0 +1,4 @@
+pub mod ReadAs
+pub mod Texts
+pub mod Kept
+pub mod Parts

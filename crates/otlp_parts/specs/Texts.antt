@@ -1,0 +1,79 @@
+-- The parts of a body: the canonical texts of its valid spans, and of the resources and scopes that they stand in (OTLP
+-- 1.x's trace.proto). A span whose ids aren't as the trace data model of OpenTelemetry has them is left out and
+-- counted.
+use Rattle.std.specs.Prelude.{◌≡◌, ℕ, ◌-◌, ◌^◌, min, Bool, List, Option, map, option_map, filter, length, not, ◌==◌, ◌&&◌}
+use Rattle.std.specs.List.{list_all, count_by, sum_by}
+use Rattle.otlp_trace.specs.Data.{SpanData, ScopeSpansData, ResourceSpansData, RequestData}
+use Rattle.otlp_trace.specs.Text.{span_text, scope_text, resource_text}
+use Rattle.otlp_read.specs.Value.{IsValue}
+
+-- an id of this many bytes, not all of them zero
+abbrev pub is_id : ℕ → List ℕ → Bool
+is_id size bytes = length bytes == size && not (list_all (λ byte. byte == 0) bytes)
+
+-- a trace id has 16 bytes, a span id 8
+abbrev pub is_valid_span : SpanData → Bool
+is_valid_span s = is_id 16 s.trace_id && is_id 8 s.span_id
+
+-- the texts of those spans that are valid
+abbrev pub valid_texts : List SpanData → List (List ℕ)
+valid_texts spans = map span_text (filter is_valid_span spans)
+
+-- a scope spans: its scope where it has one, the URL of its schema, and its valid spans in their order
+pub record ScopeTexts : Type 0 where
+  pub scope : Option (List ℕ)
+  pub schema_url : List ℕ
+  pub spans : List (List ℕ)
+
+-- a resource spans: its resource where it has one, the URL of its schema, and its scope spans in their order
+pub record ResourceTexts : Type 0 where
+  pub resource : Option (List ℕ)
+  pub schema_url : List ℕ
+  pub scopes : List ScopeTexts
+
+-- a body: its resource spans in their order, and how many of its spans aren't valid
+pub record BodyTexts : Type 0 where
+  pub resources : List ResourceTexts
+  pub invalid : ℕ
+
+-- the texts of a scope spans
+abbrev pub scope_texts : ScopeSpansData → ScopeTexts
+scope_texts s = record {
+  scope = option_map scope_text s.scope;
+  schema_url = s.schema_url;
+  spans = valid_texts s.spans;
+}
+
+-- of a resource spans
+abbrev pub resource_texts : ResourceSpansData → ResourceTexts
+resource_texts r = record {
+  resource = option_map resource_text r.resource;
+  schema_url = r.schema_url;
+  scopes = map scope_texts r.scope_spans;
+}
+
+-- how many of these spans aren't valid
+abbrev pub invalid_among : List SpanData → ℕ
+invalid_among spans = count_by (λ s. not (is_valid_span s)) spans
+
+-- the same in a resource spans
+abbrev pub invalid_in_resource : ResourceSpansData → ℕ
+invalid_in_resource r = sum_by (λ s. invalid_among s.spans) r.scope_spans
+
+-- and in a body
+abbrev pub invalid_in : RequestData → ℕ
+invalid_in v = sum_by invalid_in_resource v.resource_spans
+
+-- a count in 64 bits: no body in memory has more spans
+abbrev pub counted : ℕ → ℕ
+counted n = min n (2 ^ 64 - 1)
+
+-- the parts of a body of this value
+abbrev pub texts_of : RequestData → BodyTexts
+texts_of v = record { resources = map resource_texts v.resource_spans; invalid = counted (invalid_in v) }
+
+-- the body has a value, and these are its parts
+pub record ArePartsOf (body : List ℕ) (parts : BodyTexts) : Type 0 where
+  pub value : RequestData
+  pub is : IsValue body value
+  pub same : parts ≡ texts_of value

@@ -1,0 +1,117 @@
+//! Bodies.
+
+ghost use Rattle.std.specs.Prelude.{◌≡◌, ◌≢◌, ◌≤◌, Ok, IfOk, IfErr, length, slice_range};
+ghost use Rattle.otlp_trace.specs.Data.{RequestData};
+ghost use Rattle.otlp_read.specs.declared.fault.ReadFault.{ReadFault};
+ghost use Rattle.otlp_read.specs.Fault.{Gives};
+ghost use Rattle.otlp_read.specs.Value.{IsValue, IsFault};
+ghost use Rattle.otlp_parts.specs.Texts.{BodyTexts, texts_of, ArePartsOf};
+ghost use Rattle.otlp_parts.specs.Kept.{kept_of, kept_body_step, resource_spans_onto, no_texts};
+ghost use Rattle.otlp_parts.specs.Parts.{body_parts_view};
+
+use crate::copies::copied_body;
+use crate::parts::BodyParts;
+use crate::resource::{no_resource, resource_parts};
+use crate::walk::{Walked, walk_fields};
+use bytes::Bytes;
+use otlp_read::ReadFault;
+use pb_wire::{Field, Value};
+use std::alloc::Global;
+
+/// The levels that a body has room for, its own among them.
+const BODY_ROOM: u32 = 101;
+
+/// A body of no fields.
+fn no_parts(alloc: Global) -> BodyParts
+    ensures { body_parts_view result ≡ no_texts }
+{
+    BodyParts {
+        resources: Vec::new(alloc),
+        invalid: 0,
+    }
+}
+
+/// What was read, with one more resource spans.
+fn with_resource_spans(
+    alloc: Global,
+    before: BodyParts,
+    text: &Bytes,
+    start: usize,
+    end: usize,
+    sliced: &mut usize,
+) -> Result<BodyParts, ReadFault>
+    requires order { start ≤ end }
+    requires within { end ≤ length text.now }
+    ensures exact { Gives body_parts_view result
+        (resource_spans_onto (body_parts_view before) (slice_range text.now start end)) }
+{
+    let inside = text.slice(start..end)?;
+    let resource = walk_fields(alloc, no_resource(alloc), &inside, BODY_ROOM - 1, sliced)?;
+    let invalid = resource.invalid;
+    let parts = resource_parts(alloc, resource, sliced)?;
+    let mut body = before;
+    // A list of one takes the room of one: many bodies have one resource.
+    if body.resources.is_empty() {
+        body.resources.reserve_exact(1)?;
+    }
+    body.resources.push(parts)?;
+    body.invalid = body.invalid.saturating_add(invalid);
+    Ok(body)
+}
+
+impl Walked for BodyParts {
+    ghost Data = { BodyTexts };
+
+    ghost view = { body_parts_view };
+
+    ghost step = { kept_body_step };
+
+    fn field(
+        self,
+        alloc: Global,
+        text: &Bytes,
+        end: usize,
+        field: Field<'_>,
+        sliced: &mut usize,
+    ) -> Result<BodyParts, ReadFault> {
+        if let Value::Bytes(bytes) = field.value {
+            if field.number == 1 {
+                let start = end - bytes.len();
+                return with_resource_spans(alloc, self, text, start, end, sliced);
+            }
+        }
+        Ok(self)
+    }
+}
+
+/// The parts, where they stand if these make up half of the body, and else copies.
+fn body_parts(alloc: Global, body: &Bytes) -> Result<BodyParts, ReadFault>
+    ensures exact { Gives body_parts_view result (kept_of body.now) }
+{
+    let mut sliced = 0;
+    let parts = walk_fields(alloc, no_parts(alloc), body, BODY_ROOM, &mut sliced)?;
+    // Without slices nothing holds the body.
+    if sliced == 0 {
+        return Ok(parts);
+    }
+    if sliced >= body.len().saturating_sub(sliced) {
+        return Ok(parts);
+    }
+    let copies = copied_body(alloc, parts)?;
+    Ok(copies)
+}
+
+/// The parts of a body. Where slices of it make up less than half of it, all parts are copies. After a fault, or where
+/// memory is refused, nothing is left of what was read.
+pub fn read_parts(alloc: Global, body: &Bytes) -> Result<BodyParts, ReadFault>
+    // The parts are those of the body's value.
+    ensures value { IfOk result (λ parts. ArePartsOf body.now (body_parts_view parts)) }
+
+    // A body with a value has its parts read, unless memory runs out.
+    ensures only { (v : RequestData) → IsValue body.now v → Gives body_parts_view result (Ok (texts_of v)) }
+
+    // A fault stands in the body.
+    ensures fault { IfErr result (λ fault. fault ≢ ReadFault.OutOfMemory → IsFault body.now fault) }
+{
+    body_parts(alloc, body)
+}

@@ -1,0 +1,231 @@
+//! Resource spans, and the resources in them.
+
+ghost use Rattle.std.specs.Prelude.{◌≡◌, ◌≤◌, Ok, Some, length, slice_range, option_map};
+ghost use Rattle.otlp_trace.specs.Text.{resource_text};
+ghost use Rattle.otlp_read.specs.Fault.{Gives};
+ghost use Rattle.otlp_parts.specs.ReadAs.{resource_in, resource_of, resource_among, another_resource};
+ghost use Rattle.otlp_parts.specs.Kept.{KeptResource, no_kept_resource, kept_resource_step, kept_resource_texts, scope_spans_onto};
+ghost use Rattle.otlp_parts.specs.Parts.{found_resource_view, resource_reading_view, resource_parts_view};
+
+use crate::held::{FoundResource, ResourceFields, ResourceReading, ResourceText};
+use crate::message::{as_field, read_resource, read_resource_spans, resource_written, string};
+use crate::parts::ResourceParts;
+use crate::scope::{no_scope, scope_parts};
+use crate::walk::{Walked, walk_fields};
+use bytes::Bytes;
+use otlp_canonical::is_resource_text;
+use otlp_read::ReadFault;
+use otlp_trace::{ResourceSpans, put_bytes_field};
+use pb_wire::{Field, Value};
+use std::alloc::Global;
+
+/// The levels that a resource in a body has room for, its own among them, and so a scope spans.
+const RESOURCE_ROOM: u32 = 99;
+
+/// A resource as it stands.
+fn first_resource(
+    alloc: Global,
+    text: &Bytes,
+    start: usize,
+    end: usize,
+) -> Result<ResourceText, ReadFault>
+    requires order { start ≤ end }
+    requires within { end ≤ length text.now }
+    ensures exact { Gives (λ first. resource_of first.bytes) result (resource_in (slice_range text.now start end)) }
+{
+    let bytes = text.slice(start..end)?;
+    if is_resource_text(bytes.as_slice(), RESOURCE_ROOM) {
+        let sliced = bytes.len();
+        let text = bytes.clone()?;
+        return Ok(ResourceText {
+            bytes,
+            text,
+            sliced,
+        });
+    }
+    let resource = read_resource(alloc, bytes.as_slice())?;
+    let text = resource_written(alloc, &resource)?;
+    Ok(ResourceText {
+        bytes,
+        text,
+        sliced: 0,
+    })
+}
+
+/// The one resource that came, as a field.
+fn resource_fields(alloc: Global, first: ResourceText) -> Result<ResourceFields, ReadFault>
+    ensures exact { Gives (λ several. resource_among several.fields.items) result
+        (Ok (Some (resource_of first.bytes))) }
+{
+    let fields = as_field(alloc, 1, first.bytes.as_slice())?;
+    Ok(ResourceFields { fields })
+}
+
+/// The resources that came, and one more.
+fn with_resource(
+    alloc: Global,
+    several: ResourceFields,
+    bytes: &[u8],
+) -> Result<ResourceFields, ReadFault>
+    ensures exact { Gives (λ several. resource_among several.fields.items) result
+        (another_resource (resource_among several.fields.items) bytes.now) }
+{
+    // Its fault comes before those of fields behind it, so it is looked for at once.
+    let _sound = read_resource(alloc, bytes)?;
+    let mut fields = several.fields;
+    put_bytes_field(&mut fields, 1, bytes)?;
+    Ok(ResourceFields { fields })
+}
+
+/// The resource, and one more that is merged into it.
+fn resource_again(
+    alloc: Global,
+    before: FoundResource,
+    text: &Bytes,
+    start: usize,
+    end: usize,
+) -> Result<FoundResource, ReadFault>
+    requires order { start ≤ end }
+    requires within { end ≤ length text.now }
+    ensures exact { Gives found_resource_view result
+        (another_resource (found_resource_view before) (slice_range text.now start end)) }
+{
+    match before {
+        FoundResource::Missing => {
+            let first = first_resource(alloc, text, start, end)?;
+            Ok(FoundResource::Once(first))
+        }
+        FoundResource::Once(first) => {
+            let one = resource_fields(alloc, first)?;
+            let several = with_resource(alloc, one, &text.as_slice()[start..end])?;
+            Ok(FoundResource::Again(several))
+        }
+        FoundResource::Again(others) => {
+            let several = with_resource(alloc, others, &text.as_slice()[start..end])?;
+            Ok(FoundResource::Again(several))
+        }
+    }
+}
+
+/// The canonical text of several resources, merged.
+fn merged_resource_text(alloc: Global, several: ResourceFields) -> Result<Option<Bytes>, ReadFault>
+    ensures exact { Gives (λ text. text) result (Ok (option_map resource_text (resource_among several.fields.items))) }
+{
+    let ResourceSpans { resource, .. } = read_resource_spans(alloc, several.fields)?;
+    match resource {
+        Some(resource) => {
+            let text = resource_written(alloc, &resource)?;
+            Ok(Some(text))
+        }
+        None => Ok(None),
+    }
+}
+
+/// The resource's canonical text.
+fn resource_part(
+    alloc: Global,
+    found: FoundResource,
+    sliced: &mut usize,
+) -> Result<Option<Bytes>, ReadFault>
+    ensures exact { Gives (λ text. text) result (Ok (option_map resource_text (found_resource_view found))) }
+{
+    match found {
+        FoundResource::Missing => Ok(None),
+        FoundResource::Once(first) => {
+            *sliced = sliced.saturating_add(first.sliced);
+            Ok(Some(first.text))
+        }
+        FoundResource::Again(several) => merged_resource_text(alloc, several),
+    }
+}
+
+/// A resource spans of no fields.
+pub fn no_resource(alloc: Global) -> ResourceReading
+    ensures { resource_reading_view result ≡ no_kept_resource }
+{
+    ResourceReading {
+        resource: FoundResource::Missing,
+        schema_url: Bytes::new(),
+        scopes: Vec::new(alloc),
+        invalid: 0,
+    }
+}
+
+/// What was read to its end.
+pub fn resource_parts(
+    alloc: Global,
+    reading: ResourceReading,
+    sliced: &mut usize,
+) -> Result<ResourceParts, ReadFault>
+    ensures exact { Gives resource_parts_view result (Ok (kept_resource_texts (resource_reading_view reading))) }
+{
+    *sliced = sliced.saturating_add(reading.schema_url.len());
+    let resource = resource_part(alloc, reading.resource, sliced)?;
+    Ok(ResourceParts {
+        resource,
+        schema_url: reading.schema_url,
+        scopes: reading.scopes,
+    })
+}
+
+/// What was read, with one more scope spans.
+fn with_scope_spans(
+    alloc: Global,
+    before: ResourceReading,
+    text: &Bytes,
+    start: usize,
+    end: usize,
+    sliced: &mut usize,
+) -> Result<ResourceReading, ReadFault>
+    requires order { start ≤ end }
+    requires within { end ≤ length text.now }
+    ensures exact { Gives resource_reading_view result
+        (scope_spans_onto (resource_reading_view before) (slice_range text.now start end)) }
+{
+    let inside = text.slice(start..end)?;
+    let scope = walk_fields(alloc, no_scope(alloc), &inside, RESOURCE_ROOM, sliced)?;
+    let invalid = scope.invalid;
+    let parts = scope_parts(alloc, scope, sliced)?;
+    let mut reading = before;
+    // A list of one takes the room of one: most resources have one scope.
+    if reading.scopes.is_empty() {
+        reading.scopes.reserve_exact(1)?;
+    }
+    reading.scopes.push(parts)?;
+    reading.invalid = reading.invalid.saturating_add(invalid);
+    Ok(reading)
+}
+
+impl Walked for ResourceReading {
+    ghost Data = { KeptResource };
+
+    ghost view = { resource_reading_view };
+
+    ghost step = { kept_resource_step };
+
+    fn field(
+        self,
+        alloc: Global,
+        text: &Bytes,
+        end: usize,
+        field: Field<'_>,
+        sliced: &mut usize,
+    ) -> Result<ResourceReading, ReadFault> {
+        let mut reading = self;
+        if let Value::Bytes(bytes) = field.value {
+            let start = end - bytes.len();
+            if field.number == 1 {
+                reading.resource = resource_again(alloc, reading.resource, text, start, end)?;
+                return Ok(reading);
+            }
+            if field.number == 2 {
+                return with_scope_spans(alloc, reading, text, start, end, sliced);
+            }
+            if field.number == 3 {
+                reading.schema_url = string(text, start, end)?;
+                return Ok(reading);
+            }
+        }
+        Ok(reading)
+    }
+}

@@ -1,0 +1,89 @@
+//! Spans of a body.
+
+ghost use Rattle.std.specs.Prelude.{◌≡◌, ◌≤◌, ◌==◌, length, slice_range, IsTrue};
+ghost use Rattle.std.specs.List.{list_all};
+ghost use Rattle.otlp_trace.specs.View.{span_view};
+ghost use Rattle.otlp_read.specs.Fault.{Gives};
+ghost use Rattle.otlp_canonical.specs.Canonical.{CanonicalSpan};
+ghost use Rattle.otlp_parts.specs.Texts.{is_id, is_valid_span};
+ghost use Rattle.otlp_parts.specs.Kept.{kept_span};
+ghost use Rattle.otlp_parts.specs.ReadAs.{span_of};
+
+use crate::message::read_span;
+use bytes::Bytes;
+use otlp_canonical::is_span_text;
+use otlp_read::ReadFault;
+use otlp_trace::{Span, write_span};
+use span_pool::read_spans_are_viewed;
+use span_view::SpanRef;
+use std::alloc::Global;
+
+/// The levels that a span in a body has room for, its own among them.
+const SPAN_ROOM: u32 = 98;
+
+/// Whether all bytes are zero.
+fn is_zero(bytes: &[u8]) -> bool
+    ensures { result ≡ list_all (λ byte. byte == 0) bytes.now }
+{
+    for byte in bytes {
+        if *byte != 0 {
+            return false;
+        }
+    }
+    true
+}
+
+/// Whether the bytes are an id of this size.
+fn is_id(bytes: &[u8], size: usize) -> bool
+    ensures { result ≡ is_id size bytes.now }
+{
+    bytes.len() == size && !is_zero(bytes)
+}
+
+/// Whether a span's ids are as they have to be.
+fn is_valid(span: &Span) -> bool
+    ensures { result ≡ is_valid_span (span_view span.now) }
+{
+    is_id(span.trace_id.as_slice(), 16) && is_id(span.span_id.as_slice(), 8)
+}
+
+/// The same of a span's canonical text.
+fn is_valid_text(text: &[u8]) -> bool
+    requires canonical { CanonicalSpan 98 text.now }
+    ensures { result ≡ is_valid_span (span_of text.now) }
+{
+    read_spans_are_viewed();
+    let view = SpanRef::of(text, &[]);
+    is_id(view.trace_id(), 16) && is_id(view.span_id(), 8)
+}
+
+/// A span's canonical text, none where the span isn't valid: where it stands, or written of what is read.
+pub fn span_part(
+    alloc: Global,
+    text: &Bytes,
+    start: usize,
+    end: usize,
+    sliced: &mut usize,
+) -> Result<Option<Bytes>, ReadFault>
+    requires order { start ≤ end }
+    requires within { end ≤ length text.now }
+    ensures exact { Gives (λ part. part) result (kept_span (slice_range text.now start end)) }
+{
+    let bytes = &text.as_slice()[start..end];
+    if is_span_text(bytes, SPAN_ROOM) {
+        if !is_valid_text(bytes) {
+            return Ok(None);
+        }
+        *sliced = sliced.saturating_add(bytes.len());
+        let part = text.slice(start..end)?;
+        return Ok(Some(part));
+    }
+    let span = read_span(alloc, bytes)?;
+    if !is_valid(&span) {
+        return Ok(None);
+    }
+    let mut written = Vec::new(alloc);
+    write_span(alloc, &mut written, &span)?;
+    let part = Bytes::from_vec(written)?;
+    Ok(Some(part))
+}
