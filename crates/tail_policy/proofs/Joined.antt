@@ -11,6 +11,7 @@ use Rattle.tail_settings.specs.Policy.{LeafData, PolicyData, leaf, and, leaves_o
 use Rattle.tail_settings.specs.Policy.{always_sample, latency, status_code, string_attribute, numeric_attribute}
 use Rattle.span_view.specs.Facts.{AttributeFact, SpanFacts}
 use Rattle.tail_policy.specs.Note.{leaves_in, with_bit, bits_below, bits_of, FactData, status, attribute, fact_meets, attributes_meet, span_meets}
+use Rattle.tail_policy.specs.Parts.{none_any}
 use Rattle.tail_policy.specs.Words.{bits_below-append, bits_least, bits_most, leaves_in-append, leaves_in-count, or_none, or_assoc, or_bits, same_bits, no_bits}
 
 module _ (f : LeafData → Bool) where
@@ -40,10 +41,6 @@ module _ (f : LeafData → Bool) where
 
   pub and_bits : (ls : List LeafData) (n : ℕ) → bits_below f (leaves_in (and ls ∷ [])) n ≡ bits_below f ls n
   and_bits ls n = ap (λ ms. bits_below f ms n) (append-nil ls)
-
-none_any : (attributes : List AttributeFact) → list_any (λ a. false) attributes ≡ false
-none_any [] = refl
-none_any (a ∷ attributes) = none_any attributes
 
 meets_is : (span : SpanFacts) (l : LeafData) → (fact_meets (status span.status) l || attributes_meet span.attributes l) ≡ span_meets span l
 meets_is span always_sample = none_any span.attributes

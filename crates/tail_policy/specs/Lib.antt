@@ -4,3 +4,6 @@ pub mod Note
 pub mod Ends
 pub mod Words
 pub mod Laws
+pub mod Apart
+pub mod Parts
+pub mod Both

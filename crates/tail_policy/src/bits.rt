@@ -1,6 +1,8 @@
 //! The bits of a note: which policies that hold no other a fact of a span meets.
 
-ghost use Rattle.std.specs.Prelude.{◌≡◌, ◌≤◌, ◌<◌, ◌^◌, ◌*◌, ◌+◌, map};
+ghost use Rattle.std.specs.Prelude.{◌≡◌, ◌≤◌, ◌<◌, ◌^◌, ◌*◌, ◌+◌, [], map};
+ghost use Rattle.span_view.specs.Facts.{AreText};
+ghost use Rattle.span_view.specs.Reading.{facts_of};
 ghost use Rattle.tail_settings.specs.Policy.{leaf_view, policy_view, leaves_of};
 ghost use Rattle.tail_policy.specs.Note.{leaves_in, with_bit, bits_below, bits_of, fact_meets, attributes_meet};
 ghost use Rattle.tail_policy.specs.Wanted.{fact_view};
@@ -91,4 +93,14 @@ pub fn attribute_bits(policies: &[PolicySpec], attributes: Attributes<'_>) -> u6
         bits |= fact_bits(policies, Fact::Attribute(key, value));
     }
     bits
+}
+
+/// One bit a policy that holds no other, whether an attribute of the resource meets it.
+pub fn resource_bits(policies: &[PolicySpec], resource: &[u8]) -> u64
+    requires few { leaves_of (map policy_view policies.now) ≤ 64 }
+    requires text { AreText (facts_of [] resource.now).attributes }
+    ensures { result
+        ≡ bits_of (attributes_meet (facts_of [] resource.now).attributes) (leaves_in (map policy_view policies.now)) }
+{
+    attribute_bits(policies, Attributes::of(&[], resource))
 }

@@ -3,14 +3,20 @@
 //! A trace is sampled where one of its tenant's policies samples it (`specs/Meaning`, after the documents of the
 //! OpenTelemetry Collector's `tail_sampling` processor). Each policy looks at all spans of the trace, each with its
 //! resource. [`keeps`] answers exactly that. [`TenantPolicies`] answer the same by notes: what is kept of each span is
-//! of one size and joins, so a trace is decided without its spans.
+//! of one size and joins, so a trace is decided without its spans. The note of a span can be made of its own text and
+//! of what its resource tells, which is found once for all spans of the resource ([`span_note`]). Policies of other
+//! kinds have the trait [`Policy`], and are joined by [`AnyOf`] and [`AllOf`].
 //!
 //! It stands on `span_view`, for what a policy asks of a span, and on `tail_settings`, for what a policy is.
 #![tactic(auto)]
 
+mod all_of;
+mod any_of;
 mod attribute;
 mod bits;
+mod both;
 mod note;
+mod noting;
 mod policy;
 mod status;
 mod tenant;
@@ -20,11 +26,15 @@ ghost use Rattle.std.specs.Prelude.{◌≡◌, ◌<◌, length, map};
 ghost use Rattle.tail_settings.specs.Policy.{policy_view};
 ghost use Rattle.tail_policy.specs.Meaning.{keeps};
 
-pub use note::TraceNote;
+pub use all_of::AllOf;
+pub use any_of::AnyOf;
+pub use both::BothNotes;
+pub use note::{ResourceBits, TraceNote};
+pub use noting::{Policy, PolicyByParts, span_note, views_of_parts};
 use policy::policy_samples;
 use span_view::SpanRef;
 use tail_settings::PolicySpec;
-pub use tenant::{Policy, TenantPolicies};
+pub use tenant::TenantPolicies;
 
 /// Whether the trace that has these spans is sampled: whether one of the policies samples it.
 ///

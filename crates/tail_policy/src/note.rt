@@ -3,6 +3,7 @@
 ghost use Rattle.std.specs.Prelude.{◌≡◌, ◌/◌, ◌^◌, map};
 ghost use Rattle.tail_settings.specs.Policy.{leaf_view, policy_view};
 ghost use Rattle.tail_policy.specs.Note.{joined, leaf_verdict, all_verdict, verdict_of};
+ghost use Rattle.tail_policy.specs.Parts.{with_resource};
 
 use crate::time::whole_milliseconds;
 use tail_settings::{LeafPolicy, PolicySpec};
@@ -16,6 +17,21 @@ pub struct TraceNote {
     start: u64,
     /// The latest end, in nanoseconds since 1970.
     end: u64,
+}
+
+/// What a tenant's policies keep of a resource: 8 bytes, however many attributes it has.
+#[derive(Clone, Copy, Debug, PartialEq, Eq)]
+pub struct ResourceBits {
+    /// One bit a policy that holds no other, the first one's lowest: whether an attribute of the resource meets it.
+    met: u64,
+}
+
+impl ResourceBits {
+    pub fn new(met: u64) -> ResourceBits
+        ensures { result ≡ record { met = met } }
+    {
+        ResourceBits { met }
+    }
 }
 
 /// The bits above the lowest `count`.
@@ -41,6 +57,18 @@ impl TraceNote {
             met: self.met | other.met,
             start: self.start.min(other.start),
             end: self.end.max(other.end),
+        }
+    }
+
+    /// The note of the same span or spans with a resource that tells this.
+    #[tactic(auto, unfolding(crate::specs::Parts::with_resource))]
+    pub fn with_resource(self, resource: ResourceBits) -> TraceNote
+        ensures { result ≡ with_resource resource self }
+    {
+        TraceNote {
+            met: self.met | resource.met,
+            start: self.start,
+            end: self.end,
         }
     }
 

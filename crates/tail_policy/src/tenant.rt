@@ -1,47 +1,15 @@
-//! Policies that decide by notes.
+//! A tenant's policies, which decide by notes.
 
-ghost use Rattle.std.specs.Prelude.{◌≡◌, ◌≤◌, ◌∷◌, List, Bool, IfOk, map, fold};
-ghost use Rattle.span_view.specs.Facts.{SpanFacts};
+ghost use Rattle.std.specs.Prelude.{◌≡◌, ◌≤◌, map};
 ghost use Rattle.tail_settings.specs.Policy.{policy_view, leaves_of};
 
-use crate::bits::{Fact, attribute_bits, fact_bits};
-use crate::note::TraceNote;
+use crate::bits::{Fact, attribute_bits, fact_bits, resource_bits};
+use crate::note::{ResourceBits, TraceNote};
+use crate::noting::{Policy, PolicyByParts};
 use span_view::SpanRef;
 use std::alloc::AllocError;
 use std::marker::Model;
 use tail_settings::PolicySpec;
-
-/// Decides a trace by notes, one of each of its spans, that were joined in the order of the spans.
-pub trait Policy {
-    /// What is kept of spans.
-    type Note: Drop + Send;
-
-    ghost note_of: { Self → SpanFacts → Self.Note };
-
-    ghost joined: { Self → Self.Note → Self.Note → Self.Note };
-
-    ghost verdict_of: { Self → Self.Note → Bool };
-
-    // which traces the policy samples: a meaning that no note occurs in
-    ghost samples: { Self → List SpanFacts → Bool };
-
-    /// The note of one span.
-    fn note(&self, span: &SpanRef<'_>) -> Result<Self::Note, AllocError>
-        ensures { IfOk result (λ note. note ≡ note_of self.now span.now) };
-
-    /// The note of the spans of both.
-    fn join(&self, first: Self::Note, second: Self::Note) -> Self::Note
-        ensures { result ≡ joined self.now first second };
-
-    /// Whether the trace whose spans have this note is sampled.
-    fn verdict(&self, note: &Self::Note) -> bool
-        ensures { result ≡ verdict_of self.now note.now };
-
-    ghost associative: { (p : Self) (a b c : Self.Note) → joined p (joined p a b) c ≡ joined p a (joined p b c) };
-
-    ghost means: { (p : Self) (span : SpanFacts) (spans : List SpanFacts)
-        → verdict_of p (fold (joined p) (note_of p span) (map (note_of p) spans)) ≡ samples p (span ∷ spans) };
-}
 
 /// A tenant's policies. A trace is sampled where one of them samples it.
 #[derive(Drop)]
@@ -103,5 +71,27 @@ impl<'a> Policy for TenantPolicies<'a> {
 
     fn verdict(&self, note: &TraceNote) -> bool {
         note.samples(self.policies)
+    }
+}
+
+impl<'a> PolicyByParts for TenantPolicies<'a> {
+    ghost use Rattle.tail_policy.specs.Parts as parts;
+
+    type ResourceNote = ResourceBits;
+
+    ghost resource_note_of = { parts.resource_bits_of };
+
+    ghost with_resource_of = { λ policies. parts.with_resource };
+
+    ghost by_parts = { parts.by_parts };
+
+    /// It takes no memory and is never refused.
+    #[tactic(auto, unfolding(crate::specs::Parts::resource_bits_of))]
+    fn resource_note(&self, resource: &[u8]) -> Result<ResourceBits, AllocError> {
+        Ok(ResourceBits::new(resource_bits(self.policies, resource)))
+    }
+
+    fn with_resource(&self, resource: &ResourceBits, note: TraceNote) -> TraceNote {
+        note.with_resource(*resource)
     }
 }

@@ -1,0 +1,100 @@
+//! Parts run side by side.
+
+use span_view::{SpanRef, is_text};
+use std::alloc::AllocError;
+use std::process::Abort;
+use std::sync::atomic::{AtomicBool, Ordering};
+use std::test::Fail;
+use std::thread;
+use tail_notes::note_all;
+use tail_policy::Policy;
+
+/// Holds the note of a span that starts at 0 until the note of one that starts later was begun.
+#[derive(Drop)]
+struct Gate {
+    begun: AtomicBool,
+    passed: AtomicBool,
+}
+
+impl Gate {
+    fn closed() -> Gate {
+        Gate {
+            begun: AtomicBool::new(false),
+            passed: AtomicBool::new(false),
+        }
+    }
+
+    /// Waits for the later span, at most 1,000,000 turns.
+    fn hold(&self) {
+        for _ in 0..1_000_000 {
+            if self.begun.load(Ordering::SeqCst) {
+                self.passed.store(true, Ordering::SeqCst);
+                return;
+            }
+            thread::yield_now();
+        }
+    }
+}
+
+impl Policy for Gate {
+    ghost use Rattle.std.specs.Prelude.{true, refl};
+
+    type Note = bool;
+
+    ghost note_of = { λ gate span. true };
+
+    ghost joined = { λ gate first second. first };
+
+    ghost verdict_of = { λ gate note. true };
+
+    ghost samples = { λ gate spans. true };
+
+    ghost associative = { λ gate a b c. refl };
+
+    ghost means = { λ gate span spans. refl };
+
+    fn note(&self, span: &SpanRef<'_>) -> Result<bool, AllocError> {
+        if span.start() == 0 {
+            self.hold();
+        } else {
+            self.begun.store(true, Ordering::SeqCst);
+        }
+        Ok(true)
+    }
+
+    fn join(&self, first: bool, _second: bool) -> bool {
+        first
+    }
+
+    fn verdict(&self, _note: &bool) -> bool {
+        true
+    }
+}
+
+/// At 1.
+const LATER: &[u8] = b"\x39\x01\x00\x00\x00\x00\x00\x00\x00";
+
+fn checked<'a>(rt: &impl Abort, span: &'a [u8]) -> SpanRef<'a> {
+    assert!(rt; is_text(span, b""));
+    SpanRef::of(span, b"")
+}
+
+#[test]
+fn the_first_part_waits_for_the_second(rt: HostRuntime) -> Result<(), Fail> {
+    let gate = Gate::closed();
+    let spans = [checked(&rt, b""), checked(&rt, LATER)];
+    let notes = note_all(&rt, rt.alloc(), &gate, &spans, 2)?;
+    assert_eq!(rt; notes.len(), 2);
+    assert!(rt; gate.passed.load(Ordering::SeqCst));
+    Ok(())
+}
+
+#[test]
+fn one_part_waits_in_vain(rt: HostRuntime) -> Result<(), Fail> {
+    let gate = Gate::closed();
+    let spans = [checked(&rt, b""), checked(&rt, LATER)];
+    let notes = note_all(&rt, rt.alloc(), &gate, &spans, 1)?;
+    assert_eq!(rt; notes.len(), 2);
+    assert!(rt; !gate.passed.load(Ordering::SeqCst));
+    Ok(())
+}
