@@ -19,3 +19,4 @@ mod Opening
 mod Came
 mod Posted
 mod AnyStep
+mod InOrder

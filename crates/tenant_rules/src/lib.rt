@@ -16,6 +16,7 @@
 #![tactic(auto)]
 
 ghost use Rattle.tenant_rules.specs.Fronts.{FrontsAre};
+ghost use Rattle.tenant_rules.specs.InOrder.{RowsWaitInOrder, NoneIsDue};
 ghost use Rattle.tenant_rules.specs.Law.{ReportsFollow, TurnsFollow, AnswersFollow, DrainsFollow};
 ghost use Rattle.tenant_rules.specs.Law.{PostsFollow, StepsFollow};
 
@@ -55,6 +56,13 @@ pub fn posts_follow()
 /// machine. A law over the definitions.
 pub fn steps_follow()
     ensures { StepsFollow }
+{}
+
+/// After every past rows wait in the order of their due moments, as `fronts_are` asks, and no timer is due by the
+/// moment of the last step: a law over the definitions.
+pub fn rows_wait_in_order()
+    ensures order { RowsWaitInOrder }
+    ensures later { NoneIsDue }
 {}
 
 /// Some first timers, as they stand after refused memory, decide the first rows that wait, and what that makes of lists
