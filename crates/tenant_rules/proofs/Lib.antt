@@ -12,3 +12,11 @@ mod Steps
 mod Closing
 mod Drained
 mod FrontsAre
+mod Lookups
+mod Rooms
+mod Coming
+mod Opening
+mod Came
+mod Posted
+mod AnyStep
+mod InOrder

@@ -14,4 +14,5 @@ pub mod Ready
 pub mod Timers
 pub mod Machine
 pub mod Fronts
+pub mod InOrder
 pub mod Law

@@ -16,7 +16,9 @@
 #![tactic(auto)]
 
 ghost use Rattle.tenant_rules.specs.Fronts.{FrontsAre};
+ghost use Rattle.tenant_rules.specs.InOrder.{RowsWaitInOrder, NoneIsDue};
 ghost use Rattle.tenant_rules.specs.Law.{ReportsFollow, TurnsFollow, AnswersFollow, DrainsFollow};
+ghost use Rattle.tenant_rules.specs.Law.{PostsFollow, StepsFollow};
 
 mod told;
 
@@ -42,6 +44,25 @@ pub fn answers_follow()
 /// clock alone: a law over the definitions.
 pub fn drains_follow()
     ensures { DrainsFollow }
+{}
+
+/// A post's spans are taken one after the other where the budget allows, each as its row has it, and the reply says how
+/// many were left out and why, after the due timers: a law over the definitions.
+pub fn posts_follow()
+    ensures { PostsFollow }
+{}
+
+/// Every own step: what it makes of a tenant, and what is told of it, follow from the state before it alone, by the
+/// machine. A law over the definitions.
+pub fn steps_follow()
+    ensures { StepsFollow }
+{}
+
+/// After every past rows wait in the order of their due moments, as `fronts_are` asks, and no timer is due by the
+/// moment of the last step: a law over the definitions.
+pub fn rows_wait_in_order()
+    ensures order { RowsWaitInOrder }
+    ensures later { NoneIsDue }
 {}
 
 /// Some first timers, as they stand after refused memory, decide the first rows that wait, and what that makes of lists
