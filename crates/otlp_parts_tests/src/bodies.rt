@@ -2,7 +2,7 @@
 
 use crate::listed::parts_of;
 use crate::read::{agree, reading_of};
-use crate::vectors::{FAULTS, VECTORS};
+use otlp_vectors::{FAULTS, VECTORS};
 use std::alloc::Global;
 use std::test::Fail;
 

@@ -11,5 +11,3 @@ mod listed;
 mod memory;
 #[cfg(test)]
 mod read;
-#[cfg(test)]
-mod vectors;
