@@ -4,3 +4,6 @@ pub mod Laws
 pub mod Calls
 pub mod Timers
 pub mod Maps
+pub mod Runs
+pub mod Written
+pub mod Requests

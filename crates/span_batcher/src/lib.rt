@@ -5,8 +5,14 @@
 //! that `specs/Batches` says of the list of all groups that came, at the moments that it says. Spans are held by key;
 //! what is proved of batches holds of spans of any type. Moments and timeouts are milliseconds, sizes are spans.
 //!
-//! It stands on no other crate. The rules are those of the OpenTelemetry Collector's batch processor (`timeout`,
-//! `send_batch_size`, `send_batch_max_size`).
+//! What a batch is sent as, [`encode_batch`], is the canonical text of an OTLP request in which neighbours of one
+//! resource, and in it of one scope, stand together (`specs/ExportText`); that it is the text of such a request, and
+//! read as such, is a law ([`batches_are_requests`]). It is put together from texts: each span has its own, and those
+//! that spans share are named by keys and kept in a pool, so neighbours are most often compared by their keys alone.
+//!
+//! It stands on `text_pool` and `span_pool`, on `otlp_trace` and `otlp_read` for requests and their text, and on the
+//! library's `bytes`. The rules are those of the OpenTelemetry Collector's batch processor (`timeout`,
+//! `send_batch_size`, `send_batch_max_size`) and of OTLP 1.x.
 #![tactic(auto)]
 
 ghost use Rattle.std.specs.Prelude.{ℕ};
@@ -16,11 +22,15 @@ ghost use Rattle.span_batcher.specs.Timers.{Passes, AllCome};
 
 mod batch;
 mod batcher;
+mod encode;
 mod planned;
+mod request;
 
 pub use batch::Batch;
 pub use batcher::SpanBatcher;
+pub use encode::encode_batch;
 pub use planned::Planned;
+pub use request::batches_are_requests;
 
 /// What comes later only adds batches: those of what was left with what came.
 pub fn continues()

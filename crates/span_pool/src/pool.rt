@@ -3,9 +3,8 @@
 ghost use Rattle.std.specs.Prelude.{◌≡◌, ◌≢◌, ℕ, None, Some, IsSome, IfOk, OnOk, OnErr, IfErr, IfSome, option_copied};
 ghost use Rattle.slab.specs.Slab.{Slab as Slots, get};
 ghost use Rattle.span_pool.specs.Pool.{part, with_span, without};
-ghost use Rattle.span_pool.specs.Stored.{StoredData};
 
-use crate::stored::StoredSpan;
+use crate::owned::Owned;
 use slab::Slab;
 use std::alloc::{AllocFailed, Global};
 use std::marker::Model;
@@ -25,25 +24,27 @@ impl NotYours {
     }
 }
 
-/// All tenants' spans, by keys that the pool gives out. A key is given out anew once its span was taken.
+/// All tenants' spans, by keys that the pool gives out. A key is given out anew once its span was taken. A span is of
+/// any type that tells whose it is.
 #[derive(Drop)]
-pub struct SpanPool {
-    spans: Slab<StoredSpan>,
+pub struct SpanPool<S> {
+    spans: Slab<S>,
 }
 
-impl Model for SpanPool {
+impl<S> Model for SpanPool<S> {
     ghost use Rattle.slab.specs.Slab.{Slab as Slots, slab_code};
-    ghost use Rattle.span_pool.specs.Stored.{StoredData};
 
-    ghost Value = { Slots StoredData };
+    ghost Value = { Slots S };
+
+    ghost coded = { slab_code S.code };
 
     ghost view = { λ p. p.spans };
 }
 
-impl SpanPool {
+impl<S: Owned> SpanPool<S> {
     /// No spans of any tenant, which take no memory.
     pub fn new(alloc: Global) -> Self
-        ensures { (tenant : ℕ) → part tenant result ≡ λ _. None }
+        ensures { (tenant : ℕ) → part S.owner tenant result ≡ λ _. None }
     {
         SpanPool {
             spans: Slab::new(alloc),
@@ -52,29 +53,31 @@ impl SpanPool {
 
     /// The span goes into its owner's part, under a key that was vacant. Where memory is refused, the error has the
     /// span.
-    pub fn put(&mut self, span: StoredSpan) -> Result<usize, AllocFailed<StoredSpan>>
-        ensures vacant { IfOk result (λ key. (tenant : ℕ) → part tenant self.old key ≡ None) }
-        ensures own { IfOk result (λ key. part span.owner self.new ≡
-            with_span key (Some span) (part span.owner self.old)) }
+    pub fn put(&mut self, span: S) -> Result<usize, AllocFailed<S>>
+        ensures vacant { IfOk result (λ key. (tenant : ℕ) → part S.owner tenant self.old key ≡ None) }
+        ensures own { IfOk result (λ key. part S.owner (S.owner span) self.new ≡
+            with_span key (Some span) (part S.owner (S.owner span) self.old)) }
 
         // Other tenants' parts stay as they were, and where memory is refused the owner's too.
-        ensures others { (other : ℕ) → other ≢ span.owner → part other self.new ≡ part other self.old }
-        ensures refused { OnErr result (part span.owner self.new ≡ part span.owner self.old) }
+        ensures others { (other : ℕ) → other ≢ S.owner span
+            → part S.owner other self.new ≡ part S.owner other self.old }
+        ensures refused { OnErr result (part S.owner (S.owner span) self.new
+            ≡ part S.owner (S.owner span) self.old) }
         ensures back { IfErr result (λ failed. failed.value ≡ span) }
     {
         self.spans.insert(span)
     }
 
     /// The span at a key, whoever owns it.
-    pub fn get(&self, key: usize) -> Option<&StoredSpan>
+    pub fn get(&self, key: usize) -> Option<&S>
         ensures { option_copied result ≡ get self.now key }
     {
         self.spans.get(key)
     }
 
     /// The tenant's own span at a key.
-    pub fn owned(&self, tenant: u32, key: usize) -> Option<&StoredSpan>
-        ensures { option_copied result ≡ part tenant self.now key }
+    pub fn owned(&self, tenant: u32, key: usize) -> Option<&S>
+        ensures { option_copied result ≡ part S.owner tenant self.now key }
     {
         match self.spans.get(key) {
             Some(span) if span.owner() == tenant => Some(span),
@@ -83,11 +86,11 @@ impl SpanPool {
     }
 
     /// Takes out a span that the tenant owns. Where it owns none at the key, nothing changes. It takes no memory.
-    pub fn take(&mut self, tenant: u32, key: usize) -> Result<StoredSpan, NotYours>
-        ensures yours { IfOk result (λ span. part tenant self.old key ≡ Some span) }
-        ensures own { OnOk result (part tenant self.new ≡ with_span key None (part tenant self.old)) }
-        ensures others { (other : ℕ) → other ≢ tenant → part other self.new ≡ part other self.old }
-        ensures refused { OnErr result (part tenant self.old key ≡ None) }
+    pub fn take(&mut self, tenant: u32, key: usize) -> Result<S, NotYours>
+        ensures yours { IfOk result (λ span. part S.owner tenant self.old key ≡ Some span) }
+        ensures own { OnOk result (part S.owner tenant self.new ≡ with_span key None (part S.owner tenant self.old)) }
+        ensures others { (other : ℕ) → other ≢ tenant → part S.owner other self.new ≡ part S.owner other self.old }
+        ensures refused { OnErr result (part S.owner tenant self.old key ≡ None) }
         ensures unchanged { OnErr result (self.new ≡ self.old) }
     {
         match self.spans.get(key) {
@@ -98,8 +101,8 @@ impl SpanPool {
 
     /// Takes out the tenant's spans at these keys, of which it may own none. It takes no memory.
     pub fn take_all(&mut self, tenant: u32, keys: &[usize])
-        ensures own { part tenant self.new ≡ without keys.now (part tenant self.old) }
-        ensures others { (other : ℕ) → other ≢ tenant → part other self.new ≡ part other self.old }
+        ensures own { part S.owner tenant self.new ≡ without keys.now (part S.owner tenant self.old) }
+        ensures others { (other : ℕ) → other ≢ tenant → part S.owner other self.new ≡ part S.owner other self.old }
     {
         for key in keys {
             self.undo_put(tenant, *key);
@@ -109,19 +112,19 @@ impl SpanPool {
     /// Takes back a span of the tenant's that was put under this key. Where it owns none there, nothing changes. It
     /// takes no memory.
     pub fn undo_put(&mut self, tenant: u32, key: usize)
-        ensures own { part tenant self.new ≡ with_span key None (part tenant self.old) }
-        ensures others { (other : ℕ) → other ≢ tenant → part other self.new ≡ part other self.old }
+        ensures own { part S.owner tenant self.new ≡ with_span key None (part S.owner tenant self.old) }
+        ensures others { (other : ℕ) → other ≢ tenant → part S.owner other self.new ≡ part S.owner other self.old }
     {
         let _ = self.take(tenant, key);
     }
 }
 
 /// Each span of a pool is in its owner's part, and in no other tenant's.
-pub fn each_span_has_one_owner()
-    ensures all { (pool : Slots StoredData) (key : ℕ)
-        → IfSome (get pool key) (λ span. part span.owner pool key ≡ Some span) }
-    ensures owner { (pool : Slots StoredData) (tenant key : ℕ)
-        → IfSome (part tenant pool key) (λ span. span.owner ≡ tenant) }
-    ensures one { (pool : Slots StoredData) (tenant other key : ℕ)
-        → IsSome (part tenant pool key) → IsSome (part other pool key) → tenant ≡ other }
+pub fn each_span_has_one_owner<S: Owned>()
+    ensures all { (pool : Slots S) (key : ℕ)
+        → IfSome (get pool key) (λ span. part S.owner (S.owner span) pool key ≡ Some span) }
+    ensures owner { (pool : Slots S) (tenant key : ℕ)
+        → IfSome (part S.owner tenant pool key) (λ span. S.owner span ≡ tenant) }
+    ensures one { (pool : Slots S) (tenant other key : ℕ)
+        → IsSome (part S.owner tenant pool key) → IsSome (part S.owner other pool key) → tenant ≡ other }
 {}

@@ -8,6 +8,7 @@ ghost use Rattle.span_pool.specs.Named.{AreAlike, renumbered};
 ghost use Rattle.span_pool.specs.Equal.{stored_eq, stored_laws};
 
 use crate::numbers::{Numbers, are_one};
+use crate::owned::Owned;
 use bytes::Bytes;
 use span_view::SpanRef;
 use std::alloc::AllocError;
@@ -192,6 +193,14 @@ impl StoredSpan {
         ensures { result ≡ same_scope self.now.origin other.now.origin }
     {
         self.urls.scope == other.urls.scope && self.scope == other.scope
+    }
+}
+
+impl Owned for StoredSpan {
+    ghost owner = { λ s. s.owner };
+
+    fn owner(&self) -> u32 {
+        self.owner
     }
 }
 

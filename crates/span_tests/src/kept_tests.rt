@@ -35,7 +35,7 @@ fn name(span: Option<&StoredSpan>) -> u32 {
 }
 
 /// What a tenant owns at three keys.
-fn owned(pool: &SpanPool, tenant: u32, keys: [usize; 3]) -> [u32; 3] {
+fn owned(pool: &SpanPool<StoredSpan>, tenant: u32, keys: [usize; 3]) -> [u32; 3] {
     let [first, second, third] = keys;
     [
         name(pool.owned(tenant, first)),
@@ -45,7 +45,11 @@ fn owned(pool: &SpanPool, tenant: u32, keys: [usize; 3]) -> [u32; 3] {
 }
 
 /// Puts a span. Where memory is refused, what both own is the same, and the span is there to be put again.
-fn put(rt: &impl Abort, pool: &mut SpanPool, span: StoredSpan) -> Result<usize, AllocError> {
+fn put(
+    rt: &impl Abort,
+    pool: &mut SpanPool<StoredSpan>,
+    span: StoredSpan,
+) -> Result<usize, AllocError> {
     let keys = [0, 1, 2];
     let seven = owned(pool, 7, keys);
     let eight = owned(pool, 8, keys);
@@ -59,7 +63,7 @@ fn put(rt: &impl Abort, pool: &mut SpanPool, span: StoredSpan) -> Result<usize, 
 }
 
 /// Three spans: the first and the last are tenant 7's, the other is tenant 8's.
-fn filled(rt: &impl Abort, pool: &mut SpanPool) -> Result<[usize; 3], AllocError> {
+fn filled(rt: &impl Abort, pool: &mut SpanPool<StoredSpan>) -> Result<[usize; 3], AllocError> {
     let first = put(rt, pool, span(rt, 7, b"\x2a\x01\x31"))?;
     let second = put(rt, pool, span(rt, 8, b"\x2a\x01\x32"))?;
     let third = put(rt, pool, span(rt, 7, b"\x2a\x01\x33"))?;
@@ -78,7 +82,7 @@ fn each_tenant_owns_what_it_put(rt: HostRuntime) -> Result<(), Fail> {
 }
 
 /// Whether the tenant is told that the span isn't its own, by the fault's number and text.
-fn is_refused(pool: &mut SpanPool, tenant: u32, key: usize) -> bool {
+fn is_refused(pool: &mut SpanPool<StoredSpan>, tenant: u32, key: usize) -> bool {
     match pool.take(tenant, key) {
         Ok(_) => false,
         Err(refused) => refused == NotYours && refused.number() == 20,
@@ -131,6 +135,6 @@ fn where_memory_is_refused_nothing_has_changed(rt: HostRuntime) -> Result<(), Fa
 fn the_refusal_has_a_text(rt: HostRuntime) -> Result<(), Fail> {
     let text = format!(in rt.alloc(); "{NotYours}")?;
     assert!(rt; text.as_str() == "the tenant owns no span at this key");
-    each_span_has_one_owner();
+    each_span_has_one_owner::<StoredSpan>();
     Ok(())
 }

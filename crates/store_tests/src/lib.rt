@@ -5,6 +5,8 @@
 #[cfg(test)]
 mod agenda;
 #[cfg(test)]
+mod batch_text;
+#[cfg(test)]
 mod batcher;
 #[cfg(test)]
 mod load;

@@ -21,7 +21,7 @@ const TEXT: &[u8] = b"\x2a\x12the name of a span";
 /// The stores, and whose spans come: a trace of each tenant in turn.
 #[derive(Drop)]
 struct Load {
-    pool: SpanPool,
+    pool: SpanPool<StoredSpan>,
     table: TraceRows<u64>,
     tenants: u32,
 }

@@ -8,8 +8,6 @@ mod Coming
 mod Entries
 mod Run
 mod Bodies
-mod Runs
-mod Fields
 mod Equals
 mod Numbered
 mod Names

@@ -1,12 +1,13 @@
 //! The text of a batch.
 
-ghost use Rattle.std.specs.Prelude.{◌≡◌, ◌<◌, ◌≤◌, ◌++◌, ◌∷◌, ℕ, Bool, List, length, take, drop, flat_map, IfOk, OnOk};
+ghost use Rattle.std.specs.Prelude.{◌≡◌, ◌<◌, ◌≤◌, ◌++◌, ◌∷◌, ℕ, Bool, List, length, map, take, drop, flat_map, IfOk, OnOk};
 ghost use Rattle.otlp_trace.specs.Text.{embedded, repeated};
 ghost use Rattle.span_pool.specs.Stored.{StoredData, same_resource, same_scope};
 ghost use Rattle.span_pool.specs.Named.{AreAlike};
 ghost use Rattle.tenant_pipeline.specs.Arrivals.{arrivals_in};
 ghost use Rattle.tenant_pipeline.specs.Numbered.{AreNumbered};
-ghost use Rattle.tenant_pipeline.specs.ExportText.{runs, scope_spans_field, resource_spans_field, export_text};
+ghost use Rattle.span_batcher.specs.ExportText.{runs, scope_spans_field, resource_spans_field};
+ghost use Rattle.tenant_pipeline.specs.ExportText.{texts_in, export_text};
 
 use bytes::Bytes;
 use otlp_trace::{put_bytes_field, put_some_bytes, wrap_in_field};
@@ -34,7 +35,7 @@ fn put_embedded(out: &mut Vec<u8>, text: &Option<Bytes>) -> Result<(), AllocErro
 
 /// Appends the spans, each as a field of a `ScopeSpans`.
 fn put_spans(out: &mut Vec<u8>, spans: &[StoredSpan]) -> Result<(), AllocError>
-    ensures { OnOk result (out.new.items ≡ out.old.items ++ repeated 2 (λ a. a.text) (arrivals_in spans.now)) }
+    ensures { OnOk result (out.new.items ≡ out.old.items ++ repeated 2 (λ a. a.text) (map texts_in spans.now)) }
 {
     for span in spans {
         put_bytes_field(out, INNER, span.text().as_slice())?;
@@ -63,7 +64,7 @@ pub struct ScopeLevel;
 impl Level for ScopeLevel {
     ghost same = { λ one other. same_scope one.origin other.origin };
 
-    ghost field = { λ spans. scope_spans_field (arrivals_in spans) };
+    ghost field = { λ spans. scope_spans_field (map texts_in spans) };
 
     fn is_same(one: &StoredSpan, other: &StoredSpan) -> bool {
         one.is_same_scope(other)
@@ -87,7 +88,7 @@ pub struct ResourceLevel;
 impl Level for ResourceLevel {
     ghost same = { λ one other. same_resource one.origin other.origin };
 
-    ghost field = { λ spans. resource_spans_field (arrivals_in spans) };
+    ghost field = { λ spans. resource_spans_field (map texts_in spans) };
 
     fn is_same(one: &StoredSpan, other: &StoredSpan) -> bool {
         one.is_same_resource(other)

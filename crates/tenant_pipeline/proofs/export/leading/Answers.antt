@@ -1,6 +1,6 @@
 use Rattle.std.proofs.Common.{◌≡◌, ◌+◌, ◌<◌, ◌∷◌, length, take, drop, sym, ◌∙◌, arith}
-use Rattle.tenant_pipeline.specs.ExportText.{runs}
-use Rattle.tenant_pipeline.proofs.Runs.{after, starts, goes_on, ends, stops}
+use Rattle.span_batcher.specs.ExportText.{runs}
+use Rattle.span_batcher.proofs.Runs.{after, starts, goes_on, ends, stops}
 use Rattle.tenant_pipeline.proofs.export.leading.Goals.{then-loop-last-test+else-is_same, else-loop-last-test}
 use Rattle.tenant_pipeline.proofs.Names.{alike_at}
 use Rattle.tenant_pipeline.proofs.export.leading.Goals as goal

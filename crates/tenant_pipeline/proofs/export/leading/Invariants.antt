@@ -1,6 +1,6 @@
 use Rattle.std.proofs.Common.{◌≡◌, ◌<◌, ◌-◌, length, take, drop}
-use Rattle.tenant_pipeline.specs.ExportText.{runs}
-use Rattle.tenant_pipeline.proofs.Runs.{after}
+use Rattle.span_batcher.specs.ExportText.{runs}
+use Rattle.span_batcher.proofs.Runs.{after}
 use Rattle.tenant_pipeline.proofs.export.leading.Given as goal
 
 -- those before the last one are in the first run

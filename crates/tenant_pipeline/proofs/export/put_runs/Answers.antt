@@ -1,9 +1,9 @@
 use Rattle.std.proofs.Common.{◌≡◌, ℕ, Bool, List, ◌∷◌, take, drop, sym, ◌∙◌, subst}
 use Rattle.span_pool.specs.Stored.{StoredData}
 use Rattle.tenant_pipeline.specs.Numbered.{AreNumbered}
-use Rattle.tenant_pipeline.specs.ExportText.{runs}
+use Rattle.span_batcher.specs.ExportText.{runs}
 use Rattle.tenant_pipeline.proofs.Names.{numbered_take, numbered_drop}
-use Rattle.tenant_pipeline.proofs.Runs.{one_run}
+use Rattle.span_batcher.proofs.Runs.{one_run}
 use Rattle.tenant_pipeline.proofs.export.put_runs.Goals as goal
 
 -- the first run is the front that was cut off

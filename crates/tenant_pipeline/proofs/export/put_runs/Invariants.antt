@@ -1,5 +1,5 @@
 use Rattle.std.proofs.Common.{◌≡◌, ◌++◌, ℕ, length, flat_map}
-use Rattle.tenant_pipeline.specs.ExportText.{runs}
+use Rattle.span_batcher.specs.ExportText.{runs}
 use Rattle.tenant_pipeline.specs.Numbered.{AreNumbered}
 use Rattle.tenant_pipeline.proofs.export.put_runs.Given as goal
 

@@ -1,0 +1,261 @@
+//! The text of a batch.
+
+ghost use Rattle.std.specs.Prelude.{◌≡◌, ◌<◌, ◌≤◌, ◌++◌, ◌∷◌, ◌==◌, ℕ, Bool, List, length, take, drop, flat_map, IfOk, OnOk, option_copied};
+ghost use Rattle.otlp_trace.specs.Text.{embedded, repeated};
+ghost use Rattle.span_pool.specs.Keyed.{SpanTexts, text_at};
+ghost use Rattle.span_pool.specs.Stored.{bytes_of, same_bytes, same_text};
+ghost use Rattle.span_batcher.specs.ExportText.{runs, same_resource, same_scope, scope_spans_field, resource_spans_field, export_text};
+ghost use Rattle.span_batcher.specs.Texts.{texts_in, span_in, spans_in};
+
+use bytes::Bytes;
+use otlp_trace::{put_bytes_field, put_some_bytes, wrap_in_field};
+use span_pool::{KeyedSpan, Owned};
+use std::alloc::{AllocError, Global};
+use text_pool::TextPool;
+
+/// The number of `resource` in a `ResourceSpans`, of `scope` in a `ScopeSpans`, and of `resource_spans` in a request.
+const FIRST: u32 = 1;
+
+/// The number of `scope_spans` in a `ResourceSpans`, and of `spans` in a `ScopeSpans`.
+const INNER: u32 = 2;
+
+/// The number of `schema_url` in both.
+const SCHEMA_URL: u32 = 3;
+
+/// The tenant's text at a key, where there is a key and a text.
+fn text_at(texts: &TextPool, tenant: u32, key: Option<usize>) -> Option<&Bytes>
+    ensures { option_copied result ≡ text_at (texts_in texts.now tenant) key }
+{
+    match key {
+        Some(key) => texts.text(tenant, key),
+        None => None,
+    }
+}
+
+/// The bytes of the tenant's text at a key, none where there is no text.
+fn bytes_at(texts: &TextPool, tenant: u32, key: Option<usize>) -> &[u8]
+    ensures { result.now ≡ bytes_of (text_at (texts_in texts.now tenant) key) }
+{
+    match text_at(texts, tenant, key) {
+        Some(text) => text.as_slice(),
+        None => &[],
+    }
+}
+
+/// The text of a span's resource, where it has one.
+fn resource_of<'a>(texts: &'a TextPool, span: &KeyedSpan) -> Option<&'a Bytes>
+    ensures { option_copied result ≡ (span_in texts.now span.now).origin.resource }
+{
+    text_at(texts, span.owner(), span.keys().resource)
+}
+
+/// The URL of the resource's schema, empty where there is none.
+fn resource_url_of<'a>(texts: &'a TextPool, span: &KeyedSpan) -> &'a [u8]
+    ensures { result.now ≡ (span_in texts.now span.now).origin.resource_schema_url }
+{
+    bytes_at(texts, span.owner(), span.keys().resource_schema_url)
+}
+
+/// The text of a span's scope, where it has one.
+fn scope_of<'a>(texts: &'a TextPool, span: &KeyedSpan) -> Option<&'a Bytes>
+    ensures { option_copied result ≡ (span_in texts.now span.now).origin.scope }
+{
+    text_at(texts, span.owner(), span.keys().scope)
+}
+
+/// The URL of the scope's schema, empty where there is none.
+fn scope_url_of<'a>(texts: &'a TextPool, span: &KeyedSpan) -> &'a [u8]
+    ensures { result.now ≡ (span_in texts.now span.now).origin.scope_schema_url }
+{
+    bytes_at(texts, span.owner(), span.keys().scope_schema_url)
+}
+
+/// Whether both are missing, or both are there with the same bytes.
+fn are_same(one: Option<&Bytes>, other: Option<&Bytes>) -> bool
+    ensures { result ≡ same_text (option_copied one.entry) (option_copied other.entry) }
+{
+    match (one, other) {
+        (Some(one), Some(other)) => *one == *other,
+        (None, None) => true,
+        _ => false,
+    }
+}
+
+/// Whether the texts at keys of two tenants are the same, or missing at both. Of one tenant the keys most often tell.
+fn is_same_text(
+    texts: &TextPool,
+    tenants: (u32, u32),
+    one: Option<usize>,
+    other: Option<usize>,
+) -> bool
+    ensures { result ≡ same_text
+        (text_at (texts_in texts.now tenants.0) one) (text_at (texts_in texts.now tenants.1) other) }
+{
+    match (one, other) {
+        (Some(one), Some(other)) if tenants.0 == tenants.1 => {
+            texts.is_same(tenants.0, one, other)
+        }
+        _ => are_same(
+            text_at(texts, tenants.0, one),
+            text_at(texts, tenants.1, other),
+        ),
+    }
+}
+
+/// Whether the URLs at keys of two tenants are the same, of which a missing one is empty.
+fn is_same_url(
+    texts: &TextPool,
+    tenants: (u32, u32),
+    one: Option<usize>,
+    other: Option<usize>,
+) -> bool
+    ensures { result ≡ same_bytes (bytes_of (text_at (texts_in texts.now tenants.0) one))
+        (bytes_of (text_at (texts_in texts.now tenants.1) other)) }
+{
+    is_same_text(texts, tenants, one, other)
+        || (bytes_at(texts, tenants.0, one).is_empty()
+            && bytes_at(texts, tenants.1, other).is_empty())
+}
+
+/// Appends the resource or the scope, where there is one.
+fn put_embedded(out: &mut Vec<u8>, text: Option<&Bytes>) -> Result<(), AllocError>
+    ensures { OnOk result (out.new.items ≡ out.old.items ++ embedded 1 (option_copied text.entry)) }
+{
+    match text {
+        Some(text) => put_bytes_field(out, FIRST, text.as_slice()),
+        None => Ok(()),
+    }
+}
+
+/// Appends the spans, each as a field of a `ScopeSpans`.
+fn put_spans(out: &mut Vec<u8>, spans: &[&KeyedSpan]) -> Result<(), AllocError>
+    ensures { OnOk result (out.new.items ≡ out.old.items ++ repeated 2 (λ span. span.now.text) spans.now) }
+{
+    for span in spans {
+        put_bytes_field(out, INNER, span.text().as_slice())?;
+    }
+    Ok(())
+}
+
+/// What neighbours share, and what is written of those that share it.
+pub trait Level {
+    ghost same: { SpanTexts → SpanTexts → Bool };
+
+    ghost field: { List SpanTexts → List ℕ };
+
+    fn is_same(texts: &TextPool, one: &KeyedSpan, other: &KeyedSpan) -> bool
+        ensures { result ≡ same (span_in texts.now one.now) (span_in texts.now other.now) };
+
+    fn put(out: &mut Vec<u8>, texts: &TextPool, spans: &[&KeyedSpan]) -> Result<(), AllocError>
+        ensures { OnOk result (out.new.items ≡ out.old.items ++ field (spans_in texts.now spans.now)) };
+}
+
+/// A scope, with its schema.
+pub struct ScopeLevel;
+
+impl Level for ScopeLevel {
+    ghost same = { same_scope };
+
+    ghost field = { scope_spans_field };
+
+    fn is_same(texts: &TextPool, one: &KeyedSpan, other: &KeyedSpan) -> bool {
+        let tenants = (one.owner(), other.owner());
+        let (one, other) = (one.keys(), other.keys());
+        is_same_text(texts, tenants, one.scope, other.scope)
+            && is_same_url(texts, tenants, one.scope_schema_url, other.scope_schema_url)
+    }
+
+    fn put(out: &mut Vec<u8>, texts: &TextPool, spans: &[&KeyedSpan]) -> Result<(), AllocError> {
+        let Some(first) = spans.first() else {
+            return Ok(());
+        };
+        let start = out.len();
+        put_embedded(out, scope_of(texts, first))?;
+        put_spans(out, spans)?;
+        put_some_bytes(out, SCHEMA_URL, scope_url_of(texts, first))?;
+        wrap_in_field(out, start, INNER)
+    }
+}
+
+/// A resource, with its schema.
+pub struct ResourceLevel;
+
+impl Level for ResourceLevel {
+    ghost same = { same_resource };
+
+    ghost field = { resource_spans_field };
+
+    fn is_same(texts: &TextPool, one: &KeyedSpan, other: &KeyedSpan) -> bool {
+        let tenants = (one.owner(), other.owner());
+        let (one, other) = (one.keys(), other.keys());
+        is_same_text(texts, tenants, one.resource, other.resource)
+            && is_same_url(
+                texts,
+                tenants,
+                one.resource_schema_url,
+                other.resource_schema_url,
+            )
+    }
+
+    fn put(out: &mut Vec<u8>, texts: &TextPool, spans: &[&KeyedSpan]) -> Result<(), AllocError> {
+        let Some(first) = spans.first() else {
+            return Ok(());
+        };
+        let start = out.len();
+        put_embedded(out, resource_of(texts, first))?;
+        put_runs::<ScopeLevel>(out, texts, spans)?;
+        put_some_bytes(out, SCHEMA_URL, resource_url_of(texts, first))?;
+        wrap_in_field(out, start, FIRST)
+    }
+}
+
+/// How many spans the first run has.
+fn leading<L: Level>(texts: &TextPool, spans: &[&KeyedSpan]) -> usize
+    requires { 0 < length spans.now }
+    ensures some { 0 < result }
+    ensures within { result ≤ length spans.now }
+    ensures first { runs L.same (spans_in texts.now spans.now) ≡ take result (spans_in texts.now spans.now)
+        ∷ runs L.same (drop result (spans_in texts.now spans.now)) }
+{
+    let mut last = 0;
+    while last + 1 < spans.len() && L::is_same(texts, spans[last], spans[last + 1]) {
+        last += 1;
+    }
+    last + 1
+}
+
+/// Appends the spans run by run.
+fn put_runs<L: Level>(
+    out: &mut Vec<u8>,
+    texts: &TextPool,
+    spans: &[&KeyedSpan],
+) -> Result<(), AllocError>
+    ensures { OnOk result (out.new.items
+        ≡ out.old.items ++ flat_map L.field (runs L.same (spans_in texts.now spans.now))) }
+{
+    let mut start = 0;
+    while start < spans.len() {
+        let (_, left) = spans.split_at(start);
+        let count = leading::<L>(texts, left);
+        let (run, _) = left.split_at(count);
+        L::put(out, texts, run)?;
+        start += count;
+    }
+    Ok(())
+}
+
+/// What a batch of these spans is sent as: the canonical text of an OTLP request (`ExportTraceServiceRequest`) in which
+/// neighbours of one resource and schema share a `ResourceSpans`, and in it those of one scope and schema a
+/// `ScopeSpans`. Each span's resource and scope are those that its tenant has at its keys; where the tenant has no text
+/// at a key, it is as if the span had no key.
+pub fn encode_batch(
+    alloc: Global,
+    texts: &TextPool,
+    spans: &[&KeyedSpan],
+) -> Result<Bytes, AllocError>
+    ensures { IfOk result (λ payload. payload ≡ export_text (spans_in texts.now spans.now)) }
+{
+    let mut text = Vec::new(alloc);
+    put_runs::<ResourceLevel>(&mut text, texts, spans)?;
+    Ok(Bytes::from_vec(text)?)
+}
