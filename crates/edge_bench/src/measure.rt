@@ -55,7 +55,7 @@ pub(crate) fn measure(
 fn repeated(alloc: Global, message: &[u8], rounds: u32) -> Result<Vec<u8>, AllocError>
     ensures { IfOk result (λ text. text.items ≡ repeated message.now rounds) }
 {
-    let mut text = Vec::new(alloc);
+    let mut text = Vec::with_capacity(alloc, message.len().saturating_mul(rounds as usize))?;
     'each: for _round in 0..rounds {
         text.extend_from_slice(message)?;
     }

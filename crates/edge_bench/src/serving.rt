@@ -5,11 +5,29 @@ use crate::fault::BenchFault;
 use http_edge::{Handler, HttpMessage, Reply, serve};
 use http_line::MemoryLine;
 use otlp_front::{Route, route};
-use std::alloc::Global;
+use std::alloc::{AllocError, Global};
 use tail_settings::{Settings, load};
 
-const SETTINGS: &str =
-    "tenant = [{ name = \"bench\", tail_sampling = { policy = [{ type = \"always_sample\" }] } }]";
+/// So many tenants stand before the one that messages name: a look-up that went through them would be seen.
+const OTHERS: u32 = 999;
+
+const TABLES: &str =
+    "tail_sampling = { policy = [{ type = \"always_sample\" }] }, max_spans = 1000 }";
+
+/// The settings' text, with the tenant `bench` in the last place.
+fn settings_text(alloc: Global) -> Result<String, AllocError> {
+    let mut text = String::from_str(alloc, "tenant = [")?;
+    for number in 0..OTHERS {
+        let tenant = format!(in alloc; "{{ name = \"t{number}\", ")?;
+        text.push_str(&tenant)?;
+        text.push_str(TABLES)?;
+        text.push_str(", ")?;
+    }
+    text.push_str("{ name = \"bench\", ")?;
+    text.push_str(TABLES)?;
+    text.push_str("]")?;
+    Ok(text)
+}
 
 /// Says where each message goes, and answers a post at once: what is done with a body isn't measured here.
 #[derive(Drop)]
@@ -62,7 +80,7 @@ impl Connection {
             line: MemoryLine::new(input, Vec::new(alloc), Vec::new(alloc), 0),
             front: Front {
                 alloc,
-                settings: load(alloc, SETTINGS)?,
+                settings: load(alloc, settings_text(alloc)?.as_str())?,
                 posts: 0,
             },
         })

@@ -10,6 +10,8 @@ mod connections;
 #[cfg(test)]
 mod given;
 #[cfg(test)]
+mod refused;
+#[cfg(test)]
 mod replies;
 #[cfg(test)]
 mod routes;

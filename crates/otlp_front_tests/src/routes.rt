@@ -1,9 +1,8 @@
 //! Connections from the tables, cut at every byte.
 
 use crate::collector::{Collector, SETTINGS, joined, talk};
-use crate::connections::{
-    CONNECTIONS, ENCODINGS, METHODS, ORDER, PATHS, POSTS, TENANTS, TYPES, Talk,
-};
+use crate::connections::{CONNECTIONS, POSTS, Talk};
+use crate::refused::{ENCODINGS, METHODS, ORDER, PATHS, TENANTS, TYPES};
 use std::alloc::Global;
 use std::test::Fail;
 use tail_settings::{Settings, load};
