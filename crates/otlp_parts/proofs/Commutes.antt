@@ -15,8 +15,8 @@ use Rattle.otlp_read.specs.Numbers.{utf8}
 use Rattle.otlp_read.specs.Value.{no_scope_spans, scope_spans_step, no_resource_spans, resource_spans_step, no_request, request_step, value_of, merged_scope, merged_resource}
 use Rattle.otlp_read.specs.Walk.{◌>>=◌, Step, before, onward, walk_in, walk, read_with, with_another}
 use Rattle.otlp_parts.specs.ReadAs.{span_in, scope_spans_in, resource_spans_in}
-use Rattle.otlp_parts.specs.Texts.{is_valid_span, valid_texts, scope_texts, resource_texts, ScopeTexts, ResourceTexts, BodyTexts, invalid_among, invalid_in_resource, invalid_in, counted, texts_of}
-use Rattle.otlp_parts.specs.Kept.{valid_text, KeptScope, with_kept_span, kept_scope_step, kept_scope_in, KeptResource, with_kept_scope, kept_resource_step, kept_resource_in, with_kept_resource, kept_body_step, kept_of}
+use Rattle.otlp_parts.specs.Texts.{is_valid_span, valid_texts, scope_texts, resource_texts, ScopeTexts, ResourceTexts, BodyTexts, invalid_among, invalid_in_resource, invalid_in, texts_of}
+use Rattle.otlp_parts.specs.Kept.{counted, valid_text, KeptScope, with_kept_span, kept_scope_step, kept_scope_in, KeptResource, with_kept_scope, kept_resource_step, kept_resource_in, with_kept_resource, kept_body_step, kept_of}
 
 -- ---- any message
 
@@ -170,31 +170,35 @@ resource_kept bytes = read_kept keep_resource resource_spans_step kept_resource_
 
 -- ---- a body
 
+-- the parts, with the count as the code has it
+abbrev pub counted_texts : RequestData → BodyTexts
+counted_texts v = record (texts_of v) { invalid = counted (invalid_in v) }
+
 abbrev body_with : List ResourceSpansData → RequestData
 body_with l = record { resource_spans = l }
 
 bodies_are : {k l : List ResourceTexts} {m n : ℕ} → k ≡ l → m ≡ n → ◌≡◌ {A = BodyTexts} (record { resources = k; invalid = m }) (record { resources = l; invalid = n })
 bodies_are resources invalid = rw (resources, invalid) refl
 
-resource_spans_kept : (v : RequestData) (r : ResourceSpansData) → with_kept_resource (texts_of v) (keep_resource r) ≡ texts_of (body_with (v.resource_spans ++ r ∷ []))
+resource_spans_kept : (v : RequestData) (r : ResourceSpansData) → with_kept_resource (counted_texts v) (keep_resource r) ≡ counted_texts (body_with (v.resource_spans ++ r ∷ []))
 unfolding keep_resource
 resource_spans_kept v r =
     let more : sum_by invalid_in_resource (v.resource_spans ++ r ∷ []) ≡ invalid_in v + (0 + invalid_in_resource r) = sum_by-append invalid_in_resource v.resource_spans (r ∷ []) in
     bodies_are (sym (map-append resource_texts v.resource_spans (r ∷ []))) (counted_both (invalid_in v) (invalid_in_resource r) ∙ ap counted (omega (arith, more)))
 
 through_resource : (v : RequestData) (bytes : List ℕ)
-    → (kept_resource_in bytes >>= λ t. Ok (with_kept_resource (texts_of v) t)) ≡ ((with_another v.resource_spans (resource_spans_in bytes) >>= λ l. Ok (body_with l)) >>= λ b. Ok (texts_of b))
+    → (kept_resource_in bytes >>= λ t. Ok (with_kept_resource (counted_texts v) t)) ≡ ((with_another v.resource_spans (resource_spans_in bytes) >>= λ l. Ok (body_with l)) >>= λ b. Ok (counted_texts b))
 through_resource v bytes =
-    ap (λ (r : Result KeptResource ReadFault). r >>= λ t. Ok (with_kept_resource (texts_of v) t)) (resource_kept bytes)
-    ∙ pushed_kept texts_of (resource_spans_in bytes) v.resource_spans body_with keep_resource (with_kept_resource (texts_of v)) (resource_spans_kept v)
+    ap (λ (r : Result KeptResource ReadFault). r >>= λ t. Ok (with_kept_resource (counted_texts v) t)) (resource_kept bytes)
+    ∙ pushed_kept counted_texts (resource_spans_in bytes) v.resource_spans body_with keep_resource (with_kept_resource (counted_texts v)) (resource_spans_kept v)
 
-body_field : (v : RequestData) (n : ℕ) (d : Datum) (spelled : List ℕ) → kept_body_step 100 (texts_of v) (record { number = n; value = d }) spelled ≡ (request_step 100 v (record { number = n; value = d }) spelled >>= λ t. Ok (texts_of t))
+body_field : (v : RequestData) (n : ℕ) (d : Datum) (spelled : List ℕ) → kept_body_step 100 (counted_texts v) (record { number = n; value = d }) spelled ≡ (request_step 100 v (record { number = n; value = d }) spelled >>= λ t. Ok (counted_texts t))
 body_field v n (Varint x) spelled = refl
 body_field v n (Eight bs) spelled = refl
-body_field v n (Bytes bs) spelled = one_kept texts_of (n == 1) _ _ v (through_resource v bs)
+body_field v n (Bytes bs) spelled = one_kept counted_texts (n == 1) _ _ v (through_resource v bs)
 body_field v n (Four bs) spelled = refl
 body_field v n (Group bs) spelled = refl
 
--- what is kept of a body is the texts of its value
-pub body_kept : (bytes : List ℕ) → kept_of bytes ≡ (value_of bytes >>= λ v. Ok (texts_of v))
-body_kept bytes = read_kept texts_of request_step kept_body_step 100 no_request bytes (λ v e spelled. body_field v e.number e.value spelled)
+-- what is kept of a body is the parts of its value
+pub body_kept : (bytes : List ℕ) → kept_of bytes ≡ (value_of bytes >>= λ v. Ok (counted_texts v))
+body_kept bytes = read_kept counted_texts request_step kept_body_step 100 no_request bytes (λ v e spelled. body_field v e.number e.value spelled)

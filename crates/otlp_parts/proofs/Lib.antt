@@ -8,3 +8,4 @@ pub mod Commutes
 pub mod Answer
 pub mod Inner
 pub mod Ids
+pub mod Counts

@@ -1,6 +1,6 @@
 -- A body read so that of its messages only texts are kept: what the code follows, field by field. The rules are those
 -- of `otlp_read`'s Value.
-use Rattle.std.specs.Prelude.{ℕ, ◌+◌, ◌==◌, if◌then◌else◌, List, [], ◌∷◌, ◌++◌, Option, Some, None, option_map, Result, Ok}
+use Rattle.std.specs.Prelude.{ℕ, ◌+◌, ◌-◌, ◌^◌, ◌==◌, min, if◌then◌else◌, List, [], ◌∷◌, ◌++◌, Option, Some, None, option_map, Result, Ok}
 use Rattle.pb_wire.specs.Grammar.{Bytes}
 use Rattle.otlp_trace.specs.Data.{SpanData, ScopeData, ResourceData}
 use Rattle.otlp_trace.specs.Text.{span_text, scope_text, resource_text}
@@ -8,7 +8,11 @@ use Rattle.otlp_read.specs.declared.fault.ReadFault.{ReadFault}
 use Rattle.otlp_read.specs.Numbers.{utf8}
 use Rattle.otlp_read.specs.Walk.{◌>>=◌, Step, Known, known_or_dropped, read_with}
 use Rattle.otlp_parts.specs.ReadAs.{span_in, another_scope, another_resource}
-use Rattle.otlp_parts.specs.Texts.{is_valid_span, counted, ScopeTexts, ResourceTexts, BodyTexts}
+use Rattle.otlp_parts.specs.Texts.{is_valid_span, ScopeTexts, ResourceTexts, BodyTexts}
+
+-- a count as the code has it, in 64 bits
+abbrev pub counted : ℕ → ℕ
+counted n = min n (2 ^ 64 - 1)
 
 -- ---- a span
 

@@ -1,7 +1,7 @@
 -- The parts of a body: the canonical texts of its valid spans, and of the resources and scopes that they stand in (OTLP
 -- 1.x's trace.proto). A span whose ids aren't as the trace data model of OpenTelemetry has them is left out and
 -- counted.
-use Rattle.std.specs.Prelude.{◌≡◌, ℕ, ◌-◌, ◌^◌, min, Bool, List, Option, map, option_map, filter, length, not, ◌==◌, ◌&&◌}
+use Rattle.std.specs.Prelude.{◌≡◌, ℕ, Bool, List, Option, map, option_map, filter, length, not, ◌==◌, ◌&&◌}
 use Rattle.std.specs.List.{list_all, count_by, sum_by}
 use Rattle.otlp_trace.specs.Data.{SpanData, ScopeSpansData, ResourceSpansData, RequestData}
 use Rattle.otlp_trace.specs.Text.{span_text, scope_text, resource_text}
@@ -64,13 +64,9 @@ invalid_in_resource r = sum_by (λ s. invalid_among s.spans) r.scope_spans
 abbrev pub invalid_in : RequestData → ℕ
 invalid_in v = sum_by invalid_in_resource v.resource_spans
 
--- a count in 64 bits: no body in memory has more spans
-abbrev pub counted : ℕ → ℕ
-counted n = min n (2 ^ 64 - 1)
-
 -- the parts of a body of this value
 abbrev pub texts_of : RequestData → BodyTexts
-texts_of v = record { resources = map resource_texts v.resource_spans; invalid = counted (invalid_in v) }
+texts_of v = record { resources = map resource_texts v.resource_spans; invalid = invalid_in v }
 
 -- the body has a value, and these are its parts
 pub record ArePartsOf (body : List ℕ) (parts : BodyTexts) : Type 0 where

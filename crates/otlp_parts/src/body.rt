@@ -1,6 +1,6 @@
 //! Bodies.
 
-ghost use Rattle.std.specs.Prelude.{◌≡◌, ◌≢◌, ◌≤◌, Ok, IfOk, IfErr, length, slice_range};
+ghost use Rattle.std.specs.Prelude.{◌≡◌, ◌≢◌, ◌<◌, ◌≤◌, ◌^◌, Ok, IfOk, IfErr, length, slice_range};
 ghost use Rattle.otlp_trace.specs.Data.{RequestData};
 ghost use Rattle.otlp_read.specs.declared.fault.ReadFault.{ReadFault};
 ghost use Rattle.otlp_read.specs.Fault.{Gives};
@@ -87,14 +87,16 @@ impl Walked for BodyParts {
 /// The parts, where they stand if these make up half of the body, and else copies.
 fn body_parts(alloc: Global, body: &Bytes) -> Result<BodyParts, ReadFault>
     ensures exact { Gives body_parts_view result (kept_of body.now) }
+    ensures short { length body.now < 2 ^ 64 }
 {
+    let size = body.len();
     let mut sliced = 0;
     let parts = walk_fields(alloc, no_parts(alloc), body, BODY_ROOM, &mut sliced)?;
     // Without slices nothing holds the body.
     if sliced == 0 {
         return Ok(parts);
     }
-    if sliced >= body.len().saturating_sub(sliced) {
+    if sliced >= size.saturating_sub(sliced) {
         return Ok(parts);
     }
     let copies = copied_body(alloc, parts)?;

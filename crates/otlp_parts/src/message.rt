@@ -15,14 +15,17 @@ use otlp_trace::{
 };
 use std::alloc::Global;
 
-/// Bytes as the one field of a text.
+/// The most bytes that the tags and lengths of three messages round a text have.
+const HEADS: usize = 33;
+
+/// Bytes as the one field of a text, which has room to be put into two more messages.
 pub fn as_field(alloc: Global, number: u32, bytes: &[u8]) -> Result<Vec<u8>, ReadFault>
     requires some { 0 < number }
     requires fits { number < 2 ^ 29 }
     ensures exact { Gives (λ field. field.items) result (Ok (bytes_field number bytes.now)) }
     ensures short { length bytes.now < 2 ^ 64 }
 {
-    let mut field = Vec::new(alloc);
+    let mut field = Vec::with_capacity(alloc, bytes.len().saturating_add(HEADS))?;
     put_bytes_field(&mut field, number, bytes)?;
     Ok(field)
 }
