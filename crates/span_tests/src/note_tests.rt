@@ -7,7 +7,8 @@ use std::alloc::Global;
 use std::process::Abort;
 use std::test::Fail;
 use tail_policy::{
-    AllOf, AnyOf, Policy, PolicyByParts, TenantPolicies, TraceNote, keeps, span_note, views_of_parts,
+    AllOf, AnyOf, Policy, PolicyByParts, TenantPolicies, TraceNote, keeps, span_note,
+    views_of_parts,
 };
 use tail_settings::{Settings, load};
 

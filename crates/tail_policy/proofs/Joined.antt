@@ -1,16 +1,15 @@
 -- The bits of what a span is: of a slice's last policy, of a fact, and of all facts.
-use Rattle.std.proofs.Common.{◌≡◌, ◌≤◌, ◌<◌, ◌∙◌, ◌^◌, ℕ, Bool, false, ◌||◌, List, [], ◌∷◌, ◌++◌, map, refl, sym, ap, subst, arith}
+use Rattle.std.proofs.Common.{◌≡◌, ◌≤◌, ◌<◌, ◌∙◌, ◌^◌, ℕ, Bool, ◌||◌, List, [], ◌∷◌, ◌++◌, map, refl, sym, ap, subst, arith}
 use Rattle.std.proofs.Math.Bool.{or-false}
 use Rattle.std.proofs.Math.Pow.{pow_mono}
 use Rattle.std.proofs.lemmas.List.{map-append, append-nil}
 use Rattle.std.specs.Prelude.{bit_or}
-use Rattle.std.specs.List.{list_any}
 use Rattle.tail_settings.specs.declared.policy.LeafPolicy.{LeafPolicy}
 use Rattle.tail_settings.specs.declared.policy.PolicySpec.{PolicySpec}
-use Rattle.tail_settings.specs.Policy.{LeafData, PolicyData, leaf, and, leaves_of, leaf_view, policy_view}
+use Rattle.tail_settings.specs.Policy.{LeafData, PolicyData, and, leaves_of, leaf_view, policy_view}
 use Rattle.tail_settings.specs.Policy.{always_sample, latency, status_code, string_attribute, numeric_attribute}
 use Rattle.span_view.specs.Facts.{AttributeFact, SpanFacts}
-use Rattle.tail_policy.specs.Note.{leaves_in, with_bit, bits_below, bits_of, FactData, status, attribute, fact_meets, attributes_meet, span_meets}
+use Rattle.tail_policy.specs.Note.{leaves_in, with_bit, bits_below, bits_of, status, attribute, fact_meets, attributes_meet, span_meets}
 use Rattle.tail_policy.specs.Parts.{none_any}
 use Rattle.tail_policy.specs.Words.{bits_below-append, bits_least, bits_most, leaves_in-append, leaves_in-count, or_none, or_assoc, or_bits, same_bits, no_bits}
 

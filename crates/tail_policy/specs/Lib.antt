@@ -7,3 +7,4 @@ pub mod Laws
 pub mod Apart
 pub mod Parts
 pub mod Both
+pub mod Marks

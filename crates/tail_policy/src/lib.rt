@@ -15,6 +15,7 @@ mod any_of;
 mod attribute;
 mod bits;
 mod both;
+mod marks;
 mod note;
 mod noting;
 mod policy;

@@ -4,6 +4,7 @@ ghost use Rattle.std.specs.Prelude.{◌≡◌, ◌≤◌, map};
 ghost use Rattle.tail_settings.specs.Policy.{policy_view, leaves_of};
 
 use crate::bits::{Fact, attribute_bits, fact_bits, resource_bits};
+use crate::marks::{COUNT, mark_policies};
 use crate::note::{ResourceBits, TraceNote};
 use crate::noting::{Policy, PolicyByParts};
 use span_view::SpanRef;
@@ -15,17 +16,20 @@ use tail_settings::PolicySpec;
 #[derive(Drop)]
 pub struct TenantPolicies<'a> {
     policies: &'a [PolicySpec],
+    /// Which keys the policies may ask for.
+    marks: [bool; COUNT],
 }
 
 impl<'a> Model for TenantPolicies<'a> {
-    ghost use Rattle.std.specs.Prelude.{List, map, ◌≤◌};
-    ghost use Rattle.tail_settings.specs.Policy.{PolicyData, policy_view, leaves_of};
+    ghost use Rattle.std.specs.Prelude.{List, map};
+    ghost use Rattle.tail_policy.specs.Marks.{IsReady};
+    ghost use Rattle.tail_settings.specs.Policy.{PolicyData, policy_view};
 
     ghost Value = { List PolicyData };
 
     ghost view = { λ p. map policy_view p.policies.now };
 
-    ghost invariant = { λ p. leaves_of (map policy_view p.policies.now) ≤ 64 };
+    ghost invariant = { λ p. IsReady (map policy_view p.policies.now) p.marks };
 }
 
 impl<'a> TenantPolicies<'a> {
@@ -35,7 +39,9 @@ impl<'a> TenantPolicies<'a> {
         requires few { leaves_of (map policy_view policies.now) ≤ 64 }
         ensures { result ≡ map policy_view policies.now }
     {
-        TenantPolicies { policies }
+        let mut marks = [false; COUNT];
+        mark_policies(&mut marks, policies);
+        TenantPolicies { policies, marks }
     }
 }
 
@@ -61,7 +67,7 @@ impl<'a> Policy for TenantPolicies<'a> {
     /// It takes no memory and is never refused.
     fn note(&self, span: &SpanRef<'_>) -> Result<TraceNote, AllocError> {
         let status = fact_bits(self.policies, Fact::Status(span.status()));
-        let attributes = attribute_bits(self.policies, span.attributes());
+        let attributes = attribute_bits(self.policies, &self.marks, span.attributes());
         Ok(TraceNote::new(status | attributes, span.start(), span.end()))
     }
 
@@ -88,7 +94,7 @@ impl<'a> PolicyByParts for TenantPolicies<'a> {
     /// It takes no memory and is never refused.
     #[tactic(auto, unfolding(crate::specs::Parts::resource_bits_of))]
     fn resource_note(&self, resource: &[u8]) -> Result<ResourceBits, AllocError> {
-        Ok(ResourceBits::new(resource_bits(self.policies, resource)))
+        Ok(ResourceBits::new(resource_bits(self.policies, &self.marks, resource)))
     }
 
     fn with_resource(&self, resource: &ResourceBits, note: TraceNote) -> TraceNote {

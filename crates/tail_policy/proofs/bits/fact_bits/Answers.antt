@@ -1,4 +1,4 @@
-use Rattle.std.proofs.Common.{◌≡◌, ◌∙◌, sym, ap, map, [], ◌∷◌}
+use Rattle.std.proofs.Common.{◌∙◌, sym, ap, map}
 use Rattle.tail_settings.specs.Policy.{leaf_view, policy_view}
 use Rattle.tail_policy.specs.Note.{leaves_in, bits_below, fact_meets}
 use Rattle.tail_policy.specs.Wanted.{fact_view}

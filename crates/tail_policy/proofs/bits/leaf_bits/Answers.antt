@@ -1,4 +1,4 @@
-use Rattle.std.proofs.Common.{◌≡◌, ◌∙◌, sym, map}
+use Rattle.std.proofs.Common.{◌∙◌, sym, map}
 use Rattle.tail_settings.specs.Policy.{leaf_view}
 use Rattle.tail_policy.specs.Note.{fact_meets}
 use Rattle.tail_policy.specs.Wanted.{fact_view}

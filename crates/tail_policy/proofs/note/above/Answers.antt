@@ -1,4 +1,4 @@
-use Rattle.std.proofs.Common.{◌≡◌, ◌^◌, ◌≤◌, ◌<◌, sym, arith}
+use Rattle.std.proofs.Common.{◌^◌, ◌≤◌, ◌<◌, sym, arith}
 use Rattle.std.proofs.Math.Nat.{div-eq_of_lt}
 use Rattle.std.proofs.Math.Pow.{pow_mono}
 use Rattle.tail_policy.proofs.note.above.Goals as goal

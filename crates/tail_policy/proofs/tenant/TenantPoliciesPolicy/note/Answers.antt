@@ -1,8 +1,7 @@
-use Rattle.std.proofs.Common.{◌≡◌, ◌∙◌, ap, map, refl, rules, w32}
+use Rattle.std.proofs.Common.{◌≡◌, ◌∙◌, ap, refl, rules, w32}
 use Rattle.std.specs.Int.RustNames.{FitsSigned}
 use Rattle.std.proofs.lemmas.Int.{to_z-of_z}
 use Rattle.std.specs.Prelude.{bit_or}
-use Rattle.tail_settings.specs.Policy.{policy_view}
 use Rattle.tail_policy.specs.Note.{leaves_in, bits_of, status, fact_meets, attributes_meet, span_meets, note_of}
 use Rattle.tail_policy.proofs.Joined.{met_is}
 use Rattle.tail_policy.proofs.tenant.TenantPoliciesPolicy.note.Goals as goal
