@@ -12,3 +12,9 @@ mod Steps
 mod Closing
 mod Drained
 mod FrontsAre
+mod Sums
+mod Arrived
+mod Counted
+mod Least
+mod Others
+mod Rests

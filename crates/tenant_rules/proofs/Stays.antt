@@ -144,7 +144,7 @@ pending_stay w x d e A le le' =
     ap (batcher.state (rules_of w) e (Some x)) (groups_stay w x d e A le le')
     ∙ ((stays_drained (rules_of w) x e (groups w d (Some x) A) le').1 ∙ sym (stays_drained (rules_of w) x d (groups w d (Some x) A) le).1)
 
-pending_none : (w : SectionData) (x e : ℕ) (A : List Taken) → IsSound (rules_of w) → TakenBy x A → x ≤ e → next_due (pending w e (Some x) A) ≡ None
+pub pending_none : (w : SectionData) (x e : ℕ) (A : List Taken) → IsSound (rules_of w) → TakenBy x A → x ≤ e → next_due (pending w e (Some x) A) ≡ None
 unfolding pending
 pending_none w x e A sound by le = drained_none (rules_of w) x e (groups w e (Some x) A) sound (groups_up w x e A by) le
 

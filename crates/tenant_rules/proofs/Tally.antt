@@ -54,7 +54,7 @@ sizes-sent (b ∷ bs) =
     let all : length b.spans + sizes (all_sent bs) ≡ length (b.spans ++ spans_of bs) = omega (arith, sizes-sent bs, length-append b.spans (spans_of bs)) in all
 
 -- what is cut and what is left are all
-cut_sizes : (r : Rules) (m : ℕ) (xs : List Arrival) → length xs ≡ length (uncut r xs) + sizes (all_sent (cuts r m xs))
+pub cut_sizes : (r : Rules) (m : ℕ) (xs : List Arrival) → length xs ≡ length (uncut r xs) + sizes (all_sent (cuts r m xs))
 cut_sizes r m xs =
     let whole : length (spans_of (cuts r m xs) ++ uncut r xs) ≡ length xs = ap length (cuts-whole r m xs) in
     omega (arith, whole, sizes-sent (cuts r m xs), length-append (spans_of (cuts r m xs)) (uncut r xs))

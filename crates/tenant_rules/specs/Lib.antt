@@ -15,3 +15,7 @@ pub mod Timers
 pub mod Machine
 pub mod Fronts
 pub mod Law
+pub mod Sum
+pub mod Least
+pub mod Others
+pub mod AfterDrain

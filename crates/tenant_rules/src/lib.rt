@@ -17,6 +17,10 @@
 
 ghost use Rattle.tenant_rules.specs.Fronts.{FrontsAre};
 ghost use Rattle.tenant_rules.specs.Law.{ReportsFollow, TurnsFollow, AnswersFollow, DrainsFollow};
+ghost use Rattle.tenant_rules.specs.Sum.{FirstIsCounted, StepsCount, FrontsCount, PastsCount};
+ghost use Rattle.tenant_rules.specs.Least.{ReadyIsLeast, ReadyIsNext};
+ghost use Rattle.tenant_rules.specs.Others.{MomentsCount, OthersDontCount, RepliesDontChange};
+ghost use Rattle.tenant_rules.specs.AfterDrain.{DrainedRests};
 
 mod told;
 
@@ -48,4 +52,33 @@ pub fn drains_follow()
 /// and batches: a law over the machine.
 pub fn fronts_are()
     ensures { FrontsAre }
+{}
+
+/// Each span that was taken is counted in exactly one place, and no more spans are held than the budget allows: before
+/// the first step, after each step and after some first timers, as after refused memory. So it is after every past whose
+/// steps each follow from the state before: a law over the definitions and the machine.
+pub fn counted_once()
+    ensures first { FirstIsCounted }
+    ensures steps { StepsCount }
+    ensures fronts { FrontsCount }
+    ensures pasts { PastsCount }
+{}
+
+/// `ready` is the least moment at which something is due, and none where nothing is: a law over the definitions.
+pub fn ready_is_least()
+    ensures least { ReadyIsLeast }
+    ensures next { ReadyIsNext }
+{}
+
+/// What posts are told, and rows, groups and batches, depend on turns, answers and reports by their moments alone, and
+/// where moments never fall not even by these: a law over the definitions.
+pub fn posts_stand_alone()
+    ensures moments { MomentsCount }
+    ensures others { OthersDontCount }
+    ensures replies { RepliesDontChange }
+{}
+
+/// After a drain another drain, a post and a report change the clock alone: a law over the definitions.
+pub fn rests_after_drain()
+    ensures { DrainedRests }
 {}
