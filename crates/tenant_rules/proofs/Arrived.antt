@@ -39,33 +39,11 @@ evict_waiting_kept : (f : Fixed) (left : ℕ) (ws : List WaitingData) (s : State
 evict_waiting_kept f left [] s is k = k
 evict_waiting_kept f left (r ∷ rs) s is k =
     let few : spans_in s.waiting ≡ length r.spans + spans_in rs = ap spans_in is in
-    record {
-      accepted_is = k.accepted_is;
-      invalid_is = k.invalid_is;
-      over_budget_is = k.over_budget_is;
-      most_is = k.most_is;
-      sum_is = omega (arith, k.sum_is, k.undecided_is, few);
-      undecided_is = omega (arith, k.undecided_is, few);
-      pending_is = k.pending_is;
-      queued_is = k.queued_is;
-      active_is = k.active_is;
-      within = omega (arith, k.within);
-    }
+    omega arith
 
 evict_first_kept : (f : Fixed) (left : ℕ) (rows : List SettledData) (s : State) → Kept f left 0 s → Kept f left 0 (evict_first rows s)
 evict_first_kept f left [] s k = evict_waiting_kept f left s.waiting s refl k
-evict_first_kept f left (r ∷ rs) s k = record {
-  accepted_is = k.accepted_is;
-  invalid_is = k.invalid_is;
-  over_budget_is = k.over_budget_is;
-  most_is = k.most_is;
-  sum_is = k.sum_is;
-  undecided_is = k.undecided_is;
-  pending_is = k.pending_is;
-  queued_is = k.queued_is;
-  active_is = k.active_is;
-  within = k.within;
-}
+evict_first_kept f left (r ∷ rs) s k = omega arith
 
 evicted_kept : (f : Fixed) (left : ℕ) (s : State) → Kept f left 0 s → Kept f left 0 (evicted s)
 evicted_kept f left s k = by_room (nat_lt s.opened s.section.tail_sampling.num_traces)
@@ -77,50 +55,17 @@ evicted_kept f left s k = by_room (nat_lt s.opened s.section.tail_sampling.num_t
 -- ---- a span goes to its row
 
 joins_kept : (f : Fixed) (x : Arrival) (s : State) → has_row (trace_of x) s.waiting ≡ true → Kept f 1 0 s → Kept f 0 0 (joins x s)
-joins_kept f x s is k = record {
-  accepted_is = k.accepted_is;
-  invalid_is = k.invalid_is;
-  over_budget_is = k.over_budget_is;
-  most_is = k.most_is;
-  sum_is = k.sum_is;
-  undecided_is = omega (arith, k.undecided_is, joined_spans x s.waiting is);
-  pending_is = k.pending_is;
-  queued_is = k.queued_is;
-  active_is = k.active_is;
-  within = k.within;
-}
+joins_kept f x s is k = omega (arith, joined_spans x s.waiting is)
 
 opens_kept : (f : Fixed) (m : ℕ) (x : Arrival) (s : State) → Kept f 1 0 s → Kept f 0 0 (opens m x s)
 opens_kept f m x s k =
     let row : WaitingData = record { trace = trace_of x; due = m + s.section.tail_sampling.decision_wait; spans = x ∷ [] } in
     let more : spans_in (s.waiting ++ row ∷ []) ≡ spans_in s.waiting + 1 = opened_spans s.waiting row in
-    record {
-      accepted_is = k.accepted_is;
-      invalid_is = k.invalid_is;
-      over_budget_is = k.over_budget_is;
-      most_is = k.most_is;
-      sum_is = k.sum_is;
-      undecided_is = omega (arith, k.undecided_is, more);
-      pending_is = k.pending_is;
-      queued_is = k.queued_is;
-      active_is = k.active_is;
-      within = k.within;
-    }
+    omega arith
 
 late_or_opens_kept : (f : Fixed) (m : ℕ) (x : Arrival) (o : Option Bool) (s : State) → Kept f 1 0 s → Kept f 0 0 (late_or_opens m x o s)
 late_or_opens_kept f m x (Some true) s k = grouped_kept f 0 m (x ∷ []) s k
-late_or_opens_kept f m x (Some false) s k = record {
-  accepted_is = k.accepted_is;
-  invalid_is = k.invalid_is;
-  over_budget_is = k.over_budget_is;
-  most_is = k.most_is;
-  sum_is = omega (arith, k.sum_is, k.undecided_is);
-  undecided_is = omega (arith, k.undecided_is);
-  pending_is = k.pending_is;
-  queued_is = k.queued_is;
-  active_is = k.active_is;
-  within = omega (arith, k.within);
-}
+late_or_opens_kept f m x (Some false) s k = omega arith
 late_or_opens_kept f m x None s k = opens_kept f m x (evicted s) (evicted_kept f 1 s k)
 
 goes_kept : (f : Fixed) (m : ℕ) (x : Arrival) (s : State) → Kept f 1 0 s → Kept f 0 0 (goes m x s)
@@ -137,48 +82,15 @@ abbrev pub more_of : ℕ → Fixed → Fixed
 more_of n f = record f { accepted = f.accepted + n }
 
 regrouped : (f : Fixed) (n k : ℕ) (s : State) → Kept (more_of k (more_of n f)) 0 0 s → Kept (more_of (n + k) f) 0 0 s
-regrouped f n k s kept = record {
-  accepted_is = omega (arith, kept.accepted_is);
-  invalid_is = kept.invalid_is;
-  over_budget_is = kept.over_budget_is;
-  most_is = kept.most_is;
-  sum_is = omega (arith, kept.sum_is);
-  undecided_is = kept.undecided_is;
-  pending_is = kept.pending_is;
-  queued_is = kept.queued_is;
-  active_is = kept.active_is;
-  within = kept.within;
-}
+regrouped f n k s kept = omega arith
 
 none_more : (f : Fixed) (s : State) → Kept f 0 0 s → Kept (more_of 0 f) 0 0 s
-none_more f s k = record {
-  accepted_is = omega (arith, k.accepted_is);
-  invalid_is = k.invalid_is;
-  over_budget_is = k.over_budget_is;
-  most_is = k.most_is;
-  sum_is = omega (arith, k.sum_is);
-  undecided_is = k.undecided_is;
-  pending_is = k.pending_is;
-  queued_is = k.queued_is;
-  active_is = k.active_is;
-  within = k.within;
-}
+none_more f s k = omega arith
 
 counted_in_kept : (f : Fixed) (s : State) → nat_lt (held s) s.section.max_spans ≡ true → Kept f 0 0 s → Kept (more_of 1 f) 1 0 (counted_in s)
 counted_in_kept f s is k =
     let room : s.ledger.places.undecided + s.ledger.places.pending < s.section.max_spans = grind (arith, nat_tests, is) in
-    record {
-      accepted_is = omega (arith, k.accepted_is);
-      invalid_is = k.invalid_is;
-      over_budget_is = k.over_budget_is;
-      most_is = k.most_is;
-      sum_is = omega (arith, k.sum_is);
-      undecided_is = omega (arith, k.undecided_is);
-      pending_is = k.pending_is;
-      queued_is = k.queued_is;
-      active_is = k.active_is;
-      within = omega (arith, room, k.most_is);
-    }
+    omega arith
 
 -- spans were taken, no more than so many
 abbrev Took : Fixed → ℕ → State → Type 0
@@ -245,18 +157,7 @@ posted_counted f n old new exhausted fits few k k' = counted_of f old k few
 posted_counted f n old new (accepted invalid over_budget) fits few k k' =
     let f' : Fixed = record { accepted = f.accepted + n; invalid = f.invalid + invalid; over_budget = f.over_budget + over_budget; most = f.most } in
     let t : State = record new { ledger = left_out invalid over_budget new.ledger } in
-    let kept : Kept f' 0 0 t = record {
-      accepted_is = k'.accepted_is;
-      invalid_is = omega (arith, k'.invalid_is);
-      over_budget_is = omega (arith, k'.over_budget_is);
-      most_is = k'.most_is;
-      sum_is = k'.sum_is;
-      undecided_is = k'.undecided_is;
-      pending_is = k'.pending_is;
-      queued_is = k'.queued_is;
-      active_is = k'.active_is;
-      within = k'.within;
-    } in
+    let kept : Kept f' 0 0 t = omega arith in
     counted_of f' t kept fits
 
 pub post_counted : (m : ℕ) (arrivals : List Arrival) (s : State) → IsCounted s → IsCounted (post m arrivals s)

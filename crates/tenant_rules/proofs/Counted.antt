@@ -26,36 +26,14 @@ turned_by_kept f m (Retried a) s is k =
     let again = sent_again (D.handed_out + 1) a in
     let alone : active_sizes (again ∷ []) ≡ a.batch.spans = one_size again in
     let size : active_sizes (without a.ticket D.active ++ again ∷ []) ≡ active_sizes D.active = omega (arith, alone, active_append (without a.ticket D.active) (again ∷ []), without_sizes a.ticket a D.active is) in
-    record {
-      accepted_is = k.accepted_is;
-      invalid_is = k.invalid_is;
-      over_budget_is = k.over_budget_is;
-      most_is = k.most_is;
-      sum_is = k.sum_is;
-      undecided_is = k.undecided_is;
-      pending_is = k.pending_is;
-      queued_is = k.queued_is;
-      active_is = omega (arith, k.active_is, size);
-      within = k.within;
-    }
+    omega arith
 turned_by_kept f m (Oldest b) s is k =
     let D = s.sender in
     let first = sent_first D.retry m (D.handed_out + 1) b in
     let queue : sizes D.queue ≡ b.spans + sizes (drop 1 D.queue) = ap sizes is in
     let alone : active_sizes (first ∷ []) ≡ b.spans = one_size first in
     let size : active_sizes (D.active ++ first ∷ []) ≡ active_sizes D.active + b.spans = omega (arith, alone, active_append D.active (first ∷ [])) in
-    record {
-      accepted_is = k.accepted_is;
-      invalid_is = k.invalid_is;
-      over_budget_is = k.over_budget_is;
-      most_is = k.most_is;
-      sum_is = omega (arith, k.sum_is, k.queued_is, queue);
-      undecided_is = k.undecided_is;
-      pending_is = k.pending_is;
-      queued_is = omega (arith, k.queued_is, queue);
-      active_is = omega (arith, k.active_is, size);
-      within = k.within;
-    }
+    omega arith
 turned_by_kept f m NoBatch s is k = k
 
 -- ---- an answer
@@ -67,60 +45,16 @@ ended_state a e s = record s { sender = record s.sender { active = left_by a e s
 ends_kept : (f : Fixed) (a : ActiveData) (e : Settlement) (s : State) → under a.ticket s.sender.active ≡ Some a → AddsUp a.batch.spans e → Kept f 0 0 s → Kept f 0 0 (ended_state a e s)
 ends_kept f a (Delivered exported rejected) s is adds k =
     let size = without_sizes a.ticket a s.sender.active is in
-    record {
-      accepted_is = k.accepted_is;
-      invalid_is = k.invalid_is;
-      over_budget_is = k.over_budget_is;
-      most_is = k.most_is;
-      sum_is = omega (arith, k.sum_is, k.active_is, size, adds);
-      undecided_is = k.undecided_is;
-      pending_is = k.pending_is;
-      queued_is = k.queued_is;
-      active_is = omega (arith, k.active_is, size, adds);
-      within = k.within;
-    }
+    omega arith
 ends_kept f a Refused s is adds k =
     let size = without_sizes a.ticket a s.sender.active is in
-    record {
-      accepted_is = k.accepted_is;
-      invalid_is = k.invalid_is;
-      over_budget_is = k.over_budget_is;
-      most_is = k.most_is;
-      sum_is = omega (arith, k.sum_is, k.active_is, size);
-      undecided_is = k.undecided_is;
-      pending_is = k.pending_is;
-      queued_is = k.queued_is;
-      active_is = omega (arith, k.active_is, size);
-      within = k.within;
-    }
+    omega arith
 ends_kept f a Exhausted s is adds k =
     let size = without_sizes a.ticket a s.sender.active is in
-    record {
-      accepted_is = k.accepted_is;
-      invalid_is = k.invalid_is;
-      over_budget_is = k.over_budget_is;
-      most_is = k.most_is;
-      sum_is = omega (arith, k.sum_is, k.active_is, size);
-      undecided_is = k.undecided_is;
-      pending_is = k.pending_is;
-      queued_is = k.queued_is;
-      active_is = omega (arith, k.active_is, size);
-      within = k.within;
-    }
+    omega arith
 ends_kept f a (Postponed due retry) s is adds k =
     let size = replaced_sizes a.ticket a (record a { retry = retry; due = Some due }) s.sender.active is refl in
-    record {
-      accepted_is = k.accepted_is;
-      invalid_is = k.invalid_is;
-      over_budget_is = k.over_budget_is;
-      most_is = k.most_is;
-      sum_is = k.sum_is;
-      undecided_is = k.undecided_is;
-      pending_is = k.pending_is;
-      queued_is = k.queued_is;
-      active_is = omega (arith, k.active_is, size);
-      within = k.within;
-    }
+    omega arith
 
 settled_by_kept : (f : Fixed) (ticket m word : ℕ) (given : AnswerData) (o : Option ActiveData) (s : State) → in_flight ticket s.sender ≡ o → Kept f 0 0 s →
     Kept f 0 0 (record s { sender = answered_by m word given o s.sender; ledger = all_moved (ended_in_flight m word given o) s.ledger })

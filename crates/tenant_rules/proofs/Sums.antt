@@ -85,37 +85,15 @@ queued_kept f left cut b s k = by_test (is_full s.sender)
     longer = omega (arith, sizes-append s.sender.queue (b ∷ []), sizes_cons b [])
 
     by_test : (full : Bool) → Kept f left cut (cond full (recount Pending QueueFull b.spans s) (recount Pending Queued b.spans (record s { sender = cond full s.sender (record s.sender { queue = s.sender.queue ++ b ∷ [] }) })))
-    by_test true = record {
-      accepted_is = k.accepted_is;
-      invalid_is = k.invalid_is;
-      over_budget_is = k.over_budget_is;
-      most_is = k.most_is;
-      sum_is = omega (arith, k.sum_is, k.pending_is);
-      undecided_is = k.undecided_is;
-      pending_is = omega (arith, k.pending_is);
-      queued_is = k.queued_is;
-      active_is = k.active_is;
-      within = omega (arith, k.within);
-    }
-    by_test false = record {
-      accepted_is = k.accepted_is;
-      invalid_is = k.invalid_is;
-      over_budget_is = k.over_budget_is;
-      most_is = k.most_is;
-      sum_is = omega (arith, k.sum_is, k.pending_is);
-      undecided_is = k.undecided_is;
-      pending_is = omega (arith, k.pending_is);
-      queued_is = omega (arith, k.queued_is, longer);
-      active_is = k.active_is;
-      within = omega (arith, k.within);
-    }
+    by_test true = omega arith
+    by_test false = omega (arith, longer)
 
 all_queued_kept : (f : Fixed) (left cut : ℕ) (bs : List BatchData) (s : State) → Kept f left (cut + sizes bs) s → Kept f left cut (all_queued bs s)
-all_queued_kept f left cut [] s k = omega (arith, k)
+all_queued_kept f left cut [] s k = omega arith
 all_queued_kept f left cut (b ∷ bs) s k = all_queued_kept f left cut bs (queued b s) (queued_kept f left (cut + sizes bs) b s more)
   where
     more : Kept f left (cut + sizes bs + b.spans) s
-    more = omega (arith, k, sizes_cons b bs)
+    more = omega (arith, sizes_cons b bs)
 
 -- ---- spans leave together
 
@@ -127,18 +105,7 @@ grouped_kept f left m xs s k =
     let t : State = recount Undecided Pending (length xs) (record s { pending = added m xs s.pending }) in
     let whole = cut_sizes s.pending.rules m all in
     let both : length all ≡ length s.pending.spans + length xs = length-append s.pending.spans xs in
-    let more : Kept f left (0 + sizes bs) t = record {
-      accepted_is = k.accepted_is;
-      invalid_is = k.invalid_is;
-      over_budget_is = k.over_budget_is;
-      most_is = k.most_is;
-      sum_is = omega (arith, k.sum_is, k.undecided_is);
-      undecided_is = omega (arith, k.undecided_is);
-      pending_is = omega (arith, k.pending_is, whole, both);
-      queued_is = k.queued_is;
-      active_is = k.active_is;
-      within = omega (arith, k.within, k.undecided_is);
-    } in
+    let more : Kept f left (0 + sizes bs) t = omega arith in
     all_queued_kept f left 0 bs t more
 
 -- ---- timers
@@ -149,50 +116,17 @@ flushed_kept f (Some due) s k =
     let one = all_sent (record { moment = due; spans = s.pending.spans } ∷ []) in
     let t : State = record s { clock = due; pending = fired s.pending } in
     let size : sizes one ≡ length s.pending.spans + 0 = refl in
-    let more : Kept f 0 (0 + sizes one) t = record {
-      accepted_is = k.accepted_is;
-      invalid_is = k.invalid_is;
-      over_budget_is = k.over_budget_is;
-      most_is = k.most_is;
-      sum_is = k.sum_is;
-      undecided_is = k.undecided_is;
-      pending_is = omega (arith, k.pending_is, size);
-      queued_is = k.queued_is;
-      active_is = k.active_is;
-      within = k.within;
-    } in
+    let more : Kept f 0 (0 + sizes one) t = omega arith in
     all_queued_kept f 0 0 one t more
 
 sample_kept : (f : Fixed) (m : ℕ) (r : WaitingData) (rs : List WaitingData) (s : State) (b sampled : Bool) → s.waiting ≡ r ∷ rs → Kept f 0 0 s → Kept f 0 0 (sample m r b (settle m r rs sampled s))
 sample_kept f m r rs s true sampled is k =
     let few : spans_in s.waiting ≡ length r.spans + spans_in rs = ap spans_in is in
-    let more : Kept f (0 + length r.spans) 0 (settle m r rs sampled s) = record {
-      accepted_is = k.accepted_is;
-      invalid_is = k.invalid_is;
-      over_budget_is = k.over_budget_is;
-      most_is = k.most_is;
-      sum_is = k.sum_is;
-      undecided_is = omega (arith, k.undecided_is, few);
-      pending_is = k.pending_is;
-      queued_is = k.queued_is;
-      active_is = k.active_is;
-      within = k.within;
-    } in
+    let more : Kept f (0 + length r.spans) 0 (settle m r rs sampled s) = omega arith in
     grouped_kept f 0 m r.spans (settle m r rs sampled s) more
 sample_kept f m r rs s false sampled is k =
     let few : spans_in s.waiting ≡ length r.spans + spans_in rs = ap spans_in is in
-    record {
-      accepted_is = k.accepted_is;
-      invalid_is = k.invalid_is;
-      over_budget_is = k.over_budget_is;
-      most_is = k.most_is;
-      sum_is = omega (arith, k.sum_is, k.undecided_is, few);
-      undecided_is = omega (arith, k.undecided_is, few);
-      pending_is = k.pending_is;
-      queued_is = k.queued_is;
-      active_is = k.active_is;
-      within = omega (arith, k.within);
-    }
+    omega arith
 
 decide_row_kept : (f : Fixed) (m : ℕ) (r : WaitingData) (rs : List WaitingData) (s : State) → s.waiting ≡ r ∷ rs → Kept f 0 0 s → Kept f 0 0 (decide_row m r rs s)
 decide_row_kept f m r rs s is k =
@@ -220,18 +154,7 @@ ran_kept f (suc n) m s k = by_test (is_due (next_timer s) m) (ran_kept f n m (on
 
 -- a state at another moment
 at_moment : (f : Fixed) (m : ℕ) (s : State) → Kept f 0 0 s → Kept f 0 0 (record s { clock = m })
-at_moment f m s k = record {
-  accepted_is = k.accepted_is;
-  invalid_is = k.invalid_is;
-  over_budget_is = k.over_budget_is;
-  most_is = k.most_is;
-  sum_is = k.sum_is;
-  undecided_is = k.undecided_is;
-  pending_is = k.pending_is;
-  queued_is = k.queued_is;
-  active_is = k.active_is;
-  within = k.within;
-}
+at_moment f m s k = omega arith
 
 pub advanced_kept : (f : Fixed) (m : ℕ) (s : State) → Kept f 0 0 s → Kept f 0 0 (advanced m s)
 advanced_kept f m s k = at_moment f m (ran (enough s) m s) (ran_kept f (enough s) m s k)
@@ -249,18 +172,7 @@ closed_kept f m s k =
     let bs = all_sent (option_to_list (machine.drained m s.pending.spans)) in
     let t : State = record s { drained = true; pending = fired s.pending } in
     let size : sizes bs ≡ length s.pending.spans = drained_size m s.pending.spans in
-    let more : Kept f 0 (0 + sizes bs) t = record {
-      accepted_is = k.accepted_is;
-      invalid_is = k.invalid_is;
-      over_budget_is = k.over_budget_is;
-      most_is = k.most_is;
-      sum_is = k.sum_is;
-      undecided_is = k.undecided_is;
-      pending_is = omega (arith, k.pending_is, size);
-      queued_is = k.queued_is;
-      active_is = k.active_is;
-      within = k.within;
-    } in
+    let more : Kept f 0 (0 + sizes bs) t = omega arith in
     all_queued_kept f 0 0 bs t more
 
 pub drain_kept : (f : Fixed) (m : ℕ) (s : State) → Kept f 0 0 s → Kept f 0 0 (drain m s)
