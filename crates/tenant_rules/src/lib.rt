@@ -55,8 +55,8 @@ pub fn fronts_are()
 {}
 
 /// Each span that was taken is counted in exactly one place, and no more spans are held than the budget allows: before
-/// the first step, after each step and after some first timers, as after refused memory. So it is after every past whose
-/// steps each follow from the state before: a law over the definitions and the machine.
+/// the first step, after each step, and where some first timers have run, as after refused memory. So it is after every
+/// past whose steps each follow from the state before: a law over the definitions and the machine.
 pub fn counted_once()
     ensures first { FirstIsCounted }
     ensures steps { StepsCount }
