@@ -153,7 +153,7 @@ push_up m [] spans up = (omega arith, tt)
 push_up m (g ∷ G) spans up = (up.0, push_up m G spans up.1)
 
 -- one group more at the moment reached
-one_more : (r : Rules) (m : ℕ) (G : List (Group Arrival)) (xs : List Arrival) → 0 < length xs → IsSound r → IsUpTo m G →
+pub one_more : (r : Rules) (m : ℕ) (G : List (Group Arrival)) (xs : List Arrival) → 0 < length xs → IsSound r → IsUpTo m G →
     (batches r m None (G ++ record { moment = m; spans = xs } ∷ []) ≡ batches r m None G ++ cuts (batcher.state r m None G).rules m ((batcher.state r m None G).spans ++ xs))
     × (added m xs (batcher.state r m None G) ≡ batcher.state r m None (G ++ record { moment = m; spans = xs } ∷ []))
 one_more r m G [] some sound up = absurd (omega (arith, some))

@@ -17,6 +17,7 @@ use Rattle.tenant_rules.specs.Sum.{IsCounted, FirstIsCounted, StepsCount, Fronts
 use Rattle.tenant_rules.proofs.Steps.{active_append, one_size, without_sizes, replaced_sizes, under_ticket, flying_under, IsNext, next_is, AddsUp, settlement_adds}
 use Rattle.tenant_rules.proofs.Sums.{Fixed, Kept, fixed_of, counted_from, ran_kept, advanced_kept, drain_kept}
 use Rattle.tenant_rules.proofs.Arrived.{post_counted}
+use Rattle.tenant_rules.proofs.AnyStep.{step_follows}
 
 -- ---- a turn
 
@@ -100,5 +101,7 @@ first_is_counted w = record {
 }
 
 pub pasts_count : PastsCount
-pasts_count w [] follow = first_is_counted w
-pasts_count w (step ∷ past) follow = subst (λ (s : State). IsCounted s) (sym follow.0.state_is) (steps_count step (state w past) (pasts_count w past follow.1))
+pasts_count w some wait sound [] = first_is_counted w
+pasts_count w some wait sound (step ∷ past) =
+    let follows = step_follows w some wait sound past step in
+    subst (λ (s : State). IsCounted s) (sym follows.state_is) (steps_count step (state w past) (pasts_count w some wait sound past))

@@ -182,7 +182,7 @@ drain_first w i e D es M pos sound by same =
 
 -- ---- any drain
 
-met_append : (xs ys : List BatchData) (es : List EndedData) → ended_places (map met_full_queue (xs ++ ys) ++ es) ≡ ended_places (map met_full_queue ys ++ (map met_full_queue xs ++ es))
+pub met_append : (xs ys : List BatchData) (es : List EndedData) → ended_places (map met_full_queue (xs ++ ys) ++ es) ≡ ended_places (map met_full_queue ys ++ (map met_full_queue xs ++ es))
 met_append xs ys es =
     let P = ended_places es in
     let both : P.queue_full + sizes (xs ++ ys) ≡ P.queue_full + sizes xs + sizes ys = omega (arith, sizes-append xs ys) in

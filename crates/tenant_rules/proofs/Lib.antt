@@ -12,6 +12,13 @@ mod Steps
 mod Closing
 mod Drained
 mod FrontsAre
+mod Lookups
+mod Rooms
+mod Coming
+mod Opening
+mod Came
+mod Posted
+mod AnyStep
 mod Sums
 mod Arrived
 mod Counted

@@ -3,7 +3,8 @@ use Rattle.std.specs.Prelude.{◌≡◌, ◌<◌, ℕ, List, ◌∷◌}
 use Rattle.tail_settings.specs.Section.{SectionData}
 use Rattle.send_retry.specs.Class.{AnswerData}
 use Rattle.span_batcher.specs.Batches.{IsSound}
-use Rattle.tenant_rules.specs.Own.{Own, Turn, Answer, Report, Drain}
+use Rattle.tenant_rules.specs.Arrivals.{Arrival}
+use Rattle.tenant_rules.specs.Own.{Own, Post, Turn, Answer, Report, Drain}
 use Rattle.tenant_rules.specs.Batching.{rules_of}
 use Rattle.tenant_rules.specs.State.{state}
 use Rattle.tenant_rules.specs.Answers.{answer}
@@ -30,7 +31,20 @@ AnswersFollow = (section : SectionData) → 0 < section.tail_sampling.num_traces
     (past : List Own) (now ticket word : ℕ) (content : AnswerData) →
     Follows section past (Answer now ticket word content)
 
--- and those of a drain, be it the first or not
+-- those of a drain, be it the first or not
 abbrev pub DrainsFollow : Type 0
 DrainsFollow = (section : SectionData) → 0 < section.tail_sampling.num_traces → IsSound (rules_of section) →
     (past : List Own) (now : ℕ) → Follows section past (Drain now)
+
+-- those of a post, whose spans join rows, open rows, leave late or are dropped, one after the other; or none of them is
+-- taken. A row waits for its decision, for at least a millisecond
+abbrev pub PostsFollow : Type 0
+PostsFollow = (section : SectionData) → 0 < section.tail_sampling.num_traces →
+    0 < section.tail_sampling.decision_wait → IsSound (rules_of section) →
+    (past : List Own) (now : ℕ) (arrivals : List Arrival) → Follows section past (Post now arrivals)
+
+-- and so those of every step
+abbrev pub StepsFollow : Type 0
+StepsFollow = (section : SectionData) → 0 < section.tail_sampling.num_traces →
+    0 < section.tail_sampling.decision_wait → IsSound (rules_of section) →
+    (past : List Own) (step : Own) → Follows section past step

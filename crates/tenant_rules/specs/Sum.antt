@@ -1,15 +1,15 @@
 -- Each span that was taken is counted in exactly one place, and the counters of spans that are kept are those of the
 -- lists that keep them: in every state, however it came about.
-use Rattle.std.specs.Prelude.{◌≡◌, ◌≤◌, ℕ, List, [], ◌∷◌, length}
+use Rattle.std.specs.Prelude.{◌≡◌, ◌<◌, ◌≤◌, ℕ, List, [], length}
 use Rattle.tail_settings.specs.Section.{SectionData}
 use Rattle.drop_ledger.specs.Ledger.{IsSound}
+use Rattle.span_batcher.specs.Batches as batches
 use Rattle.tenant_rules.specs.Own.{Own}
 use Rattle.tenant_rules.specs.Sender.{sizes, active_sizes}
-use Rattle.tenant_rules.specs.Batching.{spans_in}
+use Rattle.tenant_rules.specs.Batching.{rules_of, spans_in}
 use Rattle.tenant_rules.specs.State.{State, state}
 use Rattle.tenant_rules.specs.Timers.{IsFront}
 use Rattle.tenant_rules.specs.Machine.{held, next}
-use Rattle.tenant_rules.specs.Law.{Follows}
 
 -- the counters of a state are in order: the eleven places add up to what was taken, and no more is counted than may be
 -- (`sound`); four of them are what the state's lists have; and no more spans are held than the budget allows
@@ -33,11 +33,8 @@ StepsCount = (step : Own) (s : State) → IsCounted s → IsCounted (next step s
 abbrev pub FrontsCount : Type 0
 FrontsCount = (moment : ℕ) (old new : State) → IsFront moment old new → IsCounted old → IsCounted new
 
--- each step of a past follows from the state before it
-abbrev pub AllFollow : SectionData → List Own → Type 0
-AllFollow section [] = Unit
-AllFollow section (step ∷ past) = Follows section past step × AllFollow section past
-
--- after every such past
+-- and so after every past, where the settings are in their ranges
 abbrev pub PastsCount : Type 0
-PastsCount = (section : SectionData) (past : List Own) → AllFollow section past → IsCounted (state section past)
+PastsCount = (section : SectionData) → 0 < section.tail_sampling.num_traces →
+    0 < section.tail_sampling.decision_wait → batches.IsSound (rules_of section) → (past : List Own) →
+    IsCounted (state section past)

@@ -16,7 +16,7 @@
 #![tactic(auto)]
 
 ghost use Rattle.tenant_rules.specs.Fronts.{FrontsAre};
-ghost use Rattle.tenant_rules.specs.Law.{ReportsFollow, TurnsFollow, AnswersFollow, DrainsFollow};
+ghost use Rattle.tenant_rules.specs.Law.{ReportsFollow, TurnsFollow, AnswersFollow, DrainsFollow, PostsFollow, StepsFollow};
 ghost use Rattle.tenant_rules.specs.Sum.{FirstIsCounted, StepsCount, FrontsCount, PastsCount};
 ghost use Rattle.tenant_rules.specs.Least.{ReadyIsLeast, ReadyIsNext};
 ghost use Rattle.tenant_rules.specs.Others.{MomentsCount, OthersDontCount, RepliesDontChange};
@@ -48,6 +48,18 @@ pub fn drains_follow()
     ensures { DrainsFollow }
 {}
 
+/// A post's spans are taken one after the other where the budget allows, each as its row has it, and the reply says how
+/// many were left out and why, after the due timers: a law over the definitions.
+pub fn posts_follow()
+    ensures { PostsFollow }
+{}
+
+/// Every own step: what it makes of a tenant, and what is told of it, follow from the state before it alone, by the
+/// machine. A law over the definitions.
+pub fn steps_follow()
+    ensures { StepsFollow }
+{}
+
 /// Some first timers, as they stand after refused memory, decide the first rows that wait, and what that makes of lists
 /// and batches: a law over the machine.
 pub fn fronts_are()
@@ -55,8 +67,8 @@ pub fn fronts_are()
 {}
 
 /// Each span that was taken is counted in exactly one place, and no more spans are held than the budget allows: before
-/// the first step, after each step, and where some first timers have run, as after refused memory. So it is after every
-/// past whose steps each follow from the state before: a law over the definitions and the machine.
+/// the first step, after each step, where some first timers have run, as after refused memory, and so after every past:
+/// a law over the definitions and the machine.
 pub fn counted_once()
     ensures first { FirstIsCounted }
     ensures steps { StepsCount }
