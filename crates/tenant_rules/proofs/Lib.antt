@@ -25,3 +25,4 @@ mod Counted
 mod Least
 mod Others
 mod Rests
+mod Limits

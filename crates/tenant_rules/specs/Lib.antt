@@ -19,3 +19,4 @@ pub mod Sum
 pub mod Least
 pub mod Others
 pub mod AfterDrain
+pub mod Limits

@@ -18,6 +18,7 @@
 ghost use Rattle.tenant_rules.specs.Fronts.{FrontsAre};
 ghost use Rattle.tenant_rules.specs.Law.{ReportsFollow, TurnsFollow, AnswersFollow, DrainsFollow, PostsFollow, StepsFollow};
 ghost use Rattle.tenant_rules.specs.Sum.{FirstIsCounted, StepsCount, FrontsCount, PastsCount};
+ghost use Rattle.tenant_rules.specs.Limits.{StepsStayWithin, FrontsStayWithin, PastsStayWithin};
 ghost use Rattle.tenant_rules.specs.Least.{ReadyIsLeast, ReadyIsNext};
 ghost use Rattle.tenant_rules.specs.Others.{MomentsCount, OthersDontCount, RepliesDontChange};
 ghost use Rattle.tenant_rules.specs.AfterDrain.{DrainedRests};
@@ -74,6 +75,14 @@ pub fn counted_once()
     ensures steps { StepsCount }
     ensures fronts { FrontsCount }
     ensures pasts { PastsCount }
+{}
+
+/// No state has more rows, batches that wait and active batches than its settings allow, after whichever step, and where
+/// some first timers have run, as after refused memory: a law over the definitions and the machine.
+pub fn limits_hold()
+    ensures steps { StepsStayWithin }
+    ensures fronts { FrontsStayWithin }
+    ensures pasts { PastsStayWithin }
 {}
 
 /// `ready` is the least moment at which something is due, and none where nothing is: a law over the definitions.
