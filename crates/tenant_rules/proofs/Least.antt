@@ -8,9 +8,9 @@ use Rattle.tenant_rules.specs.Fate.{WaitingData}
 use Rattle.tenant_rules.specs.Sender.{BatchData, ActiveData, SenderData, has_tickets, has_consumer}
 use Rattle.tenant_rules.specs.State.{State}
 use Rattle.tenant_rules.specs.Ready.{lesser, next_decision, next_retry, front_moment, next_front, next_job, ready}
-use Rattle.tenant_rules.specs.Timers.{first_due}
+use Rattle.tenant_rules.specs.Timers.{first_due, next_timer}
 use Rattle.tenant_rules.specs.Fronts.{AreInOrder}
-use Rattle.tenant_rules.specs.Least.{IsDueAt, decision, timeout, attempt, first_attempt, IsLeast, ReadyIsLeast, ReadyIsNext}
+use Rattle.tenant_rules.specs.Least.{IsDueAt, decision, timeout, attempt, first_attempt, IsLeast, ReadyIsLeast}
 
 -- ---- the least of some moments
 
@@ -65,16 +65,16 @@ least_alone (Some x) = (refl, λ m is. let same : x ≡ m = cc in omega (arith, 
 
 -- ---- members of a list
 
-in_none : {X : Type 0} (x : X) → Contains [] x → ⊥
+pub in_none : {X : Type 0} (x : X) → Contains [] x → ⊥
 in_none x h = absurd (omega (arith, h.1))
 
-is_first : {X : Type 0} (x : X) (xs : List X) → Contains (x ∷ xs) x
+pub is_first : {X : Type 0} (x : X) (xs : List X) → Contains (x ∷ xs) x
 is_first x xs = Contains-append_left (x ∷ []) xs x (Contains-push [] x)
 
-is_later : {X : Type 0} (y : X) (xs : List X) (x : X) → Contains xs x → Contains (y ∷ xs) x
+pub is_later : {X : Type 0} (y : X) (xs : List X) (x : X) → Contains xs x → Contains (y ∷ xs) x
 is_later y xs x h = Contains-append_right (y ∷ []) xs x h
 
-first_or_later : {X : Type 0} (y : X) (xs : List X) (x : X) → Contains (y ∷ xs) x → (y ≡ x) ⊎ Contains xs x
+pub first_or_later : {X : Type 0} (y : X) (xs : List X) (x : X) → Contains (y ∷ xs) x → (y ≡ x) ⊎ Contains xs x
 first_or_later y xs x h = by_place (Contains-append_cases (y ∷ []) xs x h)
   where
     by_first : Contains [] x ⊎ (y ≡ x) → (y ≡ x) ⊎ Contains xs x
@@ -90,7 +90,7 @@ first_or_later y xs x h = by_place (Contains-append_cases (y ∷ []) xs x h)
 abbrev AtRow : List WaitingData → ℕ → Type 0
 AtRow ws m = (row : WaitingData) × Contains ws row × (row.due ≡ m)
 
-decision_least : (ws : List WaitingData) → IsLeast (λ m. AtRow ws m) (next_decision ws)
+pub decision_least : (ws : List WaitingData) → IsLeast (λ m. AtRow ws m) (next_decision ws)
 decision_least [] = λ m h. in_none h.0 h.1
 decision_least (r ∷ rs) = least_of (λ m. (r.due ≡ m) ⊎ AtRow rs m) (λ m. AtRow (r ∷ rs) m) (lesser (Some r.due) (next_decision rs)) to from
     (least_of_both (λ m. r.due ≡ m) (λ m. AtRow rs m) (Some r.due) (next_decision rs) (refl, λ m is. omega (arith, is)) (decision_least rs))
@@ -189,12 +189,12 @@ first_least m (r ∷ rs) order =
     let same : min m r.due ≡ m = omega (arith, order.0) in
     ap (λ (o : Option ℕ). lesser (Some m) o) rest ∙ ap (λ (n : ℕ). Some n) same
 
-decision_is_first : (ws : List WaitingData) → AreInOrder 0 ws → next_decision ws ≡ first_due ws
+pub decision_is_first : (ws : List WaitingData) → AreInOrder 0 ws → next_decision ws ≡ first_due ws
 decision_is_first [] order = refl
 decision_is_first (r ∷ rs) order = first_least r.due rs order.1
 
-pub ready_is_next : ReadyIsNext
+pub ready_in_order : (s : State) → AreInOrder 0 s.waiting → ready s ≡ lesser (next_timer s) (next_job s.sender)
 unfolding ready
-ready_is_next s order =
+ready_in_order s order =
     ap (λ (o : Option ℕ). lesser (lesser o (next_due s.pending)) (next_job s.sender)) (decision_is_first s.waiting order)
     ∙ ap (λ (o : Option ℕ). lesser o (next_job s.sender)) (lesser_swap (first_due s.waiting) (next_due s.pending))

@@ -26,3 +26,5 @@ mod Least
 mod Others
 mod Rests
 mod Limits
+mod Formed
+mod Turns

@@ -19,7 +19,7 @@ ghost use Rattle.tenant_rules.specs.Fronts.{FrontsAre};
 ghost use Rattle.tenant_rules.specs.Law.{ReportsFollow, TurnsFollow, AnswersFollow, DrainsFollow, PostsFollow, StepsFollow};
 ghost use Rattle.tenant_rules.specs.Sum.{FirstIsCounted, StepsCount, FrontsCount, PastsCount};
 ghost use Rattle.tenant_rules.specs.Limits.{StepsStayWithin, FrontsStayWithin, PastsStayWithin};
-ghost use Rattle.tenant_rules.specs.Least.{ReadyIsLeast, ReadyIsNext};
+ghost use Rattle.tenant_rules.specs.Least.{ReadyIsLeast, ReadyIsNext, DueTurnsAct};
 ghost use Rattle.tenant_rules.specs.Others.{MomentsCount, OthersDontCount, RepliesDontChange};
 ghost use Rattle.tenant_rules.specs.AfterDrain.{DrainedRests};
 
@@ -77,18 +77,21 @@ pub fn counted_once()
     ensures pasts { PastsCount }
 {}
 
-/// No state has more rows, batches that wait and active batches than its settings allow, after whichever step, and where
-/// some first timers have run, as after refused memory: a law over the definitions and the machine.
+/// No state has more rows, batches that wait and active batches than its settings allow, whichever step came last, and
+/// where some first timers have run, as after refused memory: a law over the definitions and the machine.
 pub fn limits_hold()
     ensures steps { StepsStayWithin }
     ensures fronts { FrontsStayWithin }
     ensures pasts { PastsStayWithin }
 {}
 
-/// `ready` is the least moment at which something is due, and none where nothing is: a law over the definitions.
+/// `ready` is the least moment at which something is due, and none where nothing is: that of the next timer or of the
+/// next job. A turn before it changes the clock alone, and by one from then on a timer runs or a batch is handed out: a
+/// law over the definitions.
 pub fn ready_is_least()
     ensures least { ReadyIsLeast }
     ensures next { ReadyIsNext }
+    ensures turns { DueTurnsAct }
 {}
 
 /// What posts are told, and rows, groups and batches, depend on turns, answers and reports by their moments alone, and
