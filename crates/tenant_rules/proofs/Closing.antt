@@ -142,7 +142,7 @@ abbrev pub all_cut : List PolicyData → ℕ → List WaitingData → batcher.St
 all_cut p m [] s = []
 all_cut p m (r ∷ rs) s = if are_sampled p r.spans then cuts s.rules m (s.spans ++ r.spans) ++ all_cut p m rs (added m r.spans s) else all_cut p m rs s
 
-later_than : (r : Rules) (m : ℕ) (G : List (Group Arrival)) → IsSound r → IsUpTo m G → IsAfter (next_due (batcher.state r m None G)) m
+pub later_than : (r : Rules) (m : ℕ) (G : List (Group Arrival)) → IsSound r → IsUpTo m G → IsAfter (next_due (batcher.state r m None G)) m
 later_than r m G sound up =
     let s = batcher.state r m None G in
     let same = (passes r m m G sound up (omega arith)).1 in

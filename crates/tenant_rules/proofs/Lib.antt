@@ -19,6 +19,7 @@ mod Opening
 mod Came
 mod Posted
 mod AnyStep
+mod InOrder
 mod Sums
 mod Arrived
 mod Counted

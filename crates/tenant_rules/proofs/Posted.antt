@@ -69,9 +69,9 @@ all_came w e (x ∷ xs) i D es pos wait sound by = by_room (ltb (held w e None i
     by_room true is ih =
         let first = came w i e D es x pos wait sound by in
         let i1 : IntakeData = record i { spans = more e x i.spans } in
-        let D1 = all_offered first.0 D in
+        let offered = all_offered first.0 D in
         let es1 = map met_full_queue (overflow first.0 D) ++ es in
-        let rest = ih i1 D1 es1 (omega arith, by) in
+        let rest = ih i1 offered es1 (omega arith, by) in
         let i2 : IntakeData = record i { spans = taken_after w e xs (more e x i.spans) } in (
           first.0 ++ rest.0,
           rest.1 ∙ (ap (λ (bs : List BatchData). bs ++ rest.0) first.1 ∙ append_assoc (formed w e None i.spans) first.0 rest.0),
@@ -121,7 +121,7 @@ posted_is w i d e D es xs new exhausted pos sound le by all is =
     ap (λ (bs : List BatchData). state_with w i e None (all_offered bs D) (map met_full_queue (overflow bs D) ++ es)) (is ∙ newly_is w d e None i.spans pos sound le by tt)
 posted_is w i d e D es xs new (accepted n m) pos sound le by all is =
     let M = between w d e i.spans in
-    let D1 = all_offered M D in
+    let offered = all_offered M D in
     let es1 = map met_full_queue (overflow M D) ++ es in
     let T = taken_after w e (valid xs) i.spans in
     let F = formed w d None i.spans in
@@ -131,7 +131,7 @@ posted_is w i d e D es xs new (accepted n m) pos sound le by all is =
     let new_is : new ≡ M ++ all.0 = is ∙ (ap (drop (length F)) later ∙ drop-append_seam F (M ++ all.0)) in
     ap (λ (bs : List BatchData). state_with w i2 e None (all_offered bs D) (map met_full_queue (overflow bs D) ++ es)) new_is
     ∙ (offered_in_two w i2 e None D es M all.0
-    ∙ (left_out_is w i1 e None (all_offered all.0 D1) (map met_full_queue (overflow all.0 D1) ++ es1) n m
+    ∙ (left_out_is w i1 e None (all_offered all.0 offered) (map met_full_queue (overflow all.0 offered) ++ es1) n m
     ∙ ap (λ (s : State). record s { ledger = left_out n m s.ledger }) all.2))
 
 -- before a drain or after it
@@ -144,22 +144,22 @@ post_by w i d e (Some x) D es xs new pos wait sound le by drain is =
     ∙ ap (post e xs) (stays w i x d e D es sound drain.0 le drain.1)
 post_by w i d e None D es xs new pos wait sound le by drain is =
     let M = between w d e i.spans in
-    let D1 = all_offered M D in
+    let offered = all_offered M D in
     let es1 = map met_full_queue (overflow M D) ++ es in
-    let s = state_with w i e None D1 es1 in
-    let all = all_came w e (valid xs) i D1 es1 pos wait sound (TakenBy_more d e i.spans le by) in
+    let s = state_with w i e None offered es1 in
+    let all = all_came w e (valid xs) i offered es1 pos wait sound (TakenBy_more d e i.spans le by) in
     posted_is w i d e D es xs new (verdict w false e xs i) pos sound le by all is
-    ∙ (ap (λ (v : Verdict). posted v s (all_come e (valid xs) s)) (sym (verdict_is w i e D1 es1 xs all)) ∙ ap (post e xs) (elapsed w i d e D es pos sound le by))
+    ∙ (ap (λ (v : Verdict). posted v s (all_come e (valid xs) s)) (sym (verdict_is w i e offered es1 xs all)) ∙ ap (post e xs) (elapsed w i d e D es pos sound le by))
 
 told_by : (w : SectionData) (i : IntakeData) (d e : ℕ) (o : Option ℕ) (D : SenderData) (es : List EndedData) (xs : List Arrival) → 0 < w.tail_sampling.num_traces → 0 < w.tail_sampling.decision_wait → IsSound (rules_of w) → d ≤ e → TakenBy d i.spans → DrainedBy o d i.spans →
     verdict w (is_some o) e xs i ≡ post_verdict e xs (advanced e (state_with w i d o D es))
 told_by w i d e (Some x) D es xs pos wait sound le by drain = ap (post_verdict e xs) (stays w i x d e D es sound drain.0 le drain.1)
 told_by w i d e None D es xs pos wait sound le by drain =
     let M = between w d e i.spans in
-    let D1 = all_offered M D in
+    let offered = all_offered M D in
     let es1 = map met_full_queue (overflow M D) ++ es in
-    let all = all_came w e (valid xs) i D1 es1 pos wait sound (TakenBy_more d e i.spans le by) in
-    sym (verdict_is w i e D1 es1 xs all) ∙ ap (post_verdict e xs) (elapsed w i d e D es pos sound le by)
+    let all = all_came w e (valid xs) i offered es1 pos wait sound (TakenBy_more d e i.spans le by) in
+    sym (verdict_is w i e offered es1 xs all) ∙ ap (post_verdict e xs) (elapsed w i d e D es pos sound le by)
 
 pub post_goes_on : (w : SectionData) (past : List Own) (now : ℕ) (xs : List Arrival) → 0 < w.tail_sampling.num_traces → 0 < w.tail_sampling.decision_wait → IsSound (rules_of w) → state w (Post now xs ∷ past) ≡ next (Post now xs) (state w past)
 unfolding state next sender ended

@@ -28,10 +28,10 @@ abbrev pub rest_of : List SettledData → List WaitingData → List WaitingData
 rest_of [] ws = drop 1 ws
 rest_of (s ∷ ss) ws = ws
 
-room_step : (S S1 z : List SettledData) (W W1 z' : List WaitingData) → S1 ≡ drop 1 S → W1 ≡ rest_of S W → 1 ≤ length S + length W → (1 ≤ length W → z ≡ []) →
-    (S1 ++ z ≡ drop 1 (S ++ z)) × (W1 ++ z' ≡ rest_of (S ++ z) (W ++ z'))
-room_step (s ∷ S) S1 z W W1 z' e e' some none = (ap (λ (l : List SettledData). l ++ z) e, ap (λ (l : List WaitingData). l ++ z') e')
-room_step [] S1 z W W1 z' e e' some none =
+room_step : (S S' z : List SettledData) (W W' z' : List WaitingData) → S' ≡ drop 1 S → W' ≡ rest_of S W → 1 ≤ length S + length W → (1 ≤ length W → z ≡ []) →
+    (S' ++ z ≡ drop 1 (S ++ z)) × (W' ++ z' ≡ rest_of (S ++ z) (W ++ z'))
+room_step (s ∷ S) S' z W W' z' e e' some none = (ap (λ (l : List SettledData). l ++ z) e, ap (λ (l : List WaitingData). l ++ z') e')
+room_step [] S' z W W' z' e e' some none =
     let more : 1 ≤ length W = omega (arith, some) in
     let is : z ≡ [] = none more in
     let d : drop 1 (W ++ z') ≡ drop 1 W ++ z' = drop-append-le 1 W z' more in

@@ -1,17 +1,15 @@
 -- What a turn does before something is due, and from then on.
-use Rattle.std.proofs.Common.{◌≡◌, ℕ, ◌+◌, ◌<◌, ◌≤◌, ◌⊎◌, inl, inr, List, [], ◌∷◌, length, refl, sym, subst, ap, ◌∙◌, arith, Bool, true, false, cond, leb, Option, Some, None}
+use Rattle.std.proofs.Common.{◌≡◌, ℕ, ◌+◌, ◌<◌, ◌≤◌, ◌⊎◌, inl, inr, List, [], ◌∷◌, refl, sym, subst, ap, ◌∙◌, arith, Bool, true, false, cond, leb, Option, Some, None}
 use Rattle.std.specs.Prelude.{Contains, ◌==◌}
 use Rattle.std.proofs.lemmas.Bool.Decides.{nat_tests}
 use Rattle.tail_settings.specs.Section.{SectionData}
 use Rattle.span_batcher.specs.Batches.{IsSound}
 use Rattle.span_batcher.specs.State.{next_due}
 use Rattle.span_batcher.specs.Timers.{is_due}
-use Rattle.tenant_rules.specs.Own.{Own, Turn, clock, drained}
-use Rattle.tenant_rules.specs.Rows.{Taken, opened, seated}
-use Rattle.tenant_rules.specs.Fate.{most_of, WaitingData}
+use Rattle.tenant_rules.specs.Own.{Own, Turn, clock}
+use Rattle.tenant_rules.specs.Fate.{WaitingData}
 use Rattle.tenant_rules.specs.Sender.{BatchData, ActiveData, SenderData, has_tickets, has_consumer, comes_before, sooner, first_retry, under, retried, oldest, Choice, NoBatch, choice_by, choice}
-use Rattle.tenant_rules.specs.Batching.{rules_of, waiting_rows}
-use Rattle.tenant_rules.specs.Intake.{intake}
+use Rattle.tenant_rules.specs.Batching.{rules_of}
 use Rattle.tenant_rules.specs.State.{State, state}
 use Rattle.tenant_rules.specs.declared.told.Told.TheVariants as tell
 use Rattle.tenant_rules.specs.Answers.{job_of, turn_told}
@@ -20,37 +18,19 @@ use Rattle.tenant_rules.specs.Timers.{first_due, next_timer, enough, advanced}
 use Rattle.tenant_rules.specs.Machine.{turned_by, turned, next, told}
 use Rattle.tenant_rules.specs.Fronts.{AreInOrder}
 use Rattle.tenant_rules.specs.Least.{IsDueAt, decision, timeout, attempt, first_attempt, IsLeast, ReadyIsNext, IsIdle, IsBusy, DueTurnsAct}
-use Rattle.tenant_rules.proofs.Times.{TakenBy, OpenedBy-opened, Ascends, Ascends-waiting}
 use Rattle.tenant_rules.proofs.Fronts.{ran_none}
 use Rattle.tenant_rules.proofs.Walks.{not_first}
 use Rattle.tenant_rules.proofs.Walked.{set_to}
-use Rattle.tenant_rules.proofs.Stays.{waits_none}
-use Rattle.tenant_rules.proofs.Intakes.{DrainedBy, TakenBy-intake, DrainedBy-intake}
 use Rattle.tenant_rules.proofs.Steps.{turn_goes_on, turn_told_is}
+use Rattle.tenant_rules.proofs.InOrder.{rows_wait_in_order}
 use Rattle.tenant_rules.proofs.AnyStep.{step_follows}
 use Rattle.tenant_rules.proofs.Formed.{FormedBy, FormedBy_more, past_formed}
 use Rattle.tenant_rules.proofs.Least.{in_none, is_first, is_later, first_or_later, decision_least, decision_is_first, ready_in_order}
 
--- ---- rows wait in the order of their due moments
-
-in_order : (m n : ℕ) (ws : List WaitingData) → n ≤ m → Ascends m ws → AreInOrder n ws
-in_order m n [] le asc = tt
-in_order m n (r ∷ rs) le asc = (omega (arith, le, asc.0), in_order r.due r.due rs (omega arith) asc.1)
-
-rows_in_order : (w : SectionData) (e : ℕ) (o : Option ℕ) (A : List Taken) → TakenBy e A → DrainedBy o e A → AreInOrder 0 (waiting_rows w e o A)
-rows_in_order w e None A taken by =
-    let R = opened (most_of w) A in
-    in_order (e + 1) 0 (waiting_rows w e None A) (omega arith) (Ascends-waiting w e e (length R) (seated (most_of w) A) R (OpenedBy-opened (most_of w) e A taken))
-rows_in_order w e (Some x) A taken by =
-    let R = opened (most_of w) A in
-    subst (λ (ws : List WaitingData). AreInOrder 0 ws) (sym (waits_none w x e (length R) (seated (most_of w) A) R by.0)) tt
-
-past_in_order : (w : SectionData) (past : List Own) → AreInOrder 0 (state w past).waiting
-unfolding state
-past_in_order w past = rows_in_order w (clock past) (drained past) (intake w past).spans (TakenBy-intake w past) (DrainedBy-intake w past)
+-- ---- the next timer, the next job
 
 pub ready_is_next : ReadyIsNext
-ready_is_next w past = ready_in_order (state w past) (past_in_order w past)
+ready_is_next w past = ready_in_order (state w past) (rows_wait_in_order w past)
 
 -- ---- before something is due
 
@@ -247,7 +227,7 @@ idle w past now some sound formed none =
 
 busy : (w : SectionData) (past : List Own) (now m : ℕ) → 0 < w.tail_sampling.num_traces → IsSound (rules_of w) → IsDueAt (state w past) m → m ≤ clock (Turn now ∷ past) → IsBusy w past now
 unfolding state next told
-busy w past now m some sound due le = by_timer (is_due (next_timer (state w past)) (clock (Turn now ∷ past))) refl (timer_or_job (state w past) (clock (Turn now ∷ past)) m (past_in_order w past) due le)
+busy w past now m some sound due le = by_timer (is_due (next_timer (state w past)) (clock (Turn now ∷ past))) refl (timer_or_job (state w past) (clock (Turn now ∷ past)) m (rows_wait_in_order w past) due le)
   where
     by_timer : (b : Bool) → is_due (next_timer (state w past)) (clock (Turn now ∷ past)) ≡ b → (is_due (next_timer (state w past)) (clock (Turn now ∷ past)) ≡ true) ⊎ HandsOut (clock (Turn now ∷ past)) (state w past).sender → IsBusy w past now
     by_timer true is either = inl is

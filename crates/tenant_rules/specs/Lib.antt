@@ -14,6 +14,7 @@ pub mod Ready
 pub mod Timers
 pub mod Machine
 pub mod Fronts
+pub mod InOrder
 pub mod Law
 pub mod Sum
 pub mod Least

@@ -16,7 +16,9 @@
 #![tactic(auto)]
 
 ghost use Rattle.tenant_rules.specs.Fronts.{FrontsAre};
-ghost use Rattle.tenant_rules.specs.Law.{ReportsFollow, TurnsFollow, AnswersFollow, DrainsFollow, PostsFollow, StepsFollow};
+ghost use Rattle.tenant_rules.specs.InOrder.{RowsWaitInOrder, NoneIsDue};
+ghost use Rattle.tenant_rules.specs.Law.{ReportsFollow, TurnsFollow, AnswersFollow, DrainsFollow};
+ghost use Rattle.tenant_rules.specs.Law.{PostsFollow, StepsFollow};
 ghost use Rattle.tenant_rules.specs.Sum.{FirstIsCounted, StepsCount, FrontsCount, PastsCount};
 ghost use Rattle.tenant_rules.specs.Limits.{StepsStayWithin, FrontsStayWithin, PastsStayWithin};
 ghost use Rattle.tenant_rules.specs.Least.{ReadyIsLeast, ReadyIsNext, DueTurnsAct};
@@ -59,6 +61,13 @@ pub fn posts_follow()
 /// machine. A law over the definitions.
 pub fn steps_follow()
     ensures { StepsFollow }
+{}
+
+/// After every past rows wait in the order of their due moments, as `fronts_are` asks, and no timer is due by the
+/// moment of the last step: a law over the definitions.
+pub fn rows_wait_in_order()
+    ensures order { RowsWaitInOrder }
+    ensures later { NoneIsDue }
 {}
 
 /// Some first timers, as they stand after refused memory, decide the first rows that wait, and what that makes of lists
