@@ -111,7 +111,7 @@ all_decided_clock m (r ∷ rs) s is = all_decided_clock m rs (decide_row m r rs 
 
 -- ---- the first drain
 
-drained_size : (m : ℕ) (xs : List Arrival) → sizes (all_sent (option_to_list (machine.drained m xs))) ≡ length xs
+pub drained_size : (m : ℕ) (xs : List Arrival) → sizes (all_sent (option_to_list (machine.drained m xs))) ≡ length xs
 drained_size m [] = refl
 drained_size m (x ∷ xs) = let all : length (x ∷ xs) + 0 ≡ length (x ∷ xs) = omega arith in all
 

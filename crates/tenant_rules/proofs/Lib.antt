@@ -20,3 +20,12 @@ mod Came
 mod Posted
 mod AnyStep
 mod InOrder
+mod Sums
+mod Arrived
+mod Counted
+mod Least
+mod Others
+mod Rests
+mod Limits
+mod Formed
+mod Turns

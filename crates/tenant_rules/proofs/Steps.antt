@@ -51,7 +51,7 @@ reached : (w : SectionData) (i : IntakeData) (d e : ℕ) (o : Option ℕ) (D : S
 reached w i d e None D es pos sound le by drain = elapsed w i d e D es pos sound le by
 reached w i d e (Some x) D es pos sound le by drain = stays w i x d e D es sound drain.0 le drain.1
 
-state_is : (w : SectionData) (past : List Own) → state w past ≡ state_with w (intake w past) (clock past) (drained past) (sender w past) (ended w past)
+pub state_is : (w : SectionData) (past : List Own) → state w past ≡ state_with w (intake w past) (clock past) (drained past) (sender w past) (ended w past)
 unfolding state
 state_is w past = refl
 
@@ -70,16 +70,16 @@ at_step w past e new pos sound le is =
 
 -- ---- a turn
 
-active_append : (xs ys : List ActiveData) → active_sizes (xs ++ ys) ≡ active_sizes xs + active_sizes ys
+pub active_append : (xs ys : List ActiveData) → active_sizes (xs ++ ys) ≡ active_sizes xs + active_sizes ys
 active_append [] ys = omega arith
 active_append (a ∷ xs) ys =
     let all : a.batch.spans + active_sizes (xs ++ ys) ≡ (a.batch.spans + active_sizes xs) + active_sizes ys = omega (arith, active_append xs ys) in all
 
-one_size : (a : ActiveData) → active_sizes (a ∷ []) ≡ a.batch.spans
+pub one_size : (a : ActiveData) → active_sizes (a ∷ []) ≡ a.batch.spans
 one_size a = let all : a.batch.spans + 0 ≡ a.batch.spans = omega arith in all
 
 -- an active batch without its entry
-without_sizes : (t : ℕ) (a : ActiveData) (xs : List ActiveData) → under t xs ≡ Some a → active_sizes (without t xs) + a.batch.spans ≡ active_sizes xs
+pub without_sizes : (t : ℕ) (a : ActiveData) (xs : List ActiveData) → under t xs ≡ Some a → active_sizes (without t xs) + a.batch.spans ≡ active_sizes xs
 without_sizes t a [] is = absurd (cc)
 without_sizes t a (b ∷ xs) is = by_test (b.ticket == t) is (λ rest. without_sizes t a xs rest)
   where
@@ -90,7 +90,7 @@ without_sizes t a (b ∷ xs) is = by_test (b.ticket == t) is (λ rest. without_s
     by_test false here ih =
         let all : (b.batch.spans + active_sizes (without t xs)) + a.batch.spans ≡ b.batch.spans + active_sizes xs = omega (arith, ih here) in all
 
-under_ticket : (t : ℕ) (a : ActiveData) (xs : List ActiveData) → under t xs ≡ Some a → a.ticket ≡ t
+pub under_ticket : (t : ℕ) (a : ActiveData) (xs : List ActiveData) → under t xs ≡ Some a → a.ticket ≡ t
 under_ticket t a [] is = absurd (cc)
 under_ticket t a (b ∷ xs) is = by_test (b.ticket == t) refl is (λ rest. under_ticket t a xs rest)
   where
@@ -120,7 +120,7 @@ next_by None s = by_test (has_consumer s)
     by_test true = next_oldest s.queue s refl
     by_test false = tt
 
-next_is : (m : ℕ) (s : SenderData) → IsNext s (choice m s)
+pub next_is : (m : ℕ) (s : SenderData) → IsNext s (choice m s)
 next_is m s = by_test (has_tickets s)
   where
     by_test : (f : Bool) → IsNext s (cond f (choice_by (first_retry m s.active) s) NoBatch)
@@ -169,7 +169,7 @@ turned_is w i e o D es = turned_with w i e o D es (choice e D) (next_is e D)
 -- ---- an answer
 
 -- a batch in flight is under its ticket
-flying_under : (t : ℕ) (a : ActiveData) (o : Option ActiveData) → flying o ≡ Some a → o ≡ Some a
+pub flying_under : (t : ℕ) (a : ActiveData) (o : Option ActiveData) → flying o ≡ Some a → o ≡ Some a
 flying_under t a None is = absurd (cc)
 flying_under t a (Some b) is = by_test (is_some b.due) is
   where
@@ -178,7 +178,7 @@ flying_under t a (Some b) is = by_test (is_some b.due) is
     by_test false here = here
 
 -- another entry for a batch
-replaced_sizes : (t : ℕ) (a b : ActiveData) (xs : List ActiveData) → under t xs ≡ Some a → b.batch.spans ≡ a.batch.spans → active_sizes (replaced t b xs) ≡ active_sizes xs
+pub replaced_sizes : (t : ℕ) (a b : ActiveData) (xs : List ActiveData) → under t xs ≡ Some a → b.batch.spans ≡ a.batch.spans → active_sizes (replaced t b xs) ≡ active_sizes xs
 replaced_sizes t a b [] is same = absurd (cc)
 replaced_sizes t a b (c ∷ xs) is same = by_test (c.ticket == t) is (λ rest. replaced_sizes t a b xs rest same)
   where
@@ -239,7 +239,7 @@ ends_as w i e o D es a (Postponed due retry) is adds =
     let n = replaced_sizes a.ticket a (record a { retry = retry; due = Some due }) D.active is refl in
     ap (λ (k : ℕ). settled_counts (ledger_at w i e o D (ended_places es)) k (ended_places es)) n
 
-settlement_adds : (spans : ℕ) (a : ActiveData) (now word : ℕ) (v : Verdict) → a.batch.spans ≡ spans → AddsUp spans (settlement_by a now word v)
+pub settlement_adds : (spans : ℕ) (a : ActiveData) (now word : ℕ) (v : Verdict) → a.batch.spans ≡ spans → AddsUp spans (settlement_by a now word v)
 settlement_adds spans a now word (verdicts.Taken rejected) is = omega (arith, is)
 settlement_adds spans a now word (verdicts.Again wait) is = by_next (next_delay a.retry now word wait)
   where

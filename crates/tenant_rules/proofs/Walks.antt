@@ -108,7 +108,7 @@ walk_front e (r ∷ rs) s is = by_test (leb r.due e) refl (λ t same. walk_front
     by_test false b ih = let lt : e < r.due = grind (arith, nat_tests, b) in flush_by-front e e s (omega arith) (head e (omega (arith, lt)))
 
 -- none is due after it
-not_first : (o w : Option ℕ) (e : ℕ) → is_due o e ≡ false → is_due w e ≡ false → is_due (lesser o w) e ≡ false
+pub not_first : (o w : Option ℕ) (e : ℕ) → is_due o e ≡ false → is_due w e ≡ false → is_due (lesser o w) e ≡ false
 not_first None w e a b = b
 not_first (Some x) None e a b = a
 not_first (Some x) (Some y) e a b = grind (arith, nat_tests, a, b)

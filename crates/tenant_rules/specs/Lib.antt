@@ -16,3 +16,8 @@ pub mod Machine
 pub mod Fronts
 pub mod InOrder
 pub mod Law
+pub mod Sum
+pub mod Least
+pub mod Others
+pub mod AfterDrain
+pub mod Limits

@@ -19,6 +19,11 @@ ghost use Rattle.tenant_rules.specs.Fronts.{FrontsAre};
 ghost use Rattle.tenant_rules.specs.InOrder.{RowsWaitInOrder, NoneIsDue};
 ghost use Rattle.tenant_rules.specs.Law.{ReportsFollow, TurnsFollow, AnswersFollow, DrainsFollow};
 ghost use Rattle.tenant_rules.specs.Law.{PostsFollow, StepsFollow};
+ghost use Rattle.tenant_rules.specs.Sum.{FirstIsCounted, StepsCount, FrontsCount, PastsCount};
+ghost use Rattle.tenant_rules.specs.Limits.{StepsStayWithin, FrontsStayWithin, PastsStayWithin};
+ghost use Rattle.tenant_rules.specs.Least.{ReadyIsLeast, ReadyIsNext, DueTurnsAct};
+ghost use Rattle.tenant_rules.specs.Others.{MomentsCount, OthersDontCount, RepliesDontChange};
+ghost use Rattle.tenant_rules.specs.AfterDrain.{DrainedRests};
 
 mod told;
 
@@ -69,4 +74,44 @@ pub fn rows_wait_in_order()
 /// and batches: a law over the machine.
 pub fn fronts_are()
     ensures { FrontsAre }
+{}
+
+/// Each span that was taken is counted in exactly one place, and no more spans are held than the budget allows: before
+/// the first step, after each step, where some first timers have run, as after refused memory, and so after every past:
+/// a law over the definitions and the machine.
+pub fn counted_once()
+    ensures first { FirstIsCounted }
+    ensures steps { StepsCount }
+    ensures fronts { FrontsCount }
+    ensures pasts { PastsCount }
+{}
+
+/// No state has more rows, batches that wait and active batches than its settings allow, whichever step came last, and
+/// where some first timers have run, as after refused memory: a law over the definitions and the machine.
+pub fn limits_hold()
+    ensures steps { StepsStayWithin }
+    ensures fronts { FrontsStayWithin }
+    ensures pasts { PastsStayWithin }
+{}
+
+/// `ready` is the least moment at which something is due, and none where nothing is: that of the next timer or of the
+/// next job. A turn before it changes the clock alone, and by one from then on a timer runs or a batch is handed out: a
+/// law over the definitions.
+pub fn ready_is_least()
+    ensures least { ReadyIsLeast }
+    ensures next { ReadyIsNext }
+    ensures turns { DueTurnsAct }
+{}
+
+/// What posts are told, and rows, groups and batches, depend on turns, answers and reports by their moments alone, and
+/// where moments never fall not even by these: a law over the definitions.
+pub fn posts_stand_alone()
+    ensures moments { MomentsCount }
+    ensures others { OthersDontCount }
+    ensures replies { RepliesDontChange }
+{}
+
+/// After a drain another drain, a post and a report change the clock alone: a law over the definitions.
+pub fn rests_after_drain()
+    ensures { DrainedRests }
 {}

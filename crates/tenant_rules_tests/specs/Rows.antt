@@ -131,3 +131,13 @@ pub record LatePastBudget : Type 0 where
   pub late_is_full_too : answer (with_budget 1) late_and_new (one 1000 17 36) ≡
       tell.Reply (record { status = 429; body = 18 ∷ 21 ∷ codes "span budget exhausted" })
   pub by_steps : state (with_budget 1) late_and_new ≡ by_machine (with_budget 1) late_and_new
+
+-- one span at most is held: a turn in between changes no reply but by its moment, and where that is later than the
+-- post's, time has gone on and the row is decided
+pub record TurnBetween : Type 0 where
+  pub full : answer (with_budget 1) (one 0 17 33 ∷ []) (one 900 18 34) ≡
+      tell.Reply (record { status = 429; body = 18 ∷ 21 ∷ codes "span budget exhausted" })
+  pub full_after_a_turn : answer (with_budget 1) (Turn 800 ∷ one 0 17 33 ∷ []) (one 900 18 34) ≡
+      tell.Reply (record { status = 429; body = 18 ∷ 21 ∷ codes "span budget exhausted" })
+  pub later_turn : answer (with_budget 1) (Turn 1000 ∷ one 0 17 33 ∷ []) (one 900 18 34) ≡
+      tell.Reply (record { status = 200; body = [] })

@@ -1,6 +1,6 @@
 //! What the definitions say of posts, rows, batches, jobs and drains, on examples that were worked out by hand.
 
-ghost use Rattle.tenant_rules_tests.specs.Rows.{EmptyBody, OneSpan, OneInvalid, Boundary, LateFailure, Evicted, EvictedInOnePost, EvictedAfterDecision, OverBudget, LatePastBudget};
+ghost use Rattle.tenant_rules_tests.specs.Rows.{EmptyBody, OneSpan, OneInvalid, Boundary, LateFailure, Evicted, EvictedInOnePost, EvictedAfterDecision, OverBudget, LatePastBudget, TurnBetween};
 ghost use Rattle.tenant_rules_tests.specs.Batches.{Sevens, SevensTimer, SevensAtOnce, TimerFirst, ThreePosts};
 ghost use Rattle.tenant_rules_tests.specs.Jobs.{Retries, LastAttempt, Settlements, ClockStays, OwnTickets};
 ghost use Rattle.tenant_rules_tests.specs.Drains.{Drained, DrainedTwice, PendingLeaves, LateRetry};
@@ -17,6 +17,7 @@ fn posts_and_rows()
     ensures after_decision { EvictedAfterDecision }
     ensures over_budget { OverBudget }
     ensures late_past_budget { LatePastBudget }
+    ensures turn_between { TurnBetween }
 {}
 
 /// Batches and their timer.

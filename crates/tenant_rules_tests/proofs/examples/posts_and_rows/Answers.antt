@@ -71,3 +71,7 @@ returns-clause-over_budget c = record { partly = ap reply_with one_over_text; no
 pub returns-clause-late_past_budget : goal.returns-clause-late_past_budget
 unfolding keeps groups export_text formed pending held sender ended ledger_at state answer ready next told batches_in rest_in next_cut batcher.state state_of cuts uncut added bits
 returns-clause-late_past_budget c = record { late_taken = refl; counted = refl; full = refl; late_is_full_too = refl; by_steps = refl }
+
+pub returns-clause-turn_between : goal.returns-clause-turn_between
+unfolding keeps groups export_text formed pending held sender ended ledger_at state answer ready next told batches_in rest_in next_cut batcher.state state_of cuts uncut added bits
+returns-clause-turn_between c = record { full = refl; full_after_a_turn = refl; later_turn = refl }

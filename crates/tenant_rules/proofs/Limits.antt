@@ -1,0 +1,322 @@
+-- No state has more rows, batches that wait and active batches than its settings allow.
+use Rattle.std.proofs.Common.{◌≡◌, ℕ, zero, suc, ◌+◌, ◌<◌, ◌≤◌, List, [], ◌∷◌, ◌++◌, length, refl, sym, subst, ap, ◌∙◌, arith, length-append, Bool, true, false, cond, Option, Some, None}
+use Rattle.std.specs.Prelude.{drop, option_to_list, nat_lt, ◌==◌}
+use Rattle.std.proofs.lemmas.Bool.Decides.{nat_tests}
+use Rattle.tail_settings.specs.Section.{SectionData}
+use Rattle.send_retry.specs.Class.{AnswerData}
+use Rattle.span_batcher.specs.State.{next_due}
+use Rattle.span_batcher.specs.Machine.{cuts, added, fired}
+use Rattle.span_batcher.specs.Machine as machine
+use Rattle.span_batcher.specs.Timers.{is_due}
+use Rattle.drop_ledger.specs.declared.places.Place.TheVariants.{Undecided, Pending, Queued, QueueFull}
+use Rattle.tenant_rules.specs.Arrivals.{Arrival, valid, trace_of}
+use Rattle.tenant_rules.specs.Own.{Own, Post, Turn, Answer, Report, Drain}
+use Rattle.tenant_rules.specs.Rows.{is_same}
+use Rattle.tenant_rules.specs.Fate.{SettledData, WaitingData, are_sampled}
+use Rattle.tenant_rules.specs.Sender.{BatchData, ActiveData, SenderData, is_full, has_consumer, has_tickets, first_retry, under, without, replaced, retried, oldest, Choice, Retried, Oldest, NoBatch, choice_by, choice, sent_again, sent_first, Settlement, Delivered, Refused, Exhausted, Postponed, settlement, in_flight, left_by, answered_by}
+use Rattle.tenant_rules.specs.Batching.{all_sent}
+use Rattle.tenant_rules.specs.Intake.{Verdict, shutting_down, counter_limit, exhausted, accepted}
+use Rattle.tenant_rules.specs.Sending.{sender, ended_in_flight}
+use Rattle.tenant_rules.specs.State.{State, state}
+use Rattle.tenant_rules.specs.Timers.{recount, queued, all_queued, grouped, flushed, settle, sample, decide_row, decide, first_due, next_timer, is_batch, one_run, ran, enough, advanced}
+use Rattle.tenant_rules.specs.Machine.{held, sampled_in, has_row, joined, evict_first, evict_waiting, evicted, opens, joins, late_or_opens, goes, counted_in, come, all_come, verdict, posted, post, turned_by, all_moved, all_decided, closed, drain, effective, acts, next}
+use Rattle.tenant_rules.specs.Limits.{IsWithinLimits, StepsStayWithin, FrontsStayWithin, PastsStayWithin}
+use Rattle.tenant_rules.proofs.Walked.{decide_row-is}
+use Rattle.tenant_rules.proofs.Steps.{IsNext, next_is, under_ticket, flying_under}
+use Rattle.tenant_rules.proofs.AnyStep.{step_follows}
+
+-- a state within its limits, where so many rows may be present
+record Within (n : ℕ) (s : State) : Type 0 where
+  most_is : s.section.tail_sampling.num_traces ≡ n
+  limits : IsWithinLimits s
+
+-- ---- batches are offered
+
+queued_within : (n : ℕ) (b : BatchData) (s : State) → Within n s → Within n (queued b s)
+queued_within n b s k = by_test (is_full s.sender) refl
+  where
+    room : is_full s.sender ≡ false → length s.sender.queue < s.sender.sending.queue_size
+    room is = grind (arith, nat_tests, is)
+
+    by_test : (full : Bool) → is_full s.sender ≡ full → Within n (cond full (recount Pending QueueFull b.spans s) (recount Pending Queued b.spans (record s { sender = cond full s.sender (record s.sender { queue = s.sender.queue ++ b ∷ [] }) })))
+    by_test true is = omega arith
+    by_test false is = omega (arith, room is, length-append s.sender.queue (b ∷ []))
+
+all_queued_within : (n : ℕ) (bs : List BatchData) (s : State) → Within n s → Within n (all_queued bs s)
+all_queued_within n [] s k = k
+all_queued_within n (b ∷ bs) s k = all_queued_within n bs (queued b s) (queued_within n b s k)
+
+grouped_within : (n m : ℕ) (xs : List Arrival) (s : State) → Within n s → Within n (grouped Undecided m xs s)
+grouped_within n m xs s k =
+    let t : State = recount Undecided Pending (length xs) (record s { pending = added m xs s.pending }) in
+    let same : Within n t = omega arith in
+    all_queued_within n (all_sent (cuts s.pending.rules m (s.pending.spans ++ xs))) t same
+
+-- ---- timers
+
+flushed_within : (n : ℕ) (o : Option ℕ) (s : State) → Within n s → Within n (flushed o s)
+flushed_within n None s k = k
+flushed_within n (Some due) s k =
+    let t : State = record s { clock = due; pending = fired s.pending } in
+    let same : Within n t = omega arith in
+    all_queued_within n (all_sent (record { moment = due; spans = s.pending.spans } ∷ [])) t same
+
+settle_within : (n m : ℕ) (r : WaitingData) (rs : List WaitingData) (s : State) (sampled : Bool) → s.waiting ≡ r ∷ rs → Within n s → Within n (settle m r rs sampled s)
+settle_within n m r rs s sampled is k =
+    let row : SettledData = record { trace = r.trace; sampled = sampled } in
+    let size : length s.waiting ≡ length rs + 1 = omega (arith, ap length is) in
+    omega (arith, length-append s.settled (row ∷ []))
+
+sample_within : (n m : ℕ) (r : WaitingData) (s : State) (b : Bool) → Within n s → Within n (sample m r b s)
+sample_within n m r s true k = grouped_within n m r.spans s k
+sample_within n m r s false k = omega arith
+
+decide_row_within : (n m : ℕ) (r : WaitingData) (rs : List WaitingData) (s : State) → s.waiting ≡ r ∷ rs → Within n s → Within n (decide_row m r rs s)
+decide_row_within n m r rs s is k =
+    let sampled = are_sampled s.section.tail_sampling.policies r.spans in
+    sample_within n m r (settle m r rs sampled s) sampled (settle_within n m r rs s sampled is k)
+
+decide_within : (n : ℕ) (ws : List WaitingData) (s : State) → s.waiting ≡ ws → Within n s → Within n (decide ws s)
+decide_within n [] s is k = k
+decide_within n (r ∷ rs) s is k = decide_row_within n r.due r rs s is k
+
+one_run_within : (n : ℕ) (s : State) → Within n s → Within n (one_run s)
+one_run_within n s k = by_test (is_batch (next_due s.pending) (first_due s.waiting))
+  where
+    by_test : (b : Bool) → Within n (cond b (flushed (next_due s.pending) s) (decide s.waiting s))
+    by_test true = flushed_within n (next_due s.pending) s k
+    by_test false = decide_within n s.waiting s refl k
+
+ran_within : (n c m : ℕ) (s : State) → Within n s → Within n (ran c m s)
+ran_within n zero m s k = k
+ran_within n (suc c) m s k = by_test (is_due (next_timer s) m) (ran_within n c m (one_run s) (one_run_within n s k))
+  where
+    by_test : (b : Bool) → Within n (ran c m (one_run s)) → Within n (cond b (ran c m (one_run s)) s)
+    by_test true more = more
+    by_test false more = k
+
+at_moment : (n m : ℕ) (s : State) → Within n s → Within n (record s { clock = m })
+at_moment n m s k = omega arith
+
+advanced_within : (n m : ℕ) (s : State) → Within n s → Within n (advanced m s)
+advanced_within n m s k = at_moment n m (ran (enough s) m s) (ran_within n (enough s) m s k)
+
+-- ---- a drain
+
+all_decided_within : (n m : ℕ) (ws : List WaitingData) (s : State) → s.waiting ≡ ws → Within n s → Within n (all_decided m ws s)
+all_decided_within n m [] s is k = k
+all_decided_within n m (r ∷ rs) s is k =
+    let waits : (decide_row m r rs s).waiting ≡ rs = ap (λ (t : State). t.waiting) (decide_row-is 0 m s.section.tail_sampling.policies r rs s refl) in
+    all_decided_within n m rs (decide_row m r rs s) waits (decide_row_within n m r rs s is k)
+
+closed_within : (n m : ℕ) (s : State) → Within n s → Within n (closed m s)
+closed_within n m s k =
+    let t : State = record s { drained = true; pending = fired s.pending } in
+    let same : Within n t = omega arith in
+    all_queued_within n (all_sent (option_to_list (machine.drained m s.pending.spans))) t same
+
+drain_within : (n m : ℕ) (s : State) → Within n s → Within n (drain m s)
+drain_within n m s k = by_test s.drained
+  where
+    by_test : (b : Bool) → Within n (cond b s (closed m (all_decided m s.waiting s)))
+    by_test true = k
+    by_test false = closed_within n m (all_decided m s.waiting s) (all_decided_within n m s.waiting s refl k)
+
+-- ---- a post
+
+joined_rows : (x : Arrival) (ws : List WaitingData) → length (joined x ws) ≡ length ws
+joined_rows x [] = refl
+joined_rows x (r ∷ rs) = by_tests (has_row (trace_of x) rs) (is_same (trace_of x) r.trace) (joined_rows x rs)
+  where
+    by_tests : (a b : Bool) → length (joined x rs) ≡ length rs → length (cond a (r ∷ joined x rs) (cond b (record r { spans = r.spans ++ x ∷ [] } ∷ rs) (r ∷ rs))) ≡ length (r ∷ rs)
+    by_tests true b ih = ap suc ih
+    by_tests false true ih = refl
+    by_tests false false ih = refl
+
+-- a row opens, where another one has left for it
+opens_within : (n m : ℕ) (x : Arrival) (s : State) → 0 < n → Within n s → Within n (opens m x (evicted s))
+opens_within n m x s some k = by_room (nat_lt s.opened s.section.tail_sampling.num_traces) refl
+  where
+    row : WaitingData
+    row = record { trace = trace_of x; due = m + s.section.tail_sampling.decision_wait; spans = x ∷ [] }
+
+    early : nat_lt s.opened s.section.tail_sampling.num_traces ≡ true → s.opened < s.section.tail_sampling.num_traces
+    early is = grind (arith, nat_tests, is)
+
+    full : nat_lt s.opened s.section.tail_sampling.num_traces ≡ false → s.section.tail_sampling.num_traces ≤ s.opened
+    full is = grind (arith, nat_tests, is)
+
+    by_waiting : (ws : List WaitingData) → s.waiting ≡ ws → s.settled ≡ [] → s.section.tail_sampling.num_traces ≤ s.opened → Within n (opens m x (evict_waiting ws s))
+    by_waiting [] waits none over = let a : length s.waiting ≡ 0 = ap length waits in let b : length s.settled ≡ 0 = ap length none in absurd (omega (arith, some, over))
+    by_waiting (r ∷ rs) waits none over =
+        let size : length s.waiting ≡ length rs + 1 = omega (arith, ap length waits) in
+        omega (arith, length-append rs (record { trace = trace_of x; due = m + s.section.tail_sampling.decision_wait; spans = x ∷ [] } ∷ []))
+
+    by_settled : (ss : List SettledData) → s.settled ≡ ss → s.section.tail_sampling.num_traces ≤ s.opened → Within n (opens m x (evict_first ss s))
+    by_settled [] is over = by_waiting s.waiting refl is over
+    by_settled (r ∷ rs) is over =
+        let size : length s.settled ≡ length rs + 1 = omega (arith, ap length is) in
+        omega (arith, length-append s.waiting (row ∷ []))
+
+    by_room : (b : Bool) → nat_lt s.opened s.section.tail_sampling.num_traces ≡ b → Within n (opens m x (cond b s (evict_first s.settled s)))
+    by_room true is = omega (arith, early is, length-append s.waiting (row ∷ []))
+    by_room false is = by_settled s.settled refl (full is)
+
+late_or_opens_within : (n m : ℕ) (x : Arrival) (o : Option Bool) (s : State) → 0 < n → Within n s → Within n (late_or_opens m x o s)
+late_or_opens_within n m x (Some true) s some k = grouped_within n m (x ∷ []) s k
+late_or_opens_within n m x (Some false) s some k = omega arith
+late_or_opens_within n m x None s some k = opens_within n m x s some k
+
+goes_within : (n m : ℕ) (x : Arrival) (s : State) → 0 < n → Within n s → Within n (goes m x s)
+goes_within n m x s some k = by_row (has_row (trace_of x) s.waiting)
+  where
+    by_row : (b : Bool) → Within n (cond b (joins x s) (late_or_opens m x (sampled_in (trace_of x) s.settled) s))
+    by_row true = omega (arith, joined_rows x s.waiting)
+    by_row false = late_or_opens_within n m x (sampled_in (trace_of x) s.settled) s some k
+
+come_within : (n m : ℕ) (x : Arrival) (s : State) → 0 < n → Within n s → Within n (come m x s)
+come_within n m x s some k = by_room (nat_lt (held s) s.section.max_spans)
+  where
+    taken : Within n (counted_in s)
+    taken = omega arith
+
+    by_room : (b : Bool) → Within n (cond b (goes m x (counted_in s)) s)
+    by_room true = goes_within n m x (counted_in s) some taken
+    by_room false = k
+
+all_come_within : (n m : ℕ) (xs : List Arrival) (s : State) → 0 < n → Within n s → Within n (all_come m xs s)
+all_come_within n m [] s some k = k
+all_come_within n m (x ∷ xs) s some k = all_come_within n m xs (come m x s) some (come_within n m x s some k)
+
+posted_within : (n : ℕ) (v : Verdict) (old new : State) → Within n old → Within n new → Within n (posted v old new)
+posted_within n shutting_down old new k k' = k
+posted_within n counter_limit old new k k' = k
+posted_within n exhausted old new k k' = k
+posted_within n (accepted invalid over_budget) old new k k' = omega arith
+
+post_within : (n m : ℕ) (arrivals : List Arrival) (s : State) → 0 < n → Within n s → Within n (post m arrivals s)
+post_within n m arrivals s some k =
+    let new = all_come m (valid arrivals) s in
+    posted_within n (verdict arrivals s new) s new k (all_come_within n m (valid arrivals) s some k)
+
+-- ---- a turn
+
+without_length : (t : ℕ) (a : ActiveData) (xs : List ActiveData) → under t xs ≡ Some a → length (without t xs) + 1 ≡ length xs
+without_length t a [] is = absurd (cc)
+without_length t a (b ∷ xs) is = by_test (b.ticket == t) is (λ rest. without_length t a xs rest)
+  where
+    by_test : (f : Bool) → Path (Option ActiveData) (cond f (Some b) (under t xs)) (Some a) → (under t xs ≡ Some a → length (without t xs) + 1 ≡ length xs) →
+        length (cond f xs (b ∷ without t xs)) + 1 ≡ length (b ∷ xs)
+    by_test true here ih = omega arith
+    by_test false here ih = omega (arith, ih here)
+
+replaced_length : (t : ℕ) (b : ActiveData) (xs : List ActiveData) → length (replaced t b xs) ≡ length xs
+replaced_length t b [] = refl
+replaced_length t b (c ∷ xs) = by_test (c.ticket == t) (replaced_length t b xs)
+  where
+    by_test : (f : Bool) → length (replaced t b xs) ≡ length xs → length (cond f (b ∷ xs) (c ∷ replaced t b xs)) ≡ length (c ∷ xs)
+    by_test true ih = refl
+    by_test false ih = ap suc ih
+
+-- a batch of the queue is handed out where a consumer is free
+abbrev HasRoom : SenderData → Choice → Type 0
+HasRoom s (Retried a) = Unit
+HasRoom s (Oldest b) = length s.active < s.sending.num_consumers
+HasRoom s NoBatch = Unit
+
+room_is : (m : ℕ) (s : SenderData) → HasRoom s (choice m s)
+room_is m s = by_tickets (has_tickets s)
+  where
+    retried_room : (o : Option ActiveData) → HasRoom s (retried o)
+    retried_room None = tt
+    retried_room (Some a) = tt
+
+    oldest_room : (q : List BatchData) → length s.active < s.sending.num_consumers → HasRoom s (oldest q)
+    oldest_room [] lt = tt
+    oldest_room (b ∷ q) lt = lt
+
+    free : has_consumer s ≡ true → length s.active < s.sending.num_consumers
+    free is = grind (arith, nat_tests, is)
+
+    by_consumer : (b : Bool) → has_consumer s ≡ b → HasRoom s (cond b (oldest s.queue) NoBatch)
+    by_consumer true is = oldest_room s.queue (free is)
+    by_consumer false is = tt
+
+    by_retry : (o : Option ActiveData) → HasRoom s (choice_by o s)
+    by_retry (Some a) = retried_room (under a.ticket s.active)
+    by_retry None = by_consumer (has_consumer s) refl
+
+    by_tickets : (b : Bool) → HasRoom s (cond b (choice_by (first_retry m s.active) s) NoBatch)
+    by_tickets true = by_retry (first_retry m s.active)
+    by_tickets false = tt
+
+turned_by_within : (n m : ℕ) (c : Choice) (s : State) → IsNext s.sender c → HasRoom s.sender c → Within n s → Within n (turned_by m c s)
+turned_by_within n m (Retried a) s is room k =
+    let D = s.sender in
+    let again = sent_again (D.handed_out + 1) a in
+    let size : length (without a.ticket D.active ++ again ∷ []) ≡ length D.active = omega (arith, length-append (without a.ticket D.active) (again ∷ []), without_length a.ticket a D.active is) in
+    omega arith
+turned_by_within n m (Oldest b) s is room k =
+    let D = s.sender in
+    let first = sent_first D.retry m (D.handed_out + 1) b in
+    let queue : length D.queue ≡ length (drop 1 D.queue) + 1 = omega (arith, ap length is) in
+    let size : length (D.active ++ first ∷ []) ≡ length D.active + 1 = omega (arith, length-append D.active (first ∷ [])) in
+    omega arith
+turned_by_within n m NoBatch s is room k = k
+
+-- ---- an answer
+
+left_few : (a : ActiveData) (e : Settlement) (xs : List ActiveData) → under a.ticket xs ≡ Some a → length (left_by a e xs) ≤ length xs
+left_few a (Delivered exported rejected) xs is = omega (arith, without_length a.ticket a xs is)
+left_few a Refused xs is = omega (arith, without_length a.ticket a xs is)
+left_few a Exhausted xs is = omega (arith, without_length a.ticket a xs is)
+left_few a (Postponed due retry) xs is = omega (arith, replaced_length a.ticket (record a { retry = retry; due = Some due }) xs)
+
+settled_by_within : (n ticket m word : ℕ) (given : AnswerData) (o : Option ActiveData) (s : State) → in_flight ticket s.sender ≡ o → Within n s →
+    Within n (record s { sender = answered_by m word given o s.sender; ledger = all_moved (ended_in_flight m word given o) s.ledger })
+settled_by_within n ticket m word given None s is k = k
+settled_by_within n ticket m word given (Some a) s is k =
+    let here : under ticket s.sender.active ≡ Some a = flying_under ticket a (under ticket s.sender.active) is in
+    let own : under a.ticket s.sender.active ≡ Some a = ap (λ (t : ℕ). under t s.sender.active) (under_ticket ticket a s.sender.active here) ∙ here in
+    let few : length (left_by a (settlement m word given a) s.sender.active) ≤ length s.sender.active = left_few a (settlement m word given a) s.sender.active own in
+    omega arith
+
+-- ---- a step
+
+acts_within : (n m : ℕ) (step : Own) (s : State) → 0 < n → Within n s → Within n (acts m step s)
+acts_within n m (Post now arrivals) s some k = post_within n m arrivals s some k
+acts_within n m (Turn now) s some k = turned_by_within n m (choice m s.sender) s (next_is m s.sender) (room_is m s.sender) k
+acts_within n m (Answer now ticket word given) s some k = settled_by_within n ticket m word given (in_flight ticket s.sender) s refl k
+acts_within n m (Report now) s some k = k
+acts_within n m (Drain now) s some k = drain_within n m s k
+
+next_within : (n : ℕ) (step : Own) (s : State) → 0 < n → Within n s → Within n (next step s)
+unfolding next
+next_within n step s some k =
+    let m = effective step s in
+    acts_within n m step (advanced m s) some (advanced_within n m s k)
+
+with_most : (s : State) → IsWithinLimits s → Within s.section.tail_sampling.num_traces s
+with_most s is = record { most_is = refl; limits = is }
+
+pub steps_stay_within : StepsStayWithin
+steps_stay_within step s some is = (next_within s.section.tail_sampling.num_traces step s some (with_most s is)).limits
+
+pub fronts_stay_within : FrontsStayWithin
+fronts_stay_within m old new front is =
+    let n = old.section.tail_sampling.num_traces in
+    subst (λ (s : State). IsWithinLimits s) (sym front.1) (ran_within n front.0 m old (with_most old is)).limits
+
+-- ---- a past
+
+first_within : (w : SectionData) → Within w.tail_sampling.num_traces (state w [])
+unfolding state sender
+first_within w = omega arith
+
+past_within : (w : SectionData) → 0 < w.tail_sampling.num_traces → ((past : List Own) (step : Own) → state w (step ∷ past) ≡ next step (state w past)) → (past : List Own) →
+    Within w.tail_sampling.num_traces (state w past)
+past_within w some follows [] = first_within w
+past_within w some follows (step ∷ past) = subst (λ (s : State). Within w.tail_sampling.num_traces s) (sym (follows past step)) (next_within w.tail_sampling.num_traces step (state w past) some (past_within w some follows past))
+
+pub pasts_stay_within : PastsStayWithin
+pasts_stay_within w some wait sound past = (past_within w some (λ past step. (step_follows w some wait sound past step).state_is) past).limits

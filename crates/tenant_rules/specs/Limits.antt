@@ -1,0 +1,34 @@
+-- No state has more rows, batches that wait and active batches than its settings allow (`num_traces` of the Collector's
+-- tailsamplingprocessor, `queue_size` and `num_consumers` of its exporterhelper).
+use Rattle.std.specs.Prelude.{◌≡◌, ◌<◌, ◌≤◌, ◌+◌, ℕ, min, List, length}
+use Rattle.tail_settings.specs.Section.{SectionData}
+use Rattle.span_batcher.specs.Batches.{IsSound}
+use Rattle.tenant_rules.specs.Own.{Own}
+use Rattle.tenant_rules.specs.Batching.{rules_of}
+use Rattle.tenant_rules.specs.State.{State, state}
+use Rattle.tenant_rules.specs.Timers.{IsFront}
+use Rattle.tenant_rules.specs.Machine.{next}
+
+-- as many rows are present as have opened, or as may be; the sender goes by the section's settings; no more batches
+-- wait than the queue takes, and no more are active than there are consumers
+pub record IsWithinLimits (s : State) : Type 0 where
+  pub rows_are : length s.settled + length s.waiting ≡ min s.opened s.section.tail_sampling.num_traces
+  pub queue_size_is : s.sender.sending.queue_size ≡ s.section.sending_queue.queue_size
+  pub num_consumers_is : s.sender.sending.num_consumers ≡ s.section.sending_queue.num_consumers
+  pub queue_fits : length s.sender.queue ≤ s.section.sending_queue.queue_size
+  pub active_fit : length s.sender.active ≤ s.section.sending_queue.num_consumers
+
+-- a step leaves it so
+abbrev pub StepsStayWithin : Type 0
+StepsStayWithin = (step : Own) (s : State) → 0 < s.section.tail_sampling.num_traces → IsWithinLimits s →
+    IsWithinLimits (next step s)
+
+-- and so do some first timers, as after refused memory
+abbrev pub FrontsStayWithin : Type 0
+FrontsStayWithin = (moment : ℕ) (old new : State) → IsFront moment old new → IsWithinLimits old → IsWithinLimits new
+
+-- and so it is after every past, where the settings are in their ranges
+abbrev pub PastsStayWithin : Type 0
+PastsStayWithin = (section : SectionData) → 0 < section.tail_sampling.num_traces →
+    0 < section.tail_sampling.decision_wait → IsSound (rules_of section) → (past : List Own) →
+    IsWithinLimits (state section past)
