@@ -3,7 +3,7 @@ use Rattle.std.proofs.lemmas.Result.{err_from_is_err_and}
 use Rattle.http1.specs.declared.framing.Framing.TheVariants as Framed
 use Rattle.http_edge.proofs.Moved.{then, then_to}
 use Rattle.http_edge.proofs.Come.{come_read, come_to_end}
-use Rattle.http_edge.proofs.answer_body.read_answer_body.Goals as goal
+use Rattle.http_edge.proofs.answer_body.read_plain_body.Goals as goal
 
 pub returns-in-End-clause-ok : goal.returns-in-End-clause-ok
 returns-in-End-clause-ok g c =
