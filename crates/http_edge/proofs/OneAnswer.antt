@@ -4,12 +4,13 @@ use Rattle.std.proofs.lemmas.List.{take-append-drop}
 use Rattle.httparse.specs.Grammar.{ResponseHead, print_response, status_code}
 use Rattle.httparse.proofs.GrammarLemmas.{response_unique}
 use Rattle.http1.specs.declared.framing.Framing.{Framing}
-use Rattle.http1.specs.Body.{Body, body_of}
+use Rattle.http1.specs.declared.framing.Framing.TheVariants.{NoBody, Length, Chunked, UntilClose}
 use Rattle.http1.proofs.TextLemmas.{front_within}
-use Rattle.http1.proofs.OneParse.{body_unique}
 use Rattle.send_retry.specs.Class.{AnswerData, Http, Failed}
-use Rattle.http_edge.specs.Message.{limits, max_head}
+use Rattle.http_edge.specs.Message.{max_head}
 use Rattle.http_edge.specs.Post.{HasAnswerHead, HasAnswerBody, HasFinalHead, RefusesAnswerHead, bad, many, long, SkipsInterims, is_interim, answer_framing_of, retry_after_of, kept_of, Tells, whole, many_interims, bad_head, bad_framing, bad_body, cut_head, cut_body, OneAnswer}
+use Rattle.http_edge.proofs.Parts.{fronts_same}
+use Rattle.http_edge.proofs.Once.{chunked_same}
 
 answer_same : {bytes : List ℕ} {h k : ResponseHead} {a b : List ℕ} → HasAnswerHead bytes h a → HasAnswerHead bytes k b
     → (h ≡ k) × (a ≡ b)
@@ -147,13 +148,18 @@ whole_not (cut_head n rest few p q e) w =
     q t.0 t.1 (t.2.valid, t.2.whole)
 whole_not (cut_body h after framing p q r e) w = r w.body w.left (body_there w p q)
 
+answer_body_same : (framing : Framing) (s b c x y : List ℕ) → HasAnswerBody framing s b x → HasAnswerBody framing s c y
+    → b ≡ c
+answer_body_same NoBody s b c x y p q = fronts_same b c x y (p.0 ∙ sym q.0) (sym p.1 ∙ q.1)
+answer_body_same (Length n) s b c x y p q = fronts_same b c x y (p.0 ∙ sym q.0) (sym p.1 ∙ q.1)
+answer_body_same Chunked s b c x y p q = (chunked_same p q).0
+answer_body_same UntilClose s b c x y p q = p.0 ∙ sym q.0
+
 whole_same : {read : List ℕ} {a b : AnswerData} → Whole read a → Whole read b → a ≡ b
 whole_same {read} {a} {b} x y =
     let s = final_same x.final y.final in
     let there = body_there x y.final y.framed in
-    let one = body_unique limits y.framing y.after (body_of x.body there.0) (body_of y.body y.has.0) x.left y.left
-    there.2 y.has.2 in
-    let body : x.body ≡ y.body = ap (λ (v : Body). v.bytes) one.0 in
+    let body = answer_body_same y.framing y.after x.body y.body x.left y.left there y.has in
     x.is ∙ ((λ i. Http (status_code (s.0 i)) (retry_after_of (s.0 i)) (kept_of (body i))) ∙ sym y.is)
 
 pub one_answer : OneAnswer

@@ -1,33 +1,21 @@
 -- Messages one after another, and where a talk ends.
 use Rattle.std.proofs.Common.{◌≡◌, ℕ, ◌≤◌, Bool, true, false, not, List, [], ◌∷◌, ◌++◌, length, drop, Option, if◌then◌else◌, refl, sym, ap, subst, ◌∙◌, append_assoc, append-nil}
 use Rattle.httparse.specs.Grammar.{RequestHead}
-use Rattle.http1.proofs.DecoderLemmas.{ReadsTrailers-append}
-use Rattle.http1.specs.ChunkedBody.{print_chunks}
 use Rattle.http_edge.specs.declared.head.Head.{Head}
-use Rattle.http_edge.specs.Message.{Request, Answer, Message, Frame, sized, chunked, limits, HasBody, HasMessage, request_of, closes, expects, max_body}
+use Rattle.http_edge.specs.Message.{Request, Answer, Message, Frame, sized, chunked, HasBody, HasMessage, request_of, closes, expects, max_body}
 use Rattle.http_edge.specs.Talk.{Exchange, exchange_text, interim_text, Asks, told, Runs, Due, MayInterim, interim, replying}
 use Rattle.http_edge.specs.Reply.{continue_text}
 use Rattle.http_edge.specs.Stages.{IsHead, frame_by, message_with, IsCut, IsOver, GoesOn, Replies}
 use Rattle.http_edge.specs.Steps.{Moves}
 use Rattle.http_edge.proofs.Moved.{then_to}
 use Rattle.http_edge.proofs.Heads.{has_head_more}
+use Rattle.http_edge.proofs.Pieces.{chunked_more}
 
 -- a body and what follows, of which more came
 pub has_body_more : (frame : Frame) (stream body after more : List ℕ) → HasBody frame stream body after
     → HasBody frame (stream ++ more) body (after ++ more)
 has_body_more (sized n) stream body after more h = (h.0, ap (λ v. v ++ more) h.1 ∙ append_assoc body after more)
-has_body_more chunked stream body after more h =
-    let r = h.2 in (
-      h.0,
-      h.1,
-      record {
-        chunks = r.chunks;
-        after = r.after ++ more;
-        reads = (r.reads.0, ap (λ v. v ++ more) r.reads.1 ∙ append_assoc (print_chunks r.chunks) r.after more);
-        decoded = r.decoded;
-        trailers = ReadsTrailers-append limits.max_trailers_len r.after h.0 after more r.trailers;
-      },
-    )
+has_body_more chunked stream body after more h = chunked_more more h
 
 pub has_message_more : {bytes : List ℕ} {m : Message} {after : List ℕ} (more : List ℕ) → HasMessage bytes m after
     → HasMessage (bytes ++ more) m (after ++ more)

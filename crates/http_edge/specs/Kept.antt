@@ -1,15 +1,19 @@
 -- How far the body of an answer has come.
-use Rattle.std.specs.Prelude.{◌≡◌, ℕ, ◌≢◌, ◌⊎◌, nat_lt, Bool, drop, Option, Some, None, List, [], ◌++◌, length}
+use Rattle.std.specs.Prelude.{◌≡◌, ℕ, ◌≢◌, ◌≤◌, ◌⊎◌, nat_lt, Bool, true, drop, Option, Some, None, List, [], ◌++◌, length}
 use Rattle.http1.specs.declared.framing.Framing.{Framing}
+use Rattle.http1.specs.declared.conn.Limits.{Limits}
 use Rattle.http1.specs.declared.decode.Decoder.{Decoder}
-use Rattle.http1.specs.Body.{Body}
+use Rattle.http1.specs.Body.{Body, body_of, ReadsBody}
 use Rattle.http1.specs.Decoder.{decoder_for, Completes, with_front}
 use Rattle.http1.specs.declared.framing.Framing.TheVariants as Framed
 use Rattle.http1.specs.declared.decode.Decoder.TheVariants.{UntilClose}
-use Rattle.http_edge.specs.Message.{limits}
-use Rattle.httparse.specs.Grammar.{ResponseHead, print_response, HasNoResponse, status_code}
+use Rattle.http_edge.specs.Message.{max_fields}
+use Rattle.http_edge.specs.Chunks.{HasChunkedBody}
+use Rattle.http_edge.specs.Stages.{IsAt}
+use Rattle.httparse.specs.Grammar.{Field, ResponseHead, print_response, HasNoResponse, status_code}
 use Rattle.send_retry.specs.Class.{Failed}
 use Rattle.http_edge.specs.Post.{HasAnswerHead, HasAnswerBody, HasFinalHead, RefusesAnswerHead, Tells, answer_framing_of, retry_after_of, kept_of, max_kept}
+use Rattle.http_edge.specs.declared.chunks.Part.{Part as PartCode}
 use Rattle.http_edge.specs.declared.answer_head.AnswerHead.{AnswerHead}
 use Rattle.http_edge.specs.declared.answer_head.AnswerBegin.{AnswerBegin}
 use Rattle.http_edge.specs.declared.answer_head.AnswerBegin.TheVariants as Begin
@@ -22,6 +26,16 @@ pub record Keeps (body : List ℕ) (kept : Kept) : Type 0 where
   pub bytes : kept.bytes.items ≡ kept_of body
   pub is_over : kept.is_over ≡ nat_lt max_kept (length body)
 
+-- the bounds that http1's decoder is given, of which bodies that aren't in chunks have no use
+abbrev pub limits : Limits
+limits = record { max_head_len = 65536; max_extensions_len = 65536; max_trailers_len = 65536 }
+
+-- the stream begins with a body in that framing, by http1's rules, which those for bodies in chunks are not
+abbrev pub HasPlainBody : Framing → List ℕ → List ℕ → List ℕ → Type 0
+HasPlainBody framing stream body after =
+    (trailers : List Field) × (length trailers ≤ max_fields) × ReadsBody limits framing stream (body_of body trailers)
+    after
+
 -- The decoder has taken the stream up to the buffer, and this is the body so far.
 pub record HasCome (framing : Framing) (stream : List ℕ) (decoder : Decoder) (body buffer : List ℕ) : Type 0 where
   pub back : (more : List ℕ) (b : Body) (rest : List ℕ) → Completes decoder (buffer ++ more) b rest
@@ -32,24 +46,41 @@ pub record HasCome (framing : Framing) (stream : List ℕ) (decoder : Decoder) (
       → framing ≡ Framed.UntilClose)
 
 -- what was found when the buffer had no more pieces
-abbrev pub IsAnswerPieces : Framing → List ℕ → Decoder → Kept → List ℕ → AnswerPieces → Type 0
-IsAnswerPieces framing stream decoder kept rest End = (body : List ℕ) × HasAnswerBody framing stream body rest
+abbrev pub IsPlainPieces : Framing → List ℕ → Decoder → Kept → List ℕ → AnswerPieces → Type 0
+IsPlainPieces framing stream decoder kept rest End = (body : List ℕ) × HasPlainBody framing stream body rest
     × Keeps body kept × (framing ≢ Framed.UntilClose)
-IsAnswerPieces framing stream decoder kept rest More =
+IsPlainPieces framing stream decoder kept rest More =
     (body : List ℕ) × HasCome framing stream decoder body rest × Keeps body kept
-    × (framing ≢ Framed.UntilClose → (b left : List ℕ) → ¬ (HasAnswerBody framing stream b left))
+    × (framing ≢ Framed.UntilClose → (b left : List ℕ) → ¬ (HasPlainBody framing stream b left))
     × (framing ≡ Framed.UntilClose → rest ≡ [])
-IsAnswerPieces framing stream decoder kept rest Bad = (more b left : List ℕ)
-    → ¬ (HasAnswerBody framing (stream ++ more) b left)
+IsPlainPieces framing stream decoder kept rest Bad = (more b left : List ℕ)
+    → ¬ (HasPlainBody framing (stream ++ more) b left)
+
+-- the same of a body in chunks, and that the buffer may not have been looked at
+abbrev pub IsChunkPieces : List ℕ → PartCode → Kept → List ℕ → Bool → AnswerPieces → Type 0
+IsChunkPieces stream part kept rest looked End =
+    (body : List ℕ) × HasChunkedBody stream body rest × Keeps body kept
+IsChunkPieces stream part kept rest looked More =
+    (body : List ℕ) × IsAt stream part body rest × Keeps body kept
+    × (looked ≡ true → (b left : List ℕ) → ¬ (HasChunkedBody stream b left))
+IsChunkPieces stream part kept rest looked Bad = (more b left : List ℕ) → ¬ (HasChunkedBody (stream ++ more) b left)
+
+-- what came of the reading of an answer's body, which stands so in the stream
+abbrev pub IsBodyIn : (List ℕ → List ℕ → List ℕ → Type 0) → Framing → List ℕ → Type 0 → Option (List ℕ) → Type 0
+IsBodyIn Has framing stream ended (Some bytes) =
+    (body : List ℕ) × (left : List ℕ) × Has stream body left × (framing ≡ Framed.UntilClose → ended)
+    × (bytes ≡ kept_of body)
+IsBodyIn Has framing stream ended None =
+    ((more b left : List ℕ) → ¬ (Has (stream ++ more) b left))
+    ⊎ (((b left : List ℕ) → ¬ (Has stream b left)) × ended)
 
 -- what came of the reading of an answer's body
 abbrev pub IsAnswerBody : Framing → List ℕ → Type 0 → Option (List ℕ) → Type 0
-IsAnswerBody framing stream ended (Some bytes) =
-    (body : List ℕ) × (left : List ℕ) × HasAnswerBody framing stream body left × (framing ≡ Framed.UntilClose → ended)
-    × (bytes ≡ kept_of body)
-IsAnswerBody framing stream ended None =
-    ((more b left : List ℕ) → ¬ (HasAnswerBody framing (stream ++ more) b left))
-    ⊎ (((b left : List ℕ) → ¬ (HasAnswerBody framing stream b left)) × ended)
+IsAnswerBody framing = IsBodyIn (HasAnswerBody framing) framing
+
+-- the same by http1's rules
+abbrev pub IsPlainBody : Framing → List ℕ → Type 0 → Option (List ℕ) → Type 0
+IsPlainBody framing = IsBodyIn (HasPlainBody framing) framing
 
 -- the head of the code says what the head of the grammar says, which stands in the bytes
 pub record IsAnswerHead (bytes : List ℕ) (head : AnswerHead) (h : ResponseHead) : Type 0 where

@@ -1,14 +1,14 @@
 -- A post and what a back end answers to it, on the wire.
 use Rattle.std.specs.Prelude.{◌≡◌, ℕ, zero, suc, ◌/◌, ◌≤◌, ◌==◌, ◌&&◌, ◌||◌, not, nat_le, min, Bool, true, false, List, [], ◌++◌, length, map, take, Option, Some, None, if◌then◌else◌, codes, decimal, ◌^◌, ◌-◌}
 use Rattle.httparse.specs.Ascii.{crlf_bytes}
-use Rattle.httparse.specs.Grammar.{ResponseHead, IsResponseHead, print_response, HasNoResponse, NeverHasResponse, status_code, Field}
+use Rattle.httparse.specs.Grammar.{ResponseHead, IsResponseHead, print_response, HasNoResponse, NeverHasResponse, status_code}
 use Rattle.httparse.specs.Spans.{name_and_value, ResponseExceeds, ResponseOverflows}
 use Rattle.http1.specs.declared.framing.Framing.{Framing}
-use Rattle.http1.specs.declared.framing.Framing.TheVariants.{NoBody, UntilClose}
-use Rattle.http1.specs.Body.{body_of, ReadsBody}
+use Rattle.http1.specs.declared.framing.Framing.TheVariants.{NoBody, Length, Chunked, UntilClose}
 use Rattle.send_retry.specs.Class.{AnswerData, Http, Failed}
 use Rattle.http_edge.specs.Fields.{Single, absent, one, repeated, field, number_of, framing_in}
-use Rattle.http_edge.specs.Message.{Header, limits, max_fields, max_head}
+use Rattle.http_edge.specs.Message.{Header, max_fields, max_head}
+use Rattle.http_edge.specs.Chunks.{HasChunkedBody}
 
 -- the head of a post of so many bytes, in parts
 abbrev pub before_host : List ℕ
@@ -70,11 +70,12 @@ answer_framing_in status headers = if is_bodiless_status status then Some NoBody
 unfoldable pub answer_framing_of : ResponseHead → Option Framing
 answer_framing_of h = answer_framing_in (status_code h) (answer_fields h)
 
--- the stream begins with a body in that framing, whose trailer has room
+-- the stream begins with a body in that framing
 abbrev pub HasAnswerBody : Framing → List ℕ → List ℕ → List ℕ → Type 0
-HasAnswerBody framing stream body after =
-    (trailers : List Field) × (length trailers ≤ max_fields) × ReadsBody limits framing stream (body_of body trailers)
-    after
+HasAnswerBody NoBody stream body after = (length body ≡ 0) × (stream ≡ body ++ after)
+HasAnswerBody (Length n) stream body after = (length body ≡ n) × (stream ≡ body ++ after)
+HasAnswerBody Chunked stream body after = HasChunkedBody stream body after
+HasAnswerBody UntilClose stream body after = (body ≡ stream) × (after ≡ [])
 
 -- a body above 4 MiB counts as empty
 abbrev pub max_kept : ℕ

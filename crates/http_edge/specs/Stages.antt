@@ -1,26 +1,27 @@
 -- What the private functions find at the front of the buffer, and how far they get.
-use Rattle.std.specs.Prelude.{◌≡◌, ℕ, ◌≤◌, ◌++◌, Bool, false, List, map, drop, length, Some, None, Option}
+use Rattle.std.specs.Prelude.{◌≡◌, ℕ, ◌+◌, ◌<◌, ◌≤◌, ◌++◌, Bool, true, false, List, map, take, drop, length, Some, None, Option, ⊤}
 use Rattle.httparse.specs.Grammar.{RequestHead, HasNoRequest, MayBecomeRequest, print_request}
 use Rattle.httparse.specs.declared.Error.{Error}
 use Rattle.httparse.specs.declared.Error.TheVariants.{TooManyHeaders}
-use Rattle.http1.specs.declared.decode.Decoder.{Decoder}
-use Rattle.http1.specs.declared.decode.Decoder.TheVariants.{Chunked}
-use Rattle.http1.specs.declared.chunked.ChunkedDecoder.{ChunkedDecoder}
-use Rattle.http1.specs.ChunkedDecoder.{run, prepend, HasNotFailed}
 use Rattle.http_edge.specs.declared.fields.Single.{Single}
 use Rattle.http_edge.specs.declared.fields.Single.TheVariants as Code
 use Rattle.http_edge.specs.Fields.{Single as SingleData, absent, one, repeated}
 use Rattle.http_edge.specs.declared.head.Head.{Head}
 use Rattle.http_edge.specs.declared.head.Begin.{Begin}
-use Rattle.http_edge.specs.declared.head.Begin.TheVariants.{Whole, More, Refuse}
+use Rattle.http_edge.specs.declared.head.Begin.TheVariants.{Whole, More, TooMany, Refuse}
 use Rattle.http_edge.specs.declared.head.BodyKind.{BodyKind}
 use Rattle.http_edge.specs.declared.head.BodyKind.TheVariants.{Sized, Chunks}
 use Rattle.http_edge.specs.declared.body.BodyRead.{BodyRead}
 use Rattle.http_edge.specs.declared.body.BodyRead.TheVariants as Read
 use Rattle.http_edge.specs.declared.body.Pieces.{Pieces}
 use Rattle.http_edge.specs.declared.body.Pieces.TheVariants as Piece
-use Rattle.http_edge.specs.Message.{Request, Answer, Message, Frame, sized, chunked, headers_of, framing_of, max_body, limits, chunks_of, HasHead, HasBody, NeverHasBody, IsTooLong, LacksBody, HasMessage, request_of, expects, closes, is_bodiless}
-use Rattle.http_edge.specs.Talk.{RefusesHead, Exchange, exchange_text, Ends, Due}
+use Rattle.http_edge.specs.declared.chunks.Part.{Part as PartCode}
+use Rattle.http_edge.specs.declared.chunks.Part.TheVariants.{Line, Bytes, Trailer}
+use Rattle.http_edge.specs.declared.chunks.Piece.{Piece as PieceCode}
+use Rattle.http_edge.specs.declared.chunks.Piece.TheVariants as Found
+use Rattle.http_edge.specs.Chunks.{line_part, bytes_part, trailer_part, Reaches, FailsAt, LacksAt, HasChunkedBody, StopsAt}
+use Rattle.http_edge.specs.Message.{Request, Answer, Message, Frame, sized, chunked, headers_of, framing_of, max_fields, max_body, HasHead, HasBody, IsTooLong, IsBroken, LacksBody, HasMessage, request_of, expects, closes, is_bodiless}
+use Rattle.http_edge.specs.Talk.{RefusesHead, head_lines, Exchange, exchange_text, Ends, Due}
 use Rattle.http_edge.specs.Reply.{reply_text, refusal_text}
 use Rattle.http_edge.specs.Steps.{Moves}
 use Rattle.http_edge.specs.Seen.{header_of}
@@ -71,27 +72,70 @@ pub record IsHead (bytes : List ℕ) (head : Head) (h : RequestHead) : Type 0 wh
 abbrev pub IsBegin : List ℕ → Begin → Type 0
 IsBegin bytes (Whole head) = (h : RequestHead) × IsHead bytes head h
 IsBegin bytes More = HasNoRequest bytes × MayBecomeRequest bytes
+IsBegin bytes TooMany = HasNoRequest bytes × MayBecomeRequest bytes × (max_fields + 1 < head_lines bytes)
 IsBegin bytes (Refuse status bodiless) = RefusesHead bytes (refusal_text bodiless status)
 
--- The decoder has taken the stream up to the buffer, and the body has what it gave.
-pub record HasTaken (stream : List ℕ) (decoder : Decoder) (body buffer : List ℕ) : Type 0 where
-  pub chunks : ChunkedDecoder
-  pub is : decoder ≡ Chunked chunks limits.max_trailers_len
-  pub sound : HasNotFailed chunks
-  pub runs : (more : List ℕ) → chunks_of (stream ++ more) ≡ prepend body (run chunks (buffer ++ more))
+-- how many bytes of data are still due
+abbrev pub bytes_due : PartCode → ℕ
+bytes_due Line = 0
+bytes_due (Bytes left) = left
+bytes_due Trailer = 0
 
--- what was found when the buffer had no more pieces
-abbrev pub IsPieces : List ℕ → Decoder → List ℕ → List ℕ → Pieces → Type 0
-IsPieces stream decoder body rest Piece.End = HasBody chunked stream body rest × (length body ≤ max_body)
-IsPieces stream decoder body rest Piece.More = HasTaken stream decoder body rest × LacksBody chunked stream
-IsPieces stream decoder body rest Piece.Bad = NeverHasBody chunked stream
-IsPieces stream decoder body rest Piece.TooLong = IsTooLong chunked stream
+-- the stream comes to the middle of a chunk's data: so many bytes are left of it
+pub record IsInData (stream : List ℕ) (left : ℕ) (body rest : List ℕ) : Type 0 where
+  pub size : ℕ
+  pub before : List ℕ
+  pub got : List ℕ
+  pub reaches : Reaches stream (bytes_part size) before (got ++ rest)
+  pub gives : body ≡ before ++ got
+  pub sized : size ≡ length got + left
+
+-- the stream comes to this part with this body so far, and the rest follows
+abbrev pub IsAt : List ℕ → PartCode → List ℕ → List ℕ → Type 0
+IsAt stream Line body rest = Reaches stream line_part body rest
+IsAt stream (Bytes left) body rest = IsInData stream left body rest
+IsAt stream Trailer body rest = Reaches stream trailer_part body rest
+
+-- how many bytes a piece has
+abbrev pub piece_len : PieceCode → ℕ
+piece_len (Found.Passed len next) = len
+piece_len (Found.Data len left) = len
+piece_len (Found.End len) = len
+piece_len Found.More = 0
+piece_len Found.Bad = 0
+
+-- a piece after which the body goes on has a byte, and data is what was due
+abbrev pub IsStep : PartCode → PieceCode → Type 0
+IsStep part (Found.Passed len next) = 0 < len
+IsStep part (Found.Data len left) = (0 < len) × (bytes_due part ≡ len + left)
+IsStep part (Found.End len) = ⊤
+IsStep part Found.More = ⊤
+IsStep part Found.Bad = ⊤
+
+-- what the input has of a part that is due after this body
+abbrev pub IsPiece : List ℕ → PartCode → List ℕ → List ℕ → PieceCode → Type 0
+IsPiece stream part body input (Found.Passed len next) = IsAt stream next body (drop len input)
+IsPiece stream part body input (Found.Data len left) =
+    IsAt stream (Bytes left) (body ++ take len input) (drop len input)
+IsPiece stream part body input (Found.End len) = HasChunkedBody stream body (drop len input)
+IsPiece stream part body input Found.More =
+    (most : ℕ) → length body + bytes_due part ≤ most → StopsAt LacksAt most stream
+IsPiece stream part body input Found.Bad =
+    (most : ℕ) → length body + bytes_due part ≤ most → StopsAt FailsAt most stream
+
+-- what was found when the buffer had no more pieces, or wasn't looked at
+abbrev pub IsPieces : List ℕ → PartCode → List ℕ → List ℕ → Bool → Pieces → Type 0
+IsPieces stream part body rest looked Piece.End = HasBody chunked stream body rest
+IsPieces stream part body rest looked Piece.More =
+    IsAt stream part body rest × (looked ≡ true → LacksBody chunked stream)
+IsPieces stream part body rest looked Piece.Bad = IsBroken stream
+IsPieces stream part body rest looked Piece.TooLong = IsTooLong chunked stream
 
 -- what came of the reading of a body
 abbrev pub IsRead : Frame → List ℕ → List ℕ → BodyRead → Type 0
 IsRead frame stream after (Read.Whole body) = HasBody frame stream body.items after × (length body.items ≤ max_body)
 IsRead frame stream after Read.TooLong = (frame ≡ chunked) × IsTooLong chunked stream
-IsRead frame stream after Read.Bad = (frame ≡ chunked) × NeverHasBody chunked stream
+IsRead frame stream after Read.Bad = (frame ≡ chunked) × IsBroken stream
 IsRead frame stream after Read.Ended = LacksBody frame stream
 
 -- the handler's answer and what is written of it

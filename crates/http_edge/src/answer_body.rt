@@ -1,9 +1,11 @@
 //! The body of an answer.
-ghost use Rattle.std.specs.Prelude.{◌≡◌, ◌≢◌, ℕ, ◌<◌, ◌≤◌, List, [], ◌++◌, length, drop, option_map, IfOk, OnOk, OnErr, Err};
+ghost use Rattle.std.specs.Prelude.{◌≡◌, ◌≢◌, ℕ, ◌<◌, ◌≤◌, List, [], ◌++◌, length, drop, option_map, IfOk, OnOk, OnErr, true, false, Err};
 ghost use Rattle.http_edge.specs.Steps.{Moves, HasFailed};
-ghost use Rattle.http_edge.specs.Kept.{Keeps, HasCome, IsAnswerPieces, IsAnswerBody};
+ghost use Rattle.http_edge.specs.Stages.{IsAt};
+ghost use Rattle.http_edge.specs.Kept.{Keeps, HasCome, IsPlainPieces, IsChunkPieces, IsPlainBody, IsAnswerBody};
 
-use crate::wire::{EdgeFault, drop_front, fill};
+use crate::chunks::{Part, Piece, next_piece};
+use crate::wire::{EdgeFault, Watch, drop_front, fill};
 use http_line::Line;
 use http1::Limits;
 use http1::decode::{Decoded, Decoder};
@@ -49,8 +51,122 @@ pub(crate) enum AnswerPieces {
     Bad,
 }
 
-/// Takes what the bytes have of a body, and says how many of them were taken.
-fn take_answer(
+/// Reads the body of an answer, which is left out where it is above the limit. None: no whole one came.
+pub(crate) fn read_answer_body<L: Line>(
+    alloc: Global,
+    line: &mut L,
+    buffer: &mut Vec<u8>,
+    framing: Framing,
+) -> Result<Option<Vec<u8>>, EdgeFault>
+    ensures ok { IfOk result (λ found. (read : List ℕ)
+        × Moves (L.received line.old) (L.received line.new) (L.sent line.old) (L.sent line.new) read []
+        × IsAnswerBody framing (buffer.old.items ++ read) (L.ends line.old < L.ends line.new) (option_map (λ v.
+        v.items) found)) }
+    ensures err { OnErr result ((read : List ℕ)
+        × Moves (L.received line.old) (L.received line.new) (L.sent line.old) (L.sent line.new) read []) }
+    ensures ends { L.ends line.old ≤ L.ends line.new }
+    ensures kept { OnOk result (L.failed line.new ≡ L.failed line.old) }
+    ensures failed { result ≡ Err EdgeFault.ReadFailed → HasFailed (L.failed line.old) (L.failed line.new) }
+    ensures no_write { result ≢ Err EdgeFault.WriteFailed }
+{
+    if is_chunked(framing) {
+        let chunks = read_answer_chunks(alloc, line, buffer)?;
+        return Ok(chunks);
+    }
+    let plain = read_plain_body(alloc, line, buffer, framing)?;
+    Ok(plain)
+}
+
+fn is_chunked(framing: Framing) -> bool
+    ensures yes { result ≡ true → framing ≡ Framing.Chunked }
+    ensures no { result ≡ false → framing ≢ Framing.Chunked }
+{
+    match framing {
+        Framing::Chunked => true,
+        Framing::NoBody => false,
+        Framing::Length(_) => false,
+        Framing::UntilClose => false,
+    }
+}
+
+/// Reads a body in chunks with its trailer.
+fn read_answer_chunks<L: Line>(
+    alloc: Global,
+    line: &mut L,
+    buffer: &mut Vec<u8>,
+) -> Result<Option<Vec<u8>>, EdgeFault>
+    ensures ok { IfOk result (λ found. (read : List ℕ)
+        × Moves (L.received line.old) (L.received line.new) (L.sent line.old) (L.sent line.new) read []
+        × IsAnswerBody Framing.Chunked (buffer.old.items ++ read) (L.ends line.old < L.ends line.new) (option_map (λ v.
+        v.items) found)) }
+    ensures err { OnErr result ((read : List ℕ)
+        × Moves (L.received line.old) (L.received line.new) (L.sent line.old) (L.sent line.new) read []) }
+    ensures ends { L.ends line.old ≤ L.ends line.new }
+    ensures kept { OnOk result (L.failed line.new ≡ L.failed line.old) }
+    ensures failed { result ≡ Err EdgeFault.ReadFailed → HasFailed (L.failed line.old) (L.failed line.new) }
+    ensures no_write { result ≢ Err EdgeFault.WriteFailed }
+{
+    let mut part = Part::Line;
+    let mut kept = Kept {
+        bytes: Vec::new(alloc),
+        is_over: false,
+    };
+    let mut watch = Watch::within_body();
+    let mut ended = false;
+    'reads: loop {
+        let due = watch.is_due(buffer, ended);
+        let (taken, pieces) = take_chunks(buffer, &mut part, &mut kept, due)?;
+        drop_front(alloc, buffer, taken)?;
+        match pieces {
+            AnswerPieces::End => return Ok(Some(kept.bytes)),
+            AnswerPieces::Bad => return Ok(None),
+            AnswerPieces::More => if ended {
+                return Ok(None);
+            },
+        }
+        watch.drop_front(taken);
+        let more = fill(line, buffer)?;
+        ended = !more;
+    }
+}
+
+/// Takes what the bytes have of a body in chunks, and says how many of them were taken. Where it isn't due to look at
+/// them, it takes none.
+fn take_chunks(
+    bytes: &[u8],
+    part: &mut Part,
+    kept: &mut Kept,
+    due: bool,
+) -> Result<(usize, AnswerPieces), AllocError>
+    ensures within { IfOk result (λ r. r.0 ≤ length bytes.now) }
+    ensures pieces { IfOk result (λ r. (stream body : List ℕ) → IsAt stream part.old body bytes.now
+        → Keeps body kept.old → IsChunkPieces stream part.new kept.new (drop r.0 bytes.now) due r.1) }
+{
+    if !due {
+        return Ok((0, AnswerPieces::More));
+    }
+    let mut at = 0;
+    'pieces: loop {
+        let rest = &bytes[at..];
+        match next_piece(*part, rest) {
+            Piece::Passed { len, next } => {
+                *part = next;
+                at += len;
+            }
+            Piece::Data { len, left } => {
+                kept.add(&rest[..len])?;
+                *part = Part::Bytes(left);
+                at += len;
+            }
+            Piece::End { len } => return Ok((at + len, AnswerPieces::End)),
+            Piece::More => return Ok((at, AnswerPieces::More)),
+            Piece::Bad => return Ok((at, AnswerPieces::Bad)),
+        }
+    }
+}
+
+/// Takes what the bytes have of a body that isn't in chunks, and says how many of them were taken.
+fn take_plain(
     bytes: &[u8],
     decoder: &mut Decoder,
     kept: &mut Kept,
@@ -58,7 +174,7 @@ fn take_answer(
     ensures within { IfOk result (λ r. r.0 ≤ length bytes.now) }
     ensures pieces { IfOk result (λ r. (framing : Framing) (stream body : List ℕ)
         → HasCome framing stream decoder.old body bytes.now
-        → Keeps body kept.old → IsAnswerPieces framing stream decoder.new kept.new (drop r.0 bytes.now) r.1) }
+        → Keeps body kept.old → IsPlainPieces framing stream decoder.new kept.new (drop r.0 bytes.now) r.1) }
 {
     let mut spans = [EMPTY_HEADER_SPAN; MAX_FIELDS];
     let mut at = 0;
@@ -76,8 +192,8 @@ fn take_answer(
     }
 }
 
-/// Reads the body of an answer, which is left out where it is above the limit. None: no whole one came.
-pub(crate) fn read_answer_body<L: Line>(
+/// Reads a body that isn't in chunks.
+fn read_plain_body<L: Line>(
     alloc: Global,
     line: &mut L,
     buffer: &mut Vec<u8>,
@@ -85,7 +201,7 @@ pub(crate) fn read_answer_body<L: Line>(
 ) -> Result<Option<Vec<u8>>, EdgeFault>
     ensures ok { IfOk result (λ found. (read : List ℕ)
         × Moves (L.received line.old) (L.received line.new) (L.sent line.old) (L.sent line.new) read []
-        × IsAnswerBody framing (buffer.old.items ++ read) (L.ends line.old < L.ends line.new) (option_map (λ v.
+        × IsPlainBody framing (buffer.old.items ++ read) (L.ends line.old < L.ends line.new) (option_map (λ v.
         v.items) found)) }
     ensures err { OnErr result ((read : List ℕ)
         × Moves (L.received line.old) (L.received line.new) (L.sent line.old) (L.sent line.new) read []) }
@@ -105,7 +221,7 @@ pub(crate) fn read_answer_body<L: Line>(
         is_over: false,
     };
     'reads: loop {
-        let (taken, pieces) = take_answer(buffer, &mut decoder, &mut kept)?;
+        let (taken, pieces) = take_plain(buffer, &mut decoder, &mut kept)?;
         drop_front(alloc, buffer, taken)?;
         match pieces {
             AnswerPieces::End => return Ok(Some(kept.bytes)),

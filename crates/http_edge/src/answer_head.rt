@@ -7,7 +7,7 @@ ghost use Rattle.http_edge.specs.Post.{is_bodiless_status, answer_framing_in, re
 ghost use Rattle.http_edge.specs.Kept.{IsAnswerBegin};
 
 use crate::fields::{Single, field, framing_in, number};
-use crate::wire::{EdgeFault, fill, is_worth_a_look};
+use crate::wire::{EdgeFault, Watch, fill};
 use http_line::Line;
 use http1::framing::Framing;
 use httparse::Status;
@@ -54,15 +54,14 @@ pub(crate) fn read_answer_head<L: Line>(
     ensures failed { result ≡ Err EdgeFault.ReadFailed → HasFailed (L.failed line.old) (L.failed line.new) }
     ensures no_write { result ≢ Err EdgeFault.WriteFailed }
 {
-    let mut seen = 0;
+    let mut watch = Watch::before_head();
     'looks: loop {
-        if is_worth_a_look(buffer, seen) {
+        if watch.is_due(buffer, false) {
             match answer_head_at(buffer) {
                 AnswerBegin::More => {}
                 begin => return Ok(begin),
             }
         }
-        seen = buffer.len();
         if !fill(line, buffer)? {
             return Ok(answer_head_at(buffer));
         }

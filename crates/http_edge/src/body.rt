@@ -2,22 +2,15 @@
 ghost use Rattle.std.specs.Prelude.{◌≡◌, ◌≢◌, ℕ, ◌+◌, ◌<◌, ◌≤◌, List, [], ◌++◌, length, drop, IfOk, OnOk, OnErr, true, false, Err, Ok};
 ghost use Rattle.http_edge.specs.Message.{sized, chunked, max_body};
 ghost use Rattle.http_edge.specs.Steps.{Moves, work, HasFailed};
-ghost use Rattle.http_edge.specs.Stages.{frame_by, HasTaken, IsPieces, IsRead};
+ghost use Rattle.http_edge.specs.Stages.{frame_by, bytes_due, IsAt, IsPieces, IsRead};
 
+use crate::chunks::{Part, Piece, bytes_due, next_piece};
 use crate::head::BodyKind;
-use crate::wire::{EdgeFault, drop_front, fill};
+use crate::wire::{EdgeFault, Watch, drop_front, fill};
 use http_line::Line;
-use http1::Limits;
-use http1::decode::{Decoded, Decoder};
-use http1::framing::Framing;
-use httparse::spans::EMPTY_HEADER_SPAN;
 use std::alloc::{AllocError, Global};
 
 const MAX_BODY: usize = 20_971_520;
-
-const MAX_PART: usize = 65536;
-
-const MAX_FIELDS: usize = 64;
 
 /// What came of a body.
 #[derive(Debug, Drop)]
@@ -120,53 +113,64 @@ fn read_chunks<L: Line>(
     ensures failed { result ≡ Err EdgeFault.ReadFailed → HasFailed (L.failed line.old) (L.failed line.new) }
     ensures no_write { result ≢ Err EdgeFault.WriteFailed }
 {
-    let limits = Limits {
-        max_head_len: MAX_PART,
-        max_extensions_len: MAX_PART,
-        max_trailers_len: MAX_PART,
-    };
-    let mut decoder = Decoder::new(Framing::Chunked, &limits);
+    let mut part = Part::Line;
     let mut body = Vec::new(alloc);
+    let mut watch = Watch::within_body();
+    let mut ended = false;
     'reads: loop {
-        let (taken, pieces) = take_pieces(buffer, &mut decoder, &mut body)?;
+        let due = watch.is_due(buffer, ended);
+        let (taken, pieces) = take_pieces(buffer, &mut part, &mut body, due)?;
         drop_front(alloc, buffer, taken)?;
         match pieces {
             Pieces::End => return Ok(BodyRead::Whole(body)),
             Pieces::TooLong => return Ok(BodyRead::TooLong),
             Pieces::Bad => return Ok(BodyRead::Bad),
-            Pieces::More => {}
+            Pieces::More => if ended {
+                return Ok(BodyRead::Ended);
+            },
         }
-        if !fill(line, buffer)? {
-            return Ok(BodyRead::Ended);
-        }
+        watch.drop_front(taken);
+        let more = fill(line, buffer)?;
+        ended = !more;
     }
 }
 
-/// Takes what the bytes have of a chunked body, and says how many of them were taken.
+/// Takes what the bytes have of a chunked body, and says how many of them were taken. Where it isn't due to look at
+/// them, it takes none.
 fn take_pieces(
     bytes: &[u8],
-    decoder: &mut Decoder,
+    part: &mut Part,
     body: &mut Vec<u8>,
+    due: bool,
 ) -> Result<(usize, Pieces), AllocError>
+    requires { length body.old.items + bytes_due part.old ≤ max_body }
     ensures within { IfOk result (λ r. r.0 ≤ length bytes.now) }
-    ensures pieces { IfOk result (λ r. (stream : List ℕ) → HasTaken stream decoder.old body.old.items bytes.now
-        → IsPieces stream decoder.new body.new.items (drop r.0 bytes.now) r.1) }
+    ensures fits { OnOk result (length body.new.items + bytes_due part.new ≤ max_body) }
+    ensures pieces { IfOk result (λ r. (stream : List ℕ) → IsAt stream part.old body.old.items bytes.now
+        → IsPieces stream part.new body.new.items (drop r.0 bytes.now) due r.1) }
 {
-    let mut spans = [EMPTY_HEADER_SPAN; MAX_FIELDS];
+    if !due {
+        return Ok((0, Pieces::More));
+    }
     let mut at = 0;
     'pieces: loop {
-        if body.len() > MAX_BODY {
-            return Ok((at, Pieces::TooLong));
-        }
         let rest = &bytes[at..];
-        match decoder.decode(rest, &mut spans) {
-            Ok(Decoded::Data(span)) => {
-                body.extend_from_slice(span.of(rest))?;
-                at += span.end;
+        match next_piece(*part, rest) {
+            Piece::Passed { len, next } => {
+                if bytes_due(next) > (MAX_BODY - body.len()) as u64 {
+                    return Ok((at, Pieces::TooLong));
+                }
+                *part = next;
+                at += len;
             }
-            Ok(Decoded::NeedMore(len)) => return Ok((at + len, Pieces::More)),
-            Ok(Decoded::End { len, .. }) => return Ok((at + len, Pieces::End)),
-            Err(_) => return Ok((at, Pieces::Bad)),
+            Piece::Data { len, left } => {
+                body.extend_from_slice(&rest[..len])?;
+                *part = Part::Bytes(left);
+                at += len;
+            }
+            Piece::End { len } => return Ok((at + len, Pieces::End)),
+            Piece::More => return Ok((at, Pieces::More)),
+            Piece::Bad => return Ok((at, Pieces::Bad)),
         }
     }
 }

@@ -4,14 +4,15 @@
 //! [`read_answer`] reads what it answers. What is written and answered is settled by the bytes read, however they were
 //! cut ([`one_talk`], [`one_answer`]).
 //!
-//! Rules are those of RFC 9110 and RFC 9112, with this project's own choices where they leave one (docs/HTTP.md). Heads
-//! are read by `httparse`, bodies in chunks by `http1`.
+//! Rules are those of RFC 9110 and RFC 9112, with this project's own choices where they leave one (docs/HTTP.md).
+//! Heads, the lines of chunks and trailers are read by `httparse`.
 #![tactic(auto)]
 
 mod answer;
 mod answer_body;
 mod answer_head;
 mod body;
+mod chunks;
 mod fields;
 mod head;
 mod message;

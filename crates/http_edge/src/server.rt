@@ -1,9 +1,9 @@
 //! The loop over messages.
 ghost use Rattle.std.specs.Prelude.{◌≡◌, ◌≢◌, ℕ, ◌+◌, ◌<◌, ◌≤◌, ◌⊎◌, Bool, not, List, [], ◌++◌, length, map, take, drop, if◌then◌else◌, IfOk, IfSome, OnOk, OnErr, Some, None, true, false, Ok, Err};
 ghost use Rattle.httparse.specs.Grammar.{RequestHead};
-ghost use Rattle.http_edge.specs.Talk.{Talk, Begins};
+ghost use Rattle.http_edge.specs.Talk.{Talk, Begins, head_lines};
 ghost use Rattle.http_edge.specs.Reply.{refusal_text, reply_text, continue_text};
-ghost use Rattle.http_edge.specs.Message.{closes, max_head};
+ghost use Rattle.http_edge.specs.Message.{closes, max_fields, max_head};
 ghost use Rattle.http_edge.specs.Steps.{Moves, work, HasFailed};
 ghost use Rattle.http_edge.specs.Seen.{seen, header_of, answer_of};
 ghost use Rattle.http_edge.specs.Stages.{IsBegin, IsHeadOf, message_with, Replies, GoesOn, IsOver, IsCut};
@@ -12,7 +12,7 @@ use crate::body::{BodyRead, read_body};
 use crate::head::{Begin, Head, head_at};
 use crate::message::{Handler, HttpMessage, Reply};
 use crate::reply::{is_for_no_memory, no_memory_bytes, plain_bytes, refusal_body};
-use crate::wire::{EdgeFault, drop_front, fill, is_worth_a_look, send};
+use crate::wire::{EdgeFault, Watch, drop_front, fill, send};
 use http_line::Line;
 use std::alloc::{AllocError, Global};
 
@@ -64,6 +64,10 @@ fn exchange<L: Line, H: Handler>(
 {
     match read_head(alloc, line, buffer)? {
         Begin::More => Ok(false),
+        Begin::TooMany => {
+            refuse(alloc, line, 431, false)?;
+            Ok(false)
+        }
         Begin::Refuse { status, bodiless } => {
             refuse(alloc, line, status, bodiless)?;
             Ok(false)
@@ -83,6 +87,7 @@ fn read_head<L: Line>(alloc: Global, line: &mut L, buffer: &mut Vec<u8>) -> Resu
         × IsBegin buffer.new.items begin) }
     ensures end { result ≡ Ok Begin.More → L.ends line.old < L.ends line.new }
     ensures short { result ≡ Ok Begin.More → length buffer.new.items < max_head }
+    ensures few { result ≡ Ok Begin.More → head_lines buffer.new.items ≤ max_fields + 1 }
     ensures err { OnErr result ((read : List ℕ)
         × Moves (L.received line.old) (L.received line.new) (L.sent line.old) (L.sent line.new) read []) }
     ensures work { OnOk result (work (L.reads_left line.new) buffer.new.items ≤ work (L.reads_left line.old)
@@ -92,22 +97,20 @@ fn read_head<L: Line>(alloc: Global, line: &mut L, buffer: &mut Vec<u8>) -> Resu
     ensures failed { result ≡ Err EdgeFault.ReadFailed → HasFailed (L.failed line.old) (L.failed line.new) }
     ensures no_write { result ≢ Err EdgeFault.WriteFailed }
 {
-    let mut seen = 0;
+    let mut watch = Watch::before_head();
     'looks: loop {
-        let len = buffer.len();
-        if let Some(begin) = look(alloc, line, buffer, seen)? {
+        if let Some(begin) = look(alloc, line, buffer, &mut watch)? {
             return Ok(begin);
         }
-        seen = len;
     }
 }
 
-/// Looks for a head where new bytes may have completed one, and else reads.
+/// Looks for a head where it is time to, and reads where none is there.
 fn look<L: Line>(
     alloc: Global,
     line: &mut L,
     buffer: &mut Vec<u8>,
-    seen: usize,
+    watch: &mut Watch,
 ) -> Result<Option<Begin>, EdgeFault>
     ensures ok { OnOk result ((read : List ℕ)
         × Moves (L.received line.old) (L.received line.new) (L.sent line.old) (L.sent line.new) read []
@@ -115,6 +118,7 @@ fn look<L: Line>(
     ensures found { IfOk result (λ found. IfSome found (IsBegin buffer.new.items)) }
     ensures end { result ≡ Ok (Some Begin.More) → L.ends line.old < L.ends line.new }
     ensures short { result ≡ Ok (Some Begin.More) → length buffer.new.items < max_head }
+    ensures few { result ≡ Ok (Some Begin.More) → head_lines buffer.new.items ≤ max_fields + 1 }
     ensures err { OnErr result ((read : List ℕ)
         × Moves (L.received line.old) (L.received line.new) (L.sent line.old) (L.sent line.new) read []) }
     ensures work { OnOk result (work (L.reads_left line.new) buffer.new.items ≤ work (L.reads_left line.old)
@@ -126,7 +130,7 @@ fn look<L: Line>(
     ensures failed { result ≡ Err EdgeFault.ReadFailed → HasFailed (L.failed line.old) (L.failed line.new) }
     ensures no_write { result ≢ Err EdgeFault.WriteFailed }
 {
-    if is_worth_a_look(buffer, seen) {
+    if watch.is_due(buffer, false) {
         match head_at(alloc, buffer)? {
             Begin::More => {}
             begin => return Ok(Some(begin)),

@@ -1,5 +1,7 @@
 //! Reading into a buffer, and writing.
 ghost use Rattle.std.specs.Prelude.{◌≡◌, ◌≢◌, ℕ, ◌+◌, ◌<◌, ◌≤◌, List, [], ◌++◌, length, drop, IfOk, OnOk, OnErr, IsTrue, true, false, Ok, Err};
+ghost use Rattle.httparse.specs.Pieces.{is_newline};
+ghost use Rattle.http_edge.specs.Limits.{max_part};
 ghost use Rattle.http_edge.specs.Steps.{Moves, work, HasFailed};
 ghost use Rattle.http_edge.specs.Fault.{fault_number};
 ghost use Rattle.http_edge.specs.declared.wire.EdgeFault.TheVariants.{ReadFailed, WriteFailed, OutOfMemory};
@@ -73,14 +75,69 @@ pub(crate) fn fill<L: Line>(line: &mut L, buffer: &mut Vec<u8>) -> Result<bool, 
     }
 }
 
-/// Whether the bytes after the first `seen` may have completed a head or made it clear that none comes.
-pub(crate) fn is_worth_a_look(bytes: &[u8], seen: usize) -> bool {
-    let from = seen.min(bytes.len()).saturating_sub(3);
-    let fresh = &bytes[from..];
-    seen == 0
-        || fresh.windows(2).any(|w| w == b"\n\n".as_slice())
-        || fresh.windows(3).any(|w| w == b"\n\r\n".as_slice())
-        || bytes.len() / 2 >= seen
+/// So many bytes without the end of what is looked for are refused.
+const MAX_PART: usize = 65536;
+
+/// When to look at the front of a buffer again, to which bytes are added: where a line has ended, where they are twice
+/// as many as at the last look, and where they are too many. So what is looked at anew stays in proportion to what
+/// comes.
+#[derive(Drop)]
+pub(crate) struct Watch {
+    /// The bytes up to here were searched for the end of a line.
+    seen: usize,
+    /// So many bytes there were at the last look.
+    looked: usize,
+    /// A byte came that isn't of an empty line before a head.
+    is_begun: bool,
+}
+
+impl Watch {
+    /// Before a head, where empty lines may come.
+    pub fn before_head() -> Watch {
+        Watch {
+            seen: 0,
+            looked: 0,
+            is_begun: false,
+        }
+    }
+
+    /// In a body, where each line counts.
+    pub fn within_body() -> Watch {
+        Watch {
+            seen: 0,
+            looked: 0,
+            is_begun: true,
+        }
+    }
+
+    /// Whether it is time for a look, as it always is at the end of the input.
+    pub fn is_due(&mut self, bytes: &[u8], ended: bool) -> bool
+        ensures end { ended ≡ true → result ≡ true }
+        ensures long { max_part ≤ length bytes.now → result ≡ true }
+    {
+        let fresh = &bytes[self.seen.min(bytes.len())..];
+        self.seen = bytes.len();
+        self.is_begun |= fresh.iter().any(|b| !is_line_end(*b));
+        let is_line = self.is_begun && fresh.iter().any(|b| *b == b'\n');
+        let is_due = ended || is_line || bytes.len() >= MAX_PART || bytes.len() / 2 >= self.looked;
+        if is_due {
+            self.looked = bytes.len();
+        }
+        is_due
+    }
+
+    /// So many bytes were dropped from the front.
+    pub fn drop_front(&mut self, count: usize) {
+        self.seen = self.seen.saturating_sub(count);
+        self.looked = self.looked.saturating_sub(count);
+    }
+}
+
+/// Whether the byte is one that ends a line.
+pub(crate) fn is_line_end(b: u8) -> bool
+    ensures { result ≡ is_newline b }
+{
+    b == b'\r' || b == b'\n'
 }
 
 /// Drops so many bytes from the front of the buffer.
@@ -92,8 +149,10 @@ pub(crate) fn drop_front(
     requires { count ≤ length buffer.old.items }
     ensures { OnOk result (buffer.new.items ≡ drop count buffer.old.items) }
 {
-    let rest = Vec::from_slice(alloc, &buffer[count..])?;
-    *buffer = rest;
+    if count > 0 {
+        let rest = Vec::from_slice(alloc, &buffer[count..])?;
+        *buffer = rest;
+    }
     Ok(())
 }
 

@@ -10,7 +10,7 @@ use std::test::Fail;
 type Case = (&'static [u8], Option<(u16, Option<u32>, &'static [u8])>);
 
 /// Answers with a body, and without.
-const BODIES: [Case; 11] = [
+const BODIES: [Case; 15] = [
     (
         b"HTTP/1.1 200 OK\r\nContent-Length: 3\r\n\r\nabc",
         Some((200, None, b"abc")),
@@ -21,6 +21,25 @@ const BODIES: [Case; 11] = [
     ),
     (
         b"HTTP/1.1 200\r\nTransfer-Encoding: chunked\r\n\r\n1\r\na\r\n2;x\r\nbc\r\n0\r\nt: u\r\n\r\n",
+        Some((200, None, b"abc")),
+    ),
+    // lines of a trailer, and its end, by LF alone
+    (
+        b"HTTP/1.1 200 OK\r\nTransfer-Encoding: chunked\r\n\r\n3\r\nabc\r\n0\r\nt: u\n\n",
+        Some((200, None, b"abc")),
+    ),
+    (
+        b"HTTP/1.1 200 OK\r\nTransfer-Encoding: chunked\r\n\r\n3\r\nabc\r\n0\r\n\n",
+        Some((200, None, b"abc")),
+    ),
+    // 16 digits, blanks, and an extension with a control byte
+    (
+        b"HTTP/1.1 200 OK\r\nTransfer-Encoding: chunked\r\n\r\n0000000000000003 \t;\x01\r\nabc\r\n0 \r\n\r\n",
+        Some((200, None, b"abc")),
+    ),
+    // what follows the body isn't looked at
+    (
+        b"HTTP/1.1 200 OK\r\nTransfer-Encoding: chunked\r\n\r\n3\r\nabc\r\n0\r\n\r\nHTTP/1.1 500 x\r\n\r\n",
         Some((200, None, b"abc")),
     ),
     // up to the end of the input
@@ -91,7 +110,7 @@ const WAITS: [Case; 8] = [
 ];
 
 /// Inputs that tell no whole answer.
-const FAILED: [Case; 15] = [
+const FAILED: [Case; 21] = [
     (b"", None),
     (b"HTTP/1.1 200 OK\r\n", None),
     (b"HTTP/1.1 100 Continue\r\n\r\n", None),
@@ -106,6 +125,36 @@ const FAILED: [Case; 15] = [
     ),
     (
         b"HTTP/1.1 200 OK\r\nTransfer-Encoding: chunked\r\n\r\nx\r\n",
+        None,
+    ),
+    // 17 digits
+    (
+        b"HTTP/1.1 200 OK\r\nTransfer-Encoding: chunked\r\n\r\n00000000000000003\r\nabc\r\n0\r\n\r\n",
+        None,
+    ),
+    // LF alone after a size
+    (
+        b"HTTP/1.1 200 OK\r\nTransfer-Encoding: chunked\r\n\r\n3\nabc\r\n0\r\n\r\n",
+        None,
+    ),
+    // CR and another byte after data
+    (
+        b"HTTP/1.1 200 OK\r\nTransfer-Encoding: chunked\r\n\r\n3\r\nabc\rx0\r\n\r\n",
+        None,
+    ),
+    // a trailer without a colon
+    (
+        b"HTTP/1.1 200 OK\r\nTransfer-Encoding: chunked\r\n\r\n3\r\nabc\r\n0\r\nt\r\n\r\n",
+        None,
+    ),
+    // the largest size that there is, and an end in the data
+    (
+        b"HTTP/1.1 200 OK\r\nTransfer-Encoding: chunked\r\n\r\nFFFFFFFFFFFFFFFF\r\nabc",
+        None,
+    ),
+    // an end in the trailer
+    (
+        b"HTTP/1.1 200 OK\r\nTransfer-Encoding: chunked\r\n\r\n3\r\nabc\r\n0\r\nt: u\r\n",
         None,
     ),
     (b"HTTP/1.1 200 OK\r\nTransfer-Encoding: gzip\r\n\r\n", None),

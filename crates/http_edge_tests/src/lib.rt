@@ -11,7 +11,13 @@ mod failures;
 #[cfg(test)]
 mod limits;
 #[cfg(test)]
+mod malformed;
+#[cfg(test)]
+mod memory;
+#[cfg(test)]
 mod posts;
+#[cfg(test)]
+mod shapes;
 #[cfg(test)]
 mod statuses;
 #[cfg(test)]

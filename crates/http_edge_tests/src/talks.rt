@@ -3,7 +3,7 @@
 /// What is read, and the texts that are to be written for it, one after another.
 pub type Talk = (&'static [u8], &'static [&'static [u8]]);
 
-const OK: &[u8] =
+pub const OK: &[u8] =
     b"HTTP/1.1 200 OK\r\nContent-Type: application/x-protobuf\r\nContent-Length: 0\r\n\r\n";
 
 const OK_CLOSE: &[u8] =
@@ -21,20 +21,24 @@ const OK_DIGITS: &[u8] =
     b"HTTP/1.1 200 OK\r\nContent-Type: application/x-protobuf\r\nContent-Length: 20\r\n\r\n\
 01234567890123456789";
 
-const BAD: &[u8] =
+const OK_LINES: &[u8] =
+    b"HTTP/1.1 200 OK\r\nContent-Type: application/x-protobuf\r\nContent-Length: 20\r\n\r\n\
+0\r\n\r\n56789\r\n\r\n345678";
+
+pub const BAD: &[u8] =
     b"HTTP/1.1 400 Bad Request\r\nContent-Type: application/x-protobuf\r\nConnection: close\r\n\
 Content-Length: 13\r\n\r\n\x12\x0bbad request";
 
-const TOO_LARGE: &[u8] =
+pub const TOO_LARGE: &[u8] =
     b"HTTP/1.1 413 Content Too Large\r\nContent-Type: application/x-protobuf\r\nConnection: close\r\n\
 Content-Length: 16\r\n\r\n\x12\x0ebody too large";
 
-const CONTINUE: &[u8] = b"HTTP/1.1 100 Continue\r\n\r\n";
+pub const CONTINUE: &[u8] = b"HTTP/1.1 100 Continue\r\n\r\n";
 
 const HEAD_ABC: &[u8] =
     b"HTTP/1.1 200 OK\r\nContent-Type: application/x-protobuf\r\nContent-Length: 3\r\n\r\n";
 
-const HEAD_BAD: &[u8] =
+pub const HEAD_BAD: &[u8] =
     b"HTTP/1.1 400 Bad Request\r\nContent-Type: application/x-protobuf\r\nConnection: close\r\n\
 Content-Length: 13\r\n\r\n";
 
@@ -316,7 +320,7 @@ abc\r\n0\r\n\r\n",
 ];
 
 /// Bodies in chunks.
-pub const CHUNKS: [Talk; 18] = [
+pub const CHUNKS: [Talk; 25] = [
     // three chunks
     (
         b"POST / HTTP/1.1\r\nHost: c\r\nTransfer-Encoding: chunked\r\n\r\n1\r\na\r\n1\r\nb\r\n1\r\nc\r\n\
@@ -343,6 +347,46 @@ pub const CHUNKS: [Talk; 18] = [
         b"POST / HTTP/1.1\r\nHost: c\r\nTransfer-Encoding: chunked\r\n\r\nA\r\n0123456789\r\na\r\n\
 0123456789\r\n0\r\n\r\n",
         &[OK_DIGITS],
+    ),
+    // 16 digits
+    (
+        b"POST / HTTP/1.1\r\nHost: c\r\nTransfer-Encoding: chunked\r\n\r\n0000000000000003\r\nabc\r\n\
+0000000000000000\r\n\r\n",
+        &[OK_ABC],
+    ),
+    // blanks after a size, without an extension
+    (
+        b"POST / HTTP/1.1\r\nHost: c\r\nTransfer-Encoding: chunked\r\n\r\n3 \t\r\nabc\r\n0\t \r\n\r\n",
+        &[OK_ABC],
+    ),
+    // an extension of any bytes but CR and LF
+    (
+        b"POST / HTTP/1.1\r\nHost: c\r\nTransfer-Encoding: chunked\r\n\r\n3;\x00\x01\x7f\xff\r\nabc\r\n\
+0;\r\n\r\n",
+        &[OK_ABC],
+    ),
+    // data that looks like the end
+    (
+        b"POST / HTTP/1.1\r\nHost: c\r\nTransfer-Encoding: chunked\r\n\r\n14\r\n0\r\n\r\n56789\r\n\r\n345678\r\n\
+0\r\n\r\n",
+        &[OK_LINES],
+    ),
+    // lines of a trailer, and its end, by LF alone
+    (
+        b"POST / HTTP/1.1\r\nHost: c\r\nTransfer-Encoding: chunked\r\n\r\n3\r\nabc\r\n0\r\nx: y\nz:\r\n\n\
+GET / HTTP/1.1\r\nHost: c\r\n\r\n",
+        &[OK_ABC, OK],
+    ),
+    // an empty trailer, ended by LF alone
+    (
+        b"POST / HTTP/1.1\r\nHost: c\r\nTransfer-Encoding: chunked\r\n\r\n3\r\nabc\r\n0\r\n\n",
+        &[OK_ABC],
+    ),
+    // a trailer with framing fields and Host, which count for nothing
+    (
+        b"POST / HTTP/1.1\r\nHost: c\r\nTransfer-Encoding: chunked\r\n\r\n3\r\nabc\r\n0\r\nHost: d\r\n\
+Transfer-Encoding: gzip\r\nConnection: close\r\n\r\nGET / HTTP/1.1\r\nHost: c\r\n\r\n",
+        &[OK_ABC, OK],
     ),
     // a trailer, whose fields are dropped
     (

@@ -1,12 +1,15 @@
 //! A line over a stream that reads and writes, such as a socket. Its bytes are not known to contracts.
-ghost use Rattle.std.specs.Prelude.{◌≡◌, ◌-◌, ◌^◌, ◌≤◌, None};
+ghost use Rattle.std.specs.Prelude.{◌≡◌, ◌+◌, ◌-◌, ◌^◌, ◌≤◌, min, None};
 
 use crate::{Line, LineFailed};
-use std::io::{Read, Write};
+use std::io::{ErrorKind, Read, Write};
 
 const MOST_READS: u64 = 1 << 62;
 
-/// A stream, with what its calls have come to.
+/// So often a write is tried that is interrupted each time.
+const MOST_WRITES: u64 = 1 << 62;
+
+/// A stream, with what its calls have come to. A call that is interrupted is tried again, as those of std are.
 #[derive(Drop)]
 pub struct StreamLine<S> {
     stream: S,
@@ -26,6 +29,15 @@ impl<S: Read + Write> StreamLine<S> {
             reads: 0,
         }
     }
+
+    fn fail(&mut self) -> LineFailed
+        ensures failures { self.new.failures ≡ min (self.old.failures + 1) (2 ^ 64 - 1) }
+        ensures ends { self.new.ends ≡ self.old.ends }
+        ensures reads { self.new.reads ≡ self.old.reads }
+    {
+        self.failures = self.failures.saturating_add(1);
+        LineFailed
+    }
 }
 
 impl<S: Read + Write> Line for StreamLine<S> {
@@ -40,27 +52,34 @@ impl<S: Read + Write> Line for StreamLine<S> {
     ghost reads_left = { λ line. 2 ^ 62 - line.reads };
 
     fn read_some(&mut self, room: &mut [u8]) -> Result<usize, LineFailed> {
-        if self.reads < MOST_READS {
+        'tries: while self.reads < MOST_READS {
             self.reads += 1;
-            if let Ok(count) = self.stream.read(room) {
-                if count == 0 && !room.is_empty() {
-                    self.ends += 1;
+            match self.stream.read(room) {
+                Ok(count) => {
+                    if count == 0 && !room.is_empty() {
+                        self.ends += 1;
+                    }
+                    return Ok(count);
                 }
-                return Ok(count);
+                Err(error) => if error.kind() != ErrorKind::Interrupted {
+                    return Err(self.fail());
+                },
             }
         }
-        self.failures = self.failures.saturating_add(1);
-        Err(LineFailed)
+        Err(self.fail())
     }
 
     fn write_some(&mut self, bytes: &[u8]) -> Result<usize, LineFailed> {
-        match self.stream.write(bytes) {
-            Ok(count) if count > 0 || bytes.is_empty() => Ok(count),
-            _ => {
-                self.failures = self.failures.saturating_add(1);
-                Err(LineFailed)
+        'tries: for _ in 0..MOST_WRITES {
+            match self.stream.write(bytes) {
+                Ok(count) if count > 0 || bytes.is_empty() => return Ok(count),
+                Ok(_) => return Err(self.fail()),
+                Err(error) => if error.kind() != ErrorKind::Interrupted {
+                    return Err(self.fail());
+                },
             }
         }
+        Err(self.fail())
     }
 
     fn failures(&self) -> u64 {

@@ -1,6 +1,6 @@
 use Rattle.std.proofs.Common.{◌≡◌, ◌++◌, Bool, cond, true, false, Ok, Some, subst, [], length, drop, refl, sym, ap, ◌∙◌, append-nil, length-drop, arith}
 use Rattle.std.proofs.lemmas.Result.{err_from_is_err_and}
-use Rattle.http_edge.specs.Message.{chunked, closes, NeverHasBody, IsTooLong, LacksBody}
+use Rattle.http_edge.specs.Message.{chunked, closes, IsBroken, IsTooLong, LacksBody}
 use Rattle.http_edge.specs.Stages.{IsRead, frame_by, message_with}
 use Rattle.http_edge.specs.declared.body.BodyRead.TheVariants.{Whole}
 use Rattle.http_edge.specs.Talk.{Due, Ends, exchange_text, waits, refuses, refusing, closing, in_body, long_chunks, bad_chunks, interim_text}
@@ -73,7 +73,7 @@ pub returns-in_err-refuse-in-Bad-clause-cut : goal.returns-in_err-refuse-in-Bad-
 returns-in_err-refuse-in-Bad-clause-cut g c =
     let is = c.requires.1 in
     let e = c.in_ok-read_body.ensures.ok in
-    let r : (frame_by c.args.head.kind ≡ chunked) × NeverHasBody chunked (drop c.args.head.len c.args.buffer.now.items
+    let r : (frame_by c.args.head.kind ≡ chunked) × IsBroken (drop c.args.head.len c.args.buffer.now.items
     ++ e.0) = rw (c.in-Bad.is, c.in_ok-drop_front.ensures) at e.2 in
     let bad = bad_chunks c.requires.0 _ (has_head_more e.0 is.has) (is.framing ∙ ap Some r.0) r.1 in
     let f = c.in_err-refuse-in-Bad.ensures.err in
@@ -153,7 +153,7 @@ returns-in_ok-refuse-in-Bad-clause-over g c =
     let h = c.requires.0 in
     let is = c.requires.1 in
     let e = c.in_ok-read_body.ensures.ok in
-    let r : (frame_by c.args.head.kind ≡ chunked) × NeverHasBody chunked (drop c.args.head.len c.args.buffer.now.items
+    let r : (frame_by c.args.head.kind ≡ chunked) × IsBroken (drop c.args.head.len c.args.buffer.now.items
     ++ e.0) = rw (c.in-Bad.is, c.in_ok-drop_front.ensures) at e.2 in
     let bad = bad_chunks h _ (has_head_more e.0 is.has) (is.framing ∙ ap Some r.0) r.1 in
     λ _. record {

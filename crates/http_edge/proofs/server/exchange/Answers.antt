@@ -1,9 +1,9 @@
 use Rattle.std.proofs.Common.{Ok, [], refl, ap, append-nil, true, false, arith}
 use Rattle.std.proofs.lemmas.Result.{err_from_is_err_and}
-use Rattle.http_edge.specs.Talk.{RefusesHead, at_head, nothing, refusing, waits, refuses, in_head}
+use Rattle.http_edge.specs.Talk.{RefusesHead, at_head, many_lines, nothing, refusing, waits, refuses, in_head}
 use Rattle.http_edge.specs.Reply.{refusal_text}
 use Rattle.http_edge.specs.Stages.{IsBegin}
-use Rattle.http_edge.specs.declared.head.Begin.TheVariants.{More}
+use Rattle.http_edge.specs.declared.head.Begin.TheVariants.{More, TooMany}
 use Rattle.http_edge.proofs.Moved.{then_to}
 use Rattle.http_edge.proofs.Served.{goes_after, over_after, cut_after}
 use Rattle.http_edge.proofs.server.exchange.Goals as goal
@@ -30,6 +30,34 @@ returns-in_err-refuse-in-Refuse-clause-cut g c =
       due = rw (← e.2, ← f.2) (refusing _ (at_head _ begin) refl);
     })
 
+pub returns-in_err-refuse-in-TooMany-clause-cut : goal.returns-in_err-refuse-in-TooMany-clause-cut
+returns-in_err-refuse-in-TooMany-clause-cut g c =
+    let e = c.in_ok-read_head.ensures.ok in
+    let begin : IsBegin c.read_head.new.buffer.items TooMany = rw c.in-TooMany.is at e.3 in
+    let f = c.in_err-refuse-in-TooMany.ensures.err in
+    let p = err_from_is_err_and c.from_residual-in_err-refuse-in-TooMany.result
+    c.from_residual-in_err-refuse-in-TooMany.ensures.1 in
+    rw p.1 (record {
+      read = e.0;
+      written = f.0;
+      moves = then_to e.1 f.3 (append-nil _) refl;
+      missing = f.1;
+      due = rw (← e.2, ← f.2) (refusing _ (many_lines begin.0 begin.1 begin.2) refl);
+    })
+
+pub returns-in_ok-refuse-in-TooMany-clause-over : goal.returns-in_ok-refuse-in-TooMany-clause-over
+returns-in_ok-refuse-in-TooMany-clause-over g c = λ _.
+    let e = c.in_ok-read_head.ensures.ok in
+    let begin : IsBegin c.read_head.new.buffer.items TooMany = rw c.in-TooMany.is at e.3 in
+    record {
+      read = e.0;
+      text = refusal_text false 431;
+      over = true;
+      moves = then_to e.1 c.in_ok-refuse-in-TooMany.ensures.ok (append-nil _) refl;
+      ends = rw (← e.2) (refuses _ (many_lines begin.0 begin.1 begin.2) refl);
+      end = λ f. cc;
+    }
+
 pub returns-in-More-clause-over : goal.returns-in-More-clause-over
 returns-in-More-clause-over g c = λ _.
     let e = c.in_ok-read_head.ensures.ok in
@@ -39,8 +67,8 @@ returns-in-More-clause-over g c = λ _.
       text = [];
       over = false;
       moves = e.1;
-      ends = rw (← e.2) (waits [] (in_head (c.in_ok-read_head.ensures.short (ap Ok c.in-More.is)) begin.0 begin.1)
-          refl);
+      ends = rw (← e.2) (waits [] (in_head (c.in_ok-read_head.ensures.short (ap Ok c.in-More.is))
+          (c.in_ok-read_head.ensures.few (ap Ok c.in-More.is)) begin.0 begin.1) refl);
       end = λ _. c.in_ok-read_head.ensures.end (ap Ok c.in-More.is);
     }
 

@@ -2,7 +2,7 @@ use Rattle.std.proofs.Common.{◌++◌, arith, length-drop}
 use Rattle.std.proofs.lemmas.List.{drop-drop}
 use Rattle.http_edge.proofs.Moved.{take_tail}
 use Rattle.http_edge.proofs.Come.{come_more, come_end, come_bad, come_wait, come_lacks, come_drained, come_endless}
-use Rattle.http_edge.proofs.answer_body.take_answer.Goals as goal
+use Rattle.http_edge.proofs.answer_body.take_plain.Goals as goal
 
 pub returns-in-Err-clause-pieces : goal.returns-in-Err-clause-pieces
 returns-in-Err-clause-pieces c = λ framing stream body t k.

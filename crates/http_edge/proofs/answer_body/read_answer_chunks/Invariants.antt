@@ -1,0 +1,25 @@
+use Rattle.std.proofs.Common.{◌≡◌, ◌<◌, ◌≤◌, true, List, ℕ, [], ◌++◌}
+use Rattle.http_edge.specs.Steps.{Moves, work}
+use Rattle.http_edge.specs.Stages.{IsAt}
+use Rattle.http_edge.specs.Kept.{Keeps}
+use Rattle.http_edge.proofs.answer_body.read_answer_chunks.Given as goal
+
+pub record Reads (P : List ℕ → List ℕ → Type 0) (Q S E : Type 0) : Type 0 where
+  pub read : List ℕ
+  pub body : List ℕ
+  pub so_far : P read body
+  pub kept : Q
+  pub ends : S
+  pub met : E
+
+abbrev pub invariant-reads : goal.invariant-reads
+invariant-reads g l = Reads
+    (λ read body. Moves (g.L.Line.received l.fn.line) (g.L.Line.received l.line) (g.L.Line.sent l.fn.line)
+    (g.L.Line.sent l.line) read []
+    × IsAt (l.fn.buffer.items ++ read) l.part body l.buffer.items × Keeps body l.kept)
+    (g.L.Line.failed l.line ≡ g.L.Line.failed l.fn.line)
+    (g.L.Line.ends l.fn.line ≤ g.L.Line.ends l.line)
+    (l.ended ≡ true → g.L.Line.ends l.fn.line < g.L.Line.ends l.line)
+
+abbrev pub decreases-reads : goal.decreases-reads
+decreases-reads g l = work (g.L.Line.reads_left l.line) l.buffer.items

@@ -1,0 +1,18 @@
+-- How much of a message is taken.
+use Rattle.std.specs.Prelude.{ℕ}
+
+-- so many fields of a head, and of a trailer
+abbrev pub max_fields : ℕ
+max_fields = 64
+
+-- so many bytes of a head
+abbrev pub max_head : ℕ
+max_head = 65536
+
+-- so many bytes of a chunk's line, and of a trailer
+abbrev pub max_part : ℕ
+max_part = 65536
+
+-- so many bytes of a body
+abbrev pub max_body : ℕ
+max_body = 20971520
