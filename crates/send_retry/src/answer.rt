@@ -9,7 +9,7 @@ use otlp_read::read_response;
 const LONGEST_WAIT: u32 = 86_400;
 
 /// A back end's answer to an export request.
-#[derive(Drop)]
+#[derive(Debug, Drop, PartialEq, Eq)]
 pub enum Answer {
     /// An HTTP answer: its status, its `Retry-After` in seconds where it has one, and its body.
     Http {
@@ -35,6 +35,11 @@ pub enum Verdict {
 /// Verdicts are equal where they say the same.
 pub fn equal_verdicts()
     ensures { (a b : Verdict) → (⟦<Verdict as PartialEq>⟧.eq a b ≡ true) ↔ (a ≡ b) }
+{}
+
+/// Answers are equal where they say the same.
+pub fn equal_answers()
+    ensures { (a b : Answer) → (⟦<Answer as PartialEq>⟧.eq a b ≡ true) ↔ (answer_view a ≡ answer_view b) }
 {}
 
 /// What an answer means for the batch. It takes no memory.

@@ -14,6 +14,6 @@ mod answer;
 mod delay;
 mod state;
 
-pub use answer::{Answer, Verdict, classify, equal_verdicts};
+pub use answer::{Answer, Verdict, classify, equal_answers, equal_verdicts};
 pub use delay::{NextDelay, next_delay};
 pub use state::RetryState;

@@ -20,18 +20,40 @@ fn settings(max_elapsed_time: u64) -> RetryOnFailure
     }
 }
 
+fn answered(
+    alloc: Global,
+    status: u16,
+    retry_after: Option<u32>,
+    body: &[u8],
+) -> Result<Answer, AllocError> {
+    let body = Vec::from_slice(alloc, body)?;
+    Ok(Answer::Http {
+        status,
+        retry_after,
+        body,
+    })
+}
+
 fn class(
     alloc: Global,
     status: u16,
     retry_after: Option<u32>,
     body: &[u8],
 ) -> Result<Verdict, AllocError> {
-    let body = Vec::from_slice(alloc, body)?;
-    Ok(classify(&Answer::Http {
-        status,
-        retry_after,
-        body,
-    }))
+    Ok(classify(&answered(alloc, status, retry_after, body)?))
+}
+
+#[test]
+fn answers_are_equal_in_all_that_they_say(rt: HostRuntime) -> Result<(), Fail> {
+    let alloc = rt.alloc();
+    let answer = answered(alloc, 503, Some(3), b"later")?;
+    assert!(rt; answer == answered(alloc, 503, Some(3), b"later")?);
+    assert!(rt; answer != answered(alloc, 429, Some(3), b"later")?);
+    assert!(rt; answer != answered(alloc, 503, Some(4), b"later")?);
+    assert!(rt; answer != answered(alloc, 503, None, b"later")?);
+    assert!(rt; answer != answered(alloc, 503, Some(3), b"latex")?);
+    assert!(rt; answer != Answer::Failed && Answer::Failed == Answer::Failed);
+    Ok(())
 }
 
 #[test]
