@@ -1,5 +1,5 @@
 -- The retry that comes first, of the active batches and of the heap.
-use Rattle.std.proofs.Common.{◌≡◌, ◌≢◌, ℕ, ◌+◌, ◌<◌, ◌≤◌, List, [], ◌∷◌, length, refl, sym, ap, ◌∙◌, arith, Bool, true, false, Option, Some, None, eqb, ltb, cond, get_or, subst}
+use Rattle.std.proofs.Common.{◌≡◌, ◌≢◌, ℕ, ◌+◌, ◌<◌, ◌≤◌, List, [], ◌∷◌, length, refl, sym, ap, ◌∙◌, arith, Bool, true, false, Option, Some, None, eqb, ltb, cond, get_or, subst, min}
 use Rattle.std.proofs.lemmas.Bool.Decides.{nat_tests}
 use Rattle.std.proofs.lemmas.List.Sorted.{sum_by-IsPermutation}
 use Rattle.std.proofs.lemmas.List.Sums.{sum_by-cons}
@@ -9,7 +9,7 @@ use Rattle.std.specs.Ordering.{nat_cmp, ordering_then, is_lt}
 use Rattle.std.specs.BinaryHeap.{IsUpperBound}
 use Rattle.std.specs.declared.cmp.Reverse.{Reverse}
 use Rattle.send_queue.specs.declared.active.Retry.{Retry}
-use Rattle.send_queue.specs.Sender.{ActiveData, comes_before, sooner_of, first_retry, under}
+use Rattle.send_queue.specs.Sender.{ActiveData, comes_before, sooner, sooner_of, first_retry, next_retry, lesser, under}
 use Rattle.send_queue.specs.Inside.{retry_cmp, heap_cmp, is_retry, one_if, in_heap, waits_at, in_active, AreInOrder}
 use Rattle.send_queue.proofs.Batches.{after_under}
 
@@ -127,3 +127,24 @@ in_heap_sum r (x ∷ heap) = ap (λ (n : ℕ). one_if (is_retry r x.0) + n) (in_
 
 pub in_heap-IsPermutation : (r : Retry) (heap other : List (Reverse Retry)) → IsPermutation heap other → in_heap r other ≡ in_heap r heap
 in_heap-IsPermutation r heap other h = in_heap_sum r other ∙ (sum_by-IsPermutation (λ x. one_if (is_retry r x.0)) heap other h ∙ sym (in_heap_sum r heap))
+
+-- its moment is the least
+abbrev pub due_of : Option Retry → Option ℕ
+due_of None = None
+due_of (Some r) = Some r.due
+
+sooner_due : (r : Retry) (o : Option Retry) → due_of (sooner r o) ≡ lesser (Some r.due) (due_of o)
+sooner_due r None = refl
+sooner_due r (Some q) = by_order (comes_before q r) refl
+  where
+    by_order : (b : Bool) → comes_before q r ≡ b → Path (Option ℕ) (Some (cond b q r).due) (Some (min r.due q.due))
+    by_order true t = let le : q.due ≤ r.due = grind (arith, nat_tests, t) in ap Some (omega (arith, le))
+    by_order false t = let le : r.due ≤ q.due = grind (arith, nat_tests, t) in ap Some (omega (arith, le))
+
+pub first_due : (bs : List ActiveData) → due_of (first_retry bs) ≡ next_retry bs
+first_due [] = refl
+first_due (b ∷ bs) = by_due b.due (first_due bs)
+  where
+    by_due : (o : Option ℕ) → due_of (first_retry bs) ≡ next_retry bs → due_of (sooner_of b.ticket o (first_retry bs)) ≡ lesser o (next_retry bs)
+    by_due None rec = rec
+    by_due (Some due) rec = sooner_due (record { due = due; ticket = b.ticket }) (first_retry bs) ∙ ap (lesser (Some due)) rec

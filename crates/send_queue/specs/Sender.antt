@@ -142,6 +142,12 @@ job_of (Retried a) s = Some (s.handed_out + 1, a.batch.payload)
 job_of (Oldest b) s = Some (s.handed_out + 1, b.payload)
 job_of NoBatch s = None
 
+-- how many spans leave the queue with that job: those of a batch that is sent for the first time
+abbrev pub leaving : Choice → ℕ
+leaving (Retried a) = 0
+leaving (Oldest b) = b.spans
+leaving NoBatch = 0
+
 -- a batch that is sent again, under another ticket
 abbrev pub sent_again : ℕ → ActiveData → ActiveData
 sent_again ticket a = record a { ticket = ticket; due = None }
@@ -233,26 +239,27 @@ answered_by now word answer (Some a) s = record s { active = left_by a (fate now
 abbrev pub answered : ℕ → ℕ → ℕ → AnswerData → SenderData → SenderData
 answered ticket now word answer s = answered_by now word answer (in_flight ticket s) s
 
--- from when on the queue's first batch can be handed out
-abbrev pub formed : List BatchData → Option ℕ
-formed [] = None
-formed (b ∷ bs) = Some b.moment
-
--- from when on a retry can be handed out
-abbrev pub due_of : Option Retry → Option ℕ
-due_of None = None
-due_of (Some r) = Some r.due
-
 -- the lesser of two moments, of which one or both may be none
 abbrev pub lesser : Option ℕ → Option ℕ → Option ℕ
 lesser None b = b
 lesser (Some a) None = Some a
 lesser (Some a) (Some b) = Some (min a b)
 
--- from when on a job can be handed out: the first retry's, or with a free consumer that of the queue's first batch;
--- none without tickets
+-- the least moment from which on a batch is to be sent again
+abbrev pub next_retry : List ActiveData → Option ℕ
+next_retry [] = None
+next_retry (a ∷ active) = lesser a.due (next_retry active)
+
+-- when the oldest batch of a queue formed
+abbrev pub front_moment : List BatchData → Option ℕ
+front_moment [] = None
+front_moment (batch ∷ rest) = Some batch.moment
+
+-- where a consumer is free
+abbrev pub next_front : SenderData → Option ℕ
+next_front s = if has_consumer s then front_moment s.queue else None
+
+-- from when on a job can be handed out: the first retry's, or with a free consumer that at which the queue's oldest
+-- batch formed; none without tickets
 abbrev pub ready : SenderData → Option ℕ
-ready s =
-    if has_tickets s
-    then lesser (due_of (first_retry s.active)) (if has_consumer s then formed s.queue else None)
-    else None
+ready s = if has_tickets s then lesser (next_retry s.active) (next_front s) else None

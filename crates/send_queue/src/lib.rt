@@ -17,10 +17,12 @@ mod active;
 mod actives;
 mod batch;
 mod fault;
+mod law;
 mod queue;
 mod settled;
 
 pub use batch::Batch;
 pub use fault::{OfferFault, SettleFault};
+pub use law::offers_are_undone;
 pub use queue::SendQueue;
 pub use settled::Settled;

@@ -4,7 +4,7 @@ ghost use Rattle.std.specs.Prelude.{◌≡◌, ◌<◌, ◌≤◌, ◌^◌, ◌�
 ghost use Rattle.tail_settings.specs.SendingQueue.{sending_queue_view};
 ghost use Rattle.tail_settings.specs.RetryOnFailure.{retry_view};
 ghost use Rattle.send_retry.specs.Class.{answer_view};
-ghost use Rattle.send_queue.specs.Sender.{no_batches, is_full, offered, newest, taken_back, first_retry, has_consumer, under, job, job_of, asked, handed_of, choice_by, retried, settled, answered, ready, lesser};
+ghost use Rattle.send_queue.specs.Sender.{no_batches, is_full, offered, newest, taken_back, first_retry, has_consumer, under, job, job_of, asked, handed_of, choice, leaving, choice_by, retried, settled, answered, ready, next_retry, next_front, lesser};
 ghost use Rattle.send_queue.specs.View.{batch_view, batch_in};
 ghost use Rattle.send_queue.specs.declared.fault.OfferFault.TheVariants.{Full};
 ghost use Rattle.send_queue.specs.declared.fault.SettleFault.TheVariants.{UnknownTicket};
@@ -125,6 +125,33 @@ impl SendQueue {
         }
     }
 
+    /// How many spans leave the queue with the job at a moment, in milliseconds: those of its batch where that is sent
+    /// for the first time. None do where a batch is sent again, and where there is no job.
+    pub fn leaving(&self, moment: u64) -> u64
+        ensures { result ≡ leaving (choice moment self.now) }
+    {
+        if self.handed_out == MOST_TICKETS {
+            return 0;
+        }
+        match self.first_retry() {
+            Some(retry) if retry.due <= moment => 0,
+            _ => self.spans_of_first(),
+        }
+    }
+
+    /// How many spans the oldest batch of the queue has, where there is one and a consumer is free.
+    fn spans_of_first(&self) -> u64
+        ensures { result ≡ leaving (choice_by None self.now) }
+    {
+        if !self.has_consumer() {
+            return 0;
+        }
+        match self.queue.front() {
+            Some(batch) => batch.spans,
+            None => 0,
+        }
+    }
+
     /// The retry that comes first.
     fn first_retry(&self) -> Option<Retry>
         ensures { result ≡ first_retry self.now.active }
@@ -234,13 +261,30 @@ impl SendQueue {
         if self.handed_out == MOST_TICKETS {
             return None;
         }
-        let retry = self.first_retry().map(|retry| retry.due);
-        let formed = if self.has_consumer() {
-            self.queue.front().map(|batch| batch.moment)
-        } else {
-            None
-        };
-        lesser(retry, formed)
+        lesser(self.next_retry(), self.next_front())
+    }
+
+    /// From when on a batch is to be sent again, where one waits for that.
+    fn next_retry(&self) -> Option<u64>
+        ensures { result ≡ next_retry self.now.active }
+    {
+        match self.first_retry() {
+            Some(retry) => Some(retry.due),
+            None => None,
+        }
+    }
+
+    /// When the oldest batch of the queue formed, where there is one and a consumer is free.
+    fn next_front(&self) -> Option<u64>
+        ensures { result ≡ next_front self.now }
+    {
+        if !self.has_consumer() {
+            return None;
+        }
+        match self.queue.front() {
+            Some(batch) => Some(batch.moment),
+            None => None,
+        }
     }
 }
 

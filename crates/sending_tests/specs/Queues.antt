@@ -3,7 +3,7 @@ use Rattle.std.specs.Prelude.{◌≡◌, ◌-◌, ◌^◌, ℕ, [], ◌∷◌, S
 use Rattle.send_retry.specs.Class.{Http}
 use Rattle.send_retry.specs.Delay.{first_state}
 use Rattle.send_queue.specs.declared.settled.Settled.TheVariants.{Taken, Waits, Refused, Exhausted}
-use Rattle.send_queue.specs.Sender.{BatchData, ActiveData, SenderData, no_batches, is_full, offered, newest, taken_back, first_retry, job, asked, settled, answered, ready}
+use Rattle.send_queue.specs.Sender.{BatchData, ActiveData, SenderData, no_batches, is_full, offered, newest, taken_back, first_retry, choice, job, leaving, asked, settled, answered, ready}
 use Rattle.sending_tests.specs.Retries.{settings}
 
 -- a batch of so many spans that formed at 1000
@@ -54,6 +54,9 @@ pub record Retried : Type 0 where
   pub gone : (failed_twice 50000).active ≡ []
   pub just_in_time : settled 2 41000 (2 ^ 32 - 1) (Http 503 None []) (sent_twice 51250) ≡ Some (Waits 3 52250)
   pub third_job : job 52250 (failed_twice 51250) ≡ Some (3, 7 ∷ [])
+  pub leaves_the_queue : leaving (choice 1000 (queued 0)) ≡ 3
+  pub no_consumer_for_it : leaving (choice 1000 (offered (batch 1 8) (sent 0))) ≡ 0
+  pub was_not_in_the_queue : leaving (choice 41000 (offered (batch 1 8) (delayed 50000))) ≡ 0
 
 -- the spans of a batch that was settled, and tickets that nothing is in flight under
 pub record Settles : Type 0 where

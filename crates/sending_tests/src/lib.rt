@@ -12,4 +12,6 @@ mod ledger_tests;
 #[cfg(test)]
 mod queue_tests;
 #[cfg(test)]
+mod refusal_tests;
+#[cfg(test)]
 mod retry_tests;

@@ -18,6 +18,8 @@ enum Step {
     TakeBack(&'static [u8]),
     /// A job is asked for at a moment: its ticket and its payload, or there is none.
     Job(u64, Option<(u64, &'static [u8])>),
+    /// How many spans leave the queue with the job at a moment.
+    Leaves(u64, u64),
     /// From when on there is a job.
     Ready(Option<u64>),
     /// The back end answered a ticket at a moment, with a word that picks a delay.
@@ -102,6 +104,7 @@ fn goes(alloc: Global, queue: &mut SendQueue, step: &Step) -> Result<bool, Alloc
             None => Ok(false),
         },
         Step::Job(moment, expected) => Ok(is_job(queue.take_job(*moment)?, *expected)),
+        Step::Leaves(moment, expected) => Ok(queue.leaving(*moment) == *expected),
         Step::Ready(expected) => Ok(queue.ready() == *expected),
         Step::Answered(ticket, now, word, reply, expected) => {
             let answer = answer(alloc, *reply)?;
@@ -148,8 +151,11 @@ fn a_batch_is_sent_and_its_consumer_is_free(rt: HostRuntime) -> Result<(), Fail>
         Step::Offer(1000, b"abc", true),
         Step::Offer(1000, b"d", false),
         Step::Ready(Some(1000)),
+        Step::Leaves(1000, 3),
         Step::Job(1000, Some((1, b"abc"))),
+        Step::Leaves(1000, 0),
         Step::Offer(1000, b"ef", true),
+        Step::Leaves(1000, 0),
         Step::Ready(None),
         Step::Job(1000, None),
         Step::Answered(
@@ -177,7 +183,7 @@ fn a_batch_is_sent_and_its_consumer_is_free(rt: HostRuntime) -> Result<(), Fail>
         ),
         Step::Ready(None),
     ];
-    assert_eq!(rt; told(rt.alloc(), one(rt.alloc(), 0)?, &steps)?, 14);
+    assert_eq!(rt; told(rt.alloc(), one(rt.alloc(), 0)?, &steps)?, 17);
     Ok(())
 }
 
@@ -201,6 +207,7 @@ fn a_batch_is_given_up_in_the_end(rt: HostRuntime) -> Result<(), Fail> {
         Step::Offer(2000, b"d", true),
         Step::Ready(Some(41_000)),
         Step::Job(40_999, None),
+        Step::Leaves(41_000, 0),
         Step::Job(41_000, Some((2, b"abc"))),
         Step::Answered(
             2,
@@ -210,6 +217,7 @@ fn a_batch_is_given_up_in_the_end(rt: HostRuntime) -> Result<(), Fail> {
             Ok(Settled::Exhausted { spans: 3 }),
         ),
         Step::Ready(Some(2000)),
+        Step::Leaves(41_000, 1),
         Step::Job(41_000, Some((3, b"d"))),
         Step::Answered(
             3,
@@ -219,7 +227,7 @@ fn a_batch_is_given_up_in_the_end(rt: HostRuntime) -> Result<(), Fail> {
             Ok(Settled::Refused { spans: 1 }),
         ),
     ];
-    assert_eq!(rt; told(rt.alloc(), one(rt.alloc(), 50_000)?, &steps)?, 12);
+    assert_eq!(rt; told(rt.alloc(), one(rt.alloc(), 50_000)?, &steps)?, 14);
     Ok(())
 }
 
@@ -300,6 +308,7 @@ fn retries_go_by_moment_and_ticket(rt: HostRuntime) -> Result<(), Fail> {
             }),
         ),
         Step::Ready(Some(3500)),
+        Step::Leaves(4000, 0),
         Step::Job(4000, Some((3, b"bb"))),
         Step::Job(4000, Some((4, b"aaa"))),
         Step::Answered(
@@ -331,6 +340,7 @@ fn retries_go_by_moment_and_ticket(rt: HostRuntime) -> Result<(), Fail> {
             Reply::Http(400, None, b""),
             Ok(Settled::Refused { spans: 2 }),
         ),
+        Step::Leaves(8750, 1),
         Step::Job(8750, Some((7, b"c"))),
         Step::Answered(
             6,
@@ -353,7 +363,7 @@ fn retries_go_by_moment_and_ticket(rt: HostRuntime) -> Result<(), Fail> {
             }),
         ),
     ];
-    assert_eq!(rt; told(rt.alloc(), two(rt.alloc())?, &steps)?, 19);
+    assert_eq!(rt; told(rt.alloc(), two(rt.alloc())?, &steps)?, 21);
     Ok(())
 }
 

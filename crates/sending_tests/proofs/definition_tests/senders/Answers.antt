@@ -27,6 +27,9 @@ returns-clause-retried c = record {
   gone = refl;
   just_in_time = refl;
   third_job = refl;
+  leaves_the_queue = refl;
+  no_consumer_for_it = refl;
+  was_not_in_the_queue = refl;
 }
 
 pub returns-clause-settles : goal.returns-clause-settles
