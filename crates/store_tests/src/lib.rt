@@ -12,3 +12,5 @@ mod batcher;
 mod load;
 #[cfg(test)]
 mod rows;
+#[cfg(test)]
+mod texts;
