@@ -2,19 +2,20 @@
 use Rattle.std.proofs.Common.{◌≡◌, ℕ, ◌+◌, [], ◌∷◌, ◌++◌, refl, sym, subst, ap, ◌∙◌, arith, Option, Some, None}
 use Rattle.std.specs.Prelude.{drop}
 use Rattle.send_retry.specs.Class.{AnswerData, class_of}
+use Rattle.send_queue.specs.declared.settled.Settled.TheVariants as settleds
 use Rattle.span_batcher.specs.Batches.{rest_in}
 use Rattle.span_batcher.specs.State.{state_of}
 use Rattle.span_batcher.specs.State as batcher
 use Rattle.tenant_rules.specs.Own.{Own, Post, Turn, Answer, Report, Drain}
 use Rattle.tenant_rules.specs.Groups.{groups}
-use Rattle.tenant_rules.specs.Sender.{ActiveData, sizes, active_sizes, Choice, Retried, Oldest, NoBatch, choice, under, without, sent_again, sent_first, Settlement, Delivered, Refused, Exhausted, Postponed, settlement, in_flight, left_by, answered_by}
+use Rattle.tenant_rules.specs.Sender.{ActiveData, sizes, active_sizes, Choice, Retried, Oldest, NoBatch, choice, under, without, sent_again, sent_first, FateData, Leaves, Stays, fate, settled_by, in_flight, left_by, answered_by}
 use Rattle.tenant_rules.specs.Batching.{pending}
 use Rattle.tenant_rules.specs.Sending.{sender, ended, ended_by, ended_in_flight}
 use Rattle.tenant_rules.specs.State.{State, ledger_at, state}
 use Rattle.tenant_rules.specs.Timers.{ran, advanced}
 use Rattle.tenant_rules.specs.Machine.{turned_by, turned, all_moved, settled, drain, effective, acts, next}
 use Rattle.tenant_rules.specs.Sum.{IsCounted, FirstIsCounted, StepsCount, FrontsCount, PastsCount}
-use Rattle.tenant_rules.proofs.Steps.{active_append, one_size, without_sizes, replaced_sizes, under_ticket, flying_under, IsNext, next_is, AddsUp, settlement_adds}
+use Rattle.tenant_rules.proofs.Steps.{active_append, one_size, without_sizes, replaced_sizes, under_ticket, flying_under, IsNext, next_is, AddsUp, fate_adds}
 use Rattle.tenant_rules.proofs.Sums.{Fixed, Kept, fixed_of, counted_from, ran_kept, advanced_kept, drain_kept}
 use Rattle.tenant_rules.proofs.Arrived.{post_counted}
 use Rattle.tenant_rules.proofs.AnyStep.{step_follows}
@@ -40,20 +41,21 @@ turned_by_kept f m NoBatch s is k = k
 -- ---- an answer
 
 -- the state when the spans of an active batch ended by an answer, or the batch waits
-abbrev ended_state : ActiveData → Settlement → State → State
-ended_state a e s = record s { sender = record s.sender { active = left_by a e s.sender.active }; ledger = all_moved (ended_by a.batch.spans e) s.ledger }
+abbrev ended_state : ActiveData → FateData → State → State
+ended_state a e s = record s { sender = record s.sender { active = left_by a e s.sender.active }; ledger = all_moved (ended_by (settled_by a.batch.spans e)) s.ledger }
 
-ends_kept : (f : Fixed) (a : ActiveData) (e : Settlement) (s : State) → under a.ticket s.sender.active ≡ Some a → AddsUp a.batch.spans e → Kept f 0 0 s → Kept f 0 0 (ended_state a e s)
-ends_kept f a (Delivered exported rejected) s is adds k =
+ends_kept : (f : Fixed) (a : ActiveData) (e : FateData) (s : State) → under a.ticket s.sender.active ≡ Some a → AddsUp a.batch.spans e → Kept f 0 0 s → Kept f 0 0 (ended_state a e s)
+ends_kept f a (Leaves (settleds.Taken exported rejected)) s is adds k =
     let size = without_sizes a.ticket a s.sender.active is in
     omega arith
-ends_kept f a Refused s is adds k =
+ends_kept f a (Leaves (settleds.Refused n)) s is adds k =
     let size = without_sizes a.ticket a s.sender.active is in
     omega arith
-ends_kept f a Exhausted s is adds k =
+ends_kept f a (Leaves (settleds.Exhausted n)) s is adds k =
     let size = without_sizes a.ticket a s.sender.active is in
     omega arith
-ends_kept f a (Postponed due retry) s is adds k =
+ends_kept f a (Leaves (settleds.Waits n due)) s is adds k = absurd adds
+ends_kept f a (Stays due retry) s is adds k =
     let size = replaced_sizes a.ticket a (record a { retry = retry; due = Some due }) s.sender.active is refl in
     omega arith
 
@@ -63,7 +65,7 @@ settled_by_kept f ticket m word given None s is k = k
 settled_by_kept f ticket m word given (Some a) s is k =
     let here : under ticket s.sender.active ≡ Some a = flying_under ticket a (under ticket s.sender.active) is in
     let own : under a.ticket s.sender.active ≡ Some a = ap (λ (n : ℕ). under n s.sender.active) (under_ticket ticket a s.sender.active here) ∙ here in
-    ends_kept f a (settlement m word given a) s own (settlement_adds a.batch.spans a m word (class_of given) refl) k
+    ends_kept f a (fate m word given a) s own (fate_adds a.retry a.batch.spans m word (class_of given)) k
 
 settled_kept : (f : Fixed) (ticket m word : ℕ) (given : AnswerData) (s : State) → Kept f 0 0 s → Kept f 0 0 (settled ticket m word given s)
 settled_kept f ticket m word given s k = settled_by_kept f ticket m word given (in_flight ticket s.sender) s refl k

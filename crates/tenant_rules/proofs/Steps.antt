@@ -10,11 +10,13 @@ use Rattle.drop_ledger.specs.Ledger.{LedgerData, moved}
 use Rattle.send_retry.specs.declared.answer.Verdict.{Verdict}
 use Rattle.send_retry.specs.declared.answer.Verdict.TheVariants as verdicts
 use Rattle.send_retry.specs.Class.{AnswerData, class_of}
-use Rattle.send_retry.specs.Delay.{NextData, Delay, GiveUp, next_delay}
+use Rattle.send_retry.specs.Delay.{StateData, NextData, Delay, GiveUp, next_delay}
+use Rattle.send_queue.specs.declared.active.Retry.{Retry}
+use Rattle.send_queue.specs.declared.settled.Settled.TheVariants as settleds
 use Rattle.span_batcher.specs.Batches.{IsSound}
 use Rattle.tenant_rules.specs.Own.{Own, Post, Turn, Answer, Report, Drain, clock, drained}
 use Rattle.tenant_rules.specs.Rows.{Taken}
-use Rattle.tenant_rules.specs.Sender.{BatchData, ActiveData, SenderData, sizes, active_sizes, first_retry, has_consumer, has_tickets, under, retried, oldest, Choice, Retried, Oldest, NoBatch, choice_by, choice, without, replaced, sent_again, sent_first, handed_of, asked, Settlement, Delivered, Refused, Exhausted, Postponed, postponed, settlement_by, settlement, flying, in_flight, left_by, answered_by, answered}
+use Rattle.tenant_rules.specs.Sender.{BatchData, ActiveData, SenderData, sizes, active_sizes, first_retry, due_by, has_consumer, has_tickets, under, retried, oldest, Choice, Retried, Oldest, NoBatch, choice_by, choice, without, replaced, sent_again, sent_first, handed_of, asked, FateData, Leaves, Stays, fate_next, fate_by, fate, settled_by, flying, in_flight, left_by, answered_by, answered}
 use Rattle.tenant_rules.specs.Batching.{rules_of, formed}
 use Rattle.tenant_rules.specs.Intake.{IntakeData, intake}
 use Rattle.tenant_rules.specs.Sending.{EndedData, formed_by, newly_formed, all_offered, overflow, before_acting, sender, met_full_queue, ended_in_flight, ended_by, ended}
@@ -112,8 +114,8 @@ next_oldest : (q : List BatchData) (s : SenderData) → s.queue ≡ q → IsNext
 next_oldest [] s is = tt
 next_oldest (b ∷ q) s is = is ∙ ap (λ (bs : List BatchData). b ∷ bs) (sym (ap (drop 1) is))
 
-next_by : (o : Option ActiveData) (s : SenderData) → IsNext s (choice_by o s)
-next_by (Some a) s = next_under (under a.ticket s.active) a.ticket s refl
+next_by : (o : Option Retry) (s : SenderData) → IsNext s (choice_by o s)
+next_by (Some r) s = next_under (under r.ticket s.active) r.ticket s refl
 next_by None s = by_test (has_consumer s)
   where
     by_test : (f : Bool) → IsNext s (cond f (oldest s.queue) NoBatch)
@@ -123,8 +125,8 @@ next_by None s = by_test (has_consumer s)
 pub next_is : (m : ℕ) (s : SenderData) → IsNext s (choice m s)
 next_is m s = by_test (has_tickets s)
   where
-    by_test : (f : Bool) → IsNext s (cond f (choice_by (first_retry m s.active) s) NoBatch)
-    by_test true = next_by (first_retry m s.active) s
+    by_test : (f : Bool) → IsNext s (cond f (choice_by (due_by m (first_retry s.active)) s) NoBatch)
+    by_test true = next_by (due_by m (first_retry s.active)) s
     by_test false = tt
 
 -- the counters with other sums of queue and active batches
@@ -206,47 +208,49 @@ counts_settled : (w : SectionData) (i : IntakeData) (e : ℕ) (o : Option ℕ) (
 unfolding ledger_at
 counts_settled w i e o D active P P' = refl
 
--- the spans of a batch that a back end took are those that it rejected and the others
-abbrev pub AddsUp : ℕ → Settlement → Type 0
-AddsUp spans (Delivered exported rejected) = exported + rejected ≡ spans
-AddsUp spans Refused = Unit
-AddsUp spans Exhausted = Unit
-AddsUp spans (Postponed due retry) = Unit
+-- each span of a batch that is settled is in one of the counts
+abbrev pub AddsUp : ℕ → FateData → Type 0
+AddsUp spans (Leaves (settleds.Taken exported rejected)) = exported + rejected ≡ spans
+AddsUp spans (Leaves (settleds.Refused n)) = n ≡ spans
+AddsUp spans (Leaves (settleds.Exhausted n)) = n ≡ spans
+AddsUp spans (Leaves (settleds.Waits n due)) = ⊥
+AddsUp spans (Stays due retry) = Unit
 
 -- spans of an active batch of which none are counted elsewhere
-abbrev EndsAs : SectionData → IntakeData → ℕ → Option ℕ → SenderData → List EndedData → ActiveData → Settlement → Type 0
-EndsAs w i e o D es a s =
-    ledger_at w i e o (record D { active = left_by a s D.active }) (ended_places (ended_by a.batch.spans s ++ es)) ≡ all_moved (ended_by a.batch.spans s) (ledger_at w i e o D (ended_places es))
+abbrev EndsAs : SectionData → IntakeData → ℕ → Option ℕ → SenderData → List EndedData → ActiveData → FateData → Type 0
+EndsAs w i e o D es a f =
+    ledger_at w i e o (record D { active = left_by a f D.active }) (ended_places (ended_by (settled_by a.batch.spans f) ++ es)) ≡ all_moved (ended_by (settled_by a.batch.spans f)) (ledger_at w i e o D (ended_places es))
 
-ends_as : (w : SectionData) (i : IntakeData) (e : ℕ) (o : Option ℕ) (D : SenderData) (es : List EndedData) (a : ActiveData) (s : Settlement) → under a.ticket D.active ≡ Some a → AddsUp a.batch.spans s → EndsAs w i e o D es a s
+ends_as : (w : SectionData) (i : IntakeData) (e : ℕ) (o : Option ℕ) (D : SenderData) (es : List EndedData) (a : ActiveData) (f : FateData) → under a.ticket D.active ≡ Some a → AddsUp a.batch.spans f → EndsAs w i e o D es a f
 unfolding ledger_at
-ends_as w i e o D es a (Delivered exported rejected) is adds =
+ends_as w i e o D es a (Leaves (settleds.Taken exported rejected)) is adds =
     let size = without_sizes a.ticket a D.active is in
     let P = ended_places es in
     let n : active_sizes (without a.ticket D.active) ≡ active_sizes D.active - rejected - exported = omega (arith, size, adds) in
     ap (λ (k : ℕ). settled_counts (ledger_at w i e o D P) k (record P { exported = P.exported + exported; back_end_rejected = P.back_end_rejected + rejected })) n
-ends_as w i e o D es a Refused is adds =
+ends_as w i e o D es a (Leaves (settleds.Refused m)) is adds =
     let size = without_sizes a.ticket a D.active is in
     let P = ended_places es in
-    let n : active_sizes (without a.ticket D.active) ≡ active_sizes D.active - a.batch.spans = omega (arith, size) in
-    ap (λ (k : ℕ). settled_counts (ledger_at w i e o D P) k (record P { back_end_refused = P.back_end_refused + a.batch.spans })) n
-ends_as w i e o D es a Exhausted is adds =
+    let n : active_sizes (without a.ticket D.active) ≡ active_sizes D.active - m = omega (arith, size, adds) in
+    ap (λ (k : ℕ). settled_counts (ledger_at w i e o D P) k (record P { back_end_refused = P.back_end_refused + m })) n
+ends_as w i e o D es a (Leaves (settleds.Exhausted m)) is adds =
     let size = without_sizes a.ticket a D.active is in
     let P = ended_places es in
-    let n : active_sizes (without a.ticket D.active) ≡ active_sizes D.active - a.batch.spans = omega (arith, size) in
-    ap (λ (k : ℕ). settled_counts (ledger_at w i e o D P) k (record P { retry_exhausted = P.retry_exhausted + a.batch.spans })) n
-ends_as w i e o D es a (Postponed due retry) is adds =
+    let n : active_sizes (without a.ticket D.active) ≡ active_sizes D.active - m = omega (arith, size, adds) in
+    ap (λ (k : ℕ). settled_counts (ledger_at w i e o D P) k (record P { retry_exhausted = P.retry_exhausted + m })) n
+ends_as w i e o D es a (Leaves (settleds.Waits n due)) is adds = absurd adds
+ends_as w i e o D es a (Stays due retry) is adds =
     let n = replaced_sizes a.ticket a (record a { retry = retry; due = Some due }) D.active is refl in
     ap (λ (k : ℕ). settled_counts (ledger_at w i e o D (ended_places es)) k (ended_places es)) n
 
-pub settlement_adds : (spans : ℕ) (a : ActiveData) (now word : ℕ) (v : Verdict) → a.batch.spans ≡ spans → AddsUp spans (settlement_by a now word v)
-settlement_adds spans a now word (verdicts.Taken rejected) is = omega (arith, is)
-settlement_adds spans a now word (verdicts.Again wait) is = by_next (next_delay a.retry now word wait)
+pub fate_adds : (retry : StateData) (spans now word : ℕ) (v : Verdict) → AddsUp spans (fate_by retry spans now word v)
+fate_adds retry spans now word (verdicts.Taken rejected) = omega arith
+fate_adds retry spans now word (verdicts.Again wait) = by_next (next_delay retry now word wait)
   where
-    by_next : (n : NextData) → AddsUp spans (postponed n)
+    by_next : (n : NextData) → AddsUp spans (fate_next spans n)
     by_next (Delay due retry) = tt
-    by_next GiveUp = tt
-settlement_adds spans a now word verdicts.Never is = tt
+    by_next GiveUp = refl
+fate_adds retry spans now word verdicts.Never = refl
 
 answered_with : (w : SectionData) (i : IntakeData) (e : ℕ) (o : Option ℕ) (D : SenderData) (es : List EndedData) (ticket word : ℕ) (given : AnswerData) (f : Option ActiveData) → in_flight ticket D ≡ f →
     state_with w i e o (answered_by e word given f D) (ended_in_flight e word given f ++ es)
@@ -255,9 +259,9 @@ answered_with w i e o D es ticket word given None is = refl
 answered_with w i e o D es ticket word given (Some a) is =
     let here : under ticket D.active ≡ Some a = flying_under ticket a (under ticket D.active) is in
     let own : under a.ticket D.active ≡ Some a = ap (λ (n : ℕ). under n D.active) (under_ticket ticket a D.active here) ∙ here in
-    let s = settlement e word given a in
-    let same = ends_as w i e o D es a s own (settlement_adds a.batch.spans a e word (class_of given) refl) in
-    ap (λ (z : LedgerData). record (state_with w i e o D es) { sender = record D { active = left_by a s D.active }; ledger = z }) same
+    let f = fate e word given a in
+    let same = ends_as w i e o D es a f own (fate_adds a.retry a.batch.spans e word (class_of given)) in
+    ap (λ (z : LedgerData). record (state_with w i e o D es) { sender = record D { active = left_by a f D.active }; ledger = z }) same
 
 answered_is : (w : SectionData) (i : IntakeData) (e : ℕ) (o : Option ℕ) (D : SenderData) (es : List EndedData) (ticket word : ℕ) (given : AnswerData) →
     state_with w i e o (answered ticket e word given D) (ended_in_flight e word given (in_flight ticket D) ++ es) ≡ settled ticket e word given (state_with w i e o D es)

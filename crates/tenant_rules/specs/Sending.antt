@@ -5,10 +5,12 @@ use Rattle.tail_settings.specs.Section.{SectionData}
 use Rattle.drop_ledger.specs.declared.places.Place.{Place}
 use Rattle.drop_ledger.specs.declared.places.Place.TheVariants.{Exported, QueueFull, RetryExhausted, BackEndRefused, BackEndRejected}
 use Rattle.send_retry.specs.Class.{AnswerData}
+use Rattle.send_queue.specs.declared.settled.Settled.{Settled}
+use Rattle.send_queue.specs.declared.settled.Settled.TheVariants.{Taken, Waits, Refused, Exhausted}
 use Rattle.tenant_rules.specs.Own.{Own, Post, Turn, Answer, Report, Drain, clock, drained}
 use Rattle.tenant_rules.specs.Batching.{formed}
 use Rattle.tenant_rules.specs.Intake.{intake}
-use Rattle.tenant_rules.specs.Sender.{BatchData, ActiveData, SenderData, no_batches, is_full, offered, asked, Settlement, Delivered, Refused, Exhausted, Postponed, settlement, in_flight, answered}
+use Rattle.tenant_rules.specs.Sender.{BatchData, ActiveData, SenderData, no_batches, is_full, offered, asked, fate, settled_by, in_flight, answered}
 
 -- all batches that formed in a past, oldest first
 abbrev pub formed_by : SectionData → List Own → List BatchData
@@ -58,18 +60,18 @@ pub record EndedData : Type 0 where
 abbrev pub met_full_queue : BatchData → EndedData
 met_full_queue batch = record { place = QueueFull; spans = batch.spans }
 
--- where the spans of a batch of so many ended by an answer
-abbrev pub ended_by : ℕ → Settlement → List EndedData
-ended_by spans (Delivered exported rejected) =
+-- where the spans of a batch ended by what became of it
+abbrev pub ended_by : Settled → List EndedData
+ended_by (Taken exported rejected) =
     record { place = BackEndRejected; spans = rejected } ∷ record { place = Exported; spans = exported } ∷ []
-ended_by spans Refused = record { place = BackEndRefused; spans = spans } ∷ []
-ended_by spans Exhausted = record { place = RetryExhausted; spans = spans } ∷ []
-ended_by spans (Postponed due retry) = []
+ended_by (Refused spans) = record { place = BackEndRefused; spans = spans } ∷ []
+ended_by (Exhausted spans) = record { place = RetryExhausted; spans = spans } ∷ []
+ended_by (Waits spans due) = []
 
 -- those of the batch in flight, if there is one
 abbrev pub ended_in_flight : ℕ → ℕ → AnswerData → Option ActiveData → List EndedData
 ended_in_flight moment word answer None = []
-ended_in_flight moment word answer (Some a) = ended_by a.batch.spans (settlement moment word answer a)
+ended_in_flight moment word answer (Some a) = ended_by (settled_by a.batch.spans (fate moment word answer a))
 
 -- by a step at a moment
 abbrev pub ended_at : ℕ → Own → SenderData → List EndedData
