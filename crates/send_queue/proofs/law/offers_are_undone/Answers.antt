@@ -1,7 +1,7 @@
-use Rattle.std.proofs.Common.{◌≡◌, ◌∙◌, ap, refl, Some, ℕ, ◌+◌, ◌-◌, List, [], ◌∷◌, ◌++◌, length, take, arith, false}
+use Rattle.std.proofs.Common.{◌≡◌, ◌∙◌, ap, refl, Some, ℕ, ◌+◌, ◌-◌, List, [], ◌∷◌, ◌++◌, length, take, arith}
 use Rattle.std.proofs.Math.Seq.{take-append_seam}
 use Rattle.std.proofs.lemmas.List.{length-append}
-use Rattle.send_queue.specs.Sender.{BatchData, SenderData, is_full, offered, newest, taken_back}
+use Rattle.send_queue.specs.Sender.{BatchData, SenderData, newest}
 use Rattle.send_queue.proofs.law.offers_are_undone.Goals as goal
 
 last_of : (bs : List BatchData) (b : BatchData) → newest (bs ++ b ∷ []) ≡ Some b
