@@ -4,6 +4,7 @@ use Rattle.std.specs.Prelude.{drop, option_to_list, nat_lt, ◌==◌}
 use Rattle.std.proofs.lemmas.Bool.Decides.{nat_tests}
 use Rattle.tail_settings.specs.Section.{SectionData}
 use Rattle.send_retry.specs.Class.{AnswerData}
+use Rattle.send_queue.specs.declared.active.Retry.{Retry}
 use Rattle.span_batcher.specs.State.{next_due}
 use Rattle.span_batcher.specs.Machine.{cuts, added, fired}
 use Rattle.span_batcher.specs.Machine as machine
@@ -13,7 +14,7 @@ use Rattle.tenant_rules.specs.Arrivals.{Arrival, valid, trace_of}
 use Rattle.tenant_rules.specs.Own.{Own, Post, Turn, Answer, Report, Drain}
 use Rattle.tenant_rules.specs.Rows.{is_same}
 use Rattle.tenant_rules.specs.Fate.{SettledData, WaitingData, are_sampled}
-use Rattle.tenant_rules.specs.Sender.{BatchData, ActiveData, SenderData, is_full, has_consumer, has_tickets, first_retry, under, without, replaced, retried, oldest, Choice, Retried, Oldest, NoBatch, choice_by, choice, sent_again, sent_first, Settlement, Delivered, Refused, Exhausted, Postponed, settlement, in_flight, left_by, answered_by}
+use Rattle.tenant_rules.specs.Sender.{BatchData, ActiveData, SenderData, is_full, has_consumer, has_tickets, first_retry, due_by, under, without, replaced, retried, oldest, Choice, Retried, Oldest, NoBatch, choice_by, choice, sent_again, sent_first, FateData, Leaves, Stays, fate, in_flight, left_by, answered_by}
 use Rattle.tenant_rules.specs.Batching.{all_sent}
 use Rattle.tenant_rules.specs.Intake.{Verdict, shutting_down, counter_limit, exhausted, accepted}
 use Rattle.tenant_rules.specs.Sending.{sender, ended_in_flight}
@@ -242,12 +243,12 @@ room_is m s = by_tickets (has_tickets s)
     by_consumer true is = oldest_room s.queue (free is)
     by_consumer false is = tt
 
-    by_retry : (o : Option ActiveData) → HasRoom s (choice_by o s)
-    by_retry (Some a) = retried_room (under a.ticket s.active)
+    by_retry : (o : Option Retry) → HasRoom s (choice_by o s)
+    by_retry (Some r) = retried_room (under r.ticket s.active)
     by_retry None = by_consumer (has_consumer s) refl
 
-    by_tickets : (b : Bool) → HasRoom s (cond b (choice_by (first_retry m s.active) s) NoBatch)
-    by_tickets true = by_retry (first_retry m s.active)
+    by_tickets : (b : Bool) → HasRoom s (cond b (choice_by (due_by m (first_retry s.active)) s) NoBatch)
+    by_tickets true = by_retry (due_by m (first_retry s.active))
     by_tickets false = tt
 
 turned_by_within : (n m : ℕ) (c : Choice) (s : State) → IsNext s.sender c → HasRoom s.sender c → Within n s → Within n (turned_by m c s)
@@ -266,11 +267,9 @@ turned_by_within n m NoBatch s is room k = k
 
 -- ---- an answer
 
-left_few : (a : ActiveData) (e : Settlement) (xs : List ActiveData) → under a.ticket xs ≡ Some a → length (left_by a e xs) ≤ length xs
-left_few a (Delivered exported rejected) xs is = omega (arith, without_length a.ticket a xs is)
-left_few a Refused xs is = omega (arith, without_length a.ticket a xs is)
-left_few a Exhausted xs is = omega (arith, without_length a.ticket a xs is)
-left_few a (Postponed due retry) xs is = omega (arith, replaced_length a.ticket (record a { retry = retry; due = Some due }) xs)
+left_few : (a : ActiveData) (e : FateData) (xs : List ActiveData) → under a.ticket xs ≡ Some a → length (left_by a e xs) ≤ length xs
+left_few a (Leaves settled) xs is = omega (arith, without_length a.ticket a xs is)
+left_few a (Stays due retry) xs is = omega (arith, replaced_length a.ticket (record a { retry = retry; due = Some due }) xs)
 
 settled_by_within : (n ticket m word : ℕ) (given : AnswerData) (o : Option ActiveData) (s : State) → in_flight ticket s.sender ≡ o → Within n s →
     Within n (record s { sender = answered_by m word given o s.sender; ledger = all_moved (ended_in_flight m word given o) s.ledger })
@@ -278,7 +277,7 @@ settled_by_within n ticket m word given None s is k = k
 settled_by_within n ticket m word given (Some a) s is k =
     let here : under ticket s.sender.active ≡ Some a = flying_under ticket a (under ticket s.sender.active) is in
     let own : under a.ticket s.sender.active ≡ Some a = ap (λ (t : ℕ). under t s.sender.active) (under_ticket ticket a s.sender.active here) ∙ here in
-    let few : length (left_by a (settlement m word given a) s.sender.active) ≤ length s.sender.active = left_few a (settlement m word given a) s.sender.active own in
+    let few : length (left_by a (fate m word given a) s.sender.active) ≤ length s.sender.active = left_few a (fate m word given a) s.sender.active own in
     omega arith
 
 -- ---- a step
