@@ -3,12 +3,14 @@ use Rattle.std.proofs.Common.{◌≡◌, ℕ, ◌+◌, ◌<◌, ◌≤◌, ◌�
 use Rattle.std.specs.Prelude.{Contains, ◌==◌}
 use Rattle.std.proofs.lemmas.Bool.Decides.{nat_tests}
 use Rattle.tail_settings.specs.Section.{SectionData}
+use Rattle.send_queue.specs.declared.active.Retry.{Retry}
+use Rattle.send_queue.specs.Sender.{comes_before, sooner, sooner_of}
 use Rattle.span_batcher.specs.Batches.{IsSound}
 use Rattle.span_batcher.specs.State.{next_due}
 use Rattle.span_batcher.specs.Timers.{is_due}
 use Rattle.tenant_rules.specs.Own.{Own, Turn, clock}
 use Rattle.tenant_rules.specs.Fate.{WaitingData}
-use Rattle.tenant_rules.specs.Sender.{BatchData, ActiveData, SenderData, has_tickets, has_consumer, comes_before, sooner, first_retry, under, retried, oldest, Choice, NoBatch, choice_by, choice}
+use Rattle.tenant_rules.specs.Sender.{BatchData, ActiveData, SenderData, has_tickets, has_consumer, first_retry, due_by, under, retried, oldest, Choice, NoBatch, choice_by, choice}
 use Rattle.tenant_rules.specs.Batching.{rules_of}
 use Rattle.tenant_rules.specs.State.{State, state}
 use Rattle.tenant_rules.specs.declared.told.Told.TheVariants as tell
@@ -52,16 +54,76 @@ no_timer s e none = not_first (next_due s.pending) (first_due s.waiting) e (by_t
     by_rows [] is = refl
     by_rows (r ∷ rs) is = after_all r.due e (none r.due (decision r (subst (λ (ws : List WaitingData). Contains ws r) (sym is) (is_first r rs)) refl))
 
--- none of these is due
-no_retry : (e : ℕ) (active : List ActiveData) → ((a : ActiveData) (m : ℕ) → Contains active a → a.due ≡ Some m → e < m) → first_retry e active ≡ None
-no_retry e [] none = refl
-no_retry e (a ∷ rest) none = by_due a.due refl (no_retry e rest (λ b m here is. none b m (is_later a rest b here) is))
+-- a retry is that of an active batch
+abbrev IsOf : List ActiveData → Retry → Type 0
+IsOf active r = (a : ActiveData) × Contains active a × (a.due ≡ Some r.due) × (a.ticket ≡ r.ticket)
+
+of_more : (b : ActiveData) (rest : List ActiveData) (r : Retry) → IsOf rest r → IsOf (b ∷ rest) r
+of_more b rest r h = (h.0, is_later b rest h.0 h.1, h.2, h.3)
+
+first_is_of : (active : List ActiveData) (r : Retry) → first_retry active ≡ Some r → IsOf active r
+first_is_of [] r is = absurd (cc)
+first_is_of (b ∷ rest) r is = by_due b.due refl is (first_is_of rest)
   where
-    by_due : (o : Option ℕ) → a.due ≡ o → first_retry e rest ≡ None → cond (is_due a.due e) (Some (sooner a (first_retry e rest))) (first_retry e rest) ≡ None
-    by_due None is rest_is = let late : is_due a.due e ≡ false = ap (λ (z : Option ℕ). is_due z e) is in rw late rest_is
-    by_due (Some m) is rest_is =
-        let late : is_due a.due e ≡ false = ap (λ (z : Option ℕ). is_due z e) is ∙ after_all m e (none a m (is_first a rest) is) in
-        rw late rest_is
+    of_two : (own : Retry) (o : Option Retry) → IsOf (b ∷ rest) own → first_retry rest ≡ o → ((q : Retry) → first_retry rest ≡ Some q → IsOf rest q) → sooner own o ≡ Some r → IsOf (b ∷ rest) r
+    of_two own None mine rest_is ih here = let same : own ≡ r = cc in subst (λ (z : Retry). IsOf (b ∷ rest) z) same mine
+    of_two own (Some q) mine rest_is ih here = by_order (comes_before q own) here
+      where
+        by_order : (c : Bool) → Path (Option Retry) (Some (cond c q own)) (Some r) → IsOf (b ∷ rest) r
+        by_order true first = let same : q ≡ r = cc in subst (λ (z : Retry). IsOf (b ∷ rest) z) same (of_more b rest q (ih q rest_is))
+        by_order false first = let same : own ≡ r = cc in subst (λ (z : Retry). IsOf (b ∷ rest) z) same mine
+
+    by_due : (o : Option ℕ) → b.due ≡ o → sooner_of b.ticket o (first_retry rest) ≡ Some r → ((q : Retry) → first_retry rest ≡ Some q → IsOf rest q) → IsOf (b ∷ rest) r
+    by_due None due_is here ih = of_more b rest r (ih r here)
+    by_due (Some due) due_is here ih = of_two (record { due = due; ticket = b.ticket }) (first_retry rest) (b, is_first b rest, due_is, refl) refl ih here
+
+-- none is due before the one that comes first
+abbrev Leads : Option Retry → ℕ → Type 0
+Leads o m = (z : Retry) × (o ≡ Some z) × (z.due ≤ m)
+
+leads_one : (r : Retry) (o : Option Retry) → Leads (sooner r o) r.due
+leads_one r None = (r, refl, omega arith)
+leads_one r (Some q) = by_order (comes_before q r) refl
+  where
+    by_order : (b : Bool) → comes_before q r ≡ b → Leads (Some (cond b q r)) r.due
+    by_order true t = let le : q.due ≤ r.due = grind (arith, nat_tests, t) in (q, refl, le)
+    by_order false t = (r, refl, omega arith)
+
+leads_other : (r q : Retry) → Leads (sooner r (Some q)) q.due
+leads_other r q = by_order (comes_before q r) refl
+  where
+    by_order : (b : Bool) → comes_before q r ≡ b → Leads (Some (cond b q r)) q.due
+    by_order true t = (q, refl, omega arith)
+    by_order false t = let le : r.due ≤ q.due = grind (arith, nat_tests, t) in (r, refl, le)
+
+first_leads : (active : List ActiveData) (a : ActiveData) (m : ℕ) → Contains active a → a.due ≡ Some m → Leads (first_retry active) m
+first_leads [] a m here is = absurd (in_none a here)
+first_leads (b ∷ rest) a m here is = by_place (first_or_later b rest a here) (λ later. first_leads rest a m later is)
+  where
+    after : (due : Option ℕ) (o : Option Retry) → Leads o m → Leads (sooner_of b.ticket due o) m
+    after None o h = h
+    after (Some due) o h =
+        let own : Retry = record { due = due; ticket = b.ticket } in
+        let next = leads_other own h.0 in
+        (next.0, ap (sooner own) h.1 ∙ next.1, omega (arith, next.2, h.2))
+
+    by_place : (b ≡ a) ⊎ Contains rest a → (Contains rest a → Leads (first_retry rest) m) → Leads (first_retry (b ∷ rest)) m
+    by_place (inr later) ih = after b.due (first_retry rest) (ih later)
+    by_place (inl same) ih =
+        let own : b.due ≡ Some m = ap (λ (z : ActiveData). z.due) same ∙ is in
+        let first = leads_one (record { due = m; ticket = b.ticket }) (first_retry rest) in
+        (first.0, ap (λ (o : Option ℕ). sooner_of b.ticket o (first_retry rest)) own ∙ first.1, first.2)
+
+-- none of these is due
+no_retry : (e : ℕ) (active : List ActiveData) → ((a : ActiveData) (m : ℕ) → Contains active a → a.due ≡ Some m → e < m) → due_by e (first_retry active) ≡ None
+no_retry e active none = by_first (first_retry active) refl
+  where
+    by_first : (o : Option Retry) → first_retry active ≡ o → due_by e o ≡ None
+    by_first None is = refl
+    by_first (Some r) is =
+        let found = first_is_of active r is in
+        let late : leb r.due e ≡ false = after_all r.due e (none found.0 r.due found.1 found.2) in
+        rw late refl
 
 no_job : (s : State) (e : ℕ) → Nothing s e → FormedBy e s.sender.queue → choice e s.sender ≡ NoBatch
 no_job s e none formed = by_tickets (has_tickets s.sender) refl
@@ -77,9 +139,9 @@ no_job s e none formed = by_tickets (has_tickets s.sender) refl
     by_consumer true free tickets = by_queue s.sender.queue refl formed tickets free
     by_consumer false free tickets = refl
 
-    by_tickets : (t : Bool) → has_tickets s.sender ≡ t → cond t (choice_by (first_retry e s.sender.active) s.sender) NoBatch ≡ NoBatch
+    by_tickets : (t : Bool) → has_tickets s.sender ≡ t → cond t (choice_by (due_by e (first_retry s.sender.active)) s.sender) NoBatch ≡ NoBatch
     by_tickets true tickets =
-        ap (λ (o : Option ActiveData). choice_by o s.sender) (no_retry e s.sender.active (λ a m here is. none m (attempt a here is tickets)))
+        ap (λ (o : Option Retry). choice_by o s.sender) (no_retry e s.sender.active (λ a m here is. none m (attempt a here is tickets)))
         ∙ by_consumer (has_consumer s.sender) refl tickets
     by_tickets false tickets = refl
 
@@ -103,69 +165,69 @@ under_later t a rest h = by_test (a.ticket == t)
     by_test true = (a, refl)
     by_test false = h
 
--- the first that is due is there
-first_under : (e : ℕ) (active : List ActiveData) (a : ActiveData) → first_retry e active ≡ Some a → IsUnder a.ticket active
-first_under e [] a is = absurd (cc)
-first_under e (b ∷ rest) a is = by_due (is_due b.due e) is (λ c c_is. first_under e rest c c_is)
+under_any : (active : List ActiveData) (a : ActiveData) → Contains active a → IsUnder a.ticket active
+under_any [] a here = absurd (in_none a here)
+under_any (b ∷ rest) a here = by_place (first_or_later b rest a here) (under_any rest a)
   where
-    of_two : (o : Option ActiveData) → first_retry e rest ≡ o → ((c : ActiveData) → first_retry e rest ≡ Some c → IsUnder c.ticket rest) → Path (Option ActiveData) (Some (sooner b o)) (Some a) → IsUnder a.ticket (b ∷ rest)
-    of_two None rest_is ih here = let same : b ≡ a = cc in subst (λ (z : ActiveData). IsUnder z.ticket (b ∷ rest)) same (under_first b rest)
-    of_two (Some c) rest_is ih here = by_order (comes_before c b) here
-      where
-        by_order : (t : Bool) → Path (Option ActiveData) (Some (cond t c b)) (Some a) → IsUnder a.ticket (b ∷ rest)
-        by_order true first = let same : c ≡ a = cc in subst (λ (z : ActiveData). IsUnder z.ticket (b ∷ rest)) same (under_later c.ticket b rest (ih c rest_is))
-        by_order false first = let same : b ≡ a = cc in subst (λ (z : ActiveData). IsUnder z.ticket (b ∷ rest)) same (under_first b rest)
+    by_place : (b ≡ a) ⊎ Contains rest a → (Contains rest a → IsUnder a.ticket rest) → IsUnder a.ticket (b ∷ rest)
+    by_place (inl same) ih = subst (λ (z : ActiveData). IsUnder z.ticket (b ∷ rest)) same (under_first b rest)
+    by_place (inr later) ih = under_later a.ticket b rest (ih later)
 
-    by_due : (t : Bool) → Path (Option ActiveData) (cond t (Some (sooner b (first_retry e rest))) (first_retry e rest)) (Some a) → ((c : ActiveData) → first_retry e rest ≡ Some c → IsUnder c.ticket rest) → IsUnder a.ticket (b ∷ rest)
-    by_due true here ih = of_two (first_retry e rest) refl ih here
-    by_due false here ih = under_later a.ticket b rest (ih a here)
-
-some_retry : (e : ℕ) (active : List ActiveData) (a : ActiveData) (m : ℕ) → Contains active a → a.due ≡ Some m → m ≤ e → first_retry e active ≡ None → ⊥
-some_retry e [] a m here is le none = in_none a here
-some_retry e (b ∷ rest) a m here is le none = by_due (is_due b.due e) refl none (λ later none'. some_retry e rest a m later is le none')
+-- the batch of the first that is due is there
+due_under : (e : ℕ) (active : List ActiveData) (r : Retry) → due_by e (first_retry active) ≡ Some r → IsUnder r.ticket active
+due_under e active r is = by_first (first_retry active) refl is
   where
-    by_due : (t : Bool) → is_due b.due e ≡ t → Path (Option ActiveData) (cond t (Some (sooner b (first_retry e rest))) (first_retry e rest)) None → (Contains rest a → first_retry e rest ≡ None → ⊥) → ⊥
-    by_due true due none' ih = absurd (cc)
-    by_due false due none' ih = by_place (first_or_later b rest a here)
+    by_first : (o : Option Retry) → first_retry active ≡ o → due_by e o ≡ Some r → IsUnder r.ticket active
+    by_first None first_is here = absurd (cc)
+    by_first (Some q) first_is here = by_test (leb q.due e) here
       where
-        by_place : (b ≡ a) ⊎ Contains rest a → ⊥
-        by_place (inr later) = ih later none'
-        by_place (inl same) =
-            let own : b.due ≡ Some m = ap (λ (z : ActiveData). z.due) same ∙ is in
-            let on_time : leb m e ≡ true = grind (arith, nat_tests, le) in
-            let both : is_due b.due e ≡ true = ap (λ (z : Option ℕ). is_due z e) own ∙ on_time in
-            let never : true ≡ false = sym both ∙ due in
-            absurd (cc)
+        found : IsOf active q
+        found = first_is_of active q first_is
 
-hands_retry : (e : ℕ) (d : SenderData) (a : ActiveData) → has_tickets d ≡ true → first_retry e d.active ≡ Some a → HandsOut e d
-hands_retry e d a tickets is =
-    let found = first_under e d.active a is in
-    let chosen : choice e d ≡ choice_by (first_retry e d.active) d = rw tickets refl in
+        by_test : (t : Bool) → Path (Option Retry) (cond t (Some q) None) (Some r) → IsUnder r.ticket active
+        by_test true there =
+            let same : q ≡ r = cc in
+            subst (λ (z : Retry). IsUnder z.ticket active) same (subst (λ (n : ℕ). IsUnder n active) found.3 (under_any active found.0 found.1))
+        by_test false there = absurd (cc)
+
+some_retry : (e : ℕ) (active : List ActiveData) (a : ActiveData) (m : ℕ) → Contains active a → a.due ≡ Some m → m ≤ e → due_by e (first_retry active) ≡ None → ⊥
+some_retry e active a m here is le none =
+    let first = first_leads active a m here is in
+    let by : first.0.due ≤ e = omega (arith, first.2, le) in
+    let on_time : leb first.0.due e ≡ true = grind (arith, nat_tests, by) in
+    let due : due_by e (Some first.0) ≡ Some first.0 = rw on_time refl in
+    let never : Path (Option Retry) None (Some first.0) = sym none ∙ (ap (due_by e) first.1 ∙ due) in
+    absurd (cc)
+
+hands_retry : (e : ℕ) (d : SenderData) (r : Retry) → has_tickets d ≡ true → due_by e (first_retry d.active) ≡ Some r → HandsOut e d
+hands_retry e d r tickets is =
+    let found = due_under e d.active r is in
+    let chosen : choice e d ≡ choice_by (due_by e (first_retry d.active)) d = rw tickets refl in
     let turn : turn_told e d ≡ tell.Job (d.handed_out + 1) found.0.batch.payload =
-    ap (job_of d.handed_out) (chosen ∙ (ap (λ (o : Option ActiveData). choice_by o d) is ∙ ap retried found.1)) in
+    ap (job_of d.handed_out) (chosen ∙ (ap (λ (o : Option Retry). choice_by o d) is ∙ ap retried found.1)) in
     (d.handed_out + 1, found.0.batch.payload, turn)
 
-hands_oldest : (e : ℕ) (d : SenderData) (b : BatchData) (rest : List BatchData) → has_tickets d ≡ true → first_retry e d.active ≡ None → has_consumer d ≡ true → d.queue ≡ b ∷ rest → HandsOut e d
+hands_oldest : (e : ℕ) (d : SenderData) (b : BatchData) (rest : List BatchData) → has_tickets d ≡ true → due_by e (first_retry d.active) ≡ None → has_consumer d ≡ true → d.queue ≡ b ∷ rest → HandsOut e d
 hands_oldest e d b rest tickets none free is =
-    let chosen : choice e d ≡ choice_by (first_retry e d.active) d = rw tickets refl in
+    let chosen : choice e d ≡ choice_by (due_by e (first_retry d.active)) d = rw tickets refl in
     let open_to : choice_by None d ≡ oldest d.queue = rw free refl in
     let turn : turn_told e d ≡ tell.Job (d.handed_out + 1) b.payload =
-    ap (job_of d.handed_out) (chosen ∙ (ap (λ (o : Option ActiveData). choice_by o d) none ∙ (open_to ∙ ap oldest is))) in
+    ap (job_of d.handed_out) (chosen ∙ (ap (λ (o : Option Retry). choice_by o d) none ∙ (open_to ∙ ap oldest is))) in
     (d.handed_out + 1, b.payload, turn)
 
 hands_attempt : (e : ℕ) (d : SenderData) (a : ActiveData) (m : ℕ) → has_tickets d ≡ true → Contains d.active a → a.due ≡ Some m → m ≤ e → HandsOut e d
-hands_attempt e d a m tickets here is le = by_first (first_retry e d.active) refl
+hands_attempt e d a m tickets here is le = by_first (due_by e (first_retry d.active)) refl
   where
-    by_first : (o : Option ActiveData) → first_retry e d.active ≡ o → HandsOut e d
+    by_first : (o : Option Retry) → due_by e (first_retry d.active) ≡ o → HandsOut e d
     by_first None none = absurd (some_retry e d.active a m here is le none)
-    by_first (Some b) first = hands_retry e d b tickets first
+    by_first (Some r) first = hands_retry e d r tickets first
 
 hands_first : (e : ℕ) (d : SenderData) (b : BatchData) (rest : List BatchData) → has_tickets d ≡ true → has_consumer d ≡ true → d.queue ≡ b ∷ rest → HandsOut e d
-hands_first e d b rest tickets free is = by_first (first_retry e d.active) refl
+hands_first e d b rest tickets free is = by_first (due_by e (first_retry d.active)) refl
   where
-    by_first : (o : Option ActiveData) → first_retry e d.active ≡ o → HandsOut e d
+    by_first : (o : Option Retry) → due_by e (first_retry d.active) ≡ o → HandsOut e d
     by_first None none = hands_oldest e d b rest tickets none free is
-    by_first (Some a) first = hands_retry e d a tickets first
+    by_first (Some r) first = hands_retry e d r tickets first
 
 -- a timer that is due comes first
 due_left : (a b : Option ℕ) (e : ℕ) → is_due a e ≡ true → is_due (lesser a b) e ≡ true
