@@ -63,6 +63,21 @@ fn is_same(one: &[u8], other: &[u8]) -> bool {
     one == other
 }
 
+/// The batch waits for another attempt.
+fn waits(spans: u64, due: u64) -> Result<Settled, SettleFault> {
+    Ok(Settled::Waits { spans, due })
+}
+
+/// The back end took the batch, but for so many of its spans.
+fn taken(exported: u64, rejected: u64) -> Result<Settled, SettleFault> {
+    Ok(Settled::Taken { exported, rejected })
+}
+
+/// The back end refused the batch for good.
+fn refused(spans: u64) -> Result<Settled, SettleFault> {
+    Ok(Settled::Refused { spans })
+}
+
 /// Whether the queue takes a batch; none where memory was refused, or another batch comes back.
 fn is_taken(queue: &mut SendQueue, moment: u64, payload: &'static [u8]) -> Option<bool> {
     let batch = Batch {
@@ -158,29 +173,11 @@ fn a_batch_is_sent_and_its_consumer_is_free(rt: HostRuntime) -> Result<(), Fail>
         Step::Leaves(1000, 0),
         Step::Ready(None),
         Step::Job(1000, None),
-        Step::Answered(
-            1,
-            1000,
-            0,
-            OK,
-            Ok(Settled::Taken {
-                exported: 3,
-                rejected: 0,
-            }),
-        ),
+        Step::Answered(1, 1000, 0, OK, taken(3, 0)),
         Step::Answered(1, 1000, 0, OK, Err(SettleFault::UnknownTicket)),
         Step::Ready(Some(1000)),
         Step::Job(1000, Some((2, b"ef"))),
-        Step::Answered(
-            2,
-            1000,
-            0,
-            OK,
-            Ok(Settled::Taken {
-                exported: 2,
-                rejected: 0,
-            }),
-        ),
+        Step::Answered(2, 1000, 0, OK, taken(2, 0)),
         Step::Ready(None),
     ];
     assert_eq!(rt; told(rt.alloc(), one(rt.alloc(), 0)?, &steps)?, 17);
@@ -198,10 +195,7 @@ fn a_batch_is_given_up_in_the_end(rt: HostRuntime) -> Result<(), Fail> {
             1000,
             0,
             Reply::Http(503, Some(40), b""),
-            Ok(Settled::Waits {
-                spans: 3,
-                due: 41_000,
-            }),
+            waits(3, 41_000),
         ),
         Step::Answered(1, 1000, 0, OK, Err(SettleFault::UnknownTicket)),
         Step::Offer(2000, b"d", true),
@@ -219,13 +213,7 @@ fn a_batch_is_given_up_in_the_end(rt: HostRuntime) -> Result<(), Fail> {
         Step::Ready(Some(2000)),
         Step::Leaves(41_000, 1),
         Step::Job(41_000, Some((3, b"d"))),
-        Step::Answered(
-            3,
-            41_000,
-            0,
-            Reply::Http(301, None, b""),
-            Ok(Settled::Refused { spans: 1 }),
-        ),
+        Step::Answered(3, 41_000, 0, Reply::Http(301, None, b""), refused(1)),
     ];
     assert_eq!(rt; told(rt.alloc(), one(rt.alloc(), 50_000)?, &steps)?, 14);
     Ok(())
@@ -242,34 +230,13 @@ fn a_batch_is_sent_a_third_time_just_in_time(rt: HostRuntime) -> Result<(), Fail
             1000,
             0,
             Reply::Http(503, Some(40), b""),
-            Ok(Settled::Waits {
-                spans: 3,
-                due: 41_000,
-            }),
+            waits(3, 41_000),
         ),
         Step::Job(41_000, Some((2, b"abc"))),
-        Step::Answered(
-            2,
-            41_000,
-            u32::MAX,
-            Reply::Failed,
-            Ok(Settled::Waits {
-                spans: 3,
-                due: 52_250,
-            }),
-        ),
+        Step::Answered(2, 41_000, u32::MAX, Reply::Failed, waits(3, 52_250)),
         Step::Job(52_249, None),
         Step::Job(52_250, Some((3, b"abc"))),
-        Step::Answered(
-            3,
-            52_250,
-            0,
-            five_rejected,
-            Ok(Settled::Taken {
-                exported: 0,
-                rejected: 3,
-            }),
-        ),
+        Step::Answered(3, 52_250, 0, five_rejected, taken(0, 3)),
     ];
     assert_eq!(rt; told(rt.alloc(), one(rt.alloc(), 51_250)?, &steps)?, 8);
     Ok(())
@@ -287,81 +254,21 @@ fn retries_go_by_moment_and_ticket(rt: HostRuntime) -> Result<(), Fail> {
         Step::Job(1000, Some((1, b"aaa"))),
         Step::Job(1000, Some((2, b"bb"))),
         Step::Job(1000, None),
-        Step::Answered(
-            1,
-            1500,
-            0,
-            later,
-            Ok(Settled::Waits {
-                spans: 3,
-                due: 4000,
-            }),
-        ),
-        Step::Answered(
-            2,
-            1000,
-            0,
-            later,
-            Ok(Settled::Waits {
-                spans: 2,
-                due: 3500,
-            }),
-        ),
+        Step::Answered(1, 1500, 0, later, waits(3, 4000)),
+        Step::Answered(2, 1000, 0, later, waits(2, 3500)),
         Step::Ready(Some(3500)),
         Step::Leaves(4000, 0),
         Step::Job(4000, Some((3, b"bb"))),
         Step::Job(4000, Some((4, b"aaa"))),
-        Step::Answered(
-            4,
-            5000,
-            0,
-            later,
-            Ok(Settled::Waits {
-                spans: 3,
-                due: 8750,
-            }),
-        ),
-        Step::Answered(
-            3,
-            5000,
-            0,
-            later,
-            Ok(Settled::Waits {
-                spans: 2,
-                due: 8750,
-            }),
-        ),
+        Step::Answered(4, 5000, 0, later, waits(3, 8750)),
+        Step::Answered(3, 5000, 0, later, waits(2, 8750)),
         Step::Job(8750, Some((5, b"bb"))),
         Step::Job(8750, Some((6, b"aaa"))),
-        Step::Answered(
-            5,
-            8750,
-            0,
-            Reply::Http(400, None, b""),
-            Ok(Settled::Refused { spans: 2 }),
-        ),
+        Step::Answered(5, 8750, 0, Reply::Http(400, None, b""), refused(2)),
         Step::Leaves(8750, 1),
         Step::Job(8750, Some((7, b"c"))),
-        Step::Answered(
-            6,
-            9000,
-            0,
-            two_rejected,
-            Ok(Settled::Taken {
-                exported: 1,
-                rejected: 2,
-            }),
-        ),
-        Step::Answered(
-            7,
-            9000,
-            0,
-            OK,
-            Ok(Settled::Taken {
-                exported: 1,
-                rejected: 0,
-            }),
-        ),
+        Step::Answered(6, 9000, 0, two_rejected, taken(1, 2)),
+        Step::Answered(7, 9000, 0, OK, taken(1, 0)),
     ];
     assert_eq!(rt; told(rt.alloc(), two(rt.alloc())?, &steps)?, 21);
     Ok(())
