@@ -1,5 +1,5 @@
 //! Reading into a buffer, and writing.
-ghost use Rattle.std.specs.Prelude.{◌≡◌, ◌≢◌, ℕ, ◌+◌, ◌<◌, ◌≤◌, List, [], ◌++◌, length, drop, IfOk, OnOk, OnErr, IsTrue, true, false, Ok, Err};
+ghost use Rattle.std.specs.Prelude.{◌≡◌, ◌≢◌, ℕ, ◌+◌, ◌-◌, ◌/◌, ◌<◌, ◌≤◌, List, [], ◌++◌, length, drop, IfOk, OnOk, OnErr, IsTrue, true, false, Ok, Err};
 ghost use Rattle.httparse.specs.Pieces.{is_newline};
 ghost use Rattle.http_edge.specs.Limits.{max_part};
 ghost use Rattle.http_edge.specs.Steps.{Moves, work, HasFailed};
@@ -93,7 +93,11 @@ pub(crate) struct Watch {
 
 impl Watch {
     /// Before a head, where empty lines may come.
-    pub fn before_head() -> Watch {
+    pub fn before_head() -> Watch
+        ensures seen { result.seen ≡ 0 }
+        ensures looked { result.looked ≡ 0 }
+        ensures begun { result.is_begun ≡ false }
+    {
         Watch {
             seen: 0,
             looked: 0,
@@ -102,7 +106,11 @@ impl Watch {
     }
 
     /// In a body, where each line counts.
-    pub fn within_body() -> Watch {
+    pub fn within_body() -> Watch
+        ensures seen { result.seen ≡ 0 }
+        ensures looked { result.looked ≡ 0 }
+        ensures begun { result.is_begun ≡ true }
+    {
         Watch {
             seen: 0,
             looked: 0,
@@ -114,6 +122,10 @@ impl Watch {
     pub fn is_due(&mut self, bytes: &[u8], ended: bool) -> bool
         ensures end { ended ≡ true → result ≡ true }
         ensures long { max_part ≤ length bytes.now → result ≡ true }
+        ensures doubled { self.old.looked ≤ length bytes.now / 2 → result ≡ true }
+        ensures seen { self.new.seen ≡ length bytes.now }
+        ensures looked { result ≡ true → self.new.looked ≡ length bytes.now }
+        ensures kept { result ≡ false → self.new.looked ≡ self.old.looked }
     {
         let fresh = &bytes[self.seen.min(bytes.len())..];
         self.seen = bytes.len();
@@ -127,7 +139,11 @@ impl Watch {
     }
 
     /// So many bytes were dropped from the front.
-    pub fn drop_front(&mut self, count: usize) {
+    pub fn drop_front(&mut self, count: usize)
+        ensures seen { self.new.seen ≡ self.old.seen - count }
+        ensures looked { self.new.looked ≡ self.old.looked - count }
+        ensures begun { self.new.is_begun ≡ self.old.is_begun }
+    {
         self.seen = self.seen.saturating_sub(count);
         self.looked = self.looked.saturating_sub(count);
     }

@@ -26,7 +26,16 @@ pub struct MemoryLine {
 
 impl MemoryLine {
     /// A line whose call number `fuse`, counted from 1, fails, and none where that is 0.
-    pub fn new(input: Vec<u8>, pieces: Vec<usize>, output: Vec<u8>, fuse: u64) -> MemoryLine {
+    pub fn new(input: Vec<u8>, pieces: Vec<usize>, output: Vec<u8>, fuse: u64) -> MemoryLine
+        ensures input { result.input.items ≡ input.items }
+        ensures at { result.at ≡ 0 }
+        ensures pieces { result.pieces.items ≡ pieces.items }
+        ensures output { result.output.items ≡ output.items }
+        ensures fuse { result.fuse ≡ fuse }
+        ensures failures { result.failures ≡ 0 }
+        ensures ends { result.ends ≡ 0 }
+        ensures reads { result.reads ≡ 0 }
+    {
         MemoryLine {
             input,
             at: 0,
@@ -42,7 +51,9 @@ impl MemoryLine {
     }
 
     /// What was written.
-    pub fn output(&self) -> &[u8] {
+    pub fn output(&self) -> &[u8]
+        ensures { result.now ≡ self.now.output.items }
+    {
         self.output.as_slice()
     }
 

@@ -21,7 +21,12 @@ pub struct StreamLine<S> {
 }
 
 impl<S: Read + Write> StreamLine<S> {
-    pub fn new(stream: S) -> StreamLine<S> {
+    pub fn new(stream: S) -> StreamLine<S>
+        ensures stream { result.stream ≡ stream }
+        ensures failures { result.failures ≡ 0 }
+        ensures ends { result.ends ≡ 0 }
+        ensures reads { result.reads ≡ 0 }
+    {
         StreamLine {
             stream,
             failures: 0,
