@@ -1,0 +1,32 @@
+use Rattle.std.proofs.Common.{◌≡◌, ◌≢◌, ◌∙◌, ap, sym, refl, arith, ℕ, List, [], ◌+◌, ◌<◌, length, drop, get_or}
+use Rattle.std.proofs.lemmas.List.{drop_all}
+use Rattle.span_pool.specs.Pool.{without}
+use Rattle.tenant_stores.specs.Changes.{texts_without}
+use Rattle.tenant_stores.proofs.Sounds.{leaves_sound}
+use Rattle.tenant_stores.specs.Part.{part}
+use Rattle.tenant_stores.proofs.Parts.{leave_more}
+use Rattle.tenant_stores.proofs.stores.Stores.flush.Goals as goal
+
+pub loop-key-preserved : goal.loop-key-preserved
+loop-key-preserved g c =
+    let more = leave_more c.args.keys.now c.loop-key.key-index (part c.args.tenant c.loop-key.self) (part c.args.tenant c.leave.new.self) c.loop-key-test.true c.leave.ensures.own in
+    record {
+      spans = more.0 ∙ c.loop-key.invariant.spans;
+      texts = more.1 ∙ c.loop-key.invariant.texts;
+      rows = c.leave.ensures.own.rows ∙ c.loop-key.invariant.rows;
+      seats = c.leave.ensures.own.seats ∙ c.loop-key.invariant.seats;
+      others = λ other ne. c.leave.ensures.others other ne ∙ c.loop-key.invariant.others other ne;
+    }
+
+pub returns-clause-sound : goal.returns-clause-sound
+returns-clause-sound g c = λ n pending left held all sound.
+    let keys = c.args.keys.now in
+    let old = part c.args.tenant c.args.self.now in
+    let new = part c.args.tenant c.loop-key.self in
+    let end : drop c.loop-key.key-index keys ≡ [] = drop_all c.loop-key.key-index keys (omega (arith, c.loop-key-test.false)) in
+    leaves_sound keys old new (record {
+      spans = sym (ap (λ (ks : List ℕ). without ks new.spans) end) ∙ c.loop-key.invariant.spans;
+      texts = sym (ap (λ (ks : List ℕ). texts_without ks new.spans new.texts) end) ∙ c.loop-key.invariant.texts;
+      rows = c.loop-key.invariant.rows;
+      seats = c.loop-key.invariant.seats;
+    }) n pending left held all sound

@@ -1,0 +1,6 @@
+use Rattle.std.proofs.Common.{◌≡◌, ◌≢◌, ◌∙◌, ap, refl, ℕ}
+use Rattle.tenant_stores.proofs.Parts.{part_by}
+use Rattle.tenant_stores.proofs.stores.Stores.leave.Goals as goal
+
+pub returns-clause-others : goal.returns-clause-others
+returns-clause-others g c = λ other ne. part_by _ _ _ _ _ _ _ _ (c.take.ensures.others other ne) (c.release_all.ensures.others other ne) refl refl

@@ -1,0 +1,85 @@
+-- What the calls change in their tenant's part.
+use Rattle.std.specs.Prelude.{◌≡◌, ℕ, List, [], ◌∷◌, Bool, false, Option, Some, None}
+use Rattle.span_pool.specs.Keyed.{KeyedData}
+use Rattle.span_pool.specs.Pool.{with_span, without}
+use Rattle.text_pool.specs.Part.{with_text, released}
+use Rattle.text_pool.specs.Part as texts
+use Rattle.text_pool.specs.declared.pool.Kept.{Kept}
+use Rattle.trace_rows.specs.declared.table.Row.{Row}
+use Rattle.trace_rows.specs.Part.{with_at, with_seat, joined, settled, unseated, trace_in, keys_of}
+use Rattle.tenant_stores.specs.Part.{Part}
+use Rattle.tenant_stores.specs.View.{text_keys_of}
+
+-- the texts with one use less of each of these keys
+abbrev pub all_released : List ℕ → (ℕ → Option Kept) → ℕ → Option Kept
+all_released [] at = at
+all_released (key ∷ keys) at = all_released keys (with_text key (released (at key)) at)
+
+-- the texts once the spans at these keys have left, each with its uses
+abbrev pub texts_without : List ℕ → (ℕ → Option KeyedData) → (ℕ → Option Kept) → ℕ → Option Kept
+texts_without [] spans at = at
+texts_without (key ∷ keys) spans at =
+    texts_without keys (with_span key None spans) (all_released (text_keys_of (spans key)) at)
+
+-- a text is held under the key, once more or for the first time
+pub record Holds {N : Type 0} (tenant key : ℕ) (text : List ℕ) (old new : Part N) : Type 0 where
+  pub spans : new.spans ≡ old.spans
+  pub texts : new.texts ≡ with_text key (texts.held tenant text (old.texts key)) old.texts
+  pub rows : new.rows ≡ old.rows
+  pub seats : new.seats ≡ old.seats
+
+-- one use of the text at the key is given back
+pub record Releases {N : Type 0} (key : ℕ) (old new : Part N) : Type 0 where
+  pub spans : new.spans ≡ old.spans
+  pub texts : new.texts ≡ with_text key (released (old.texts key)) old.texts
+  pub rows : new.rows ≡ old.rows
+  pub seats : new.seats ≡ old.seats
+
+-- the span lies at a key that was vacant, which joined the row; the row has this note
+pub record Joins {N : Type 0} (number key : ℕ) (span : KeyedData) (note : N) (old new : Part N) : Type 0 where
+  pub vacant : old.spans key ≡ None
+  pub spans : new.spans ≡ with_span key (Some span) old.spans
+  pub texts : new.texts ≡ old.texts
+  pub rows : new.rows ≡ with_at number (joined key note (old.rows number)) old.rows
+  pub seats : new.seats ≡ old.seats
+
+-- a row of one span
+abbrev pub new_row : {N : Type 0} → List ℕ → ℕ → ℕ → N → Row N
+new_row trace due key note = record { trace = trace; due = due; keys = key ∷ []; note = note; sampled = false }
+
+-- the span lies at a key that was vacant, and a row of the trace with that key opened
+pub record Opens {N : Type 0} (number key due : ℕ) (trace : List ℕ) (span : KeyedData) (note : N) (old new : Part N)
+    : Type 0 where
+  pub vacant : old.spans key ≡ None
+  pub spans : new.spans ≡ with_span key (Some span) old.spans
+  pub texts : new.texts ≡ old.texts
+  pub rows : new.rows ≡ with_at number (Some (new_row trace due key note)) old.rows
+  pub seats : new.seats ≡ with_seat trace (Some number) old.seats
+
+-- the row has its verdict, and no keys any more
+pub record Settles {N : Type 0} (number : ℕ) (sampled : Bool) (old new : Part N) : Type 0 where
+  pub spans : new.spans ≡ old.spans
+  pub texts : new.texts ≡ old.texts
+  pub rows : new.rows ≡ with_at number (settled sampled (old.rows number)) old.rows
+  pub seats : new.seats ≡ old.seats
+
+-- the spans at these keys left, each with its uses of texts
+pub record Leaves {N : Type 0} (gone : List ℕ) (old new : Part N) : Type 0 where
+  pub spans : new.spans ≡ without gone old.spans
+  pub texts : new.texts ≡ texts_without gone old.spans old.texts
+  pub rows : new.rows ≡ old.rows
+  pub seats : new.seats ≡ old.seats
+
+-- the row isn't sampled, and its spans left
+pub record Drops {N : Type 0} (number : ℕ) (old new : Part N) : Type 0 where
+  pub spans : new.spans ≡ without (keys_of (old.rows number)) old.spans
+  pub texts : new.texts ≡ texts_without (keys_of (old.rows number)) old.spans old.texts
+  pub rows : new.rows ≡ with_at number (settled false (old.rows number)) old.rows
+  pub seats : new.seats ≡ old.seats
+
+-- the row left the table, and its spans with it; a later row of the trace keeps the seat
+pub record Sweeps {N : Type 0} (number : ℕ) (old new : Part N) : Type 0 where
+  pub spans : new.spans ≡ without (keys_of (old.rows number)) old.spans
+  pub texts : new.texts ≡ texts_without (keys_of (old.rows number)) old.spans old.texts
+  pub rows : new.rows ≡ with_at number None old.rows
+  pub seats : new.seats ≡ unseated number (trace_in (old.rows number)) old.seats

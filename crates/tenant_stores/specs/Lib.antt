@@ -1,0 +1,6 @@
+pub mod Part
+pub mod Counts
+pub mod View
+pub mod Sound
+pub mod Changes
+pub mod Trail

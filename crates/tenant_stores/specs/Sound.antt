@@ -1,0 +1,53 @@
+-- What always holds of a tenant's part.
+use Rattle.std.specs.Prelude.{◌≡◌, ◌≢◌, ◌<◌, ◌≤◌, ◌+◌, ℕ, List, [], ◌∷◌, ◌++◌}
+use Rattle.std.specs.Prelude.{Option, Some, None, IfSome, if◌then◌else◌, bytes_eq}
+use Rattle.span_pool.specs.Keyed.{KeyedData}
+use Rattle.text_pool.specs.declared.pool.Kept.{Kept}
+use Rattle.trace_rows.specs.declared.table.Row.{Row}
+use Rattle.trace_rows.specs.Part.{keys_of}
+use Rattle.tenant_stores.specs.Part.{Part}
+use Rattle.tenant_stores.specs.Counts.{Counts, AreInOrder, in_table, count}
+use Rattle.tenant_stores.specs.View.{keys_in, text_keys_at}
+
+-- how many spans there are
+abbrev pub one : Option KeyedData → ℕ
+one None = 0
+one (Some span) = 1
+
+-- for how many the text is kept
+abbrev pub uses_of : Option Kept → ℕ
+uses_of None = 0
+uses_of (Some kept) = kept.uses
+
+-- the number, where the row is of this trace
+abbrev pub if_of : {N : Type 0} → List ℕ → Option (Row N) → ℕ → Option ℕ
+if_of trace None number = None
+if_of trace (Some row) number = if bytes_eq row.trace trace then Some number else None
+
+-- the latter of two numbers
+abbrev pub last_of : Option ℕ → Option ℕ → Option ℕ
+last_of first None = first
+last_of first (Some number) = Some number
+
+-- the last row of this trace among those of the numbers
+abbrev pub seat_in : {N : Type 0} → (ℕ → Option (Row N)) → List ℕ → List ℕ → Option ℕ
+seat_in rows [] trace = None
+seat_in rows (number ∷ numbers) trace = last_of (if_of trace (rows number) number) (seat_in rows numbers trace)
+
+-- the keys of spans that rows and the list of spans that wait for a batch name
+abbrev pub named_keys : {N : Type 0} → Counts → List ℕ → Part N → List ℕ
+named_keys n pending p = keys_in p.rows (in_table n) ++ pending
+
+-- with the keys of spans that wait for a batch, and those of texts that are kept for spans to come: each span of the
+-- pool is named exactly once, and by no row that is present and decided; a text is kept for as many as name it; each
+-- trace's seat is its latest row, and the table has just the rows that were opened and not swept
+pub record IsSound {N : Type 0} (n : Counts) (pending held : List ℕ) (p : Part N) : Type 0 where
+  pub order : AreInOrder n
+  pub named : (key : ℕ) → count key (named_keys n pending p) ≡ one (p.spans key)
+  pub bare : (number : ℕ) → n.first < number → number ≤ n.decided → keys_of (p.rows number) ≡ []
+  pub used : (key : ℕ)
+      → count key (text_keys_at p.spans (named_keys n pending p)) + count key held ≡ uses_of (p.texts key)
+  pub kept : (key : ℕ) → IfSome (p.texts key) (λ text. 0 < text.uses)
+  pub seats : (trace : List ℕ) → p.seats trace ≡ seat_in p.rows (in_table n) trace
+  pub there : (number : ℕ) → n.swept < number → number ≤ n.opened → p.rows number ≢ None
+  pub vacant : (number : ℕ) → n.opened < number → p.rows number ≡ None

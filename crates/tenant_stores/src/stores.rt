@@ -1,0 +1,312 @@
+//! The stores that all tenants of a shard share.
+
+ghost use Rattle.std.specs.Prelude.{◌≡◌, ◌≢◌, ◌<◌, ◌≤◌, ◌+◌, ◌++◌, ◌∷◌, [], ℕ, List, length};
+ghost use Rattle.std.specs.Prelude.{None, Some, IfOk, OnOk, OnErr, option_to_list, option_copied, true, false};
+ghost use Rattle.span_pool.specs.Keyed.{KeyedData};
+ghost use Rattle.text_pool.specs.Part as text_part;
+ghost use Rattle.trace_rows.specs.Part.{keys_of, rows_part, seats_part, with_at, with_seat, IsSame};
+ghost use Rattle.tenant_stores.specs.Part.{Part, part};
+ghost use Rattle.tenant_stores.specs.Counts.{Counts, no_rows, one_opened, one_decided, one_swept, count};
+ghost use Rattle.tenant_stores.specs.View.{text_at, text_keys};
+ghost use Rattle.tenant_stores.specs.Sound.{IsSound};
+ghost use Rattle.tenant_stores.specs.Changes.{all_released, new_row, Holds, Releases, Joins, Opens, Settles};
+ghost use Rattle.tenant_stores.specs.Changes.{Leaves, Drops, Sweeps};
+ghost use Rattle.tenant_stores.specs.Trail.{IsPlaced, Trail};
+
+use crate::placed::{Opening, Placed};
+use span_pool::{KeyedSpan, Owned, SpanPool, TextKeys};
+use std::alloc::{AllocError, Global};
+use text_pool::{Text, TextPool};
+use trace_rows::{Keys, Row, TraceRows};
+
+/// The spans, texts and rows of all tenants of a shard. `N` is what is noted of a row's spans.
+#[derive(Drop)]
+pub struct Stores<N> {
+    alloc: Global,
+    spans: SpanPool<KeyedSpan>,
+    texts: TextPool,
+    rows: TraceRows<N>,
+}
+
+impl<N: Drop> Stores<N> {
+    /// Nothing of any tenant, which takes no memory.
+    pub fn new(alloc: Global) -> Self
+        ensures { (tenant : ℕ) → IsSound no_rows [] [] (part tenant result) }
+    {
+        Stores {
+            alloc,
+            spans: SpanPool::new(alloc),
+            texts: TextPool::new(alloc),
+            rows: TraceRows::new(alloc),
+        }
+    }
+
+    /// The number of the latest row of the tenant's trace, where the table has one.
+    pub fn seat(&self, tenant: u32, trace: [u8; 16]) -> Option<u64>
+        ensures { result ≡ (part tenant self.now).seats trace }
+    {
+        self.rows.seat(tenant, trace)
+    }
+
+    /// The tenant's row of this number, where the table has it.
+    pub fn row(&self, tenant: u32, number: u64) -> Option<&Row<N>>
+        ensures { option_copied result ≡ (part tenant self.now).rows number }
+    {
+        self.rows.row(tenant, number)
+    }
+
+    /// The tenant's span at a key.
+    pub fn span(&self, tenant: u32, key: usize) -> Option<&KeyedSpan>
+        ensures { option_copied result ≡ (part tenant self.now).spans key }
+    {
+        self.spans.owned(tenant, key)
+    }
+
+    /// The texts of all tenants.
+    pub fn texts(&self) -> &TextPool
+        ensures { (tenant : ℕ) → text_part.part tenant result.now ≡ (part tenant self.now).texts }
+    {
+        &self.texts
+    }
+
+    /// One use more of a text of the tenant's, for a span to come. The answer is its key.
+    pub fn hold(&mut self, tenant: u32, text: Text) -> Result<usize, AllocError>
+        ensures own { IfOk result (λ key. Holds tenant key text (part tenant self.old) (part tenant self.new)) }
+        ensures sound { IfOk result (λ key. (n : Counts) (pending held : List ℕ)
+            → IsSound n pending held (part tenant self.old) → IsSound n pending (key ∷ held) (part tenant self.new)) }
+        ensures text { IfOk result (λ key. text_at (part tenant self.new).texts key ≡ Some text) }
+
+        // Other tenants' parts stay as they were, and where memory is refused this tenant's too.
+        ensures others { (other : ℕ) → other ≢ tenant → part other self.new ≡ part other self.old }
+        ensures refused { OnErr result (part tenant self.new ≡ part tenant self.old) }
+    {
+        let key = self.texts.hold(tenant, text)?;
+        Ok(key)
+    }
+
+    /// One use less of the tenant's text at this key, for which no span came. It takes no memory.
+    pub fn release(&mut self, tenant: u32, key: usize)
+        ensures own { Releases key (part tenant self.old) (part tenant self.new) }
+        ensures sound { (n : Counts) (pending held : List ℕ)
+            → IsSound n pending (key ∷ held) (part tenant self.old) → IsSound n pending held (part tenant self.new) }
+        ensures others { (other : ℕ) → other ≢ tenant → part other self.new ≡ part other self.old }
+    {
+        self.texts.release(tenant, key);
+    }
+
+    /// The span is stored, and its key joins the row of this number, which has this note from now on. The texts that
+    /// the span names were held for it. The answer is its key.
+    pub fn join(&mut self, number: u64, span: KeyedSpan, note: N) -> Result<usize, AllocError>
+        ensures own { IfOk result (λ key.
+            Joins number key span note (part span.owner self.old) (part span.owner self.new)) }
+        ensures sound { OnOk result ((n : Counts) (pending held : List ℕ) → n.decided < number → number ≤ n.opened
+            → IsSound n pending (text_keys span.keys ++ held) (part span.owner self.old)
+            → IsSound n pending held (part span.owner self.new)) }
+
+        // Other tenants' parts stay as they were, and where memory is refused this tenant's too.
+        ensures others { (other : ℕ) → other ≢ span.owner → part other self.new ≡ part other self.old }
+        ensures refused { OnErr result (part span.owner self.new ≡ part span.owner self.old) }
+    {
+        let tenant = span.owner();
+        let key = self.spans.put(span)?;
+        if let Err(refused) = self.rows.join(tenant, number, key, note) {
+            self.spans.undo_put(tenant, key);
+            return Err(refused);
+        }
+        Ok(key)
+    }
+
+    /// The span is stored, and a row of its trace opens with it, under a number that has none. The texts that the span
+    /// names were held for it. `due` is the moment of the row's decision, in milliseconds.
+    pub fn open(
+        &mut self,
+        number: u64,
+        due: u64,
+        trace: [u8; 16],
+        span: KeyedSpan,
+        note: N,
+    ) -> Result<Opening, AllocError>
+        requires { (part span.owner self.old).rows number ≡ None }
+        ensures own { IfOk result (λ opening.
+            Opens number opening.key due trace span note (part span.owner self.old) (part span.owner self.new)) }
+        ensures earlier { IfOk result (λ opening. opening.earlier ≡ (part span.owner self.old).seats trace) }
+        ensures sound { OnOk result ((n : Counts) (pending held : List ℕ) → number ≡ n.opened + 1
+            → IsSound n pending (text_keys span.keys ++ held) (part span.owner self.old)
+            → IsSound (one_opened n) pending held (part span.owner self.new)) }
+
+        // Other tenants' parts stay as they were, and where memory is refused this tenant's too.
+        ensures others { (other : ℕ) → other ≢ span.owner → part other self.new ≡ part other self.old }
+        ensures refused { OnErr result (part span.owner self.new ≡ part span.owner self.old) }
+    {
+        let tenant = span.owner();
+        let key = self.spans.put(span)?;
+        match open_row(
+            self.alloc,
+            &mut self.rows,
+            tenant,
+            number,
+            due,
+            trace,
+            key,
+            note,
+        ) {
+            Ok(earlier) => Ok(Opening { key, earlier }),
+            Err(refused) => {
+                self.spans.undo_put(tenant, key);
+                Err(refused)
+            }
+        }
+    }
+
+    /// The row is decided and sampled. The answer is the keys of its spans, which wait for a batch from now on. It
+    /// takes no memory.
+    pub fn keep_row(&mut self, tenant: u32, number: u64) -> Keys
+        ensures keys { result ≡ keys_of ((part tenant self.old).rows number) }
+        ensures own { Settles number true (part tenant self.old) (part tenant self.new) }
+        ensures sound { (n : Counts) (pending held : List ℕ) → number ≡ n.decided + 1 → number ≤ n.opened
+            → IsSound n pending held (part tenant self.old)
+            → IsSound (one_decided n) (pending ++ result) held (part tenant self.new) }
+        ensures others { (other : ℕ) → other ≢ tenant → part other self.new ≡ part other self.old }
+    {
+        self.rows.settle(self.alloc, tenant, number, true)
+    }
+
+    /// The row is decided and not sampled: its spans leave. The answer says how many. It takes no memory.
+    pub fn drop_row(&mut self, tenant: u32, number: u64) -> usize
+        ensures size { result ≡ length (keys_of ((part tenant self.old).rows number)) }
+        ensures own { Drops number (part tenant self.old) (part tenant self.new) }
+        ensures sound { (n : Counts) (pending held : List ℕ) → number ≡ n.decided + 1 → number ≤ n.opened
+            → IsSound n pending held (part tenant self.old)
+            → IsSound (one_decided n) pending held (part tenant self.new) }
+        ensures others { (other : ℕ) → other ≢ tenant → part other self.new ≡ part other self.old }
+    {
+        let keys = self.rows.settle(self.alloc, tenant, number, false);
+        self.flush(tenant, keys.as_slice());
+        keys.as_slice().len()
+    }
+
+    /// The tenant's spans at these keys leave, each with its uses of texts. It takes no memory.
+    pub fn flush(&mut self, tenant: u32, keys: &[usize])
+        ensures own { Leaves keys.now (part tenant self.old) (part tenant self.new) }
+        ensures sound { (n : Counts) (pending left held : List ℕ)
+            → ((key : ℕ) → count key keys.now + count key left ≡ count key pending)
+            → IsSound n pending held (part tenant self.old) → IsSound n left held (part tenant self.new) }
+        ensures others { (other : ℕ) → other ≢ tenant → part other self.new ≡ part other self.old }
+    {
+        for key in keys {
+            self.leave(tenant, *key);
+        }
+    }
+
+    /// The row, which is no longer present, leaves the table, and its spans with it. A later row of the trace keeps the
+    /// seat. The answer says how many spans left. It takes no memory.
+    pub fn sweep(&mut self, tenant: u32, number: u64) -> usize
+        ensures size { result ≡ length (keys_of ((part tenant self.old).rows number)) }
+        ensures own { Sweeps number (part tenant self.old) (part tenant self.new) }
+        ensures sound { (n : Counts) (pending held : List ℕ) → number ≡ n.swept + 1 → number ≤ n.first
+            → IsSound n pending held (part tenant self.old)
+            → IsSound (one_swept n) pending held (part tenant self.new) }
+        ensures others { (other : ℕ) → other ≢ tenant → part other self.new ≡ part other self.old }
+    {
+        let keys = self.rows.sweep(self.alloc, tenant, number);
+        self.flush(tenant, keys.as_slice());
+        keys.as_slice().len()
+    }
+
+    /// Takes back what one span changed, and the texts that were held for it. It takes no memory.
+    pub fn take_back(&mut self, tenant: u32, placed: Placed<N>)
+        ensures back { (start : Part N) → IsPlaced placed start (part tenant self.old) → part tenant self.new ≡ start }
+        ensures others { (other : ℕ) → other ≢ tenant → part other self.new ≡ part other self.old }
+    {
+        match placed {
+            Placed::Left => {}
+            Placed::Joined(number, key, former) => {
+                self.rows.undo_join(tenant, number, former);
+                self.leave(tenant, key);
+            }
+            Placed::Opened(number, key, trace, earlier) => {
+                self.rows.undo_open(tenant, number, trace, earlier);
+                self.leave(tenant, key);
+            }
+        }
+    }
+
+    /// Takes back what these spans changed, the latest first. It takes no memory.
+    pub fn take_all_back(&mut self, tenant: u32, journal: &mut Vec<Placed<N>>)
+        ensures back { (start : Part N) → Trail start journal.old.items (part tenant self.old)
+            → part tenant self.new ≡ start }
+        ensures others { (other : ℕ) → other ≢ tenant → part other self.new ≡ part other self.old }
+    {
+        while let Some(placed) = journal.pop() {
+            self.take_back(tenant, placed);
+        }
+    }
+
+    /// The tenant's span at this key leaves, with its uses of texts.
+    fn leave(&mut self, tenant: u32, key: usize)
+        ensures own { Leaves (key ∷ []) (part tenant self.old) (part tenant self.new) }
+        ensures others { (other : ℕ) → other ≢ tenant → part other self.new ≡ part other self.old }
+    {
+        let Ok(span) = self.spans.take(tenant, key) else {
+            return;
+        };
+        release_all(&mut self.texts, tenant, span.keys());
+    }
+}
+
+/// A row of one span opens. The answer is the trace's latest row until now.
+fn open_row<N: Drop>(
+    alloc: Global,
+    rows: &mut TraceRows<N>,
+    tenant: u32,
+    number: u64,
+    due: u64,
+    trace: [u8; 16],
+    key: usize,
+    note: N,
+) -> Result<Option<u64>, AllocError>
+    requires { rows_part tenant rows.old number ≡ None }
+    ensures earlier { IfOk result (λ earlier. earlier ≡ seats_part tenant rows.old trace) }
+    ensures rows { OnOk result (rows_part tenant rows.new ≡
+        with_at number (Some (new_row trace due key note)) (rows_part tenant rows.old)) }
+    ensures seats { OnOk result (seats_part tenant rows.new ≡
+        with_seat trace (Some number) (seats_part tenant rows.old)) }
+    ensures others { (other : ℕ) → other ≢ tenant → IsSame other rows.old rows.new }
+    ensures refused { OnErr result (IsSame tenant rows.old rows.new) }
+{
+    let keys = Keys::one(alloc, key)?;
+    rows.open(
+        tenant,
+        number,
+        Row {
+            trace,
+            due,
+            keys,
+            note,
+            sampled: false,
+        },
+    )
+}
+
+/// One use less of each of the texts with these keys.
+fn release_all(texts: &mut TextPool, tenant: u32, keys: TextKeys)
+    ensures own { text_part.part tenant texts.new ≡
+        all_released (text_keys keys) (text_part.part tenant texts.old) }
+    ensures others { (other : ℕ) → other ≢ tenant → text_part.part other texts.new ≡ text_part.part other texts.old }
+{
+    release(texts, tenant, keys.resource);
+    release(texts, tenant, keys.resource_schema_url);
+    release(texts, tenant, keys.scope);
+    release(texts, tenant, keys.scope_schema_url);
+}
+
+/// One use less of the text with this key, where there is a key.
+fn release(texts: &mut TextPool, tenant: u32, key: Option<usize>)
+    ensures own { text_part.part tenant texts.new ≡
+        all_released (option_to_list key) (text_part.part tenant texts.old) }
+    ensures others { (other : ℕ) → other ≢ tenant → text_part.part other texts.new ≡ text_part.part other texts.old }
+{
+    if let Some(key) = key {
+        texts.release(tenant, key);
+    }
+}
