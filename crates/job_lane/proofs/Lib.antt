@@ -1,0 +1,4 @@
+mod Moves
+mod SeatMoves
+mod Closing
+mod Law

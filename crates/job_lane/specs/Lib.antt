@@ -1,0 +1,3 @@
+pub mod Lane
+pub mod Rule
+pub mod Law
