@@ -1,17 +1,17 @@
 -- Each step keeps the rule of a lane.
-use Rattle.std.proofs.Common.{◌≡◌, ◌≢◌, ℕ, zero, suc, ◌+◌, ◌-◌, ◌<◌, ◌≤◌, List, [], ◌∷◌, ◌++◌, length, set, sum_by, flat_map, refl, sym, ap, ◌∙◌, subst, ⊎_elim, append_assoc, append-nil, arith, length-append}
+use Rattle.std.proofs.Common.{◌≡◌, ◌≢◌, ℕ, zero, suc, ◌+◌, ◌-◌, ◌<◌, List, [], ◌∷◌, ◌++◌, length, set, sum_by, flat_map, refl, sym, ◌∙◌, subst, ⊎_elim, append_assoc, arith}
 use mathlib.Core.Option.{some, some-ne-none, some-injective}
 use lib.ListN.{get_elem?}
 use Rattle.crossbeam_queue.specs.Fifo as fifo
 use Rattle.crossbeam_queue.proofs.Lists.{at_set, at_snoc}
 use Rattle.std.proofs.lemmas.List.Sums.{sum_by_push}
-use Rattle.numbered_items.specs.Numbered.{AreBelow, AreFrom, AreAllOf}
-use Rattle.numbered_items.proofs.Shares.{sum-set, part_of, two_parts, each_set}
+use Rattle.numbered_items.specs.Numbered.{AreAllOf}
+use Rattle.numbered_items.proofs.Shares.{sum-set, two_parts, each_set}
 use Rattle.numbered_items.proofs.Gathered.{gathered-only}
 use Rattle.numbered_items.proofs.Numbered.{AreAllOf-none, AreBelow-from, holder_from, holder_adds, holder_keeps, holder_comes, holder_takes_in}
 use Rattle.job_lane.specs.declared.job.Job.{Job}
 use Rattle.job_lane.specs.declared.view.SeatView.{SeatView}
-use Rattle.job_lane.specs.Lane.{Entry, IsInOrder, IsMoment}
+use Rattle.job_lane.specs.Lane.{Entry, IsInOrder}
 use Rattle.job_lane.specs.Rule.{seat_view, Fits, IsLane, Pushes, Pops, Learned, Counted}
 
 abbrev parts_of : SeatView → ℕ

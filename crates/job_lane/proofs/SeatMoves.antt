@@ -1,5 +1,5 @@
 -- What a step tells keeps what a seat's type says.
-use Rattle.std.proofs.Common.{◌≡◌, ℕ, ◌+◌, ◌<◌, List, [], ◌∷◌, ◌++◌, length, Option, Some, None, MatchOption, IfSome, refl, sym, ap, ◌∙◌, subst, arith, length-append}
+use Rattle.std.proofs.Common.{◌≡◌, ℕ, ◌+◌, [], ◌∷◌, ◌++◌, length, Option, Some, None, MatchOption, IfSome, sym, ap, subst, arith, length-append}
 use Rattle.crossbeam_queue.specs.Fifo.{Held}
 use Rattle.numbered_items.specs.Numbered.{AreBelow, AreRising}
 use Rattle.numbered_items.proofs.Numbered.{AreRising-push}

@@ -1,6 +1,6 @@
 -- A lane: a bounded queue of jobs, first in first out, and the seats that push and pop. Jobs are numbered from 0 on in
 -- the order of their pushes, which is that of their pops too. This project's own rule.
-use Rattle.std.specs.Prelude.{◌≡◌, ℕ, ◌<◌, List, [], ◌++◌, length, flat_map, All}
+use Rattle.std.specs.Prelude.{◌≡◌, ℕ, List, [], ◌++◌, length, flat_map, All}
 use Rattle.atomic_table.specs.Seated.{TableId}
 use Rattle.crossbeam_queue.specs.Fifo.{Held}
 use Rattle.numbered_items.specs.Numbered.{AreRising, AreFrom, AreAllOf}

@@ -1,5 +1,5 @@
 -- What all holders have together, where each has a list.
-use Rattle.std.proofs.Common.{◌≡◌, ◌≢◌, ℕ, zero, suc, ◌+◌, ◌≤◌, List, [], ◌∷◌, ◌++◌, set, All, sum_by, flat_map, IsPermutation, refl, sym, ap, ◌∙◌, subst, append_assoc, append-nil, arith}
+use Rattle.std.proofs.Common.{◌≡◌, ◌≢◌, ℕ, zero, suc, ◌≤◌, List, [], ◌∷◌, ◌++◌, set, All, sum_by, flat_map, IsPermutation, refl, sym, ap, ◌∙◌, subst, append_assoc, append-nil, arith}
 use mathlib.Core.Option.{some, some-ne-none, some-injective}
 use lib.ListN.{get_elem?}
 use Rattle.std.proofs.lemmas.List.Sums.{sum_by-cons}

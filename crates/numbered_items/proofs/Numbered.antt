@@ -1,5 +1,5 @@
 -- Items with their numbers.
-use Rattle.std.proofs.Common.{◌≡◌, ℕ, zero, suc, ◌+◌, ◌<◌, ◌≤◌, List, [], ◌∷◌, ◌++◌, length, set, Some, slice_get, get_or, All, Contains, flat_map, IsPermutation, refl, sym, ap, ◌∙◌, subst, append-nil, arith, length-append}
+use Rattle.std.proofs.Common.{◌≡◌, ℕ, zero, suc, ◌+◌, ◌<◌, List, [], ◌∷◌, ◌++◌, length, set, Some, slice_get, get_or, All, Contains, flat_map, IsPermutation, refl, sym, ap, ◌∙◌, subst, append-nil, arith}
 use Rattle.std.specs.List.{enumerate_from}
 use mathlib.Core.Option.{some}
 use lib.ListN.{get_elem?}
@@ -10,7 +10,7 @@ use Rattle.std.proofs.lemmas.List.Sorted.{IsPermutation-sym, IsPermutation-appen
 use Rattle.std.proofs.lemmas.Option.{slice_get_within, slice_get-get_or, get_or_from_slice_get}
 use Rattle.numbered_items.specs.Numbered.{AreBelow, AreRising, AreFrom, AreAllOf}
 use Rattle.numbered_items.proofs.Orders.{same, joined}
-use Rattle.numbered_items.proofs.Gathered.{gathered-set, gathered-same, gathered-merge, gathered-only, all_of_one}
+use Rattle.numbered_items.proofs.Gathered.{gathered-set, gathered-same, gathered-merge, all_of_one}
 
 module _ {X : Type 0} where
   enumerate_from-push : (n : ℕ) (xs : List X) (x : X) → enumerate_from n (xs ++ x ∷ []) ≡ enumerate_from n xs ++ (n + length xs, x) ∷ []

@@ -1,5 +1,5 @@
 -- Orders of one list, and what holds of each member of a part of it.
-use Rattle.std.proofs.Common.{◌≡◌, ℕ, ◌+◌, ◌<◌, List, ◌++◌, length, get_or, All, IsPermutation, sym, subst, append_assoc, arith, length-append}
+use Rattle.std.proofs.Common.{◌≡◌, ◌+◌, List, ◌++◌, length, All, IsPermutation, sym, subst, append_assoc, arith, length-append}
 use Rattle.std.proofs.lemmas.List.{get_or_append_left, get_or-append-add}
 use Rattle.std.proofs.lemmas.List.Sorted.{IsPermutation-refl, IsPermutation-trans, IsPermutation-append_right, IsPermutation-append_comm}
 

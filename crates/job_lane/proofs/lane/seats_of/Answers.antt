@@ -1,4 +1,4 @@
-use Rattle.std.proofs.Common.{arith, ◌<◌, ◌-◌}
+use Rattle.std.proofs.Common.{arith, ◌-◌}
 use Rattle.job_lane.proofs.Moves.{forks_as}
 use Rattle.job_lane.proofs.lane.seats_of.Goals as goal
 

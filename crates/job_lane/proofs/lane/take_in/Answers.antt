@@ -1,4 +1,4 @@
-use Rattle.std.proofs.Common.{arith, ◌<◌}
+use Rattle.std.proofs.Common.{arith}
 use Rattle.job_lane.proofs.Moves.{merges}
 use Rattle.job_lane.proofs.lane.take_in.Goals as goal
 

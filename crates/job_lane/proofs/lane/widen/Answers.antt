@@ -1,4 +1,4 @@
-use Rattle.std.proofs.Common.{arith, ◌<◌}
+use Rattle.std.proofs.Common.{arith}
 use Rattle.job_lane.proofs.Moves.{widens_as}
 use Rattle.job_lane.proofs.lane.widen.Goals as goal
 
