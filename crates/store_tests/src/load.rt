@@ -9,7 +9,7 @@ use std::process::Abort;
 use std::test::Fail;
 use trace_rows::{Keys, Row, TraceRows};
 
-/// How many spans pass in each test.
+/// How many spans pass in a test.
 const SPANS: u64 = 1_000_000;
 
 /// How many spans a trace has, which come one after the other.
@@ -64,7 +64,8 @@ fn come(rt: &impl Abort, alloc: Global, load: &mut Load, span: u64) -> Result<()
             Some(row) => row.note.max(span),
             None => span,
         };
-        return load.table.join(tenant, seat, key, note);
+        let _ = load.table.join(tenant, seat, key, note)?;
+        return Ok(());
     }
     assert!(rt; load.table.row(tenant, number).is_none());
     let row = Row {
@@ -101,12 +102,17 @@ fn trace_comes(
     Ok(())
 }
 
-/// All spans come, and the oldest trace leaves where more than so many spans would be held. The answer is how many
+/// All these traces come, and the oldest leaves where more than so many would be held. The answer is how many spans
 /// left.
-fn all_come(rt: &impl Abort, alloc: Global, load: &mut Load, held: u64) -> Result<u64, AllocError> {
-    let kept = held / SPANS_OF_A_TRACE;
+fn all_come(
+    rt: &impl Abort,
+    alloc: Global,
+    load: &mut Load,
+    traces: u64,
+    kept: u64,
+) -> Result<u64, AllocError> {
     let mut left: u64 = 0;
-    for trace in 0..SPANS / SPANS_OF_A_TRACE {
+    for trace in 0..traces {
         if trace >= kept {
             left = left.saturating_add(leave(alloc, load, trace - kept));
         }
@@ -115,46 +121,66 @@ fn all_come(rt: &impl Abort, alloc: Global, load: &mut Load, held: u64) -> Resul
     Ok(left)
 }
 
-/// All traces leave. The answer is how many spans left.
-fn all_leave(alloc: Global, load: &mut Load) -> u64 {
+/// All these traces leave. The answer is how many spans left.
+fn all_leave(alloc: Global, load: &mut Load, traces: u64) -> u64 {
     let mut left: u64 = 0;
-    for trace in 0..SPANS / SPANS_OF_A_TRACE {
+    for trace in 0..traces {
         left = left.saturating_add(leave(alloc, load, trace));
     }
     left
 }
 
-/// All spans pass through the stores, which hold so many of them. The answer is how many left.
-fn passed(rt: &impl Abort, alloc: Global, held: u64, tenants: u32) -> Result<u64, AllocError> {
+/// So many spans pass through the stores, which hold so many of them. The answer is how many left.
+fn passed(
+    rt: &impl Abort,
+    alloc: Global,
+    spans: u64,
+    held: u64,
+    tenants: u32,
+) -> Result<u64, AllocError> {
     let mut load = Load {
         pool: SpanPool::new(alloc),
         table: TraceRows::new(alloc),
         tenants,
     };
-    let left = all_come(rt, alloc, &mut load, held)?;
-    Ok(left.saturating_add(all_leave(alloc, &mut load)))
+    let traces = spans / SPANS_OF_A_TRACE;
+    let left = all_come(rt, alloc, &mut load, traces, held / SPANS_OF_A_TRACE)?;
+    Ok(left.saturating_add(all_leave(alloc, &mut load, traces)))
 }
 
 #[test]
 fn a_thousand_held_of_one_tenant(rt: HostRuntime) -> Result<(), Fail> {
-    assert!(rt; passed(&rt, rt.alloc(), 1_000, 1)? == SPANS);
+    assert!(rt; passed(&rt, rt.alloc(), SPANS, 1_000, 1)? == SPANS);
     Ok(())
 }
 
 #[test]
 fn a_million_held_of_one_tenant(rt: HostRuntime) -> Result<(), Fail> {
-    assert!(rt; passed(&rt, rt.alloc(), 1_000_000, 1)? == SPANS);
+    assert!(rt; passed(&rt, rt.alloc(), SPANS, 1_000_000, 1)? == SPANS);
     Ok(())
 }
 
 #[test]
 fn a_thousand_held_of_a_thousand_tenants(rt: HostRuntime) -> Result<(), Fail> {
-    assert!(rt; passed(&rt, rt.alloc(), 1_000, 1_000)? == SPANS);
+    assert!(rt; passed(&rt, rt.alloc(), SPANS, 1_000, 1_000)? == SPANS);
     Ok(())
 }
 
 #[test]
 fn a_million_held_of_a_thousand_tenants(rt: HostRuntime) -> Result<(), Fail> {
-    assert!(rt; passed(&rt, rt.alloc(), 1_000_000, 1_000)? == SPANS);
+    assert!(rt; passed(&rt, rt.alloc(), SPANS, 1_000_000, 1_000)? == SPANS);
+    Ok(())
+}
+
+// The second million takes the room that the first one left.
+#[test]
+fn two_million_pass_a_million_held_of_one_tenant(rt: HostRuntime) -> Result<(), Fail> {
+    assert!(rt; passed(&rt, rt.alloc(), 2 * SPANS, 1_000_000, 1)? == 2 * SPANS);
+    Ok(())
+}
+
+#[test]
+fn two_million_pass_a_million_held_of_a_thousand_tenants(rt: HostRuntime) -> Result<(), Fail> {
+    assert!(rt; passed(&rt, rt.alloc(), 2 * SPANS, 1_000_000, 1_000)? == 2 * SPANS);
     Ok(())
 }

@@ -57,8 +57,8 @@ fn a_row_is_decided_and_leaves_and_its_neighbour_stays(rt: HostRuntime) -> Resul
     let mut table = TraceRows::new(alloc);
     assert!(rt; open(&mut table, 7, 1, row(alloc, TRACE, 10)?)? == None);
     assert!(rt; open(&mut table, 8, 1, row(alloc, TRACE, 20)?)? == None);
-    table.join(7, 1, 11, 21)?;
-    assert!(rt; waits(&table, 7, 1, [10, 11].as_slice(), 21));
+    assert!(rt; table.join(7, 1, 11, 21)? == 10 && table.join(7, 2, 12, 33)? == 33);
+    assert!(rt; waits(&table, 7, 1, [10, 11].as_slice(), 21) && table.row(7, 2).is_none());
     let keys = table.settle(alloc, 7, 1, true);
     assert!(rt; keys.as_slice() == [10, 11].as_slice());
     assert!(rt; is_sampled(&table, 7, 1));
@@ -80,8 +80,8 @@ fn what_was_done_is_taken_back(rt: HostRuntime) -> Result<(), Fail> {
     let alloc = rt.alloc();
     let mut table = TraceRows::new(alloc);
     assert!(rt; open(&mut table, 7, 1, row(alloc, TRACE, 10)?)? == None);
-    table.join(7, 1, 11, 21)?;
-    table.undo_join(7, 1, 10);
+    let former = table.join(7, 1, 11, 21)?;
+    table.undo_join(7, 1, former);
     assert!(rt; waits(&table, 7, 1, [10].as_slice(), 10));
     assert!(rt; open(&mut table, 7, 2, row(alloc, TRACE, 12)?)? == Some(1));
     table.undo_open(7, 2, TRACE, Some(1));
@@ -131,10 +131,10 @@ fn joined_at_last(
     tenant: u32,
     number: u64,
     note: usize,
-) -> Result<(), AllocError> {
+) -> Result<usize, AllocError> {
     let before = (told(table, 7), told(table, 8));
-    if let Ok(()) = table.join(tenant, number, 11, note) {
-        return Ok(());
+    if let Ok(former) = table.join(tenant, number, 11, note) {
+        return Ok(former);
     }
     assert!(rt; (told(table, 7), told(table, 8)) == before);
     table.join(tenant, number, 11, note)

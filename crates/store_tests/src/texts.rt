@@ -64,6 +64,16 @@ fn a_text_is_its_bytes(rt: HostRuntime) {
 }
 
 #[test]
+fn a_text_is_shared(rt: HostRuntime) -> Result<(), Fail> {
+    let alloc = rt.alloc();
+    let first = Text::of(Bytes::copy_from_slice(alloc, FIRST)?);
+    let shared = first.shared()?;
+    assert!(rt; shared.is_same(&first) && shared.digest() == first.digest());
+    assert!(rt; shared.bytes().as_slice() == FIRST);
+    Ok(())
+}
+
+#[test]
 fn a_text_is_kept_once_until_its_last_use(rt: HostRuntime) -> Result<(), Fail> {
     let mut pool = TextPool::new(rt.alloc());
     let first = pool.hold(7, text(FIRST))?;
@@ -78,6 +88,22 @@ fn a_text_is_kept_once_until_its_last_use(rt: HostRuntime) -> Result<(), Fail> {
     assert!(rt; at(&pool, 7, first) == 0 && at(&pool, 7, second) == 2);
     pool.release(7, first);
     assert!(rt; at(&pool, 7, first) == 0 && at(&pool, 7, second) == 2);
+    Ok(())
+}
+
+#[test]
+fn a_text_is_held_again_at_its_key(rt: HostRuntime) -> Result<(), Fail> {
+    let mut pool = TextPool::new(rt.alloc());
+    let first = pool.hold(7, text(FIRST))?;
+    assert!(rt; pool.hold_again(7, first)? == first);
+    pool.release(7, first);
+    assert!(rt; at(&pool, 7, first) == 1);
+    pool.release(7, first);
+    assert!(rt; at(&pool, 7, first) == 0);
+    let eight = pool.hold(8, text(SECOND))?;
+    assert!(rt; pool.hold_again(7, eight)? == eight && at(&pool, 7, eight) == 0);
+    pool.release(8, eight);
+    assert!(rt; at(&pool, 8, eight) == 0);
     Ok(())
 }
 

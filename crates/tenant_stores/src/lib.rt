@@ -20,5 +20,5 @@
 mod placed;
 mod stores;
 
-pub use placed::{Opening, Placed};
+pub use placed::{Joining, Opening, Placed};
 pub use stores::Stores;
