@@ -4,3 +4,4 @@ pub mod View
 pub mod Sound
 pub mod Changes
 pub mod Trail
+pub mod Shows

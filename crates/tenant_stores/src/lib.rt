@@ -17,8 +17,10 @@
 //! It stands on `span_pool`, `text_pool` and `trace_rows`. What rows are for is this project's own rule.
 #![tactic(auto)]
 
+mod law;
 mod placed;
 mod stores;
 
+pub use law::{first_is_shown, keys_are_shown, lengths_are, room_is_made};
 pub use placed::{Opening, Placed};
 pub use stores::Stores;
