@@ -22,5 +22,5 @@ mod placed;
 mod stores;
 
 pub use law::{first_is_shown, keys_are_shown, lengths_are, room_is_made};
-pub use placed::{Opening, Placed};
+pub use placed::{Joining, Opening, Placed};
 pub use stores::Stores;

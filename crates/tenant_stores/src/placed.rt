@@ -1,5 +1,14 @@
 //! What a span changed.
 
+/// A span that joined a row: the key that it lies at, and what was noted of the row's spans until then.
+#[derive(Drop)]
+pub struct Joining<N> {
+    /// The span's key.
+    pub key: usize,
+    /// The row's note before this span.
+    pub former: N,
+}
+
 /// A span that opened a row: the key that it lies at, and the trace's latest row until then.
 #[derive(Clone, Copy, Debug, PartialEq, Eq)]
 pub struct Opening {

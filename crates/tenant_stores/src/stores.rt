@@ -4,7 +4,7 @@ ghost use Rattle.std.specs.Prelude.{◌≡◌, ◌≢◌, ◌<◌, ◌≤◌, �
 ghost use Rattle.std.specs.Prelude.{None, Some, IfOk, OnOk, OnErr, option_to_list, option_copied, true, false};
 ghost use Rattle.span_pool.specs.Keyed.{KeyedData, texts_of};
 ghost use Rattle.text_pool.specs.Part as text_part;
-ghost use Rattle.trace_rows.specs.Part.{keys_of, rows_part, seats_part, with_at, with_seat, IsSame};
+ghost use Rattle.trace_rows.specs.Part.{keys_of, note_of, rows_part, seats_part, with_at, with_seat, IsSame};
 ghost use Rattle.tenant_stores.specs.Part.{Part, part};
 ghost use Rattle.tenant_stores.specs.Counts.{Counts, no_rows, one_opened, one_decided, one_swept, count};
 ghost use Rattle.tenant_stores.specs.View.{text_at, text_keys, view};
@@ -15,7 +15,7 @@ ghost use Rattle.tenant_stores.specs.Shows.{AreAmong, Stay, SeatShows, with_join
 ghost use Rattle.tenant_stores.specs.Shows.{first_kept, first_dropped};
 ghost use Rattle.tenant_stores.specs.Trail.{IsPlaced, Trail};
 
-use crate::placed::{Opening, Placed};
+use crate::placed::{Joining, Opening, Placed};
 use span_pool::{KeyedSpan, Owned, SpanPool, TextKeys};
 use std::alloc::{AllocError, Global};
 use text_pool::{Text, TextPool};
@@ -110,10 +110,12 @@ impl<N: Drop> Stores<N> {
     }
 
     /// The span is stored, and its key joins the row of this number, which has this note from now on. The texts that
-    /// the span names were held for it. The answer is its key.
-    pub fn join(&mut self, number: u64, span: KeyedSpan, note: N) -> Result<usize, AllocError>
-        ensures own { IfOk result (λ key.
-            Joins number key span note (part span.owner self.old) (part span.owner self.new)) }
+    /// the span names were held for it. Where memory is refused, span and note are dropped.
+    pub fn join(&mut self, number: u64, span: KeyedSpan, note: N) -> Result<Joining<N>, AllocError>
+        ensures own { IfOk result (λ joining.
+            Joins number joining.key span note (part span.owner self.old) (part span.owner self.new)) }
+        ensures former { IfOk result (λ joining.
+            joining.former ≡ note_of note ((part span.owner self.old).rows number)) }
         ensures sound { OnOk result ((n : Counts) (pending held : List ℕ) → n.decided < number → number ≤ n.opened
             → IsSound n pending (text_keys span.keys ++ held) (part span.owner self.old)
             → IsSound n pending held (part span.owner self.new)) }
@@ -130,11 +132,13 @@ impl<N: Drop> Stores<N> {
     {
         let tenant = span.owner();
         let key = self.spans.put(span)?;
-        if let Err(refused) = self.rows.join(tenant, number, key, note) {
-            self.spans.undo_put(tenant, key);
-            return Err(refused);
+        match self.rows.join(tenant, number, key, note) {
+            Ok(former) => Ok(Joining { key, former }),
+            Err(refused) => {
+                self.spans.undo_put(tenant, key);
+                Err(refused)
+            }
         }
-        Ok(key)
     }
 
     /// The span is stored, and a row of its trace opens with it, under a number that has none. The texts that the span

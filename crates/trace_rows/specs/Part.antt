@@ -66,6 +66,11 @@ abbrev pub keys_of : {N : Type 0} → Option (Row N) → List ℕ
 keys_of None = []
 keys_of (Some row) = row.keys
 
+-- what is noted of a row; this where there is no row
+abbrev pub note_of : {N : Type 0} → N → Option (Row N) → N
+note_of note None = note
+note_of note (Some row) = row.note
+
 -- a tenant's part of two tables is one: its rows and its seats
 pub record IsSame {N : Type 0} (tenant : ℕ) (old new : TraceRows N) : Type 0 where
   pub rows : rows_part tenant new ≡ rows_part tenant old

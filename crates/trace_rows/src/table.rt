@@ -1,7 +1,7 @@
 //! The table of rows.
 
 ghost use Rattle.std.specs.Prelude.{◌≡◌, ◌≢◌, ℕ, IfOk, OnOk, OnErr, Some, None, option_copied};
-ghost use Rattle.trace_rows.specs.Part.{rows_part, seats_part, with_at, with_seat, joined, unjoined, settled, unseated, keys_of, trace_in, IsSame};
+ghost use Rattle.trace_rows.specs.Part.{rows_part, seats_part, with_at, with_seat, joined, unjoined, settled, unseated, keys_of, note_of, trace_in, IsSame};
 
 use crate::keys::Keys;
 use std::alloc::{AllocError, Global};
@@ -82,8 +82,10 @@ impl<N: Drop> TraceRows<N> {
         }
     }
 
-    /// One more key in the row, whose note is this one from now on. Where there is no such row, nothing changes.
-    pub fn join(&mut self, tenant: u32, number: u64, key: usize, note: N) -> Result<(), AllocError>
+    /// One more key in the row, whose note is this one from now on. The answer is the note that it had. Where there is
+    /// no such row, nothing changes, and the answer is the note that came; where memory is refused, that is dropped.
+    pub fn join(&mut self, tenant: u32, number: u64, key: usize, note: N) -> Result<N, AllocError>
+        ensures former { IfOk result (λ former. former ≡ note_of note (rows_part tenant self.old number)) }
         ensures rows { OnOk result (rows_part tenant self.new ≡
             with_at number (joined key note (rows_part tenant self.old number)) (rows_part tenant self.old)) }
         ensures seats { seats_part tenant self.new ≡ seats_part tenant self.old }
@@ -93,11 +95,10 @@ impl<N: Drop> TraceRows<N> {
         ensures refused { OnErr result (IsSame tenant self.old self.new) }
     {
         let Some(row) = self.rows.get_mut(&(tenant, number)) else {
-            return Ok(());
+            return Ok(note);
         };
         row.keys.push(key)?;
-        row.note = note;
-        Ok(())
+        Ok(std::mem::replace(&mut row.note, note))
     }
 
     /// Takes back the latest key of the row, and its note is the former one again. It takes no memory.

@@ -3,7 +3,7 @@ use Rattle.span_pool.specs.Keyed.{KeyedData}
 use Rattle.span_pool.specs.Pool.{with_span}
 use Rattle.span_pool.specs.Pool as pool
 use Rattle.tenant_stores.specs.Part.{part, owner_of}
-use Rattle.trace_rows.specs.Part.{with_at, with_seat, joined, rows_part, seats_part}
+use Rattle.trace_rows.specs.Part.{with_at, with_seat, joined, note_of, rows_part, seats_part}
 use Rattle.tenant_stores.specs.Changes.{Joins, Opens, new_row}
 use Rattle.tenant_stores.proofs.Sounds.{joins_sound, opens_sound}
 use Rattle.tenant_stores.proofs.Parts.{part_by, span_restored}
@@ -30,13 +30,13 @@ returns-in-Err-clause-refused g c =
     c.undo_put.ensures.own ∙ (ap (with_span key None) put ∙ span_restored (pool.part owner_of c.owner-tenant.result old.spans) key (Some c.args.span) None none) in
     subst (λ (t : ℕ). part t (record { alloc = old.alloc; spans = c.undo_put.new.self; texts = old.texts; rows = c.join.new.self }) ≡ part t old) c.owner-tenant.ensures (part_by _ _ _ _ _ _ _ _ back refl same.rows same.seats)
 
-pub returns-clause-others : goal.returns-clause-others
-returns-clause-others g c = λ other ne.
-    let same = c.in_default.ensures.others other (λ e. ne (e ∙ c.owner-tenant.ensures)) in
+pub returns-in-Ok-clause-others : goal.returns-in-Ok-clause-others
+returns-in-Ok-clause-others g c = λ other ne.
+    let same = c.in-Ok.ensures.others other (λ e. ne (e ∙ c.owner-tenant.ensures)) in
     part_by _ _ _ _ _ _ _ _ (c.in_ok-key.ensures.others other ne) refl same.rows same.seats
 
-pub returns-clause-sound : goal.returns-clause-sound
-returns-clause-sound g c = λ n pending held above below sound.
+pub returns-in-Ok-clause-sound : goal.returns-in-Ok-clause-sound
+returns-in-Ok-clause-sound g c = λ n pending held above below sound.
     let span = c.args.span in
     let stores = c.args.self.now in
     let old = part span.owner stores in
@@ -46,15 +46,15 @@ returns-clause-sound g c = λ n pending held above below sound.
       vacant = c.in_ok-key.ensures.vacant span.owner;
       spans = c.in_ok-key.ensures.own;
       texts = refl;
-      rows = subst (λ (t : ℕ). rows_part t c.join.new.self ≡ with_at c.args.number (joined key c.args.note (rows_part t stores.rows c.args.number)) (rows_part t stores.rows)) c.owner-tenant.ensures c.in_default.ensures.rows;
-      seats = subst (λ (t : ℕ). seats_part t c.join.new.self ≡ seats_part t stores.rows) c.owner-tenant.ensures c.in_default.ensures.seats;
+      rows = subst (λ (t : ℕ). rows_part t c.join.new.self ≡ with_at c.args.number (joined key c.args.note (rows_part t stores.rows c.args.number)) (rows_part t stores.rows)) c.owner-tenant.ensures c.in-Ok.ensures.rows;
+      seats = subst (λ (t : ℕ). seats_part t c.join.new.self ≡ seats_part t stores.rows) c.owner-tenant.ensures c.in-Ok.ensures.seats;
     } in
     let m = c.args.number - 1 in
     let e : c.args.number ≡ suc m = omega (arith, above) in
     joins_sound m key span c.args.note old new n pending held (subst (λ (k : ℕ). Joins k key span c.args.note old new) e change) (omega (arith, above)) (omega (arith, above, below)) sound
 
-pub returns-clause-shows : goal.returns-clause-shows
-returns-clause-shows g c = λ n pending held keys trace sound among seat above.
+pub returns-in-Ok-clause-shows : goal.returns-in-Ok-clause-shows
+returns-in-Ok-clause-shows g c = λ n pending held keys trace sound among seat above.
     let span = c.args.span in
     let stores = c.args.self.now in
     let old = part span.owner stores in
@@ -64,7 +64,11 @@ returns-clause-shows g c = λ n pending held keys trace sound among seat above.
       vacant = c.in_ok-key.ensures.vacant span.owner;
       spans = c.in_ok-key.ensures.own;
       texts = refl;
-      rows = subst (λ (t : ℕ). rows_part t c.join.new.self ≡ with_at c.args.number (joined key c.args.note (rows_part t stores.rows c.args.number)) (rows_part t stores.rows)) c.owner-tenant.ensures c.in_default.ensures.rows;
-      seats = subst (λ (t : ℕ). seats_part t c.join.new.self ≡ seats_part t stores.rows) c.owner-tenant.ensures c.in_default.ensures.seats;
+      rows = subst (λ (t : ℕ). rows_part t c.join.new.self ≡ with_at c.args.number (joined key c.args.note (rows_part t stores.rows c.args.number)) (rows_part t stores.rows)) c.owner-tenant.ensures c.in-Ok.ensures.rows;
+      seats = subst (λ (t : ℕ). seats_part t c.join.new.self ≡ seats_part t stores.rows) c.owner-tenant.ensures c.in-Ok.ensures.seats;
     } in
     joins_shows c.args.number key span c.args.note old new change n pending held sound keys among trace seat above
+
+pub returns-in-Ok-clause-former : goal.returns-in-Ok-clause-former
+returns-in-Ok-clause-former g c =
+    subst (λ (t : ℕ). c.in-Ok.former ≡ note_of c.args.note (rows_part t c.args.self.now.rows c.args.number)) c.owner-tenant.ensures c.in-Ok.ensures.former

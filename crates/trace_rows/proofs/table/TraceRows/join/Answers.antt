@@ -1,6 +1,6 @@
 use Rattle.std.proofs.Common.{◌≡◌, ◌∙◌, ap, sym, Some, refl, is_some, rules, Option, List, ℕ, ◌++◌, ◌∷◌, []}
 use Rattle.trace_rows.specs.declared.table.Row.{Row}
-use Rattle.trace_rows.specs.Part.{with_at, rows_part, joined, IsSame}
+use Rattle.trace_rows.specs.Part.{with_at, rows_part, joined, note_of, IsSame}
 use Rattle.trace_rows.proofs.Parts.{numbers, at_put, at_put_other, at_again}
 use Rattle.trace_rows.proofs.table.TraceRows.join.Goals as goal
 
@@ -10,13 +10,17 @@ returns g c =
     let t = c.args.tenant in
     let k = c.args.number in
     let f : ℕ → Option (Row g.row.N.Denot) = rows_part t c.args.self.now in
-    let grown : Row g.row.N.Denot = record row { keys = c.push.new.self; note = c.args.note } in
+    let grown : Row g.row.N.Denot = record row { keys = c.push.new.self; note = c.replace.new.dest } in
     let had : f k ≡ Some row = sym c.in-Some.ensures.value in
     let keys : c.push.new.self ≡ row.keys ++ c.args.key ∷ [] = c.in_ok-push.ensures.ok in
+    let note : c.replace.new.dest ≡ c.args.note = c.replace.ensures.after in
     let new = c.get_mut.follows.lender grown in
     let written = (c.get_mut.follows.holds grown).3 (ap is_some had) in
-    let slot : Some grown ≡ joined c.args.key c.args.note (f k) = ap (λ (ks : List ℕ). Some (record row { keys = ks; note = c.args.note })) keys ∙ sym (ap (joined c.args.key c.args.note) had) in
+    let slot : Some grown ≡ joined c.args.key c.args.note (f k) =
+    ap (λ (n : g.row.N.Denot). Some (record row { keys = c.push.new.self; note = n })) note
+    ∙ (ap (λ (ks : List ℕ). Some (record row { keys = ks; note = c.args.note })) keys ∙ sym (ap (joined c.args.key c.args.note) had)) in
     record {
+      former = c.replace.ensures.value ∙ sym (ap (note_of c.args.note) had);
       rows = at_put numbers c.args.self.now.rows new t k (Some grown) written ∙ ap (λ (s : Option (Row g.row.N.Denot)). with_at k s f) slot;
       seats = refl;
       others = λ other ne. record { rows = at_put_other numbers c.args.self.now.rows new t k other (Some grown) written ne; seats = refl };
