@@ -10,3 +10,4 @@ pub mod Seats
 pub mod Shows
 pub mod Rooms
 pub mod Keys
+pub mod Held

@@ -25,7 +25,7 @@ module _ {N : Type 0} where
   -- ---- uses of texts come and go
 
   -- where texts that are named stay, and nothing else changes, the same is shown
-  texts_show : (p q : Part N) (n : Counts) (pending keys : List ℕ) → AreInOrder n → q.spans ≡ p.spans → q.rows ≡ p.rows → ((t : ℕ) → 0 < count t (text_keys_at p.spans (named_keys n pending p)) → text_at q.texts t ≡ text_at p.texts t) → AreAmong keys pending → view n keys q ≡ view n keys p
+  pub texts_show : (p q : Part N) (n : Counts) (pending keys : List ℕ) → AreInOrder n → q.spans ≡ p.spans → q.rows ≡ p.rows → ((t : ℕ) → 0 < count t (text_keys_at p.spans (named_keys n pending p)) → text_at q.texts t ≡ text_at p.texts t) → AreAmong keys pending → view n keys q ≡ view n keys p
   texts_show p q n pending keys order spans rows same among =
       let named = named_keys n pending p in
       let alike : ShowAlike named p.spans p.texts q.spans q.texts = λ k some. ap (λ (f : ℕ → Option KeyedData). shown q.texts (f k)) spans ∙ alike-texts p.spans p.texts q.texts named same k some in

@@ -5,3 +5,4 @@ pub mod Sound
 pub mod Changes
 pub mod Trail
 pub mod Shows
+pub mod Held

@@ -20,6 +20,7 @@
 mod law;
 mod placed;
 mod stores;
+mod texts;
 
 pub use law::{first_is_shown, keys_are_shown, lengths_are, room_is_made};
 pub use placed::{Joining, Opening, Placed};

@@ -1,21 +1,23 @@
 //! The stores that all tenants of a shard share.
 
 ghost use Rattle.std.specs.Prelude.{◌≡◌, ◌≢◌, ◌<◌, ◌≤◌, ◌+◌, ◌++◌, ◌∷◌, [], ℕ, List, length};
-ghost use Rattle.std.specs.Prelude.{None, Some, IfOk, OnOk, OnErr, option_to_list, option_copied, true, false};
-ghost use Rattle.span_pool.specs.Keyed.{KeyedData, texts_of};
+ghost use Rattle.std.specs.Prelude.{None, Some, IfOk, OnOk, OnErr, option_copied, true, false};
+ghost use Rattle.span_pool.specs.Keyed.{origin_at, texts_of};
 ghost use Rattle.text_pool.specs.Part as text_part;
 ghost use Rattle.trace_rows.specs.Part.{keys_of, note_of, rows_part, seats_part, with_at, with_seat, IsSame};
 ghost use Rattle.tenant_stores.specs.Part.{Part, part};
 ghost use Rattle.tenant_stores.specs.Counts.{Counts, no_rows, one_opened, one_decided, one_swept, count};
 ghost use Rattle.tenant_stores.specs.View.{text_at, text_keys, view};
 ghost use Rattle.tenant_stores.specs.Sound.{IsSound};
-ghost use Rattle.tenant_stores.specs.Changes.{all_released, new_row, Holds, Releases, Joins, Opens, Settles};
-ghost use Rattle.tenant_stores.specs.Changes.{Waits, Leaves, Drops, Sweeps};
+ghost use Rattle.tenant_stores.specs.Changes.{new_row, Holds, Releases, Joins, Opens, Settles};
+ghost use Rattle.tenant_stores.specs.Changes.{ReleasesAll, Waits, Leaves, Drops, Sweeps};
 ghost use Rattle.tenant_stores.specs.Shows.{AreAmong, Stay, SeatShows, with_joined, with_opened, with_late};
 ghost use Rattle.tenant_stores.specs.Shows.{first_kept, first_dropped};
-ghost use Rattle.tenant_stores.specs.Trail.{IsPlaced, Trail};
+ghost use Rattle.tenant_stores.specs.Held.{origin_of};
+ghost use Rattle.tenant_stores.specs.Trail.{HoldsAll, IsPlaced, Trail};
 
 use crate::placed::{Joining, Opening, Placed};
+use crate::texts::{hold_four, release_all, wanted_again, wanted_new};
 use span_pool::{KeyedSpan, Owned, SpanPool, TextKeys};
 use std::alloc::{AllocError, Global};
 use text_pool::{Text, TextPool};
@@ -107,6 +109,112 @@ impl<N: Drop> Stores<N> {
         ensures others { (other : ℕ) → other ≢ tenant → part other self.new ≡ part other self.old }
     {
         self.texts.release(tenant, key);
+    }
+
+    /// One use more of each of an origin's four texts, for a span to come, or of none. The answer is their keys.
+    pub fn hold_all(
+        &mut self,
+        tenant: u32,
+        resource: Option<&Text>,
+        resource_schema_url: Option<&Text>,
+        scope: Option<&Text>,
+        scope_schema_url: Option<&Text>,
+    ) -> Result<TextKeys, AllocError>
+        ensures own { IfOk result (λ keys. (n : Counts) (pending held : List ℕ)
+            → IsSound n pending held (part tenant self.old)
+            → HoldsAll (text_keys keys) (part tenant self.old) (part tenant self.new)) }
+        ensures texts { IfOk result (λ keys. (n : Counts) (pending held : List ℕ)
+            → IsSound n pending held (part tenant self.old)
+            → origin_at (text_at (part tenant self.new).texts) keys ≡ origin_of
+            (option_copied resource.entry) (option_copied resource_schema_url.entry)
+            (option_copied scope.entry) (option_copied scope_schema_url.entry)) }
+        ensures sound { IfOk result (λ keys. (n : Counts) (pending held : List ℕ)
+            → IsSound n pending held (part tenant self.old)
+            → IsSound n pending (text_keys keys ++ held) (part tenant self.new)) }
+        ensures shows { OnOk result ((n : Counts) (pending held keys : List ℕ)
+            → IsSound n pending held (part tenant self.old) → AreAmong keys pending
+            → view n keys (part tenant self.new) ≡ view n keys (part tenant self.old)) }
+        ensures stay { OnOk result ((n : Counts) (pending held : List ℕ)
+            → IsSound n pending held (part tenant self.old)
+            → Stay held (part tenant self.old).texts (part tenant self.new).texts) }
+
+        // Other tenants' parts stay as they were, and where memory is refused this tenant's too.
+        ensures others { (other : ℕ) → other ≢ tenant → part other self.new ≡ part other self.old }
+        ensures refused { OnErr result ((n : Counts) (pending held : List ℕ)
+            → IsSound n pending held (part tenant self.old)
+            → part tenant self.new ≡ part tenant self.old) }
+    {
+        let resource = wanted_new(resource);
+        let resource_schema_url = wanted_new(resource_schema_url);
+        let scope = wanted_new(scope);
+        let scope_schema_url = wanted_new(scope_schema_url);
+        let keys = hold_four(
+            &mut self.texts,
+            tenant,
+            resource,
+            resource_schema_url,
+            scope,
+            scope_schema_url,
+        )?;
+        Ok(keys)
+    }
+
+    /// One use more of each of these keys' texts, which are in hand, for a span to come, or of none. The answer is the
+    /// keys of these uses.
+    pub fn hold_again(&mut self, tenant: u32, keys: TextKeys) -> Result<TextKeys, AllocError>
+        ensures own { IfOk result (λ again. (n : Counts) (pending held : List ℕ)
+            → AreAmong (text_keys keys) held → IsSound n pending held (part tenant self.old)
+            → HoldsAll (text_keys again) (part tenant self.old) (part tenant self.new)) }
+        ensures texts { IfOk result (λ again. (n : Counts) (pending held : List ℕ)
+            → AreAmong (text_keys keys) held → IsSound n pending held (part tenant self.old)
+            → origin_at (text_at (part tenant self.new).texts) again ≡
+            origin_at (text_at (part tenant self.old).texts) keys) }
+        ensures sound { IfOk result (λ again. (n : Counts) (pending held : List ℕ)
+            → AreAmong (text_keys keys) held → IsSound n pending held (part tenant self.old)
+            → IsSound n pending (text_keys again ++ held) (part tenant self.new)) }
+        ensures shows { OnOk result ((n : Counts) (pending held shown : List ℕ)
+            → AreAmong (text_keys keys) held → IsSound n pending held (part tenant self.old) → AreAmong shown pending
+            → view n shown (part tenant self.new) ≡ view n shown (part tenant self.old)) }
+        ensures stay { OnOk result ((n : Counts) (pending held : List ℕ)
+            → AreAmong (text_keys keys) held → IsSound n pending held (part tenant self.old)
+            → Stay held (part tenant self.old).texts (part tenant self.new).texts) }
+
+        // Other tenants' parts stay as they were, and where memory is refused this tenant's too.
+        ensures others { (other : ℕ) → other ≢ tenant → part other self.new ≡ part other self.old }
+        ensures refused { OnErr result ((n : Counts) (pending held : List ℕ)
+            → AreAmong (text_keys keys) held → IsSound n pending held (part tenant self.old)
+            → part tenant self.new ≡ part tenant self.old) }
+    {
+        let resource = wanted_again(keys.resource);
+        let resource_schema_url = wanted_again(keys.resource_schema_url);
+        let scope = wanted_again(keys.scope);
+        let scope_schema_url = wanted_again(keys.scope_schema_url);
+        let again = hold_four(
+            &mut self.texts,
+            tenant,
+            resource,
+            resource_schema_url,
+            scope,
+            scope_schema_url,
+        )?;
+        Ok(again)
+    }
+
+    /// One use less of each of these keys' texts, for which no span came. It takes no memory.
+    pub fn release_all(&mut self, tenant: u32, keys: TextKeys)
+        ensures own { ReleasesAll (text_keys keys) (part tenant self.old) (part tenant self.new) }
+        ensures sound { (n : Counts) (pending held : List ℕ)
+            → IsSound n pending (text_keys keys ++ held) (part tenant self.old)
+            → IsSound n pending held (part tenant self.new) }
+        ensures shows { (n : Counts) (pending held shown : List ℕ)
+            → IsSound n pending (text_keys keys ++ held) (part tenant self.old) → AreAmong shown pending
+            → view n shown (part tenant self.new) ≡ view n shown (part tenant self.old) }
+        ensures stay { (n : Counts) (pending held : List ℕ)
+            → IsSound n pending (text_keys keys ++ held) (part tenant self.old)
+            → Stay held (part tenant self.old).texts (part tenant self.new).texts }
+        ensures others { (other : ℕ) → other ≢ tenant → part other self.new ≡ part other self.old }
+    {
+        release_all(&mut self.texts, tenant, keys);
     }
 
     /// The span is stored, and its key joins the row of this number, which has this note from now on. The texts that
@@ -205,8 +313,8 @@ impl<N: Drop> Stores<N> {
         ensures others { (other : ℕ) → other ≢ span.owner → part other self.new ≡ part other self.old }
         ensures refused { OnErr result (part span.owner self.new ≡ part span.owner self.old) }
     {
-        let key = self.spans.put(span)?;
-        Ok(key)
+        let late = self.spans.put(span)?;
+        Ok(late)
     }
 
     /// The row is decided and sampled. The answer is the keys of its spans, which wait for a batch from now on. It
@@ -365,27 +473,4 @@ fn open_row<N: Drop>(
             sampled: false,
         },
     )
-}
-
-/// One use less of each of the texts with these keys.
-fn release_all(texts: &mut TextPool, tenant: u32, keys: TextKeys)
-    ensures own { text_part.part tenant texts.new ≡
-        all_released (text_keys keys) (text_part.part tenant texts.old) }
-    ensures others { (other : ℕ) → other ≢ tenant → text_part.part other texts.new ≡ text_part.part other texts.old }
-{
-    release(texts, tenant, keys.resource);
-    release(texts, tenant, keys.resource_schema_url);
-    release(texts, tenant, keys.scope);
-    release(texts, tenant, keys.scope_schema_url);
-}
-
-/// One use less of the text with this key, where there is a key.
-fn release(texts: &mut TextPool, tenant: u32, key: Option<usize>)
-    ensures own { text_part.part tenant texts.new ≡
-        all_released (option_to_list key) (text_part.part tenant texts.old) }
-    ensures others { (other : ℕ) → other ≢ tenant → text_part.part other texts.new ≡ text_part.part other texts.old }
-{
-    if let Some(key) = key {
-        texts.release(tenant, key);
-    }
 }
