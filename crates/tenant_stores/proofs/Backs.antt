@@ -11,7 +11,7 @@ use Rattle.text_pool.specs.declared.pool.Kept.{Kept}
 use Rattle.trace_rows.specs.Part.{with_at, with_seat, joined, unjoined}
 use Rattle.trace_rows.specs.declared.table.Row.{Row}
 use Rattle.tenant_stores.specs.declared.placed.Placed.{Placed}
-use Rattle.tenant_stores.specs.declared.placed.Placed.TheVariants.{Joined, Opened}
+use Rattle.tenant_stores.specs.declared.placed.Placed.TheVariants.{Joined, Opened, Late}
 use Rattle.tenant_stores.specs.Part.{Part}
 use Rattle.tenant_stores.specs.View.{text_keys, text_keys_of}
 use Rattle.tenant_stores.specs.Changes.{all_released, texts_without, Joins, Opens, Leaves, new_row}
@@ -86,6 +86,11 @@ module _ {N : Type 0} where
     where
       is_some : {n : ℕ} → Some n ≡ None → ⊥
       is_some e = absurd (cc)
+
+  pub back_late : (start p r : Part N) (key : ℕ) → IsPlaced (Late key) start p → Leaves (key ∷ []) p r → r ≡ start
+  back_late start p r key (span, middle, holds, waits) leaves =
+      let left = left_again start middle p r key span waits.vacant waits.spans waits.texts holds leaves.spans leaves.texts in
+      part_by r.spans start.spans r.texts start.texts r.rows start.rows r.seats start.seats left.0 left.1 (leaves.rows ∙ (waits.rows ∙ holds.rows)) (leaves.seats ∙ (waits.seats ∙ holds.seats))
 
   pub Trail_pop : (start end : Part N) (xs : List (Placed N)) (x : Placed N) → Trail start (xs ++ x ∷ []) end → (middle : Part N) × Trail start xs middle × IsPlaced x middle end
   Trail_pop start end [] x t = (start, refl, subst (IsPlaced x start) (sym t.2) t.1)

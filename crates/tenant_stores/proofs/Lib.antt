@@ -4,3 +4,10 @@ pub mod Lists
 pub mod Uses
 pub mod Rows
 pub mod Sounds
+pub mod Shown
+pub mod Stays
+pub mod Seats
+pub mod Shows
+pub mod Rooms
+pub mod Keys
+pub mod Held

@@ -11,7 +11,7 @@ use Rattle.tenant_stores.specs.Part.{Part}
 use Rattle.tenant_stores.specs.Counts.{Counts, AreInOrder, no_rows, one_opened, one_decided, one_swept, in_table, range, count}
 use Rattle.tenant_stores.specs.View.{keys_in, text_keys, text_keys_of, text_keys_at}
 use Rattle.tenant_stores.specs.Sound.{one, uses_of, if_of, last_of, seat_in, named_keys, IsSound}
-use Rattle.tenant_stores.specs.Changes.{texts_without, Holds, Releases, Joins, Opens, new_row, Settles, Leaves, Drops, Sweeps}
+use Rattle.tenant_stores.specs.Changes.{texts_without, Holds, Releases, Joins, Opens, Waits, new_row, Settles, Leaves, Drops, Sweeps}
 use Rattle.tenant_stores.proofs.Parts.{part_by, span_here}
 use Rattle.tenant_stores.proofs.Lists.{count-append, AreOther, range-above, range-below, front_of, last}
 use Rattle.tenant_stores.proofs.Uses.{one_most, one-without, one-put, names-append, names-by_count, names-put, names-without, one_released, one_kept, uses-without, kept-without, one_held, held_kept}
@@ -148,6 +148,23 @@ module _ {N : Type 0} where
         seats = λ trace. sound.seats trace ∙ sym (seat-replaced (suc m) w p.rows (joined_of key note (p.rows (suc m))) trace (in_table n));
         there = λ number above below. row_either (suc m) w p.rows (λ o. o ≢ None) number (λ e. joined_there key note (p.rows (suc m)) there) (λ ne. sound.there number above below);
         vacant = λ number above. row_other (suc m) w p.rows number (λ e. absurd (omega (arith, e, above, below_o))) ∙ sound.vacant number above;
+      })
+
+  -- a span waits for a batch
+  pub waits_sound : (key : ℕ) (span : KeyedData) (p q : Part N) (n : Counts) (pending held : List ℕ) → Waits key span p q → IsSound n pending (text_keys span.keys ++ held) p → IsSound n (pending ++ key ∷ []) held q
+  waits_sound key span p q n pending held change sound =
+      let K = keys_in p.rows (in_table n) in
+      let more : (j : ℕ) → count j (K ++ (pending ++ key ∷ [])) ≡ count j (key ∷ (K ++ pending)) = λ j.
+      omega (arith, count-append j K (pending ++ key ∷ []), count-append j pending (key ∷ []), count-append j K pending, count-append j (key ∷ []) (K ++ pending)) in
+      subst (λ (x : Part N). IsSound n (pending ++ key ∷ []) held x) (sym (part_by q.spans (with_span key (Some span) p.spans) q.texts p.texts q.rows p.rows q.seats p.seats change.spans change.texts change.rows change.seats)) (record {
+        order = sound.order;
+        named = come_named key span p (K ++ pending) (K ++ (pending ++ key ∷ [])) held change.vacant sound.named sound.used more;
+        bare = sound.bare;
+        used = come_used key span p (K ++ pending) (K ++ (pending ++ key ∷ [])) held change.vacant sound.named sound.used more;
+        kept = sound.kept;
+        seats = sound.seats;
+        there = sound.there;
+        vacant = sound.vacant;
       })
 
   -- a span opens the next row

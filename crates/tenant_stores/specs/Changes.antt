@@ -35,6 +35,13 @@ pub record Releases {N : Type 0} (key : ℕ) (old new : Part N) : Type 0 where
   pub rows : new.rows ≡ old.rows
   pub seats : new.seats ≡ old.seats
 
+-- one use of each of the texts at these keys is given back
+pub record ReleasesAll {N : Type 0} (keys : List ℕ) (old new : Part N) : Type 0 where
+  pub spans : new.spans ≡ old.spans
+  pub texts : new.texts ≡ all_released keys old.texts
+  pub rows : new.rows ≡ old.rows
+  pub seats : new.seats ≡ old.seats
+
 -- the span lies at a key that was vacant, which joined the row; the row has this note
 pub record Joins {N : Type 0} (number key : ℕ) (span : KeyedData) (note : N) (old new : Part N) : Type 0 where
   pub vacant : old.spans key ≡ None
@@ -55,6 +62,14 @@ pub record Opens {N : Type 0} (number key due : ℕ) (trace : List ℕ) (span : 
   pub texts : new.texts ≡ old.texts
   pub rows : new.rows ≡ with_at number (Some (new_row trace due key note)) old.rows
   pub seats : new.seats ≡ with_seat trace (Some number) old.seats
+
+-- the span lies at a key that was vacant
+pub record Waits {N : Type 0} (key : ℕ) (span : KeyedData) (old new : Part N) : Type 0 where
+  pub vacant : old.spans key ≡ None
+  pub spans : new.spans ≡ with_span key (Some span) old.spans
+  pub texts : new.texts ≡ old.texts
+  pub rows : new.rows ≡ old.rows
+  pub seats : new.seats ≡ old.seats
 
 -- the row has its verdict, and no keys any more
 pub record Settles {N : Type 0} (number : ℕ) (sampled : Bool) (old new : Part N) : Type 0 where

@@ -4,3 +4,5 @@ pub mod View
 pub mod Sound
 pub mod Changes
 pub mod Trail
+pub mod Shows
+pub mod Held

@@ -24,10 +24,10 @@ abbrev pub if_of : {N : Type 0} → List ℕ → Option (Row N) → ℕ → Opti
 if_of trace None number = None
 if_of trace (Some row) number = if bytes_eq row.trace trace then Some number else None
 
--- the latter of two numbers
-abbrev pub last_of : Option ℕ → Option ℕ → Option ℕ
+-- the latter of two that may be missing
+abbrev pub last_of : {X : Type 0} → Option X → Option X → Option X
 last_of first None = first
-last_of first (Some number) = Some number
+last_of first (Some last) = Some last
 
 -- the last row of this trace among those of the numbers
 abbrev pub seat_in : {N : Type 0} → (ℕ → Option (Row N)) → List ℕ → List ℕ → Option ℕ

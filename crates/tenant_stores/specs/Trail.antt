@@ -3,10 +3,10 @@ use Rattle.std.specs.Prelude.{◌≡◌, ℕ, List, [], ◌∷◌, Option, Some,
 use Rattle.span_pool.specs.Keyed.{KeyedData}
 use Rattle.trace_rows.specs.declared.table.Row.{Row}
 use Rattle.tenant_stores.specs.declared.placed.Placed.{Placed}
-use Rattle.tenant_stores.specs.declared.placed.Placed.TheVariants.{Left, Joined, Opened}
+use Rattle.tenant_stores.specs.declared.placed.Placed.TheVariants.{Left, Joined, Opened, Late}
 use Rattle.tenant_stores.specs.Part.{Part}
 use Rattle.tenant_stores.specs.View.{text_keys}
-use Rattle.tenant_stores.specs.Changes.{all_released, Joins, Opens}
+use Rattle.tenant_stores.specs.Changes.{all_released, Joins, Opens, Waits}
 
 -- the same but for texts: so many of them are held as, once these uses are given back, were before
 pub record HoldsAll {N : Type 0} (keys : List ℕ) (old new : Part N) : Type 0 where
@@ -15,7 +15,8 @@ pub record HoldsAll {N : Type 0} (keys : List ℕ) (old new : Part N) : Type 0 w
   pub rows : new.rows ≡ old.rows
   pub seats : new.seats ≡ old.seats
 
--- the texts of a span were held, and then it joined a row of the former note, or opened one; or it left nothing
+-- the texts of a span were held, and then it joined a row of the former note, opened one, or waits for a batch; or it
+-- left nothing
 abbrev pub IsPlaced : {N : Type 0} → Placed N → Part N → Part N → Type 0
 IsPlaced Left old new = new ≡ old
 IsPlaced {N} (Joined number key former) old new =
@@ -25,6 +26,8 @@ IsPlaced {N} (Opened number key trace earlier) old new =
     (span : KeyedData) × (due : ℕ) × (note : N) × (middle : Part N) × (old.rows number ≡ None)
     × (old.seats trace ≡ earlier) × HoldsAll (text_keys span.keys) old middle
     × Opens number key due trace span note middle new
+IsPlaced {N} (Late key) old new =
+    (span : KeyedData) × (middle : Part N) × HoldsAll (text_keys span.keys) old middle × Waits key span middle new
 
 -- the oldest first
 abbrev pub Trail : {N : Type 0} → Part N → List (Placed N) → Part N → Type 0

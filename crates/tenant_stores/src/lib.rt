@@ -17,8 +17,11 @@
 //! It stands on `span_pool`, `text_pool` and `trace_rows`. What rows are for is this project's own rule.
 #![tactic(auto)]
 
+mod law;
 mod placed;
 mod stores;
+mod texts;
 
+pub use law::{first_is_shown, keys_are_shown, lengths_are, room_is_made};
 pub use placed::{Joining, Opening, Placed};
 pub use stores::Stores;

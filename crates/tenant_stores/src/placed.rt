@@ -27,4 +27,6 @@ pub enum Placed<N> {
     Joined(u64, usize, N),
     /// It opened a row: the row's number, the span's key, the trace, and the trace's latest row until then.
     Opened(u64, usize, [u8; 16], Option<u64>),
+    /// It came late to a row that was sampled, and waits for a batch: its key.
+    Late(usize),
 }

@@ -1,19 +1,23 @@
 //! The stores that all tenants of a shard share.
 
 ghost use Rattle.std.specs.Prelude.{◌≡◌, ◌≢◌, ◌<◌, ◌≤◌, ◌+◌, ◌++◌, ◌∷◌, [], ℕ, List, length};
-ghost use Rattle.std.specs.Prelude.{None, Some, IfOk, OnOk, OnErr, option_to_list, option_copied, true, false};
-ghost use Rattle.span_pool.specs.Keyed.{KeyedData};
+ghost use Rattle.std.specs.Prelude.{None, Some, IfOk, OnOk, OnErr, option_copied, true, false};
+ghost use Rattle.span_pool.specs.Keyed.{origin_at, texts_of};
 ghost use Rattle.text_pool.specs.Part as text_part;
 ghost use Rattle.trace_rows.specs.Part.{keys_of, note_of, rows_part, seats_part, with_at, with_seat, IsSame};
 ghost use Rattle.tenant_stores.specs.Part.{Part, part};
 ghost use Rattle.tenant_stores.specs.Counts.{Counts, no_rows, one_opened, one_decided, one_swept, count};
-ghost use Rattle.tenant_stores.specs.View.{text_at, text_keys};
+ghost use Rattle.tenant_stores.specs.View.{text_at, text_keys, view};
 ghost use Rattle.tenant_stores.specs.Sound.{IsSound};
-ghost use Rattle.tenant_stores.specs.Changes.{all_released, new_row, Holds, Releases, Joins, Opens, Settles};
-ghost use Rattle.tenant_stores.specs.Changes.{Leaves, Drops, Sweeps};
-ghost use Rattle.tenant_stores.specs.Trail.{IsPlaced, Trail};
+ghost use Rattle.tenant_stores.specs.Changes.{new_row, Holds, Releases, Joins, Opens, Settles};
+ghost use Rattle.tenant_stores.specs.Changes.{ReleasesAll, Waits, Leaves, Drops, Sweeps};
+ghost use Rattle.tenant_stores.specs.Shows.{AreAmong, Stay, SeatShows, with_joined, with_opened, with_late};
+ghost use Rattle.tenant_stores.specs.Shows.{first_kept, first_dropped};
+ghost use Rattle.tenant_stores.specs.Held.{origin_of};
+ghost use Rattle.tenant_stores.specs.Trail.{HoldsAll, IsPlaced, Trail};
 
 use crate::placed::{Joining, Opening, Placed};
+use crate::texts::{hold_four, release_all, wanted_again, wanted_new};
 use span_pool::{KeyedSpan, Owned, SpanPool, TextKeys};
 use std::alloc::{AllocError, Global};
 use text_pool::{Text, TextPool};
@@ -43,7 +47,9 @@ impl<N: Drop> Stores<N> {
 
     /// The number of the latest row of the tenant's trace, where the table has one.
     pub fn seat(&self, tenant: u32, trace: [u8; 16]) -> Option<u64>
-        ensures { result ≡ (part tenant self.now).seats trace }
+        ensures value { result ≡ (part tenant self.now).seats trace }
+        ensures shows { (n : Counts) (pending held : List ℕ) → IsSound n pending held (part tenant self.now)
+            → SeatShows n trace (part tenant self.now) }
     {
         self.rows.seat(tenant, trace)
     }
@@ -75,6 +81,12 @@ impl<N: Drop> Stores<N> {
         ensures sound { IfOk result (λ key. (n : Counts) (pending held : List ℕ)
             → IsSound n pending held (part tenant self.old) → IsSound n pending (key ∷ held) (part tenant self.new)) }
         ensures text { IfOk result (λ key. text_at (part tenant self.new).texts key ≡ Some text) }
+        ensures shows { OnOk result ((n : Counts) (pending held keys : List ℕ)
+            → IsSound n pending held (part tenant self.old) → AreAmong keys pending
+            → view n keys (part tenant self.new) ≡ view n keys (part tenant self.old)) }
+        ensures stay { OnOk result ((n : Counts) (pending held : List ℕ)
+            → IsSound n pending held (part tenant self.old)
+            → Stay held (part tenant self.old).texts (part tenant self.new).texts) }
 
         // Other tenants' parts stay as they were, and where memory is refused this tenant's too.
         ensures others { (other : ℕ) → other ≢ tenant → part other self.new ≡ part other self.old }
@@ -89,9 +101,120 @@ impl<N: Drop> Stores<N> {
         ensures own { Releases key (part tenant self.old) (part tenant self.new) }
         ensures sound { (n : Counts) (pending held : List ℕ)
             → IsSound n pending (key ∷ held) (part tenant self.old) → IsSound n pending held (part tenant self.new) }
+        ensures shows { (n : Counts) (pending held keys : List ℕ)
+            → IsSound n pending (key ∷ held) (part tenant self.old) → AreAmong keys pending
+            → view n keys (part tenant self.new) ≡ view n keys (part tenant self.old) }
+        ensures stay { (n : Counts) (pending held : List ℕ) → IsSound n pending (key ∷ held) (part tenant self.old)
+            → Stay held (part tenant self.old).texts (part tenant self.new).texts }
         ensures others { (other : ℕ) → other ≢ tenant → part other self.new ≡ part other self.old }
     {
         self.texts.release(tenant, key);
+    }
+
+    /// One use more of each of an origin's four texts, for a span to come, or of none. The answer is their keys.
+    pub fn hold_all(
+        &mut self,
+        tenant: u32,
+        resource: Option<&Text>,
+        resource_schema_url: Option<&Text>,
+        scope: Option<&Text>,
+        scope_schema_url: Option<&Text>,
+    ) -> Result<TextKeys, AllocError>
+        ensures own { IfOk result (λ keys. (n : Counts) (pending held : List ℕ)
+            → IsSound n pending held (part tenant self.old)
+            → HoldsAll (text_keys keys) (part tenant self.old) (part tenant self.new)) }
+        ensures texts { IfOk result (λ keys. (n : Counts) (pending held : List ℕ)
+            → IsSound n pending held (part tenant self.old)
+            → origin_at (text_at (part tenant self.new).texts) keys ≡ origin_of
+            (option_copied resource.entry) (option_copied resource_schema_url.entry)
+            (option_copied scope.entry) (option_copied scope_schema_url.entry)) }
+        ensures sound { IfOk result (λ keys. (n : Counts) (pending held : List ℕ)
+            → IsSound n pending held (part tenant self.old)
+            → IsSound n pending (text_keys keys ++ held) (part tenant self.new)) }
+        ensures shows { OnOk result ((n : Counts) (pending held keys : List ℕ)
+            → IsSound n pending held (part tenant self.old) → AreAmong keys pending
+            → view n keys (part tenant self.new) ≡ view n keys (part tenant self.old)) }
+        ensures stay { OnOk result ((n : Counts) (pending held : List ℕ)
+            → IsSound n pending held (part tenant self.old)
+            → Stay held (part tenant self.old).texts (part tenant self.new).texts) }
+
+        // Other tenants' parts stay as they were, and where memory is refused this tenant's too.
+        ensures others { (other : ℕ) → other ≢ tenant → part other self.new ≡ part other self.old }
+        ensures refused { OnErr result ((n : Counts) (pending held : List ℕ)
+            → IsSound n pending held (part tenant self.old)
+            → part tenant self.new ≡ part tenant self.old) }
+    {
+        let resource = wanted_new(resource);
+        let resource_schema_url = wanted_new(resource_schema_url);
+        let scope = wanted_new(scope);
+        let scope_schema_url = wanted_new(scope_schema_url);
+        let keys = hold_four(
+            &mut self.texts,
+            tenant,
+            resource,
+            resource_schema_url,
+            scope,
+            scope_schema_url,
+        )?;
+        Ok(keys)
+    }
+
+    /// One use more of each of these keys' texts, which are in hand, for a span to come, or of none. The answer is the
+    /// keys of these uses.
+    pub fn hold_again(&mut self, tenant: u32, keys: TextKeys) -> Result<TextKeys, AllocError>
+        ensures own { IfOk result (λ again. (n : Counts) (pending held : List ℕ)
+            → AreAmong (text_keys keys) held → IsSound n pending held (part tenant self.old)
+            → HoldsAll (text_keys again) (part tenant self.old) (part tenant self.new)) }
+        ensures texts { IfOk result (λ again. (n : Counts) (pending held : List ℕ)
+            → AreAmong (text_keys keys) held → IsSound n pending held (part tenant self.old)
+            → origin_at (text_at (part tenant self.new).texts) again ≡
+            origin_at (text_at (part tenant self.old).texts) keys) }
+        ensures sound { IfOk result (λ again. (n : Counts) (pending held : List ℕ)
+            → AreAmong (text_keys keys) held → IsSound n pending held (part tenant self.old)
+            → IsSound n pending (text_keys again ++ held) (part tenant self.new)) }
+        ensures shows { OnOk result ((n : Counts) (pending held shown : List ℕ)
+            → AreAmong (text_keys keys) held → IsSound n pending held (part tenant self.old) → AreAmong shown pending
+            → view n shown (part tenant self.new) ≡ view n shown (part tenant self.old)) }
+        ensures stay { OnOk result ((n : Counts) (pending held : List ℕ)
+            → AreAmong (text_keys keys) held → IsSound n pending held (part tenant self.old)
+            → Stay held (part tenant self.old).texts (part tenant self.new).texts) }
+
+        // Other tenants' parts stay as they were, and where memory is refused this tenant's too.
+        ensures others { (other : ℕ) → other ≢ tenant → part other self.new ≡ part other self.old }
+        ensures refused { OnErr result ((n : Counts) (pending held : List ℕ)
+            → AreAmong (text_keys keys) held → IsSound n pending held (part tenant self.old)
+            → part tenant self.new ≡ part tenant self.old) }
+    {
+        let resource = wanted_again(keys.resource);
+        let resource_schema_url = wanted_again(keys.resource_schema_url);
+        let scope = wanted_again(keys.scope);
+        let scope_schema_url = wanted_again(keys.scope_schema_url);
+        let again = hold_four(
+            &mut self.texts,
+            tenant,
+            resource,
+            resource_schema_url,
+            scope,
+            scope_schema_url,
+        )?;
+        Ok(again)
+    }
+
+    /// One use less of each of these keys' texts, for which no span came. It takes no memory.
+    pub fn release_all(&mut self, tenant: u32, keys: TextKeys)
+        ensures own { ReleasesAll (text_keys keys) (part tenant self.old) (part tenant self.new) }
+        ensures sound { (n : Counts) (pending held : List ℕ)
+            → IsSound n pending (text_keys keys ++ held) (part tenant self.old)
+            → IsSound n pending held (part tenant self.new) }
+        ensures shows { (n : Counts) (pending held shown : List ℕ)
+            → IsSound n pending (text_keys keys ++ held) (part tenant self.old) → AreAmong shown pending
+            → view n shown (part tenant self.new) ≡ view n shown (part tenant self.old) }
+        ensures stay { (n : Counts) (pending held : List ℕ)
+            → IsSound n pending (text_keys keys ++ held) (part tenant self.old)
+            → Stay held (part tenant self.old).texts (part tenant self.new).texts }
+        ensures others { (other : ℕ) → other ≢ tenant → part other self.new ≡ part other self.old }
+    {
+        release_all(&mut self.texts, tenant, keys);
     }
 
     /// The span is stored, and its key joins the row of this number, which has this note from now on. The texts that
@@ -104,6 +227,12 @@ impl<N: Drop> Stores<N> {
         ensures sound { OnOk result ((n : Counts) (pending held : List ℕ) → n.decided < number → number ≤ n.opened
             → IsSound n pending (text_keys span.keys ++ held) (part span.owner self.old)
             → IsSound n pending held (part span.owner self.new)) }
+        ensures shows { OnOk result ((n : Counts) (pending held keys trace : List ℕ)
+            → IsSound n pending held (part span.owner self.old) → AreAmong keys pending
+            → (part span.owner self.old).seats trace ≡ Some number → n.decided < number
+            → view n keys (part span.owner self.new) ≡ with_joined trace
+            (texts_of (text_at (part span.owner self.old).texts) span) note
+            (view n keys (part span.owner self.old))) }
 
         // Other tenants' parts stay as they were, and where memory is refused this tenant's too.
         ensures others { (other : ℕ) → other ≢ span.owner → part other self.new ≡ part other self.old }
@@ -137,6 +266,11 @@ impl<N: Drop> Stores<N> {
         ensures sound { OnOk result ((n : Counts) (pending held : List ℕ) → number ≡ n.opened + 1
             → IsSound n pending (text_keys span.keys ++ held) (part span.owner self.old)
             → IsSound (one_opened n) pending held (part span.owner self.new)) }
+        ensures shows { OnOk result ((n : Counts) (pending held keys : List ℕ) → number ≡ n.opened + 1
+            → IsSound n pending held (part span.owner self.old) → AreAmong keys pending
+            → view (one_opened n) keys (part span.owner self.new) ≡ with_opened trace due
+            (texts_of (text_at (part span.owner self.old).texts) span) note
+            (view n keys (part span.owner self.old))) }
 
         // Other tenants' parts stay as they were, and where memory is refused this tenant's too.
         ensures others { (other : ℕ) → other ≢ span.owner → part other self.new ≡ part other self.old }
@@ -162,6 +296,27 @@ impl<N: Drop> Stores<N> {
         }
     }
 
+    /// The span is stored, and waits for a batch: its row was decided and sampled before it came. The texts that the
+    /// span names were held for it. The answer is its key.
+    pub fn keep_late(&mut self, span: KeyedSpan) -> Result<usize, AllocError>
+        ensures own { IfOk result (λ key. Waits key span (part span.owner self.old) (part span.owner self.new)) }
+        ensures sound { IfOk result (λ key. (n : Counts) (pending held : List ℕ)
+            → IsSound n pending (text_keys span.keys ++ held) (part span.owner self.old)
+            → IsSound n (pending ++ key ∷ []) held (part span.owner self.new)) }
+        ensures shows { IfOk result (λ key. (n : Counts) (pending held keys : List ℕ)
+            → IsSound n pending held (part span.owner self.old) → AreAmong keys pending
+            → view n (keys ++ key ∷ []) (part span.owner self.new) ≡ with_late
+            (texts_of (text_at (part span.owner self.old).texts) span)
+            (view n keys (part span.owner self.old))) }
+
+        // Other tenants' parts stay as they were, and where memory is refused this tenant's too.
+        ensures others { (other : ℕ) → other ≢ span.owner → part other self.new ≡ part other self.old }
+        ensures refused { OnErr result (part span.owner self.new ≡ part span.owner self.old) }
+    {
+        let late = self.spans.put(span)?;
+        Ok(late)
+    }
+
     /// The row is decided and sampled. The answer is the keys of its spans, which wait for a batch from now on. It
     /// takes no memory.
     pub fn keep_row(&mut self, tenant: u32, number: u64) -> Keys
@@ -170,6 +325,10 @@ impl<N: Drop> Stores<N> {
         ensures sound { (n : Counts) (pending held : List ℕ) → number ≡ n.decided + 1 → number ≤ n.opened
             → IsSound n pending held (part tenant self.old)
             → IsSound (one_decided n) (pending ++ result) held (part tenant self.new) }
+        ensures shows { (n : Counts) (pending held keys : List ℕ) → number ≡ n.decided + 1 → number ≤ n.opened
+            → IsSound n pending held (part tenant self.old)
+            → view (one_decided n) (keys ++ result) (part tenant self.new) ≡
+            first_kept (view n keys (part tenant self.old)) }
         ensures others { (other : ℕ) → other ≢ tenant → part other self.new ≡ part other self.old }
     {
         self.rows.settle(self.alloc, tenant, number, true)
@@ -182,6 +341,13 @@ impl<N: Drop> Stores<N> {
         ensures sound { (n : Counts) (pending held : List ℕ) → number ≡ n.decided + 1 → number ≤ n.opened
             → IsSound n pending held (part tenant self.old)
             → IsSound (one_decided n) pending held (part tenant self.new) }
+        ensures shows { (n : Counts) (pending held keys : List ℕ) → number ≡ n.decided + 1 → number ≤ n.opened
+            → IsSound n pending held (part tenant self.old) → AreAmong keys pending
+            → view (one_decided n) keys (part tenant self.new) ≡
+            first_dropped (view n keys (part tenant self.old)) }
+        ensures stay { (n : Counts) (pending held : List ℕ) → number ≡ n.decided + 1 → number ≤ n.opened
+            → IsSound n pending held (part tenant self.old)
+            → Stay held (part tenant self.old).texts (part tenant self.new).texts }
         ensures others { (other : ℕ) → other ≢ tenant → part other self.new ≡ part other self.old }
     {
         let keys = self.rows.settle(self.alloc, tenant, number, false);
@@ -195,6 +361,14 @@ impl<N: Drop> Stores<N> {
         ensures sound { (n : Counts) (pending left held : List ℕ)
             → ((key : ℕ) → count key keys.now + count key left ≡ count key pending)
             → IsSound n pending held (part tenant self.old) → IsSound n left held (part tenant self.new) }
+        ensures shows { (n : Counts) (pending left held shown : List ℕ)
+            → ((key : ℕ) → count key keys.now + count key left ≡ count key pending)
+            → IsSound n pending held (part tenant self.old) → AreAmong shown left
+            → view n shown (part tenant self.new) ≡ view n shown (part tenant self.old) }
+        ensures stay { (n : Counts) (pending left held : List ℕ)
+            → ((key : ℕ) → count key keys.now + count key left ≡ count key pending)
+            → IsSound n pending held (part tenant self.old)
+            → Stay held (part tenant self.old).texts (part tenant self.new).texts }
         ensures others { (other : ℕ) → other ≢ tenant → part other self.new ≡ part other self.old }
     {
         for key in keys {
@@ -210,6 +384,12 @@ impl<N: Drop> Stores<N> {
         ensures sound { (n : Counts) (pending held : List ℕ) → number ≡ n.swept + 1 → number ≤ n.first
             → IsSound n pending held (part tenant self.old)
             → IsSound (one_swept n) pending held (part tenant self.new) }
+        ensures shows { (n : Counts) (pending held keys : List ℕ) → number ≡ n.swept + 1 → number ≤ n.first
+            → IsSound n pending held (part tenant self.old) → AreAmong keys pending
+            → view (one_swept n) keys (part tenant self.new) ≡ view n keys (part tenant self.old) }
+        ensures stay { (n : Counts) (pending held : List ℕ) → number ≡ n.swept + 1 → number ≤ n.first
+            → IsSound n pending held (part tenant self.old)
+            → Stay held (part tenant self.old).texts (part tenant self.new).texts }
         ensures others { (other : ℕ) → other ≢ tenant → part other self.new ≡ part other self.old }
     {
         let keys = self.rows.sweep(self.alloc, tenant, number);
@@ -230,6 +410,9 @@ impl<N: Drop> Stores<N> {
             }
             Placed::Opened(number, key, trace, earlier) => {
                 self.rows.undo_open(tenant, number, trace, earlier);
+                self.leave(tenant, key);
+            }
+            Placed::Late(key) => {
                 self.leave(tenant, key);
             }
         }
@@ -290,27 +473,4 @@ fn open_row<N: Drop>(
             sampled: false,
         },
     )
-}
-
-/// One use less of each of the texts with these keys.
-fn release_all(texts: &mut TextPool, tenant: u32, keys: TextKeys)
-    ensures own { text_part.part tenant texts.new ≡
-        all_released (text_keys keys) (text_part.part tenant texts.old) }
-    ensures others { (other : ℕ) → other ≢ tenant → text_part.part other texts.new ≡ text_part.part other texts.old }
-{
-    release(texts, tenant, keys.resource);
-    release(texts, tenant, keys.resource_schema_url);
-    release(texts, tenant, keys.scope);
-    release(texts, tenant, keys.scope_schema_url);
-}
-
-/// One use less of the text with this key, where there is a key.
-fn release(texts: &mut TextPool, tenant: u32, key: Option<usize>)
-    ensures own { text_part.part tenant texts.new ≡
-        all_released (option_to_list key) (text_part.part tenant texts.old) }
-    ensures others { (other : ℕ) → other ≢ tenant → text_part.part other texts.new ≡ text_part.part other texts.old }
-{
-    if let Some(key) = key {
-        texts.release(tenant, key);
-    }
 }

@@ -5,6 +5,9 @@ use Rattle.tenant_stores.specs.Changes.{texts_without}
 use Rattle.tenant_stores.proofs.Sounds.{leaves_sound}
 use Rattle.tenant_stores.specs.Part.{part}
 use Rattle.tenant_stores.proofs.Parts.{leave_more}
+use Rattle.tenant_stores.specs.Part.{Part}
+use Rattle.tenant_stores.specs.Changes.{Leaves}
+use Rattle.tenant_stores.proofs.Shows.{leaves_shows, leaves_stays}
 use Rattle.tenant_stores.proofs.stores.Stores.flush.Goals as goal
 
 pub loop-key-preserved : goal.loop-key-preserved
@@ -25,6 +28,32 @@ returns-clause-sound g c = λ n pending left held all sound.
     let new = part c.args.tenant c.loop-key.self in
     let end : drop c.loop-key.key-index keys ≡ [] = drop_all c.loop-key.key-index keys (omega (arith, c.loop-key-test.false)) in
     leaves_sound keys old new (record {
+      spans = sym (ap (λ (ks : List ℕ). without ks new.spans) end) ∙ c.loop-key.invariant.spans;
+      texts = sym (ap (λ (ks : List ℕ). texts_without ks new.spans new.texts) end) ∙ c.loop-key.invariant.texts;
+      rows = c.loop-key.invariant.rows;
+      seats = c.loop-key.invariant.seats;
+    }) n pending left held all sound
+
+pub returns-clause-shows : goal.returns-clause-shows
+returns-clause-shows g c = λ n pending left held shown all sound among.
+    let keys = c.args.keys.now in
+    let old = part c.args.tenant c.args.self.now in
+    let new = part c.args.tenant c.loop-key.self in
+    let end : drop c.loop-key.key-index keys ≡ [] = drop_all c.loop-key.key-index keys (omega (arith, c.loop-key-test.false)) in
+    leaves_shows keys old new (record {
+      spans = sym (ap (λ (ks : List ℕ). without ks new.spans) end) ∙ c.loop-key.invariant.spans;
+      texts = sym (ap (λ (ks : List ℕ). texts_without ks new.spans new.texts) end) ∙ c.loop-key.invariant.texts;
+      rows = c.loop-key.invariant.rows;
+      seats = c.loop-key.invariant.seats;
+    }) n pending left held all sound shown among
+
+pub returns-clause-stay : goal.returns-clause-stay
+returns-clause-stay g c = λ n pending left held all sound.
+    let keys = c.args.keys.now in
+    let old = part c.args.tenant c.args.self.now in
+    let new = part c.args.tenant c.loop-key.self in
+    let end : drop c.loop-key.key-index keys ≡ [] = drop_all c.loop-key.key-index keys (omega (arith, c.loop-key-test.false)) in
+    leaves_stays keys old new (record {
       spans = sym (ap (λ (ks : List ℕ). without ks new.spans) end) ∙ c.loop-key.invariant.spans;
       texts = sym (ap (λ (ks : List ℕ). texts_without ks new.spans new.texts) end) ∙ c.loop-key.invariant.texts;
       rows = c.loop-key.invariant.rows;

@@ -4,6 +4,7 @@ use Rattle.text_pool.specs.declared.pool.Kept.{Kept}
 use Rattle.tenant_stores.specs.Part as stores
 use Rattle.tenant_stores.proofs.Parts.{part_by, held_text}
 use Rattle.tenant_stores.proofs.Sounds.{hold_sound}
+use Rattle.tenant_stores.proofs.Shows.{hold_shows, hold_stays}
 use Rattle.tenant_stores.proofs.stores.Stores.hold.Goals as goal
 
 pub returns-clause-others : goal.returns-clause-others
@@ -20,3 +21,11 @@ returns-clause-text g c =
 pub returns-clause-sound : goal.returns-clause-sound
 returns-clause-sound g c = λ n pending held sound.
     hold_sound c.args.tenant c.in_ok-key.key c.args.text (stores.part c.args.tenant c.args.self.now) _ (record { spans = refl; texts = c.in_ok-key.ensures.own; rows = refl; seats = refl }) n pending held sound
+
+pub returns-clause-shows : goal.returns-clause-shows
+returns-clause-shows g c = λ n pending held keys sound among.
+    hold_shows c.args.tenant c.in_ok-key.key c.args.text (stores.part c.args.tenant c.args.self.now) _ (record { spans = refl; texts = c.in_ok-key.ensures.own; rows = refl; seats = refl }) n pending held sound keys among
+
+pub returns-clause-stay : goal.returns-clause-stay
+returns-clause-stay g c = λ n pending held sound.
+    hold_stays c.args.tenant c.in_ok-key.key c.args.text (stores.part c.args.tenant c.args.self.now) _ (record { spans = refl; texts = c.in_ok-key.ensures.own; rows = refl; seats = refl }) n pending held sound

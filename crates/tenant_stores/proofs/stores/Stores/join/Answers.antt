@@ -7,6 +7,7 @@ use Rattle.trace_rows.specs.Part.{with_at, with_seat, joined, note_of, rows_part
 use Rattle.tenant_stores.specs.Changes.{Joins, Opens, new_row}
 use Rattle.tenant_stores.proofs.Sounds.{joins_sound, opens_sound}
 use Rattle.tenant_stores.proofs.Parts.{part_by, span_restored}
+use Rattle.tenant_stores.proofs.Shows.{joins_shows}
 use Rattle.tenant_stores.proofs.stores.Stores.join.Goals as goal
 
 pub returns-in_err-key-clause-others : goal.returns-in_err-key-clause-others
@@ -51,6 +52,22 @@ returns-in-Ok-clause-sound g c = λ n pending held above below sound.
     let m = c.args.number - 1 in
     let e : c.args.number ≡ suc m = omega (arith, above) in
     joins_sound m key span c.args.note old new n pending held (subst (λ (k : ℕ). Joins k key span c.args.note old new) e change) (omega (arith, above)) (omega (arith, above, below)) sound
+
+pub returns-in-Ok-clause-shows : goal.returns-in-Ok-clause-shows
+returns-in-Ok-clause-shows g c = λ n pending held keys trace sound among seat above.
+    let span = c.args.span in
+    let stores = c.args.self.now in
+    let old = part span.owner stores in
+    let new = part span.owner (record stores { spans = c.put.new.self; rows = c.join.new.self }) in
+    let key = c.in_ok-key.key in
+    let change : Joins c.args.number key span c.args.note old new = record {
+      vacant = c.in_ok-key.ensures.vacant span.owner;
+      spans = c.in_ok-key.ensures.own;
+      texts = refl;
+      rows = subst (λ (t : ℕ). rows_part t c.join.new.self ≡ with_at c.args.number (joined key c.args.note (rows_part t stores.rows c.args.number)) (rows_part t stores.rows)) c.owner-tenant.ensures c.in-Ok.ensures.rows;
+      seats = subst (λ (t : ℕ). seats_part t c.join.new.self ≡ seats_part t stores.rows) c.owner-tenant.ensures c.in-Ok.ensures.seats;
+    } in
+    joins_shows c.args.number key span c.args.note old new change n pending held sound keys among trace seat above
 
 pub returns-in-Ok-clause-former : goal.returns-in-Ok-clause-former
 returns-in-Ok-clause-former g c =

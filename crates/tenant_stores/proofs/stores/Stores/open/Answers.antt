@@ -7,6 +7,8 @@ use Rattle.trace_rows.specs.Part.{with_at, with_seat, joined, rows_part, seats_p
 use Rattle.tenant_stores.specs.Changes.{Joins, Opens, new_row}
 use Rattle.tenant_stores.proofs.Sounds.{joins_sound, opens_sound}
 use Rattle.tenant_stores.proofs.Parts.{part_by, span_restored}
+use Rattle.tenant_stores.proofs.Shows.{opens_shows}
+use Rattle.tenant_stores.specs.View.{view}
 use Rattle.tenant_stores.proofs.stores.Stores.open.Goals as goal
 
 pub returns-in_err-key-clause-others : goal.returns-in_err-key-clause-others
@@ -50,3 +52,20 @@ returns-in-Ok-clause-sound g c = λ n pending held at sound.
     } in
     let e : c.args.number ≡ suc n.opened = omega (arith, at) in
     opens_sound key c.args.due c.args.trace span c.args.note old new n pending held (subst (λ (k : ℕ). Opens k key c.args.due c.args.trace span c.args.note old new) e change) sound
+
+pub returns-in-Ok-clause-shows : goal.returns-in-Ok-clause-shows
+returns-in-Ok-clause-shows g c = λ n pending held keys at sound among.
+    let span = c.args.span in
+    let stores = c.args.self.now in
+    let old = part span.owner stores in
+    let new = part span.owner (record stores { spans = c.put.new.self; rows = c.open_row.new.rows }) in
+    let key = c.in_ok-key.key in
+    let change : Opens c.args.number key c.args.due c.args.trace span c.args.note old new = record {
+      vacant = c.in_ok-key.ensures.vacant span.owner;
+      spans = c.in_ok-key.ensures.own;
+      texts = refl;
+      rows = subst (λ (t : ℕ). rows_part t c.open_row.new.rows ≡ with_at c.args.number (Some (new_row c.args.trace c.args.due key c.args.note)) (rows_part t stores.rows)) c.owner-tenant.ensures c.in-Ok.ensures.rows;
+      seats = subst (λ (t : ℕ). seats_part t c.open_row.new.rows ≡ with_seat c.args.trace (Some c.args.number) (seats_part t stores.rows)) c.owner-tenant.ensures c.in-Ok.ensures.seats;
+    } in
+    let e : c.args.number ≡ suc n.opened = omega (arith, at) in
+    opens_shows key c.args.due c.args.trace span c.args.note old new n (subst (λ (k : ℕ). Opens k key c.args.due c.args.trace span c.args.note old new) e change) pending held sound keys among

@@ -5,6 +5,7 @@ use Rattle.tenant_stores.specs.Counts.{one_swept, count}
 use Rattle.tenant_stores.proofs.Lists.{count-append}
 use Rattle.tenant_stores.proofs.Sounds.{unrowed_sound}
 use Rattle.tenant_stores.proofs.Parts.{part_by}
+use Rattle.tenant_stores.proofs.Shows.{unrowed_shows}
 use Rattle.tenant_stores.proofs.stores.Stores.sweep.Goals as goal
 
 pub returns-clause-others : goal.returns-clause-others
@@ -23,3 +24,28 @@ returns-clause-sound g c = λ n pending held at below sound.
     let seats : middle.seats ≡ unseated (suc n.swept) (trace_in (old.rows (suc n.swept))) old.seats = c.sweep-keys.ensures.seats ∙ ap (λ (k : ℕ). unseated k (trace_in (old.rows k)) old.seats) e in
     let gone = unrowed_sound old middle n pending held refl refl rows seats (omega (arith, at, below)) sound in
     c.flush.ensures.sound (one_swept n) (pending ++ row_keys) pending held (λ j. omega (arith, count-append j pending row_keys, ap (count j) keys)) gone
+
+pub returns-clause-shows : goal.returns-clause-shows
+returns-clause-shows g c = λ n pending held shown at below sound among.
+    let old = part c.args.tenant c.args.self.now in
+    let middle = part c.args.tenant (record c.args.self.now { rows = c.sweep-keys.new.self }) in
+    let e : c.args.number ≡ suc n.swept = omega (arith, at) in
+    let row_keys = keys_of (old.rows (suc n.swept)) in
+    let keys : c.as_slice.result.now ≡ row_keys = c.as_slice.ensures ∙ (c.sweep-keys.ensures.keys ∙ ap (λ (k : ℕ). keys_of (old.rows k)) e) in
+    let rows : middle.rows ≡ with_at (suc n.swept) None old.rows = c.sweep-keys.ensures.rows ∙ ap (λ (k : ℕ). with_at k None old.rows) e in
+    let seats : middle.seats ≡ unseated (suc n.swept) (trace_in (old.rows (suc n.swept))) old.seats = c.sweep-keys.ensures.seats ∙ ap (λ (k : ℕ). unseated k (trace_in (old.rows k)) old.seats) e in
+    let gone = unrowed_sound old middle n pending held refl refl rows seats (omega (arith, at, below)) sound in
+    c.flush.ensures.shows (one_swept n) (pending ++ row_keys) pending held shown (λ j. omega (arith, count-append j pending row_keys, ap (count j) keys)) gone among
+    ∙ unrowed_shows old middle n refl refl rows (omega (arith, at, below)) sound.order.first shown
+
+pub returns-clause-stay : goal.returns-clause-stay
+returns-clause-stay g c = λ n pending held at below sound.
+    let old = part c.args.tenant c.args.self.now in
+    let middle = part c.args.tenant (record c.args.self.now { rows = c.sweep-keys.new.self }) in
+    let e : c.args.number ≡ suc n.swept = omega (arith, at) in
+    let row_keys = keys_of (old.rows (suc n.swept)) in
+    let keys : c.as_slice.result.now ≡ row_keys = c.as_slice.ensures ∙ (c.sweep-keys.ensures.keys ∙ ap (λ (k : ℕ). keys_of (old.rows k)) e) in
+    let rows : middle.rows ≡ with_at (suc n.swept) None old.rows = c.sweep-keys.ensures.rows ∙ ap (λ (k : ℕ). with_at k None old.rows) e in
+    let seats : middle.seats ≡ unseated (suc n.swept) (trace_in (old.rows (suc n.swept))) old.seats = c.sweep-keys.ensures.seats ∙ ap (λ (k : ℕ). unseated k (trace_in (old.rows k)) old.seats) e in
+    let gone = unrowed_sound old middle n pending held refl refl rows seats (omega (arith, at, below)) sound in
+    c.flush.ensures.stay (one_swept n) (pending ++ row_keys) pending held (λ j. omega (arith, count-append j pending row_keys, ap (count j) keys)) gone

@@ -3,7 +3,7 @@ use Rattle.tenant_stores.specs.declared.placed.Placed.{Placed}
 use Rattle.tenant_stores.specs.Part.{Part, part}
 use Rattle.tenant_stores.specs.Trail.{IsPlaced}
 use Rattle.tenant_stores.proofs.Parts.{part_by}
-use Rattle.tenant_stores.proofs.Backs.{back_joined, back_opened}
+use Rattle.tenant_stores.proofs.Backs.{back_joined, back_opened, back_late}
 use Rattle.tenant_stores.proofs.stores.Stores.take_back.Goals as goal
 
 pub returns-in-Joined-clause-back : goal.returns-in-Joined-clause-back
@@ -25,3 +25,8 @@ pub returns-in-Opened-clause-others : goal.returns-in-Opened-clause-others
 returns-in-Opened-clause-others g c = λ other ne.
     let same = c.undo_open.ensures.others other ne in
     c.leave-in-Opened.ensures.others other ne ∙ part_by _ _ _ _ _ _ _ _ refl refl same.rows same.seats
+
+pub returns-in-Late-clause-back : goal.returns-in-Late-clause-back
+returns-in-Late-clause-back g c = λ start placed.
+    let h = subst (λ (x : Placed g.row.N.Denot). IsPlaced x start (part c.args.tenant c.args.self.now)) c.in-Late.is placed in
+    back_late start (part c.args.tenant c.args.self.now) _ c.in-Late.key h c.leave-in-Late.ensures.own

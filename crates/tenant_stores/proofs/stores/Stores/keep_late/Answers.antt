@@ -1,0 +1,24 @@
+use Rattle.std.proofs.Common.{◌≡◌, ◌≢◌, ◌∙◌, ap, sym, refl, ℕ}
+use Rattle.tenant_stores.specs.Part.{part}
+use Rattle.tenant_stores.specs.Changes.{Waits}
+use Rattle.tenant_stores.proofs.Parts.{part_by}
+use Rattle.tenant_stores.proofs.Sounds.{waits_sound}
+use Rattle.tenant_stores.proofs.Shows.{waits_shows}
+use Rattle.tenant_stores.proofs.stores.Stores.keep_late.Goals as goal
+
+pub returns-clause-own : goal.returns-clause-own
+returns-clause-own g c = record { vacant = c.in_ok-late.ensures.vacant c.args.span.owner; spans = c.in_ok-late.ensures.own; texts = refl; rows = refl; seats = refl }
+
+pub returns-clause-sound : goal.returns-clause-sound
+returns-clause-sound g c = λ n pending held sound.
+    waits_sound c.in_ok-late.late c.args.span (part c.args.span.owner c.args.self.now) _ n pending held (record { vacant = c.in_ok-late.ensures.vacant c.args.span.owner; spans = c.in_ok-late.ensures.own; texts = refl; rows = refl; seats = refl }) sound
+
+pub returns-clause-shows : goal.returns-clause-shows
+returns-clause-shows g c = λ n pending held keys sound among.
+    waits_shows c.in_ok-late.late c.args.span (part c.args.span.owner c.args.self.now) _ (record { vacant = c.in_ok-late.ensures.vacant c.args.span.owner; spans = c.in_ok-late.ensures.own; texts = refl; rows = refl; seats = refl }) n pending held sound keys among
+
+pub returns-clause-others : goal.returns-clause-others
+returns-clause-others g c = λ other ne. part_by _ _ _ _ _ _ _ _ (c.in_ok-late.ensures.others other ne) refl refl refl
+
+pub returns-in_err-late-clause-others : goal.returns-in_err-late-clause-others
+returns-in_err-late-clause-others g c = λ other ne. part_by _ _ _ _ _ _ _ _ (c.in_err-late.ensures.others other ne) refl refl refl

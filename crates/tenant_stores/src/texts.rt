@@ -1,0 +1,166 @@
+//! Uses of several texts at once.
+
+ghost use Rattle.std.specs.Prelude.{◌≡◌, ◌≢◌, ◌++◌, ℕ, Option, IfOk, OnErr, option_to_list, option_copied};
+ghost use Rattle.span_pool.specs.Keyed as keyed;
+ghost use Rattle.text_pool.specs.Part.{part};
+ghost use Rattle.text_pool.specs.declared.pool.Kept.{Kept};
+ghost use Rattle.tenant_stores.specs.View.{text_at, text_keys};
+ghost use Rattle.tenant_stores.specs.Changes.{all_released};
+ghost use Rattle.tenant_stores.specs.Held.{AreKept, AreHeld, IsKnown, wanted_text, again_of, origin_of};
+
+use span_pool::TextKeys;
+use std::alloc::AllocError;
+use text_pool::{Text, TextPool};
+
+/// A text of which one use more is wanted.
+#[derive(Clone, Copy)]
+pub(crate) enum Wanted<'a> {
+    /// None.
+    Nothing,
+    /// This text.
+    New(&'a Text),
+    /// The text at this key.
+    Again(usize),
+}
+
+/// This text, where there is one.
+pub(crate) fn wanted_new(text: Option<&Text>) -> Wanted<'_>
+    ensures known { (texts : ℕ → Option Kept) → IsKnown result texts }
+    ensures text { (texts : ℕ → Option Kept) → wanted_text result texts ≡ option_copied text.entry }
+{
+    match text {
+        Some(text) => Wanted::New(text),
+        None => Wanted::Nothing,
+    }
+}
+
+/// The text at this key, where there is one.
+pub(crate) fn wanted_again<'a>(key: Option<usize>) -> Wanted<'a>
+    ensures { result ≡ again_of key }
+{
+    match key {
+        Some(key) => Wanted::Again(key),
+        None => Wanted::Nothing,
+    }
+}
+
+/// One use more of a text, where one is wanted. The answer is its key.
+fn hold_one(
+    texts: &mut TextPool,
+    tenant: u32,
+    wanted: Wanted<'_>,
+) -> Result<Option<usize>, AllocError>
+    ensures held { IfOk result (λ key. AreKept (part tenant texts.old) → IsKnown wanted.entry (part tenant texts.old)
+        → AreHeld (option_to_list key) (part tenant texts.old) (part tenant texts.new)) }
+    ensures text { IfOk result (λ key. AreKept (part tenant texts.old) → IsKnown wanted.entry (part tenant texts.old)
+        → keyed.text_at (text_at (part tenant texts.new)) key ≡ wanted_text wanted.entry (part tenant texts.old)) }
+    ensures others { (other : ℕ) → other ≢ tenant → part other texts.new ≡ part other texts.old }
+    ensures refused { OnErr result (part tenant texts.new ≡ part tenant texts.old) }
+{
+    match wanted {
+        Wanted::Nothing => Ok(None),
+        Wanted::New(text) => {
+            let copy = text.shared()?;
+            let key = texts.hold(tenant, copy)?;
+            Ok(Some(key))
+        }
+        Wanted::Again(key) => {
+            let again = texts.hold_again(tenant, key)?;
+            Ok(Some(again))
+        }
+    }
+}
+
+/// One use more of two texts, or of none.
+fn hold_two(
+    texts: &mut TextPool,
+    tenant: u32,
+    first: Wanted<'_>,
+    second: Wanted<'_>,
+) -> Result<(Option<usize>, Option<usize>), AllocError>
+    ensures held { IfOk result (λ keys. AreKept (part tenant texts.old)
+        → IsKnown first.entry (part tenant texts.old) → IsKnown second.entry (part tenant texts.old)
+        → AreHeld (option_to_list keys.0 ++ option_to_list keys.1) (part tenant texts.old) (part tenant texts.new)) }
+    ensures first { IfOk result (λ keys. AreKept (part tenant texts.old)
+        → IsKnown first.entry (part tenant texts.old) → IsKnown second.entry (part tenant texts.old)
+        → keyed.text_at (text_at (part tenant texts.new)) keys.0 ≡ wanted_text first.entry (part tenant texts.old)) }
+    ensures second { IfOk result (λ keys. AreKept (part tenant texts.old)
+        → IsKnown first.entry (part tenant texts.old) → IsKnown second.entry (part tenant texts.old)
+        → keyed.text_at (text_at (part tenant texts.new)) keys.1 ≡ wanted_text second.entry (part tenant texts.old)) }
+    ensures others { (other : ℕ) → other ≢ tenant → part other texts.new ≡ part other texts.old }
+    ensures refused { OnErr result (AreKept (part tenant texts.old) → IsKnown second.entry (part tenant texts.old)
+        → part tenant texts.new ≡ part tenant texts.old) }
+{
+    let last = hold_one(texts, tenant, second)?;
+    match hold_one(texts, tenant, first) {
+        Ok(key) => Ok((key, last)),
+        Err(refused) => {
+            release(texts, tenant, last);
+            Err(refused)
+        }
+    }
+}
+
+/// One use more of each of the four texts that a span shares with others, or of none. The answer is their keys.
+pub(crate) fn hold_four(
+    texts: &mut TextPool,
+    tenant: u32,
+    resource: Wanted<'_>,
+    resource_schema_url: Wanted<'_>,
+    scope: Wanted<'_>,
+    scope_schema_url: Wanted<'_>,
+) -> Result<TextKeys, AllocError>
+    ensures held { IfOk result (λ keys. AreKept (part tenant texts.old)
+        → IsKnown resource.entry (part tenant texts.old) → IsKnown resource_schema_url.entry (part tenant texts.old)
+        → IsKnown scope.entry (part tenant texts.old) → IsKnown scope_schema_url.entry (part tenant texts.old)
+        → AreHeld (text_keys keys) (part tenant texts.old) (part tenant texts.new)) }
+    ensures origin { IfOk result (λ keys. AreKept (part tenant texts.old)
+        → IsKnown resource.entry (part tenant texts.old) → IsKnown resource_schema_url.entry (part tenant texts.old)
+        → IsKnown scope.entry (part tenant texts.old) → IsKnown scope_schema_url.entry (part tenant texts.old)
+        → keyed.origin_at (text_at (part tenant texts.new)) keys ≡
+        origin_of (wanted_text resource.entry (part tenant texts.old))
+        (wanted_text resource_schema_url.entry (part tenant texts.old))
+        (wanted_text scope.entry (part tenant texts.old))
+        (wanted_text scope_schema_url.entry (part tenant texts.old))) }
+    ensures others { (other : ℕ) → other ≢ tenant → part other texts.new ≡ part other texts.old }
+    ensures refused { OnErr result (AreKept (part tenant texts.old)
+        → IsKnown resource.entry (part tenant texts.old) → IsKnown resource_schema_url.entry (part tenant texts.old)
+        → IsKnown scope.entry (part tenant texts.old) → IsKnown scope_schema_url.entry (part tenant texts.old)
+        → part tenant texts.new ≡ part tenant texts.old) }
+{
+    let lower = hold_two(texts, tenant, scope, scope_schema_url)?;
+    match hold_two(texts, tenant, resource, resource_schema_url) {
+        Ok(upper) => Ok(TextKeys {
+            resource: upper.0,
+            resource_schema_url: upper.1,
+            scope: lower.0,
+            scope_schema_url: lower.1,
+        }),
+        Err(refused) => {
+            release(texts, tenant, lower.0);
+            release(texts, tenant, lower.1);
+            Err(refused)
+        }
+    }
+}
+
+/// One use less of each of the texts with these keys.
+pub(crate) fn release_all(texts: &mut TextPool, tenant: u32, keys: TextKeys)
+    ensures own { part tenant texts.new ≡ all_released (text_keys keys) (part tenant texts.old) }
+    ensures others { (other : ℕ) → other ≢ tenant → part other texts.new ≡ part other texts.old }
+{
+    release(texts, tenant, keys.resource);
+    release(texts, tenant, keys.resource_schema_url);
+    release(texts, tenant, keys.scope);
+    release(texts, tenant, keys.scope_schema_url);
+}
+
+/// One use less of the text with this key, where there is a key.
+fn release(texts: &mut TextPool, tenant: u32, key: Option<usize>)
+    ensures own { part tenant texts.new ≡ all_released (option_to_list key) (part tenant texts.old) }
+    ensures others { (other : ℕ) → other ≢ tenant → part other texts.new ≡ part other texts.old }
+{
+    if let Some(key) = key {
+        texts.release(tenant, key);
+    }
+}
