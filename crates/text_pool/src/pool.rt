@@ -1,6 +1,6 @@
 //! The texts of all tenants of a shard, each under a key.
 
-ghost use Rattle.std.specs.Prelude.{◌≡◌, ◌≢◌, ◌<◌, ◌+◌, ◌^◌, ℕ, None, Some, IfOk, OnOk, OnErr, IfSome, option_copied};
+ghost use Rattle.std.specs.Prelude.{◌≡◌, ◌≢◌, ◌<◌, ◌+◌, ◌^◌, ℕ, None, Some, Ok, IfOk, OnOk, OnErr, IfSome, option_copied};
 ghost use Rattle.slab.specs.Slab.{get, ContainsKey, Updates};
 ghost use Rattle.text_pool.specs.Part.{part, with_text, with_uses, held, released, text_of, same_text};
 
@@ -65,6 +65,33 @@ impl TextPool {
             return self.put(tenant, text);
         };
         self.set_uses(key, uses + 1);
+        Ok(key)
+    }
+
+    /// One use more of the tenant's text at this key, of which nothing is looked up. The answer is the key under which
+    /// that use is kept, another one only where this one's uses can't be counted any more. Where the tenant has no text
+    /// there, nothing changes.
+    pub fn hold_again(&mut self, tenant: u32, key: usize) -> Result<usize, AllocError>
+        ensures own { IfOk result (λ again. IfSome (part tenant self.old key) (λ kept. part tenant self.new ≡
+            with_text again (held tenant kept.text (part tenant self.old again)) (part tenant self.old))) }
+        ensures same { IfOk result (λ again. IfSome (part tenant self.old again) (λ kept.
+            Some kept.text ≡ text_of (part tenant self.old key))) }
+        ensures vacant { part tenant self.old key ≡ None → part tenant self.new ≡ part tenant self.old }
+        ensures room { IfSome (part tenant self.old key) (λ kept. kept.uses + 1 < 2 ^ 64 → result ≡ Ok key) }
+
+        // Other tenants' parts stay as they were, and where memory is refused this tenant's too.
+        ensures others { (other : ℕ) → other ≢ tenant → part other self.new ≡ part other self.old }
+        ensures refused { OnErr result (part tenant self.new ≡ part tenant self.old) }
+    {
+        let Some(kept) = self.owned(tenant, key) else {
+            return Ok(key);
+        };
+        if kept.uses == u64::MAX {
+            let text = kept.text.shared()?;
+            return self.hold(tenant, text);
+        }
+        let uses = kept.uses + 1;
+        self.set_uses(key, uses);
         Ok(key)
     }
 

@@ -1,10 +1,11 @@
 //! A text and its digest.
 
-ghost use Rattle.std.specs.Prelude.{◌≡◌, bytes_eq};
+ghost use Rattle.std.specs.Prelude.{◌≡◌, IfOk, bytes_eq};
 ghost use Rattle.sha2.specs.Sha256.{sha256};
 
 use bytes::Bytes;
 use sha2::{Digest, Sha256};
+use std::alloc::AllocError;
 use std::marker::Model;
 
 /// Bytes with their SHA-256 (FIPS 180-4), by which different ones are told apart at once.
@@ -32,6 +33,18 @@ impl Text {
     {
         let digest = Sha256::digest(bytes.as_slice());
         Text { bytes, digest }
+    }
+
+    /// The same text: the bytes are shared, and none is looked at. It takes no memory, and is refused only where the
+    /// owners of the bytes can't be counted any more.
+    pub fn shared(&self) -> Result<Text, AllocError>
+        ensures { IfOk result (λ text. text ≡ self.now) }
+    {
+        let bytes = self.bytes.clone()?;
+        Ok(Text {
+            bytes,
+            digest: self.digest,
+        })
     }
 
     /// The bytes.
