@@ -1,0 +1,7 @@
+mod Lists
+mod Equals
+mod Read
+mod Empty
+mod Adding
+mod Joined
+mod Valued

@@ -1,0 +1,51 @@
+-- What holds of each member of a list.
+use Rattle.std.proofs.Common.{◌≡◌, ℕ, Bool, true, false, cond, List, [], ◌∷◌, ◌++◌, map, length, refl, sym, ap, subst, ◌∙◌, append_assoc, append-nil, arith}
+use Rattle.std.specs.Prelude.{filter}
+use Rattle.std.specs.List.{AllByRecursion}
+
+pub every_append : {A : Type 0} (P : A → Type 0) (xs ys : List A) → AllByRecursion P xs → AllByRecursion P ys → AllByRecursion P (xs ++ ys)
+every_append P [] ys front back = back
+every_append P (x ∷ xs) ys front back = (front.0, every_append P xs ys front.1 back)
+
+pub every_front : {A : Type 0} (P : A → Type 0) (xs ys : List A) → AllByRecursion P (xs ++ ys) → AllByRecursion P xs
+every_front P [] ys all = tt
+every_front P (x ∷ xs) ys all = (all.0, every_front P xs ys all.1)
+
+pub every_back : {A : Type 0} (P : A → Type 0) (xs ys : List A) → AllByRecursion P (xs ++ ys) → AllByRecursion P ys
+every_back P [] ys all = all
+every_back P (x ∷ xs) ys all = every_back P xs ys all.1
+
+pub every_mapped : {A B : Type 0} (P : A → Type 0) (Q : B → Type 0) (f : A → B) → ((a : A) → P a → Q (f a)) → (xs : List A) → AllByRecursion P xs → AllByRecursion Q (map f xs)
+every_mapped P Q f so [] all = tt
+every_mapped P Q f so (x ∷ xs) all = (so x all.0, every_mapped P Q f so xs all.1)
+
+kept : {A : Type 0} (P : A → Type 0) (b : Bool) (x : A) (xs : List A) → P x → AllByRecursion P xs → AllByRecursion P (cond b (x ∷ xs) xs)
+kept P true x xs one rest = (one, rest)
+kept P false x xs one rest = rest
+
+-- a filter keeps what holds of each
+pub every_filtered : {A : Type 0} (P : A → Type 0) (p : A → Bool) (xs : List A) → AllByRecursion P xs → AllByRecursion P (filter p xs)
+every_filtered P p [] all = tt
+every_filtered P p (x ∷ xs) all = kept P (p x) x (filter p xs) all.0 (every_filtered P p xs all.1)
+
+passed : {A : Type 0} (p : A → Bool) (x : A) (b : Bool) (xs : List A) → p x ≡ b → AllByRecursion (λ a. p a ≡ true) xs → AllByRecursion (λ a. p a ≡ true) (cond b (x ∷ xs) xs)
+passed p x true xs is rest = (is, rest)
+passed p x false xs is rest = rest
+
+-- and what it keeps passes
+pub every_passed : {A : Type 0} (p : A → Bool) (xs : List A) → AllByRecursion (λ a. p a ≡ true) (filter p xs)
+every_passed p [] = tt
+every_passed p (x ∷ xs) = passed p x (p x) (filter p xs) refl (every_passed p xs)
+
+pub map_twice : {A B C : Type 0} (f : B → C) (g : A → B) (xs : List A) → map f (map g xs) ≡ map (λ a. f (g a)) xs
+map_twice f g [] = refl
+map_twice f g (x ∷ xs) = ap (λ ys. f (g x) ∷ ys) (map_twice f g xs)
+
+-- what is taken from the front of a list goes behind what was taken before
+pub next_taken : {A : Type 0} → (now before more rest whole : List A) → now ≡ before ++ more → before ++ (more ++ rest) ≡ whole → now ++ rest ≡ whole
+next_taken now before more rest whole is all = ap (λ xs. xs ++ rest) is ∙ (append_assoc before more rest ∙ all)
+
+-- nothing is left of a list without elements
+pub none_left : {A B : Type 0} → (f : List A → List B) (before whole : List B) (rest : List A) → f [] ≡ [] → length rest ≡ 0 → before ++ f rest ≡ whole → before ≡ whole
+none_left f before whole [] none empty all = sym (append-nil before) ∙ (ap (λ xs. before ++ xs) (sym none) ∙ all)
+none_left f before whole (a ∷ rest) none empty all = absurd (omega arith)

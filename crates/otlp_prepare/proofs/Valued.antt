@@ -1,0 +1,137 @@
+-- The arrivals of a body's value are those of its parts.
+use Rattle.std.proofs.Common.{◌≡◌, ◌∙◌, ℕ, true, List, [], ◌∷◌, ◌++◌, Option, map, refl, ap, sym, subst}
+use Rattle.std.specs.Prelude.{option_map, IfSome, filter, flat_map}
+use Rattle.std.specs.List.{AllByRecursion}
+use Rattle.otlp_trace.specs.Data.{SpanData, ResourceData, ScopeSpansData, ResourceSpansData, RequestData}
+use Rattle.otlp_trace.specs.Text.{span_text, resource_text}
+use Rattle.otlp_read.specs.Nested.{NestedSpan, NestedScopeSpans, NestedResourceSpans, NestedRequest}
+use Rattle.otlp_read.specs.Typed.{TypedSpan, TypedScopeSpans, TypedResourceSpans, TypedRequest}
+use Rattle.otlp_parts.specs.Texts.{is_valid_span, valid_texts, ScopeTexts, ResourceTexts, BodyTexts, scope_texts, resource_texts, texts_of}
+use Rattle.span_view.specs.Facts.{facts}
+use Rattle.span_pool.specs.Stored.{Origin as OriginData, bytes_of}
+use Rattle.tail_settings.specs.Policy.{PolicyData}
+use Rattle.tail_settings.specs.Section.{SectionData}
+use Rattle.tenant_rules.specs.Arrivals.{Arrival}
+use Rattle.otlp_prepare.specs.declared.noted.Origin.{Origin}
+use Rattle.otlp_prepare.specs.declared.noted.NotedSpan.{NotedSpan}
+use Rattle.otlp_prepare.specs.Arrivals.{origin_of, arrival_of, arrival_with, arrivals_of_scope, arrivals_of_resource, arrivals_of, arrivals_in}
+use Rattle.otlp_prepare.specs.Prepared.{PreparedData, prepared_of}
+use Rattle.otlp_prepare.specs.Found.{arrivals_in_scope, arrivals_in_resource, arrivals_in_body, PartData, part_arrivals, noted, AreFound, IsSpanRead, IsValidRead, IsResourceRead, IsScopeRead, IsGroupRead, AreRead}
+use Rattle.otlp_prepare.proofs.Lists.{every_front, every_back, every_filtered, every_passed}
+use Rattle.otlp_prepare.proofs.Read.{AllTold, told}
+use Rattle.otlp_prepare.proofs.Joined.{IsShortArrival, noted_arrivals, short_arrivals}
+
+-- ---- the texts of a body's value were read
+
+texts_read : (ss : List SpanData) → AllByRecursion TypedSpan ss → AllByRecursion (NestedSpan 98) ss
+    → AllByRecursion (λ s. is_valid_span s ≡ true) ss → AllByRecursion IsValidRead (map span_text ss)
+texts_read [] typed nested valid = tt
+texts_read (s ∷ ss) typed nested valid = (
+  record { read = record { span = s; typed = typed.0; nested = nested.0; same = refl }; valid = valid.0 },
+  texts_read ss typed.1 nested.1 valid.1,
+)
+
+scope_read : (scope : ScopeSpansData) → TypedScopeSpans scope → NestedScopeSpans 99 scope → IsScopeRead (scope_texts scope)
+scope_read scope typed nested =
+    texts_read (filter is_valid_span scope.spans)
+    (every_filtered TypedSpan is_valid_span scope.spans typed.spans)
+    (every_filtered (NestedSpan 98) is_valid_span scope.spans nested.spans)
+    (every_passed is_valid_span scope.spans)
+
+scopes_read : (scopes : List ScopeSpansData) → AllByRecursion TypedScopeSpans scopes → AllByRecursion (NestedScopeSpans 99) scopes
+    → AllByRecursion IsScopeRead (map scope_texts scopes)
+scopes_read [] typed nested = tt
+scopes_read (scope ∷ scopes) typed nested = (scope_read scope typed.0 nested.0, scopes_read scopes typed.1 nested.1)
+
+resource_read : (group : ResourceSpansData) → TypedResourceSpans group → NestedResourceSpans 100 group
+    → IsResourceRead (option_map resource_text group.resource)
+resource_read group typed nested = record { resource = group.resource; typed = typed.resource; nested = nested.resource; same = refl }
+
+group_read : (group : ResourceSpansData) → TypedResourceSpans group → NestedResourceSpans 100 group → IsGroupRead (resource_texts group)
+group_read group typed nested = record {
+  resource = resource_read group typed nested;
+  scopes = scopes_read group.scope_spans typed.scope_spans nested.scope_spans;
+}
+
+groups_read : (groups : List ResourceSpansData) → AllByRecursion TypedResourceSpans groups → AllByRecursion (NestedResourceSpans 100) groups
+    → AllByRecursion IsGroupRead (map resource_texts groups)
+groups_read [] typed nested = tt
+groups_read (group ∷ groups) typed nested = (group_read group typed.0 nested.0, groups_read groups typed.1 nested.1)
+
+pub body_read : (v : RequestData) → TypedRequest v → NestedRequest v → AreRead (texts_of v)
+body_read v typed nested = groups_read v.resource_spans typed.resource_spans nested.resource_spans
+
+-- ---- and tell what arrives
+
+spans_arrive : (law : AllTold) (origin : OriginData) (outer : IsResourceRead origin.resource) (ss : List SpanData)
+    → AllByRecursion TypedSpan ss → AllByRecursion (NestedSpan 98) ss
+    → AllByRecursion IsShortArrival (map (arrival_with origin) (map span_text ss))
+    → map (arrival_with origin) (map span_text ss) ≡ map (arrival_of origin outer.resource) ss
+spans_arrive law origin outer [] typed nested short = refl
+spans_arrive law origin outer (s ∷ ss) typed nested short =
+    let read : IsSpanRead (span_text s) = record { span = s; typed = typed.0; nested = nested.0; same = refl } in
+    let tells = told (span_text s) origin.resource law read outer short.0.0 short.0.1 in
+    let rest = spans_arrive law origin outer ss typed.1 nested.1 short.1 in
+    λ j. record { facts = tells j; text = span_text s; origin = origin } ∷ rest j
+
+scope_arrives : (law : AllTold) (group : ResourceSpansData) → TypedResourceSpans group → NestedResourceSpans 100 group
+    → (scope : ScopeSpansData) → TypedScopeSpans scope → NestedScopeSpans 99 scope
+    → AllByRecursion IsShortArrival (arrivals_in_scope (resource_texts group) (scope_texts scope))
+    → arrivals_in_scope (resource_texts group) (scope_texts scope) ≡ arrivals_of_scope group scope
+unfolding resource_read
+scope_arrives law group outer within scope typed nested short =
+    spans_arrive law (origin_of group scope) (resource_read group outer within) (filter is_valid_span scope.spans)
+    (every_filtered TypedSpan is_valid_span scope.spans typed.spans)
+    (every_filtered (NestedSpan 98) is_valid_span scope.spans nested.spans) short
+
+scopes_arrive : (law : AllTold) (group : ResourceSpansData) → TypedResourceSpans group → NestedResourceSpans 100 group
+    → (scopes : List ScopeSpansData) → AllByRecursion TypedScopeSpans scopes → AllByRecursion (NestedScopeSpans 99) scopes
+    → AllByRecursion IsShortArrival (flat_map (arrivals_in_scope (resource_texts group)) (map scope_texts scopes))
+    → flat_map (arrivals_in_scope (resource_texts group)) (map scope_texts scopes) ≡ flat_map (arrivals_of_scope group) scopes
+scopes_arrive law group outer within [] typed nested short = refl
+scopes_arrive law group outer within (scope ∷ scopes) typed nested short =
+    let one = arrivals_in_scope (resource_texts group) (scope_texts scope) in
+    let more = flat_map (arrivals_in_scope (resource_texts group)) (map scope_texts scopes) in
+    let first = scope_arrives law group outer within scope typed.0 nested.0 (every_front IsShortArrival one more short) in
+    let rest = scopes_arrive law group outer within scopes typed.1 nested.1 (every_back IsShortArrival one more short) in
+    λ j. first j ++ rest j
+
+groups_arrive : (law : AllTold) (groups : List ResourceSpansData) → AllByRecursion TypedResourceSpans groups
+    → AllByRecursion (NestedResourceSpans 100) groups
+    → AllByRecursion IsShortArrival (flat_map arrivals_in_resource (map resource_texts groups))
+    → flat_map arrivals_in_resource (map resource_texts groups) ≡ flat_map arrivals_of_resource groups
+groups_arrive law [] typed nested short = refl
+groups_arrive law (group ∷ groups) typed nested short =
+    let one = arrivals_in_resource (resource_texts group) in
+    let more = flat_map arrivals_in_resource (map resource_texts groups) in
+    let first = scopes_arrive law group typed.0 nested.0 group.scope_spans typed.0.scope_spans nested.0.scope_spans (every_front IsShortArrival one more short) in
+    let rest = groups_arrive law groups typed.1 nested.1 (every_back IsShortArrival one more short) in
+    λ j. first j ++ rest j
+
+body_arrives : (law : AllTold) (v : RequestData) → TypedRequest v → NestedRequest v
+    → AllByRecursion IsShortArrival (arrivals_in_body (texts_of v)) → arrivals_in_body (texts_of v) ≡ arrivals_of v
+body_arrives law v typed nested short = groups_arrive law v.resource_spans typed.resource_spans nested.resource_spans short
+
+-- the spans that were found among the parts of a value, with their notes, are those that arrive
+pub all_arrive : (law : AllTold) (v : RequestData) (body : BodyTexts) (policies : List PolicyData) (origins : List Origin)
+    → (parts : List PartData) (spans : List NotedSpan) → TypedRequest v → NestedRequest v → body ≡ texts_of v
+    → AreFound policies origins parts → part_arrivals origins parts ≡ arrivals_in_body body
+    → spans ≡ map (noted policies) parts → arrivals_in origins spans ≡ arrivals_of v
+all_arrive law v body policies origins parts spans typed nested same are found is =
+    let texts = found ∙ ap (λ (b : BodyTexts). arrivals_in_body b) same in
+    let short = subst (AllByRecursion IsShortArrival) texts (short_arrivals policies origins parts are) in
+    ap (λ (xs : List NotedSpan). arrivals_in origins xs) is
+    ∙ (noted_arrivals policies origins parts ∙ (texts ∙ body_arrives law v typed nested short))
+
+-- so what is prepared of them is what the value is made ready as
+pub all_prepared : (law : AllTold) (v : RequestData) (body : BodyTexts) (policies given : List PolicyData) (origins : List Origin)
+    → (parts : List PartData) (spans : List NotedSpan) (tenant : ℕ) (section : SectionData) (result : PreparedData)
+    → TypedRequest v → NestedRequest v → body ≡ texts_of v → AreFound policies origins parts
+    → part_arrivals origins parts ≡ arrivals_in_body body → spans ≡ map (noted policies) parts
+    → given ≡ section.tail_sampling.policies
+    → result ≡ record { tenant = tenant; policies = given; arrivals = arrivals_in origins spans; invalid = body.invalid }
+    → result ≡ prepared_of tenant section v
+all_prepared law v body policies given origins parts spans tenant section result typed nested same are found is taken made =
+    let arrivals = all_arrive law v body policies origins parts spans typed nested same are found is in
+    let invalid = ap (λ (b : BodyTexts). b.invalid) same in
+    made ∙ (λ j. record { tenant = tenant; policies = taken j; arrivals = arrivals j; invalid = invalid j })

@@ -1,0 +1,4 @@
+pub mod Arrivals
+pub mod Prepared
+pub mod Equal
+pub mod Found

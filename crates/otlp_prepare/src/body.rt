@@ -1,0 +1,90 @@
+//! Bodies are read for a tenant.
+
+ghost use Rattle.std.specs.Prelude.{◌≡◌, ◌≢◌, ◌<◌, ◌≤◌, ◌^◌, Ok, IfOk, IfErr, MatchResult};
+ghost use Rattle.std.specs.List.{All};
+ghost use Rattle.otlp_trace.specs.Data.{RequestData};
+ghost use Rattle.otlp_read.specs.Fault.{Gives};
+ghost use Rattle.otlp_read.specs.Nested.{NestedRequest};
+ghost use Rattle.otlp_read.specs.Typed.{TypedRequest};
+ghost use Rattle.otlp_read.specs.Value.{IsValue, IsFault};
+ghost use Rattle.otlp_read.specs.declared.fault.ReadFault.{ReadFault};
+ghost use Rattle.otlp_parts.specs.Parts.{body_parts_view};
+ghost use Rattle.otlp_parts.specs.Texts.{ArePartsOf, texts_of};
+ghost use Rattle.tail_settings.specs.Section.{section_view};
+ghost use Rattle.otlp_prepare.specs.Found.{AreRead};
+ghost use Rattle.otlp_prepare.specs.Prepared.{IsPrepared, prepared_of};
+ghost use Rattle.otlp_prepare.specs.declared.refusal.Refusal.TheVariants as refusal;
+
+use crate::found::found_in;
+use crate::notes::noted_in;
+use crate::prepared::Prepared;
+use crate::refusal::Refusal;
+use bytes::Bytes;
+use otlp_parts::{BodyParts, read_parts};
+use otlp_read::{ReadFault, values_are_sound};
+use span_pool::read_spans_are_viewed;
+use std::alloc::Global;
+use std::thread::Threads;
+use tail_policy::TenantPolicies;
+use tail_settings::Section;
+
+/// Bytes are below 256, told of a whole text.
+fn are_bytes(text: &[u8])
+    ensures { All (λ byte. byte < 2 ^ 8) text.now }
+{
+    prove!(text.iter().all(|byte| *byte <= u8::MAX));
+}
+
+/// The parts of a body, whose texts are those of messages that were read.
+fn read_body(alloc: Global, body: &Bytes) -> Result<BodyParts, ReadFault>
+    ensures value { IfOk result (λ parts. ArePartsOf body.now (body_parts_view parts)) }
+    ensures read { IfOk result (λ parts. AreRead (body_parts_view parts)) }
+    ensures typed { (v : RequestData) → IsValue body.now v → TypedRequest v }
+    ensures nested { (v : RequestData) → IsValue body.now v → NestedRequest v }
+    ensures only { (v : RequestData) → IsValue body.now v → Gives body_parts_view result (Ok (texts_of v)) }
+    ensures fault { IfErr result (λ fault. fault ≢ ReadFault.OutOfMemory → IsFault body.now fault) }
+{
+    are_bytes(body.as_slice());
+    values_are_sound();
+    read_parts(alloc, body)
+}
+
+/// Reads a body, a request in protobuf, for the tenant with this number and section, and makes the notes of its spans
+/// in at most `parts` threads, 1 to 16, this one among them. It waits only for threads that it started. What is
+/// prepared names the tenant and borrows the section's policies; its texts are slices of the body where these make up
+/// half of it.
+pub fn prepare<'a, R: Threads + Sync>(
+    rt: &R,
+    alloc: Global,
+    tenant: u32,
+    section: &'a Section,
+    body: Bytes,
+    parts: u32,
+) -> Result<Prepared<'a>, Refusal>
+    requires { (0 < parts) × (parts ≤ 16) }
+
+    // What is prepared is the section's policies and the value of the body.
+    ensures value { IfOk result (λ prepared. IsPrepared tenant (section_view section.now) body prepared) }
+
+    // A body with a value is prepared, unless memory runs out.
+    ensures only { (v : RequestData) → IsValue body v →
+        MatchResult result (λ prepared. prepared ≡
+        prepared_of tenant (section_view section.now) v) (λ refused. refused ≡ refusal.OutOfMemory) }
+
+    // The fault of a body that is bad stands in it.
+    ensures bad { (fault : ReadFault) → IfErr result (λ refused. refused ≡ refusal.Bad fault → IsFault body fault) }
+{
+    let read = read_body(alloc, &body)?;
+    let policies = TenantPolicies::of(section.tail_sampling.policies.as_slice());
+    let invalid = read.invalid;
+    let found = found_in(alloc, &policies, read)?;
+    let spans = noted_in(rt, alloc, &policies, found.parts, parts)?;
+    read_spans_are_viewed();
+    Ok(Prepared::of(
+        tenant,
+        section.tail_sampling.policies.as_slice(),
+        found.origins,
+        spans,
+        invalid,
+    ))
+}

@@ -1,0 +1,67 @@
+//! The notes of spans.
+
+ghost use Rattle.std.specs.Prelude.{◌≡◌, ◌<◌, ◌≤◌, List, [], map, IfOk};
+ghost use Rattle.span_view.specs.Reading.{facts_of};
+ghost use Rattle.tail_settings.specs.Policy.{PolicyData};
+ghost use Rattle.otlp_prepare.specs.Found.{own_note, noted};
+
+use crate::noted::NotedSpan;
+use crate::part::SpanPart;
+use span_view::SpanRef;
+use std::alloc::{AllocError, Global};
+use std::thread::Threads;
+use tail_notes::note_all;
+use tail_policy::{TenantPolicies, TraceNote};
+
+/// What each span tells by itself.
+fn own_views(alloc: Global, parts: &[SpanPart]) -> Result<Vec<SpanRef<'_>>, AllocError>
+    ensures { IfOk result (λ views. views.items ≡ map (λ p. facts_of p.text []) parts.now) }
+{
+    parts.iter().map(|part| part.own_view()).collect(alloc)
+}
+
+/// The notes of spans without their resources, made in at most `threads` threads.
+fn own_notes<R: Threads + Sync>(
+    rt: &R,
+    alloc: Global,
+    policies: &TenantPolicies<'_>,
+    parts: &[SpanPart],
+    threads: u32,
+) -> Result<Vec<TraceNote>, AllocError>
+    requires { (0 < threads) × (threads ≤ 16) }
+    ensures { IfOk result (λ notes. notes.items ≡ map (own_note policies.now) parts.now) }
+{
+    let views = own_views(alloc, parts)?;
+    note_all(rt, alloc, policies, views.as_slice(), threads)
+}
+
+/// Spans with their notes, by their notes without their resources.
+fn with_notes(
+    alloc: Global,
+    parts: Vec<SpanPart>,
+    own: Vec<TraceNote>,
+) -> Result<Vec<NotedSpan>, AllocError>
+    ensures { (policies : List PolicyData) → own.items ≡ map (own_note policies) parts.items
+        → IfOk result (λ spans. spans.items ≡ map (noted policies) parts.items) }
+{
+    parts
+        .into_iter()
+        .zip(own)
+        .map(|(part, own)| part.with_note(own))
+        .collect(alloc)
+}
+
+/// Spans with their notes, in order, made in at most `threads` threads.
+pub fn noted_in<R: Threads + Sync>(
+    rt: &R,
+    alloc: Global,
+    policies: &TenantPolicies<'_>,
+    parts: Vec<SpanPart>,
+    threads: u32,
+) -> Result<Vec<NotedSpan>, AllocError>
+    requires { (0 < threads) × (threads ≤ 16) }
+    ensures { IfOk result (λ spans. spans.items ≡ map (noted policies.now) parts.items) }
+{
+    let own = own_notes(rt, alloc, policies, parts.as_slice(), threads)?;
+    with_notes(alloc, parts, own)
+}

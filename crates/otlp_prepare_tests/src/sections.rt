@@ -1,0 +1,29 @@
+//! Sections by their policies.
+
+use std::alloc::Global;
+use std::test::Fail;
+use tail_settings::{Section, Settings, load};
+
+/// Samples each trace.
+pub const ALWAYS: &str = "{ type = \"always_sample\" }";
+
+/// An attribute `a` whose value is the string `w`, traces of 5 ms or more, and traces with an error, which have an
+/// attribute `a` as well whose value is the string `v`.
+pub const THREE: &str = "{ type = \"string_attribute\", key = \"a\", values = [\"w\"] }, \
+{ type = \"latency\", threshold_ms = 5 }, { type = \"and\", and_sub_policy = [\
+{ type = \"status_code\", status_codes = [\"ERROR\"] }, \
+{ type = \"string_attribute\", key = \"a\", values = [\"v\"] }] }";
+
+fn first_section(settings: Settings) -> Option<Section> {
+    let (_name, section) = settings.tenants.into_iter().next()?;
+    Some(section)
+}
+
+/// A section with these policies.
+pub fn section_of(alloc: Global, policies: &str) -> Result<Section, Fail> {
+    let document = format!(in alloc;
+        "tenant = [{{ name = \"a\", tail_sampling = {{ policy = [{policies}] }} }}]"
+    )?;
+    let settings = load(alloc, document.as_str())?;
+    Ok(first_section(settings).ok_or("no tenant")?)
+}
