@@ -24,6 +24,12 @@ single (v ∷ w ∷ vs) = repeated
 unfoldable pub field : List ℕ → List Header → Single
 field name headers = single (values_named name headers)
 
+-- the value, where there is exactly one
+abbrev pub only : Single → Option (List ℕ)
+only absent = None
+only (one value) = Some value
+only repeated = None
+
 -- the number that 1 to `most` digits write, where it is below 2 ^ 64
 abbrev pub number_of : ℕ → List ℕ → Option ℕ
 number_of most text = if nat_le (length text) most && is_number text then Some (digits_value 10 text) else None

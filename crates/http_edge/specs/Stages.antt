@@ -3,8 +3,8 @@ use Rattle.std.specs.Prelude.{◌≡◌, ℕ, ◌+◌, ◌<◌, ◌≤◌, ◌++
 use Rattle.httparse.specs.Grammar.{RequestHead, HasNoRequest, MayBecomeRequest, print_request}
 use Rattle.httparse.specs.declared.Error.{Error}
 use Rattle.httparse.specs.declared.Error.TheVariants.{TooManyHeaders}
-use Rattle.http_edge.specs.declared.fields.Single.{Single}
-use Rattle.http_edge.specs.declared.fields.Single.TheVariants as Code
+use Rattle.http_edge.specs.declared.single.Single.{Single}
+use Rattle.http_edge.specs.declared.single.Single.TheVariants as Code
 use Rattle.http_edge.specs.Fields.{Single as SingleData, absent, one, repeated}
 use Rattle.http_edge.specs.declared.head.Head.{Head}
 use Rattle.http_edge.specs.declared.head.Begin.{Begin}

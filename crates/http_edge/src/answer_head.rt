@@ -6,7 +6,8 @@ ghost use Rattle.http_edge.specs.Steps.{Moves, work, HasFailed};
 ghost use Rattle.http_edge.specs.Post.{is_bodiless_status, answer_framing_in, retry_after_in, seconds_of};
 ghost use Rattle.http_edge.specs.Kept.{IsAnswerBegin};
 
-use crate::fields::{Single, field, framing_in, number};
+use crate::fields::{field, framing_in, number};
+use crate::single::Single;
 use crate::wire::{EdgeFault, Watch, fill};
 use http_line::Line;
 use http1::framing::Framing;

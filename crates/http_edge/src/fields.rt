@@ -1,52 +1,19 @@
 //! What the fields of a head say.
-ghost use Rattle.std.specs.Prelude.{◌≡◌, ℕ, List, [], ◌∷◌, ◌++◌, length, map, All, Option, Some, None, if◌then◌else◌, codes};
+ghost use Rattle.std.specs.Prelude.{◌≡◌, length, map, All, Some, None, if◌then◌else◌, codes};
 ghost use Rattle.std.specs.List.{list_any};
 ghost use Rattle.std.specs.Str.Parse.{digits_value};
 ghost use Rattle.httparse.specs.Spans.{IsHeaderWithin, header_bytes};
 ghost use Rattle.http1.specs.Fields.{is_number};
-ghost use Rattle.http_edge.specs.Fields.{single, field, number_of, framing_by_length, framing_by_fields, framing_in, is_host_fit, is_expectation, expects_in, closes_in};
+ghost use Rattle.http_edge.specs.Fields.{field, number_of, framing_by_length, framing_by_fields, framing_in, is_host_fit, is_expectation, expects_in, closes_in};
 ghost use Rattle.http_edge.specs.Stages.{single_of};
 
+use crate::single::Single;
 use http1::fields::KnownFields;
 use http1::framing::Framing;
 use http1::text::eq_ignore_case;
 use httparse::spans::HeaderSpan;
 
 const MOST_DIGITS: usize = 19;
-
-/// The value of a field that is to stand at most once.
-#[derive(Clone, Copy, Drop)]
-pub(crate) enum Single<'a> {
-    Absent,
-    One(&'a [u8]),
-    Repeated,
-}
-
-impl<'a> Single<'a> {
-    /// The same with one field more, whose value counts where it has the wanted name.
-    fn and(self, wanted: &[u8], name: &[u8], value: &'a [u8]) -> Single<'a>
-        ensures { (before : List (List ℕ × List ℕ)) → single_of self.entry ≡ field wanted.now before
-            → single_of result ≡ field wanted.now (before ++ (name.now, value.now) ∷ []) }
-    {
-        if eq_ignore_case(name, wanted) {
-            self.add(value)
-        } else {
-            self
-        }
-    }
-
-    /// The same with one value more.
-    fn add(self, value: &'a [u8]) -> Single<'a>
-        ensures { (before : List (List ℕ)) → single_of self.entry ≡ single before → single_of result ≡ single (before
-            ++ value.now ∷ []) }
-    {
-        match self {
-            Single::Absent => Single::One(value),
-            Single::One(_) => Single::Repeated,
-            Single::Repeated => Single::Repeated,
-        }
-    }
-}
 
 /// The field with this name.
 #[tactic(auto, unfolding(crate::specs::Fields::field))]

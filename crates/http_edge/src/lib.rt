@@ -2,7 +2,7 @@
 //!
 //! [`serve`] reads messages and writes a [`Handler`]'s replies; [`write_post`] writes a post to a back end, and
 //! [`read_answer`] reads what it answers. What is written and answered is settled by the bytes read, however they were
-//! cut ([`one_talk`], [`one_answer`]).
+//! cut ([`one_talk`], [`one_answer`]). [`only_value`] says what stands in a field of a message.
 //!
 //! Rules are those of RFC 9110 and RFC 9112, with this project's own choices where they leave one (docs/HTTP.md).
 //! Heads, the lines of chunks and trailers are read by `httparse`.
@@ -19,6 +19,7 @@ mod message;
 mod post;
 mod reply;
 mod server;
+mod single;
 mod wire;
 
 pub use crate::answer::{one_answer, read_answer};
@@ -26,4 +27,5 @@ pub use crate::message::{Handler, Header, HttpMessage, Reply, one_talk};
 pub use crate::post::write_post;
 pub use crate::reply::reply_bytes;
 pub use crate::server::serve;
+pub use crate::single::only_value;
 pub use crate::wire::EdgeFault;

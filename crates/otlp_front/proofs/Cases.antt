@@ -4,9 +4,9 @@ use Rattle.std.proofs.lemmas.Slice.Eq.{bytes_eq-Decides}
 use Rattle.http1.specs.Fields.{Header, values_named}
 use Rattle.http1.specs.Text.{eq_ignore_case}
 use Rattle.http_edge.specs.Message.{Request, Answer}
-use Rattle.http_edge.specs.Fields.{single, field}
+use Rattle.http_edge.specs.Fields.{single, field, only}
 use Rattle.otlp_front.specs.Target.{path_of, is_for_traces}
-use Rattle.otlp_front.specs.Fields.{only, media_type, is_protobuf, has_protobuf, are_plain}
+use Rattle.otlp_front.specs.Fields.{media_type, is_protobuf, has_protobuf, are_plain}
 use Rattle.otlp_front.specs.Route.{Names, Route, post, refuse, no_such_path, method_not_allowed, unsupported_type, unsupported_encoding, is_post, number_of, tenant_in, route_to, route_of}
 use Rattle.otlp_front.specs.Passes.{IsPostTo, PostsPass}
 

@@ -1,4 +1,3 @@
-mod Named
 mod Texts
 mod Names
 mod Plain

@@ -2,8 +2,7 @@
 use Rattle.std.proofs.Common.{◌≡◌, ℕ, Bool, true, false, cond, not, ◌||◌, ◌&&◌, List, [], ◌∷◌, ◌++◌, refl, ap, codes}
 use Rattle.std.specs.List.{list_all}
 use Rattle.http1.specs.Fields.{Header, is_named, values_named}
-use Rattle.otlp_front.specs.Fields.{is_identity, are_plain}
-use Rattle.otlp_front.specs.Singles.{is_plain}
+use Rattle.otlp_front.specs.Fields.{is_identity, is_plain, are_plain}
 
 one_more : (b : Bool) (v : List ℕ) (vs : List (List ℕ)) (r : Bool) → r ≡ list_all is_identity vs
     → ((not b || is_identity v) && r) ≡ list_all is_identity (cond b (v ∷ []) [] ++ vs)

@@ -1,17 +1,11 @@
 -- What the fields of a head say of a post (RFC 9110). Names are compared in any case; values are those without the
 -- blanks around them.
-use Rattle.std.specs.Prelude.{ℕ, ◌==◌, Bool, false, List, Option, Some, None, codes}
+use Rattle.std.specs.Prelude.{ℕ, ◌==◌, ◌||◌, not, Bool, false, List, Option, Some, None, codes}
 use Rattle.std.specs.List.{before_first, list_all}
 use Rattle.httparse.specs.Grammar.{trim_ows}
 use Rattle.http1.specs.Text.{eq_ignore_case}
-use Rattle.http1.specs.Fields.{Header, values_named}
-use Rattle.http_edge.specs.Fields.{Single, absent, one, repeated, field}
-
--- the value, where there is exactly one
-abbrev pub only : Single → Option (List ℕ)
-only absent = None
-only (one value) = Some value
-only repeated = None
+use Rattle.http1.specs.Fields.{Header, is_named, values_named}
+use Rattle.http_edge.specs.Fields.{field, only}
 
 -- a media type without its parameters, which begin with the first `;` (RFC 9110, section 8.3.1)
 abbrev pub media_type : List ℕ → List ℕ
@@ -29,6 +23,10 @@ has_protobuf headers = is_protobuf (only (field (codes "content-type") headers))
 -- a coding that changes nothing (RFC 9110, section 8.4.1; in any case)
 abbrev pub is_identity : List ℕ → Bool
 is_identity coding = eq_ignore_case coding (codes "identity")
+
+-- a field says of no coding but that one
+abbrev pub is_plain : Header → Bool
+is_plain h = not (is_named (codes "content-encoding") h) || is_identity h.1
 
 -- no `Content-Encoding` says that the content is coded: nothing is decompressed here
 abbrev pub are_plain : List Header → Bool

@@ -3,4 +3,3 @@ pub mod Fields
 pub mod Route
 pub mod Seen
 pub mod Passes
-pub mod Singles

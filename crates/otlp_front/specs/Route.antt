@@ -4,10 +4,10 @@ use Rattle.std.specs.Prelude.{ℕ, Bool, not, List, map, position, Option, Some,
 use Rattle.http1.specs.Fields.{Header}
 use Rattle.http_edge.specs.Message.{Request, Answer}
 use Rattle.http_edge.specs.Reply.{status_body}
-use Rattle.http_edge.specs.Fields.{field}
+use Rattle.http_edge.specs.Fields.{field, only}
 use Rattle.tail_settings.specs.Settings.{SettingsData}
 use Rattle.otlp_front.specs.Target.{is_for_traces}
-use Rattle.otlp_front.specs.Fields.{only, has_protobuf, are_plain}
+use Rattle.otlp_front.specs.Fields.{has_protobuf, are_plain}
 
 -- what of the settings a route depends on: the name of the field that names a tenant, and the tenants' names by number
 pub record Names : Type 0 where

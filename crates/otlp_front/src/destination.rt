@@ -1,5 +1,7 @@
 //! Where a message goes.
 
+ghost use Rattle.std.specs.Prelude.{◌≡◌, ◌↔◌, true};
+
 use crate::refusal::RouteRefusal;
 
 /// Where a message goes.
@@ -10,3 +12,9 @@ pub enum Route {
     /// It is refused, and nothing else is done.
     Refuse(RouteRefusal),
 }
+
+/// Routes are equal where they lead to the same, and refusals where they are for the same reason.
+pub fn equal_routes()
+    ensures routes { (a b : Route) → (⟦<Route as PartialEq>⟧.eq a b ≡ true) ↔ (a ≡ b) }
+    ensures refusals { (a b : RouteRefusal) → (⟦<RouteRefusal as PartialEq>⟧.eq a b ≡ true) ↔ (a ≡ b) }
+{}

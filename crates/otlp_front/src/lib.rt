@@ -16,7 +16,7 @@ mod refusal;
 mod rules;
 mod target;
 
-pub use crate::destination::Route;
+pub use crate::destination::{Route, equal_routes};
 pub use crate::refusal::RouteRefusal;
 pub use crate::rules::route;
 

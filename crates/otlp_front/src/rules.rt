@@ -7,11 +7,11 @@ ghost use Rattle.otlp_front.specs.Route.{names_in, is_post, tenant_in, route_to,
 ghost use Rattle.otlp_front.specs.Seen.{route_by};
 
 use crate::destination::Route;
-use crate::fields::{are_plain, has_protobuf, only_value};
+use crate::fields::{are_plain, has_protobuf};
 use crate::refusal::RouteRefusal;
 use crate::target::is_for_traces;
 use http::Method;
-use http_edge::{Header, HttpMessage};
+use http_edge::{Header, HttpMessage, only_value};
 use std::str;
 use tail_settings::Settings;
 

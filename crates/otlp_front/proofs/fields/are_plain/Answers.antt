@@ -2,7 +2,7 @@ use Rattle.std.proofs.Common.{map, ap, ◌∙◌}
 use Rattle.std.specs.List.{list_all}
 use Rattle.std.proofs.lemmas.List.{take_all}
 use Rattle.http_edge.specs.Seen.{header_of}
-use Rattle.otlp_front.specs.Singles.{is_plain}
+use Rattle.otlp_front.specs.Fields.{is_plain}
 use Rattle.otlp_front.proofs.Plain.{plain_values}
 use Rattle.otlp_front.proofs.fields.are_plain.Goals as goal
 

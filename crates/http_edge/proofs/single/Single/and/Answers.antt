@@ -2,7 +2,7 @@ use Rattle.std.proofs.Common.{◌∙◌, sym}
 use Rattle.http1.specs.Fields.{values_named}
 use Rattle.http_edge.specs.Fields.{field}
 use Rattle.http_edge.proofs.Named.{field_named, field_other}
-use Rattle.http_edge.proofs.fields.Single.and.Goals as goal
+use Rattle.http_edge.proofs.single.Single.and.Goals as goal
 
 pub returns-then-eq_ignore_case : goal.returns-then-eq_ignore_case
 unfolding field
