@@ -1,5 +1,5 @@
 -- Each tenant's lines are what it alone is answered to its own commands.
-use Rattle.std.proofs.Common.{◌≡◌, ◌≢◌, ◌+◌, ◌%◌, ◌==◌, ◌⊎◌, ℕ, Bool, true, false, cond, nat_lt, List, [], ◌∷◌, ◌++◌, codes, Option, Some, None, Result, Ok, refl, ap, sym, subst, ◌∙◌, arith, inl, inr}
+use Rattle.std.proofs.Common.{◌≡◌, ◌≢◌, ◌+◌, ◌%◌, ◌==◌, ◌⊎◌, ℕ, Bool, true, false, cond, nat_lt, List, [], ◌∷◌, ◌++◌, codes, Option, Some, None, refl, ap, sym, subst, ◌∙◌, inl, inr}
 use Rattle.std.specs.Bool.{MatchBool}
 use Rattle.std.specs.List.{slice_get, filter, position}
 use Rattle.std.specs.Option.{option_map}
@@ -9,29 +9,25 @@ use Rattle.std.proofs.lemmas.Bool.Decides.{eqb_tells}
 use Rattle.std.proofs.lemmas.List.{append-nil, append_assoc}
 use Rattle.std.proofs.lemmas.Option.{same_Some}
 use Rattle.std.proofs.lemmas.Slice.Eq.{bytes_eq-Decides}
-use Rattle.otlp_trace.specs.Data.{RequestData}
-use Rattle.otlp_read.specs.Value.{IsValue}
 use Rattle.tail_settings.specs.Section.{SectionData}
-use Rattle.tail_settings.specs.Settings.{SettingsData, TenantData, settings_of}
+use Rattle.tail_settings.specs.Settings.{SettingsData, TenantData}
 use Rattle.tenant_pipeline.specs.declared.told.Told.{Told as What}
 use Rattle.tenant_pipeline.specs.declared.told.Told.TheVariants as says
-use Rattle.tenant_pipeline.specs.Arrivals.{arrivals_of}
 use Rattle.tenant_pipeline.specs.Own.{Own}
 use Rattle.tenant_pipeline.specs.Own as own
-use Rattle.tenant_pipeline.specs.Prepared.{prepared_of}
 use Rattle.tenant_pipeline.specs.Ready.{ready}
 use Rattle.tenant_pipeline.specs.State.{state, answer}
 use Rattle.tenant_shard.specs.declared.step.Outcome.{Outcome}
 use Rattle.tenant_shard.specs.declared.step.Outcome.TheVariants.{Idle}
 use Rattle.tenant_shard.specs.declared.step.Step.TheVariants as steps
-use Rattle.tenant_shard.specs.Outcomes.{OwnStep, Posted, Turned, Answered, named, own_step, is_tenant, told_whom}
+use Rattle.tenant_shard.specs.Outcomes.{Turned, Answered, named, is_tenant, told_whom}
 use Rattle.tenant_shard.specs.Pick.{ready_after, ready_at}
 use Rattle.shard_agenda.specs.Pick.{IsPick}
 use Rattle.tenant_shard.specs.Run.{IsAnswered, IsTurned, recorded, after}
 use Rattle.tenant_shard.specs.Table.{section_at}
 use Rattle.replay_script.specs.Command.{CommandData, Post, Turn}
 use Rattle.replay_script.specs.Line.{Kind, Skipped, Says, Faulty, kind_of, lines_of}
-use Rattle.replay_script.specs.Answer.{reply_text, idle_text}
+use Rattle.replay_script.specs.Answer.{reply_text}
 use Rattle.replay_script.specs.Told.{Goes, Told}
 use Rattle.replay_script.specs.Told as script
 use Rattle.replay_script.proofs.Lines.{line_ended}
@@ -40,7 +36,7 @@ use Rattle.trace_collector.specs.Outcomes.{name_at, outcome_text, told_text, bad
 use Rattle.trace_collector.specs.Answered.{section_in, lists_of, IsStepped, HasNoValue, IsPosted, IsPostedTo}
 use Rattle.trace_collector.specs.Answered as collector
 use Rattle.trace_collector.specs.Own.{names, named_by, is_own, of_any_shard, commands_from, commands_of, own_among}
-use Rattle.trace_collector.specs.Alone.{IsStepAlone, IsPostAlone, IsReadyBy, IsAnsweredAlone, AnswersAlone, EachAlone}
+use Rattle.trace_collector.specs.Alone.{IsPostAlone, IsReadyBy, IsAnsweredAlone, AnswersAlone, EachAlone}
 use Rattle.trace_collector.specs.Script.{ScriptText, BeginsScriptText, ScriptToldSoFar, no_steps}
 use Rattle.trace_collector.proofs.OneLine.{IsWord, IsLineOf, reply_line, told_line, idle_line}
 use Rattle.trace_collector.proofs.Named.{AreNamed, found_named, name_of_number}

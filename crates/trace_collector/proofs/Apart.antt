@@ -1,13 +1,11 @@
 -- A tenant's own commands in a collector of its own.
-use Rattle.std.proofs.Common.{◌≡◌, ◌+◌, ◌%◌, ◌==◌, ◌<◌, ℕ, zero, suc, Bool, true, false, cond, nat_lt, List, [], ◌∷◌, ◌++◌, codes, Option, Some, None, Ok, refl, ap, sym, subst, ◌∙◌, arith, inl, inr}
-use Rattle.std.specs.List.{slice_get, position}
+use Rattle.std.proofs.Common.{◌≡◌, ◌%◌, ◌==◌, ℕ, zero, suc, Bool, true, false, cond, List, [], ◌∷◌, ◌++◌, codes, Option, Some, None, refl, ap, sym, subst, ◌∙◌, arith, inl, inr}
+use Rattle.std.specs.List.{position}
 use Rattle.std.specs.Str.{bytes_eq}
 use Rattle.std.proofs.lemmas.Option.{same_Some}
 use Rattle.std.proofs.lemmas.Slice.Eq.{bytes_eq-Decides}
 use Rattle.otlp_trace.specs.Data.{RequestData}
-use Rattle.otlp_read.specs.Value.{IsValue}
-use Rattle.tail_settings.specs.Section.{SectionData}
-use Rattle.tail_settings.specs.Settings.{SettingsData, TenantData, settings_of}
+use Rattle.tail_settings.specs.Settings.{SettingsData, TenantData}
 use Rattle.tenant_pipeline.specs.declared.told.Told.{Told}
 use Rattle.tenant_pipeline.specs.declared.told.Told.TheVariants as says
 use Rattle.tenant_pipeline.specs.Arrivals.{arrivals_of}
@@ -16,16 +14,14 @@ use Rattle.tenant_pipeline.specs.Own as own
 use Rattle.tenant_pipeline.specs.Prepared.{prepared_of}
 use Rattle.tenant_pipeline.specs.Ready.{ready}
 use Rattle.tenant_pipeline.specs.State.{state, answer}
-use Rattle.tenant_shard.specs.declared.step.Outcome.{Outcome}
 use Rattle.tenant_shard.specs.declared.step.Step.TheVariants as steps
 use Rattle.tenant_shard.specs.Outcomes.{Posted, Answered, named}
 use Rattle.tenant_shard.specs.Pick.{ready_at, ready_after}
-use Rattle.shard_agenda.specs.Pick.{IsPick, NotAfter}
+use Rattle.shard_agenda.specs.Pick.{NotAfter}
 use Rattle.tenant_shard.specs.Run.{IsAnswered, IsTakenOrNot, recorded, after}
 use Rattle.replay_script.specs.Command.{CommandData, Post, Turn}
-use Rattle.replay_script.specs.Answer.{reply_text}
 use Rattle.replay_script.specs.Line.{lines_of}
-use Rattle.trace_collector.specs.Outcomes.{outcome_text, told_text, bad_protobuf}
+use Rattle.trace_collector.specs.Outcomes.{outcome_text, told_text}
 use Rattle.trace_collector.specs.Answered.{lists_of, IsStepped, HasNoValue, IsPosted, IsPostedTo}
 use Rattle.trace_collector.specs.Answered as collector
 use Rattle.trace_collector.specs.Own.{named_by, is_own, of_any_shard, commands_of, own_among, own_commands, lines_for}

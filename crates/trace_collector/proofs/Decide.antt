@@ -1,16 +1,13 @@
 -- What a tenant alone is answered is one.
-use Rattle.std.proofs.Common.{◌≡◌, ℕ, List, [], ◌∷◌, ◌++◌, codes, Option, Some, refl, ap, sym, subst, ◌∙◌, inl, inr}
+use Rattle.std.proofs.Common.{◌≡◌, ℕ, List, [], ◌∷◌, ◌++◌, codes, refl, ap, sym, subst, ◌∙◌, inl, inr}
 use Rattle.std.proofs.lemmas.List.{append_cancel_right}
-use Rattle.std.specs.List.{slice_get}
 use Rattle.otlp_trace.specs.Data.{RequestData}
 use Rattle.otlp_read.specs.Value.{IsValue}
 use Rattle.tail_settings.specs.Section.{SectionData}
 use Rattle.tenant_pipeline.specs.Arrivals.{arrivals_of}
 use Rattle.tenant_pipeline.specs.Own.{Own}
 use Rattle.tenant_pipeline.specs.Own as own
-use Rattle.tenant_pipeline.specs.State.{answer}
 use Rattle.replay_script.specs.Command.{CommandData, Post, Turn}
-use Rattle.trace_collector.specs.Outcomes.{told_text}
 use Rattle.trace_collector.specs.Alone.{IsStepAlone, IsPostAlone, IsAnsweredAlone, AnswersAlone, IsToldIn, OwnCommandsDecide}
 use Rattle.trace_collector.specs.Own.{own_commands, lines_for}
 use Rattle.trace_collector.proofs.Named.{are_named}

@@ -10,7 +10,7 @@ use Rattle.replay_script.specs.Told.{Ends}
 use Rattle.trace_collector.specs.declared.shards.Shards.{Shards}
 use Rattle.trace_collector.specs.declared.engine.ReplayFault.{ReplayFault}
 use Rattle.trace_collector.specs.declared.engine.ReplayFault.TheVariants as faults
-use Rattle.trace_collector.specs.Alone.{AnswersAlone, EachAlone, IsToldAlone, TellsEachAlone}
+use Rattle.trace_collector.specs.Alone.{EachAlone, IsToldAlone, TellsEachAlone}
 use Rattle.trace_collector.specs.Answered.{IsAnswered}
 use Rattle.trace_collector.specs.Fault.{script_fault}
 use Rattle.trace_collector.specs.Own.{commands_of, own_among}

@@ -1,6 +1,5 @@
 -- The line that answers a command: it has one line feed, at its end, and names its tenant, or none.
-use Rattle.std.proofs.Common.{◌≡◌, ◌≢◌, ◌==◌, ◌&&◌, ℕ, Bool, true, false, not, List, [], ◌∷◌, ◌++◌, codes, All, refl, ap, sym, ◌∙◌}
-use Rattle.std.specs.List.{list_all}
+use Rattle.std.proofs.Common.{◌≡◌, ◌≢◌, ◌==◌, ◌&&◌, ℕ, false, not, List, [], ◌∷◌, ◌++◌, codes, All, refl, ap, ◌∙◌}
 use Rattle.std.specs.Str.{bytes_eq}
 use Rattle.std.specs.Fmt.{decimal}
 use Rattle.std.proofs.lemmas.List.{append-nil, append_assoc}
@@ -9,7 +8,7 @@ use Rattle.std.proofs.lemmas.List.Splits.{slice_split_at, slice_split_none}
 use Rattle.tenant_pipeline.specs.declared.told.Told.{Told}
 use Rattle.tenant_pipeline.specs.declared.told.Told.TheVariants as told
 use Rattle.replay_script.specs.Word.{words_of}
-use Rattle.replay_script.specs.Answer.{hex_text, reply_text, job_text, worked_text, idle_text, refused_text}
+use Rattle.replay_script.specs.Answer.{hex_text, reply_text, job_text, worked_text, idle_text}
 use Rattle.replay_script.proofs.Plain.{IsPlain, plain_of, decimal_plain, hex_plain}
 use Rattle.trace_collector.specs.Outcomes.{told_text}
 use Rattle.trace_collector.specs.Own.{is_named_in, names}
