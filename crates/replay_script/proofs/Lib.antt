@@ -8,4 +8,5 @@ pub mod Ran
 pub mod Sent
 pub mod Going
 pub mod Equal
+pub mod Plain
 pub mod OnLiterals

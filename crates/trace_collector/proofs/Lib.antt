@@ -6,3 +6,9 @@ pub mod Done
 pub mod Replayed
 pub mod One
 pub mod Taken
+pub mod OneLine
+pub mod Named
+pub mod Alone
+pub mod Decide
+pub mod EachTold
+pub mod Apart

@@ -27,7 +27,7 @@ pub record Along (settings : SettingsData) (shards : Shards) (pasts : ℕ → Li
   pub same : settings_view shards.settings ≡ settings
   pub stand : AllStand settings shards.shards.items pasts
 
-goes_along : (settings : SettingsData) (old new : Shards) (pasts : ℕ → List Own) (command : CommandData) (line : Option (List ℕ)) → Along settings old pasts → Answers old command line new
+pub goes_along : (settings : SettingsData) (old new : Shards) (pasts : ℕ → List Own) (command : CommandData) (line : Option (List ℕ)) → Along settings old pasts → Answers old command line new
     → (later : ℕ → List Own) × IsAnswered settings pasts command line later × Along settings new later
 goes_along settings old new pasts command line along answers =
     let next = answers.answers pasts (subst (λ s. AllStand s old.shards.items pasts) (sym along.same) along.stand) in (
@@ -36,7 +36,7 @@ goes_along settings old new pasts command line along answers =
       record { same = answers.same ∙ along.same; stand = subst (λ s. AllStand s new.shards.items next.0) along.same next.2 },
     )
 
-ok_same : {E : Type 0} (r : Result SettingsData E) (a b : SettingsData) → r ≡ Ok a → r ≡ Ok b → a ≡ b
+pub ok_same : {E : Type 0} (r : Result SettingsData E) (a b : SettingsData) → r ≡ Ok a → r ≡ Ok b → a ≡ b
 ok_same {E} r a b e f = let same : ◌≡◌ {A = Result SettingsData E} (Ok a) (Ok b) = sym e ∙ f in cc
 
 pub ran_replays : (text script written : List ℕ) (unread : Option (List ℕ)) (shards : Shards) (settings : SettingsData) (done : Unit) → settings_of text ≡ Ok settings → Along settings shards no_steps

@@ -27,7 +27,7 @@ use Rattle.trace_collector.specs.Law.{ValuesAreTaken}
 policies_equiv : IsEquivalence policy_eq
 policies_equiv = on_equiv policy_parts (lists_equiv (lists_equiv nat_list_eq_equiv))
 
-own_policies : (policies : List PolicyData) → same_policies policies policies ≡ true
+pub own_policies : (policies : List PolicyData) → same_policies policies policies ≡ true
 own_policies policies = (lists_equiv policies_equiv).refl policies
 
 own_section : (settings : SettingsData) (tenant : ℕ) (section : SectionData) → section_at settings tenant ≡ Some section → section_in settings (tenant % settings.global.shards) tenant ≡ Some section

@@ -6,3 +6,6 @@ pub mod Standing
 pub mod Replay
 pub mod Members
 pub mod Law
+pub mod Own
+pub mod Alone
+pub mod Apart

@@ -3,6 +3,8 @@ use Rattle.std.specs.Prelude.{ℕ, List, [], codes, option_map, slice_get}
 use Rattle.std.specs.Option.{unwrap_or}
 use Rattle.otlp_trace.specs.Text.{refusal_text}
 use Rattle.tail_settings.specs.Settings.{SettingsData}
+use Rattle.tenant_pipeline.specs.declared.told.Told.{Told}
+use Rattle.tenant_pipeline.specs.declared.told.Told.TheVariants as told
 use Rattle.tenant_shard.specs.declared.step.Outcome.{Outcome}
 use Rattle.tenant_shard.specs.declared.step.Outcome.TheVariants.{Reply, Job, Worked, Idle, Refused}
 use Rattle.replay_script.specs.Answer.{reply_text, job_text, worked_text, idle_text, refused_text}
@@ -18,6 +20,12 @@ outcome_text settings shard (Job tenant ticket payload) = job_text (name_at sett
 outcome_text settings shard (Worked tenant) = worked_text (name_at settings tenant)
 outcome_text settings shard Idle = idle_text shard
 outcome_text settings shard (Refused tenant number) = refused_text (name_at settings tenant) number
+
+-- the line of what a tenant of this name is told
+abbrev pub told_text : List ℕ → Told → List ℕ
+told_text name (told.Reply reply) = reply_text name reply.status reply.body
+told_text name (told.Job ticket payload) = job_text name ticket payload
+told_text name told.Worked = worked_text name
 
 -- what a body without a value is answered: the text of a refusal with this message
 abbrev pub bad_protobuf : List ℕ

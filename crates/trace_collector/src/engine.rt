@@ -2,6 +2,7 @@
 
 ghost use Rattle.std.specs.Prelude.{◌≡◌, ℕ, List, IfSome, Err};
 ghost use Rattle.std.specs.Io.KnownBytes.{Appends};
+ghost use Rattle.trace_collector.specs.Alone.{TellsEachAlone};
 ghost use Rattle.trace_collector.specs.Fault.{settings_fault, script_fault};
 ghost use Rattle.trace_collector.specs.Replay.{IsReplay, WritesSoFar};
 ghost use Rattle.trace_collector.specs.declared.engine.ReplayFault.TheVariants as faults;
@@ -42,6 +43,10 @@ pub fn replay<R: BufRead, W: Write>(
     ensures told { IfSome (R.remaining reader.old) (λ script. (written : List ℕ)
         × Appends (W.contents writer.old) (W.contents writer.new) written
         × IsReplay settings.now script written result) }
+    // Each tenant is told what it would be told alone, whatever the other tenants' settings and commands.
+    ensures each_alone { IfSome (R.remaining reader.old) (λ script. (written : List ℕ)
+        × Appends (W.contents writer.old) (W.contents writer.new) written
+        × TellsEachAlone settings.now script written result) }
     // Where memory was refused, all answers so far were written.
     ensures so_far { result ≡ Err ReplayFault.OutOfMemory → IfSome (R.remaining reader.old) (λ script.
         WritesSoFar settings.now script (R.remaining reader.new) (W.contents writer.old) (W.contents writer.new)) }

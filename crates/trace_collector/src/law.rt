@@ -1,5 +1,7 @@
 //! Laws of the definitions.
 
+ghost use Rattle.trace_collector.specs.Alone.{OwnCommandsDecide};
+ghost use Rattle.trace_collector.specs.Apart.{ReplaysApart};
 ghost use Rattle.trace_collector.specs.Law.{TextIsOne, BeginningsBegin, ValuesAreTaken};
 
 use otlp_read::values_or_faults;
@@ -16,4 +18,18 @@ pub fn text_is_one()
 /// 200, and its spans are the tenant's next own step.
 pub fn values_are_taken()
     ensures { ValuesAreTaken }
+{}
+
+/// What a tenant is told follows from its name, its section and its own commands alone: a law over replays of any
+/// settings and any scripts.
+pub fn own_commands_decide()
+    ensures { OwnCommandsDecide }
+{
+    values_or_faults();
+}
+
+/// A collector that has one tenant alone, with one shard, would answer the tenant's own commands of any replay by its
+/// lines of that replay: a law over replays.
+pub fn tenants_replay_apart()
+    ensures { ReplaysApart }
 {}

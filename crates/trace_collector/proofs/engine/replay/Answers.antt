@@ -7,6 +7,8 @@ use Rattle.trace_collector.specs.Fault.{script_fault, settings_fault}
 use Rattle.trace_collector.specs.Script.{no_steps}
 use Rattle.trace_collector.specs.Standing.{Answers}
 use Rattle.trace_collector.specs.Replay.{IsReplay}
+use Rattle.trace_collector.specs.Alone.{TellsEachAlone}
+use Rattle.trace_collector.proofs.EachTold.{nothing_tells, ran_tells, fault_tells}
 use Rattle.trace_collector.proofs.Replayed.{Along, ran_replays, fault_replays, was_memory, memory_so_far, some_told, unread_replays, nothing_told, nothing_so_far}
 use Rattle.trace_collector.proofs.engine.replay.Goals as goal
 
@@ -60,4 +62,36 @@ returns-clause-told g c =
     (λ (script written : List ℕ). Ends Answers (lines_of script) shards None written (Ok tt))
     (λ (script written : List ℕ). IsReplay text script written (Ok tt)) _ _
     (λ script written ends. ran_replays text script written None shards (settings_view c.in_ok-settings.settings) tt c.in_ok-settings.ensures.ok along ends)
+    c.in_ok-run_script.ensures.told
+
+pub returns-in_err-settings-clause-each_alone : goal.returns-in_err-settings-clause-each_alone
+returns-in_err-settings-clause-each_alone g c = nothing_tells _ _ c.args.settings.now c.from_residual.result
+
+pub returns-in_err-shards-clause-each_alone : goal.returns-in_err-shards-clause-each_alone
+returns-in_err-shards-clause-each_alone g c = nothing_tells _ _ c.args.settings.now c.from_residual-in_err-shards.result
+
+pub returns-in_err-run_script-clause-each_alone : goal.returns-in_err-run_script-clause-each_alone
+returns-in_err-run_script-clause-each_alone g c =
+    let p = err_from_is_err_and c.from_residual-in_err-run_script.result c.from_residual-in_err-run_script.ensures.1 in
+    let text = c.args.settings.now in
+    let shards = c.in_ok-shards.shards in
+    let fault = c.in_err-run_script.field-0.0 in
+    let along : Along (settings_view c.in_ok-settings.settings) c.in_ok-shards.shards no_steps =
+    record { same = ap settings_view c.in_ok-shards.ensures.settings; stand = c.in_ok-shards.ensures.stand } in
+    rw (p.1, p.2) (some_told _
+    (λ (script written : List ℕ). Ends Answers (lines_of script) shards _ written (Err fault))
+    (λ (script written : List ℕ). TellsEachAlone text script written (Err (script_fault fault))) _ _
+    (λ script written ends. fault_tells text script written _ shards (settings_view c.in_ok-settings.settings) fault c.in_ok-settings.ensures.ok along ends)
+    c.in_err-run_script.ensures.told)
+
+pub returns-clause-each_alone : goal.returns-clause-each_alone
+returns-clause-each_alone g c =
+    let text = c.args.settings.now in
+    let shards = c.in_ok-shards.shards in
+    let along : Along (settings_view c.in_ok-settings.settings) c.in_ok-shards.shards no_steps =
+    record { same = ap settings_view c.in_ok-shards.ensures.settings; stand = c.in_ok-shards.ensures.stand } in
+    some_told _
+    (λ (script written : List ℕ). Ends Answers (lines_of script) shards None written (Ok tt))
+    (λ (script written : List ℕ). TellsEachAlone text script written (Ok tt)) _ _
+    (λ script written ends. ran_tells text script written None shards (settings_view c.in_ok-settings.settings) tt c.in_ok-settings.ensures.ok along ends)
     c.in_ok-run_script.ensures.told

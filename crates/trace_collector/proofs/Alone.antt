@@ -1,0 +1,289 @@
+-- Each tenant's lines are what it alone is answered to its own commands.
+use Rattle.std.proofs.Common.{◌≡◌, ◌≢◌, ◌+◌, ◌%◌, ◌==◌, ◌⊎◌, ℕ, Bool, true, false, cond, nat_lt, List, [], ◌∷◌, ◌++◌, codes, Option, Some, None, refl, ap, sym, subst, ◌∙◌, inl, inr}
+use Rattle.std.specs.Bool.{MatchBool}
+use Rattle.std.specs.List.{slice_get, filter, position}
+use Rattle.std.specs.Option.{option_map}
+use Rattle.std.specs.Str.{bytes_eq}
+use Rattle.std.proofs.lemmas.Bool.{ne_eqb, eq-eqb}
+use Rattle.std.proofs.lemmas.Bool.Decides.{eqb_tells}
+use Rattle.std.proofs.lemmas.List.{append-nil, append_assoc}
+use Rattle.std.proofs.lemmas.Option.{same_Some}
+use Rattle.std.proofs.lemmas.Slice.Eq.{bytes_eq-Decides}
+use Rattle.tail_settings.specs.Section.{SectionData}
+use Rattle.tail_settings.specs.Settings.{SettingsData, TenantData}
+use Rattle.tenant_pipeline.specs.declared.told.Told.{Told as What}
+use Rattle.tenant_pipeline.specs.declared.told.Told.TheVariants as says
+use Rattle.tenant_pipeline.specs.Own.{Own}
+use Rattle.tenant_pipeline.specs.Own as own
+use Rattle.tenant_pipeline.specs.Ready.{ready}
+use Rattle.tenant_pipeline.specs.State.{state, answer}
+use Rattle.tenant_shard.specs.declared.step.Outcome.{Outcome}
+use Rattle.tenant_shard.specs.declared.step.Outcome.TheVariants.{Idle}
+use Rattle.tenant_shard.specs.declared.step.Step.TheVariants as steps
+use Rattle.tenant_shard.specs.Outcomes.{Turned, Answered, named, is_tenant, told_whom}
+use Rattle.tenant_shard.specs.Pick.{ready_after, ready_at}
+use Rattle.shard_agenda.specs.Pick.{IsPick}
+use Rattle.tenant_shard.specs.Run.{IsAnswered, IsTurned, recorded, after}
+use Rattle.tenant_shard.specs.Table.{section_at}
+use Rattle.replay_script.specs.Command.{CommandData, Post, Turn}
+use Rattle.replay_script.specs.Line.{Kind, Skipped, Says, Faulty, kind_of, lines_of}
+use Rattle.replay_script.specs.Answer.{reply_text}
+use Rattle.replay_script.specs.Told.{Goes, Told}
+use Rattle.replay_script.specs.Told as script
+use Rattle.replay_script.proofs.Lines.{line_ended}
+use Rattle.replay_script.proofs.Plain.{IsPlain}
+use Rattle.trace_collector.specs.Outcomes.{name_at, outcome_text, told_text, bad_protobuf}
+use Rattle.trace_collector.specs.Answered.{section_in, lists_of, IsStepped, HasNoValue, IsPosted, IsPostedTo}
+use Rattle.trace_collector.specs.Answered as collector
+use Rattle.trace_collector.specs.Own.{names, named_by, is_own, of_any_shard, commands_from, commands_of, own_among}
+use Rattle.trace_collector.specs.Alone.{IsPostAlone, IsReadyBy, IsAnsweredAlone, AnswersAlone, EachAlone}
+use Rattle.trace_collector.specs.Script.{ScriptText, BeginsScriptText, ScriptToldSoFar, no_steps}
+use Rattle.trace_collector.proofs.OneLine.{IsWord, IsLineOf, reply_line, told_line, idle_line}
+use Rattle.trace_collector.proofs.Named.{AreNamed, found_named, name_of_number}
+use Rattle.trace_collector.proofs.Places.{some_same}
+use Rattle.trace_collector.proofs.Taken.{values_are_taken}
+
+-- what a tenant has of a command that was answered: its own answer, or nothing
+record Sees (tenant : TenantData) (command : CommandData) (line : List ℕ) (past later : List Own) : Type 0 where
+  content : List ℕ
+  line_is : line ≡ content ++ codes "\n"
+  plain : IsPlain content
+  part : ((is_own tenant.name (named_by command) content ≡ true) × (names tenant.name content ≡ true)
+      × IsAnsweredAlone tenant.name tenant.section past (of_any_shard command) line later)
+      ⊎ ((is_own tenant.name (named_by command) content ≡ false) × (names tenant.name content ≡ false) × (later ≡ past))
+
+is_false : (b : Bool) → (b ≡ true → ⊥) → b ≡ false
+is_false true e = absurd (e refl)
+is_false false e = refl
+
+-- a command of one tenant, as all see it
+one_tenant : (settings : SettingsData) (pasts later : ℕ → List Own) (command : CommandData) (line : List ℕ) (number : ℕ) (tenant : TenantData) → AreNamed settings
+    → slice_get settings.tenants number ≡ Some tenant → (is : IsLineOf tenant.name line)
+    → ((other : List ℕ) → is_own other (named_by command) is.content ≡ bytes_eq tenant.name other)
+    → IsAnsweredAlone tenant.name tenant.section (pasts number) (of_any_shard command) line (later number)
+    → ((other : ℕ) → other ≢ number → later other ≡ pasts other)
+    → (other : ℕ) (seer : TenantData) → slice_get settings.tenants other ≡ Some seer → Sees seer command line (pasts other) (later other)
+one_tenant settings pasts later command line number tenant are at is owns alone others other seer at_other = elim (eqb_tells other number) [
+  | inl here ↦
+      let same : tenant ≡ seer = some_same (slice_get settings.tenants number) tenant seer at (subst (λ n. slice_get settings.tenants n ≡ Some seer) here.1 at_other) in
+      let yes : bytes_eq tenant.name tenant.name ≡ true = (bytes_eq-Decides tenant.name tenant.name).1 refl in
+      let sees : Sees tenant command line (pasts number) (later number) = record {
+        content = is.content;
+        line_is = is.line_is;
+        plain = is.plain;
+        part = inl (owns tenant.name ∙ yes, is.named tenant.name ∙ yes, alone);
+      } in
+      subst (λ t. Sees t command line (pasts other) (later other)) same (subst (λ n. Sees tenant command line (pasts n) (later n)) (sym here.1) sees)
+  | inr there ↦
+      let differ : bytes_eq tenant.name seer.name ≡ false = is_false (bytes_eq tenant.name seer.name)
+      (λ e. there.1 (sym (are.apart number other tenant seer at at_other ((bytes_eq-Decides tenant.name seer.name).0 e)))) in
+      record {
+        content = is.content;
+        line_is = is.line_is;
+        plain = is.plain;
+        part = inr (owns seer.name ∙ differ, is.named seer.name ∙ differ, others other there.1);
+      }
+]
+
+-- a body of one tenant leaves the others' pasts
+posted_others : (settings : SettingsData) (pasts later : ℕ → List Own) (tenant : ℕ) (name : List ℕ) (moment : ℕ) (body : List ℕ) (line : Option (List ℕ)) (other : ℕ) → other ≢ tenant
+    → IsPosted settings pasts tenant name moment body line later → later other ≡ pasts other
+posted_others settings pasts later tenant name moment body line other apart (inl h) =
+    let is_not : (tenant == other) ≡ false = ne_eqb tenant other (λ e. apart (sym e)) in
+    ap (λ f. f other) h.4.3 ∙ rw is_not refl
+posted_others settings pasts later tenant name moment body line other apart (inr h) = ap (λ f. f other) h.2
+
+some_line : (a b : List ℕ) → ◌≡◌ {A = Option (List ℕ)} (Some a) (Some b) → a ≡ b
+some_line a b e = same_Some a b e
+
+-- what a body is answered is what its tenant alone is answered
+posted_alone : (settings : SettingsData) (pasts later : ℕ → List Own) (number : ℕ) (tenant : TenantData) (name : List ℕ) (moment : ℕ) (body line : List ℕ)
+    → slice_get settings.tenants number ≡ Some tenant → name ≡ tenant.name → IsWord tenant.name → IsPosted settings pasts number name moment body (Some line) later
+    → IsLineOf tenant.name line × IsPostAlone tenant.name tenant.section (pasts number) moment body line (later number)
+unfolding answer
+posted_alone settings pasts later number tenant name moment body line at same word posted =
+    elim (values_are_taken settings pasts later number name moment body (Some line) posted) [
+      | inl taken ↦
+          let is : line ≡ reply_text tenant.name 200 [] = some_line _ _ taken.2 ∙ ap (λ n. reply_text n 200 []) (name_of_number settings number tenant at) in
+          (subst (λ l. IsLineOf tenant.name l) (sym is) (reply_line tenant.name 200 [] word), inl (taken.0, taken.1, (is, taken.3)))
+      | inr none ↦
+          let is : line ≡ reply_text tenant.name 400 bad_protobuf = some_line _ _ none.1 ∙ ap (λ n. reply_text n 400 bad_protobuf) same in
+          (subst (λ l. IsLineOf tenant.name l) (sym is) (reply_line tenant.name 400 bad_protobuf word), inr (none.0, is, ap (λ f. f number) none.2))
+    ]
+
+post_sees : (settings : SettingsData) (pasts later : ℕ → List Own) (found : Option ℕ) (name : List ℕ) (moment : ℕ) (body line : List ℕ) → AreNamed settings
+    → position (λ t. bytes_eq name t.name) settings.tenants ≡ found → IsPostedTo settings pasts found name moment body (Some line) later
+    → (other : ℕ) (seer : TenantData) → slice_get settings.tenants other ≡ Some seer → Sees seer (Post name moment body) line (pasts other) (later other)
+post_sees settings pasts later None name moment body line are is posted other seer at_other = absurd (let never = posted.0 in cc)
+post_sees settings pasts later (Some number) name moment body line are is posted other seer at_other =
+    let found = found_named settings.tenants name number is in
+    let alone = posted_alone settings pasts later number found.0 name moment body line found.1 found.2 (are.words number found.0 found.1) posted in
+    one_tenant settings pasts later (Post name moment body) line number found.0 are found.1 alone.0 (λ reader. ap (λ n. bytes_eq n reader) found.2) alone.1
+    (λ reader apart. posted_others settings pasts later number name moment body (Some line) reader apart posted) other seer at_other
+
+-- a turn's outcome, as a line
+turned_text : (settings : SettingsData) (shard number : ℕ) (said : What) → outcome_text settings shard (named number (Answered said)) ≡ told_text (name_at settings number) said
+turned_text settings shard number (says.Reply reply) = refl
+turned_text settings shard number (says.Job ticket payload) = refl
+turned_text settings shard number says.Worked = refl
+
+pub turned_whom : (number : ℕ) (said : What) → told_whom (named number (Answered said)) ≡ Some number
+turned_whom number (says.Reply reply) = refl
+turned_whom number (says.Job ticket payload) = refl
+turned_whom number says.Worked = refl
+
+-- who is ready has a section
+has_section : (found : Option SectionData) (past : List Own) (seen : Option ℕ) (least : ℕ) → ready_after found past true seen ≡ Some least
+    → (section : SectionData) × (found ≡ Some section) × (ready (state section past) ≡ Some least)
+has_section None past seen least is = absurd (cc)
+has_section (Some section) past seen least is = (section, refl, is)
+
+within_shard : (leaves : Bool) (found : Option SectionData) (section : SectionData) → cond leaves found None ≡ Some section → found ≡ Some section
+within_shard true found section is = is
+within_shard false found section is = absurd (cc)
+
+tenant_of : (found : Option TenantData) (section : SectionData) → option_map (λ t. t.section) found ≡ Some section → (tenant : TenantData) × (found ≡ Some tenant) × (tenant.section ≡ section)
+tenant_of None section is = absurd (cc)
+tenant_of (Some tenant) section is = (tenant, refl, same_Some tenant.section section is)
+
+turn_answered : (number : ℕ) (found : Option SectionData) (section : SectionData) (past : List Own) (now : ℕ) (outcome : Outcome) → found ≡ Some section
+    → IsAnswered number found past true (Turned now) outcome → outcome ≡ named number (Answered (answer section past (own.Turn now)))
+turn_answered number found section past now outcome is answered = subst (λ f. IsAnswered number f past true (Turned now) outcome) is answered
+
+turn_joins : (found : Option SectionData) (section : SectionData) (past : List Own) (now : ℕ) → found ≡ Some section → recorded found (Turned now) past ≡ own.Turn now ∷ past
+turn_joins found section past now is = ap (λ f. recorded f (Turned now) past) is
+
+-- the past after a turn whose outcome names this tenant, or none
+pub turn_past : (settings : SettingsData) (pasts : ℕ → List Own) (shard moment : ℕ) (outcome : Outcome) (whom : Option ℕ) (other : ℕ) → told_whom outcome ≡ whom
+    → (after (steps.Turn moment) outcome (lists_of settings pasts shard)).pasts other ≡ cond (is_tenant other whom) (recorded (section_in settings shard other) (Turned moment) (pasts other)) (pasts other)
+turn_past settings pasts shard moment outcome whom other is =
+    ap (λ w. cond (is_tenant other w) (recorded (section_in settings shard other) (Turned moment) (pasts other)) (pasts other)) is
+
+idle_sees : (settings : SettingsData) (pasts later : ℕ → List Own) (shard moment : ℕ) (outcome : Outcome) (line : List ℕ) → outcome ≡ Idle
+    → line ≡ outcome_text settings shard outcome → later ≡ (after (steps.Turn moment) outcome (lists_of settings pasts shard)).pasts
+    → (other : ℕ) (seer : TenantData) → Sees seer (Turn shard moment) line (pasts other) (later other)
+idle_sees settings pasts later shard moment outcome line idle is left other seer =
+    let none = idle_line shard in
+    record {
+      content = none.content;
+      line_is = is ∙ ap (outcome_text settings shard) idle ∙ none.line_is;
+      plain = none.plain;
+      part = inr (none.named seer.name, none.named seer.name, ap (λ f. f other) left ∙ turn_past settings pasts shard moment outcome None other (ap told_whom idle));
+    }
+
+worked_sees : (settings : SettingsData) (pasts later : ℕ → List Own) (shard moment number : ℕ) (section : SectionData) (tenant : TenantData) (outcome : Outcome) (line : List ℕ) → AreNamed settings
+    → section_in settings shard number ≡ Some section → IsReadyBy section (pasts number) moment → slice_get settings.tenants number ≡ Some tenant → tenant.section ≡ section
+    → outcome ≡ named number (Answered (answer section (pasts number) (own.Turn moment)))
+    → line ≡ outcome_text settings shard outcome → later ≡ (after (steps.Turn moment) outcome (lists_of settings pasts shard)).pasts
+    → (other : ℕ) (seer : TenantData) → slice_get settings.tenants other ≡ Some seer → Sees seer (Turn shard moment) line (pasts other) (later other)
+worked_sees settings pasts later shard moment number section tenant outcome line are found ready_by at same_section told is left other seer at_other =
+    let said = answer tenant.section (pasts number) (own.Turn moment) in
+    let outcome_is : outcome ≡ named number (Answered (answer tenant.section (pasts number) (own.Turn moment))) =
+    told ∙ ap (λ s. named number (Answered (answer s (pasts number) (own.Turn moment)))) (sym same_section) in
+    let line_is : line ≡ told_text tenant.name (answer tenant.section (pasts number) (own.Turn moment)) =
+    is ∙ ap (outcome_text settings shard) outcome_is ∙ turned_text settings shard number said ∙ ap (λ n. told_text n (answer tenant.section (pasts number) (own.Turn moment))) (name_of_number settings number tenant at) in
+    let line_of = subst (λ l. IsLineOf tenant.name l) (sym line_is) (told_line tenant.name said (are.words number tenant at)) in
+    let whom = ap told_whom outcome_is ∙ turned_whom number said in
+    let yes : (number == number) ≡ true = eq-eqb number number refl in
+    one_tenant settings pasts later (Turn shard moment) line number tenant are at line_of line_of.named (
+      subst (λ s. IsReadyBy s (pasts number) moment) (sym same_section) ready_by,
+      (line_is, ap (λ f. f number) left ∙ turn_past settings pasts shard moment outcome (Some number) number whom ∙ rw yes (turn_joins (section_in settings shard number) section (pasts number) moment found)),
+    )
+    (λ reader apart.
+    let is_not : (number == reader) ≡ false = ne_eqb number reader (λ e. apart (sym e)) in
+    ap (λ f. f reader) left ∙ turn_past settings pasts shard moment outcome (Some number) reader whom ∙ rw is_not refl)
+    other seer at_other
+
+turned_sees : (settings : SettingsData) (pasts later : ℕ → List Own) (shard moment : ℕ) (picked : Option ℕ) (outcome : Outcome) (line : List ℕ) → AreNamed settings
+    → IsPick (ready_at (lists_of settings pasts shard) []) (own.moment_of (own.Turn moment)) picked → IsTurned (lists_of settings pasts shard) moment picked outcome
+    → line ≡ outcome_text settings shard outcome → later ≡ (after (steps.Turn moment) outcome (lists_of settings pasts shard)).pasts
+    → (other : ℕ) (seer : TenantData) → slice_get settings.tenants other ≡ Some seer → Sees seer (Turn shard moment) line (pasts other) (later other)
+turned_sees settings pasts later shard moment None outcome line are pick turned is left other seer at_other =
+    idle_sees settings pasts later shard moment outcome line turned is left other seer
+turned_sees settings pasts later shard moment (Some number) outcome line are pick turned is left other seer at_other =
+    let section = has_section (section_in settings shard number) (pasts number) None pick.0 pick.1 in
+    let tenant = tenant_of (slice_get settings.tenants number) section.0 (within_shard (number % settings.global.shards == shard) (section_at settings number) section.0 section.1) in
+    worked_sees settings pasts later shard moment number section.0 tenant.0 outcome line are section.1 (pick.0, section.2, pick.2) tenant.1 tenant.2
+    (turn_answered number (section_in settings shard number) section.0 (pasts number) moment outcome section.1 turned) is left other seer at_other
+
+turn_sees : (settings : SettingsData) (pasts later : ℕ → List Own) (shard moment : ℕ) (below : Bool) (line : List ℕ) → AreNamed settings
+    → MatchBool below (IsStepped settings pasts shard (steps.Turn moment) (Some line) later) ((◌≡◌ {A = Option (List ℕ)} (Some line) None) × (later ≡ pasts))
+    → (other : ℕ) (seer : TenantData) → slice_get settings.tenants other ≡ Some seer → Sees seer (Turn shard moment) line (pasts other) (later other)
+turn_sees settings pasts later shard moment true line are stepped other seer at_other =
+    turned_sees settings pasts later shard moment stepped.1.0 stepped.0 line are stepped.1.1 stepped.1.2 (some_line _ _ stepped.2) stepped.3 other seer at_other
+turn_sees settings pasts later shard moment false line are none other seer at_other = absurd (let never = none.0 in cc)
+
+sees : (settings : SettingsData) (pasts later : ℕ → List Own) (command : CommandData) (line : List ℕ) → AreNamed settings → collector.IsAnswered settings pasts command (Some line) later
+    → (other : ℕ) (seer : TenantData) → slice_get settings.tenants other ≡ Some seer → Sees seer command line (pasts other) (later other)
+sees settings pasts later (Post name moment body) line are answered =
+    post_sees settings pasts later (position (λ t. bytes_eq name t.name) settings.tenants) name moment body line are refl answered
+sees settings pasts later (Turn shard moment) line are answered =
+    turn_sees settings pasts later shard moment (nat_lt shard settings.global.shards) line are answered
+
+module _ (settings : SettingsData) (are : AreNamed settings) (number : ℕ) (tenant : TenantData) (at : slice_get settings.tenants number ≡ Some tenant) where
+  abbrev LinesAlone : List Own → List CommandData → List (List ℕ) → Type 0
+  LinesAlone past commands lines = AnswersAlone tenant.name tenant.section past (own_among tenant.name commands lines) (filter (names tenant.name) lines)
+
+  none_alone : (past : List Own) (commands : List CommandData) → LinesAlone past commands []
+  none_alone past [] = tt
+  none_alone past (command ∷ commands) = tt
+
+  nothing : (past : List Own) (commands : List CommandData) (text : List ℕ) → text ≡ [] → LinesAlone past commands (lines_of text)
+  nothing past commands text none = subst (λ t. LinesAlone past commands (lines_of t)) (sym none) (none_alone past commands)
+
+  -- one line more
+  line_more : (command : CommandData) (commands : List CommandData) (line : List ℕ) (lines : List (List ℕ)) (past later : List Own) → (seen : Sees tenant command line past later)
+      → LinesAlone later commands lines → LinesAlone past (command ∷ commands) (seen.content ∷ lines)
+  line_more command commands line lines past later seen rest = elim seen.part [
+    | inl mine ↦
+        let answered = subst (λ l. IsAnsweredAlone tenant.name tenant.section past (of_any_shard command) l later) seen.line_is mine.2 in
+        rw (mine.0, mine.1) (later, answered, rest)
+    | inr others ↦ rw (others.0, others.1) (subst (λ p. LinesAlone p commands lines) others.2 rest)
+  ]
+
+  text_more : (command : CommandData) (commands : List CommandData) (line more text : List ℕ) (past later : List Own) → Sees tenant command line past later
+      → text ≡ line ++ more → LinesAlone later commands (lines_of more) → LinesAlone past (command ∷ commands) (lines_of text)
+  text_more command commands line more text past later seen is rest =
+      let lines : lines_of text ≡ seen.content ∷ lines_of more =
+      ap lines_of (is ∙ ap (λ l. l ++ more) seen.line_is ∙ append_assoc seen.content (codes "\n") more) ∙ line_ended seen.content more seen.plain in
+      subst (λ ls. LinesAlone past (command ∷ commands) ls) (sym lines) (line_more command commands line (lines_of more) past later seen rest)
+
+  goes_alone : (kind : Kind) (n : ℕ) (pasts : ℕ → List Own) (rest : (ℕ → List Own) → List ℕ → Option ℕ → Type 0) (commands : List CommandData) (text : List ℕ) (fault : Option ℕ)
+      → ((later : ℕ → List Own) (more : List ℕ) (fault : Option ℕ) → rest later more fault → LinesAlone (later number) commands (lines_of more))
+      → Goes (collector.IsAnswered settings) n pasts kind rest text fault → LinesAlone (pasts number) (commands_from kind commands) (lines_of text)
+  goes_alone Skipped n pasts rest commands text fault on told = on pasts text fault told
+  goes_alone Faulty n pasts rest commands text fault on told = nothing (pasts number) [] text told.0
+  goes_alone (Says command) n pasts rest commands text fault on told = answered told.0 told.1 told.2 told.3
+    where
+      answered : (line : Option (List ℕ)) (later : ℕ → List Own) → collector.IsAnswered settings pasts command line later → script.Answered n line (rest later) text fault
+          → LinesAlone (pasts number) (command ∷ commands) (lines_of text)
+      answered None later is told = nothing (pasts number) (command ∷ commands) text told.0
+      answered (Some line) later is told =
+          text_more command commands line told.0 text (pasts number) (later number) (sees settings pasts later command line are is number tenant at) told.1
+          (on later told.0 fault told.2)
+
+  told_alone : (lines left : List (List ℕ)) (n : ℕ) (pasts : ℕ → List Own) (text : List ℕ) (fault : Option ℕ) → Told (collector.IsAnswered settings) lines n pasts text fault
+      → LinesAlone (pasts number) (commands_of (lines ++ left)) (lines_of text)
+  told_alone [] left n pasts text fault told = nothing (pasts number) (commands_of left) text told.0
+  told_alone (line ∷ lines) left n pasts text fault told =
+      goes_alone (kind_of line) n pasts (Told (collector.IsAnswered settings) lines (n + 1)) (commands_of (lines ++ left)) text fault
+      (λ later more f rest. told_alone lines left (n + 1) later more f rest) told
+
+-- what was told of the first lines
+done_alone : (settings : SettingsData) (script written : List ℕ) (done left : List (List ℕ)) (fault : Option ℕ) → AreNamed settings → lines_of script ≡ done ++ left
+    → Told (collector.IsAnswered settings) done 1 no_steps written fault → EachAlone settings script written
+done_alone settings script written done left fault are parted told number tenant at =
+    subst (λ ls. AnswersAlone tenant.name tenant.section [] (own_among tenant.name (commands_of ls) (lines_of written)) (filter (names tenant.name) (lines_of written))) (sym parted)
+    (told_alone settings are number tenant at done left 1 no_steps written fault told)
+
+pub whole_alone : (settings : SettingsData) (script written : List ℕ) (fault : Option ℕ) → AreNamed settings → ScriptText settings script written fault → EachAlone settings script written
+whole_alone settings script written fault are told =
+    done_alone settings script written (lines_of script) [] fault are (sym (append-nil (lines_of script))) told
+
+pub begun_alone : (settings : SettingsData) (script written : List ℕ) → AreNamed settings → BeginsScriptText settings script written
+    → (missing : List ℕ) × EachAlone settings script (written ++ missing)
+begun_alone settings script written are begins =
+    (begins.2, done_alone settings script (written ++ begins.2) begins.0 begins.1 begins.3 are begins.4 begins.5)
+
+pub so_far_alone : (settings : SettingsData) (script written : List ℕ) (unread : Option (List ℕ)) → AreNamed settings → ScriptToldSoFar settings script unread written → EachAlone settings script written
+so_far_alone settings script written unread are told = done_alone settings script written told.done told.left None are told.parted told.told
