@@ -3,18 +3,22 @@ use Rattle.std.proofs.Common.{◌≡◌, ◌≢◌, ℕ, refl, sym, ap, ◌∙�
 use Rattle.std.proofs.lemmas.Bool.Decides.{nat_tests}
 use Rattle.std.proofs.Math.Path.{fun_ext}
 use Rattle.std.specs.Ordering.{nat_cmp, ordering_then, is_eq}
+use Rattle.std.specs.declared.cmp.Reverse.{Reverse}
 use Rattle.std.specs.Cmp.{unsigned_ties, nat_eq_equiv}
 use Rattle.std.specs.Cmp.Lexicographic.{slice_cmp, texts_ties, nat_list_eq_equiv}
 use Rattle.std.specs.BTreeMap.{BTreeMap}
 use Rattle.std.specs.BTreeMap as tree
-use Rattle.trace_rows.specs.Part.{pair_cmp, with_at, at}
+use Rattle.trace_rows.specs.Part.{pair_cmp, latest_cmp, with_at, at}
 
 -- a test tells which keys an order takes for equal
 pub record Tells {J : Type 0} (cmp : J → J → Ordering) (same : J → J → Bool) : Type 0 where
   pub told : (x y : J) → is_eq (cmp x y) ≡ same y x
 
-pub numbers : Tells nat_cmp nat_eq
-numbers = record { told = λ x y. sym (unsigned_ties x y) ∙ nat_eq_equiv.symm x y }
+abbrev same_number : Reverse ℕ → Reverse ℕ → Bool
+same_number x y = nat_eq x.0 y.0
+
+numbers : Tells latest_cmp same_number
+numbers = record { told = λ x y. sym (unsigned_ties y.0 x.0) }
 
 pub traces : Tells (slice_cmp nat_cmp) bytes_eq
 traces = record { told = λ x y. sym (texts_ties x y) ∙ nat_list_eq_equiv.symm x y }
@@ -57,6 +61,20 @@ at_put_other {J} {X} {cmp} {same} tells m n t k u w h ne = fun_ext (λ j. one j)
         first ∙ ap (λ (b : Bool). cond b w (at cmp u m.entries j)) (elsewhere cmp t u k j ne)
 
 module _ {X : Type 0} where
+  -- the same of rows, whose numbers are in order with the greatest first
+  abbrev numbered : ℕ → BTreeMap (ℕ × Reverse ℕ) X → ℕ → Option X
+  numbered t m j = at latest_cmp t m.entries (record { 0 = j })
+
+  pub rows_put : (m n : BTreeMap (ℕ × Reverse ℕ) X) (t k : ℕ) (w : Option X) → tree.Updates (pair_cmp latest_cmp) m n (t, record { 0 = k }) w → numbered t n ≡ with_at k w (numbered t m)
+  rows_put m n t k w h =
+      let by_number : (Reverse ℕ → Option X) → ℕ → Option X = λ f j. f (record { 0 = j }) in
+      ap by_number (at_put numbers m n t (record { 0 = k }) w h)
+
+  pub rows_put_other : (m n : BTreeMap (ℕ × Reverse ℕ) X) (t k u : ℕ) (w : Option X) → tree.Updates (pair_cmp latest_cmp) m n (t, record { 0 = k }) w → u ≢ t → numbered u n ≡ numbered u m
+  rows_put_other m n t k u w h ne =
+      let by_number : (Reverse ℕ → Option X) → ℕ → Option X = λ f j. f (record { 0 = j }) in
+      ap by_number (at_put_other numbers m n t (record { 0 = k }) u w h ne)
+
   -- a value where none was, taken out again
   pub at_undone : (f : ℕ → Option X) (k : ℕ) (w : Option X) → f k ≡ None → with_at k None (with_at k w f) ≡ f
   at_undone f k w none = fun_ext (λ j. one j (eqb j k) refl)

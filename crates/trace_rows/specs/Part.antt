@@ -4,6 +4,7 @@ use Rattle.std.specs.Ordering.{nat_cmp, ordering_then, is_eq}
 use Rattle.std.specs.Cmp.Lexicographic.{slice_cmp}
 use Rattle.std.specs.Map.{lookup}
 use Rattle.std.specs.declared.cmp.Ordering.{Ordering}
+use Rattle.std.specs.declared.cmp.Reverse.{Reverse}
 use Rattle.trace_rows.specs.declared.table.Row.{Row}
 use Rattle.trace_rows.specs.declared.table.TraceRows.{TraceRows}
 
@@ -15,9 +16,13 @@ pair_cmp cmp x y = ordering_then (nat_cmp x.0 y.0) (cmp x.1 y.1)
 abbrev pub at : {J X : Type 0} → (J → J → Ordering) → ℕ → List ((ℕ × J) × X) → J → Option X
 at cmp tenant es key = lookup (λ q. is_eq (pair_cmp cmp (tenant, key) q)) es
 
+-- numbers in order, the greatest first
+abbrev pub latest_cmp : Reverse ℕ → Reverse ℕ → Ordering
+latest_cmp x y = nat_cmp y.0 x.0
+
 -- a tenant's rows, by number
 abbrev pub rows_part : {N : Type 0} → ℕ → TraceRows N → ℕ → Option (Row N)
-rows_part tenant table = at nat_cmp tenant table.rows.entries
+rows_part tenant table = λ number. at latest_cmp tenant table.rows.entries (record { 0 = number })
 
 -- the number of the latest row of each of a tenant's traces, by the trace's id
 abbrev pub seats_part : {N : Type 0} → ℕ → TraceRows N → List ℕ → Option ℕ

@@ -5,6 +5,7 @@ ghost use Rattle.trace_rows.specs.Part.{rows_part, seats_part, with_at, with_sea
 
 use crate::keys::Keys;
 use std::alloc::{AllocError, Global};
+use std::cmp::Reverse;
 use std::collections::BTreeMap;
 
 /// The row of a trace. `N` is what is noted of its spans.
@@ -25,8 +26,9 @@ pub struct Row<N> {
 /// All tenants' rows, and the latest row of each of their traces.
 #[derive(Drop)]
 pub struct TraceRows<N> {
-    // By tenant and row number.
-    rows: BTreeMap<(u32, u64), Row<N>>,
+    // By tenant and row number, the latest first: a look-up goes through the keys of a node from the first one on, and
+    // most are for the latest rows.
+    rows: BTreeMap<(u32, Reverse<u64>), Row<N>>,
     // By tenant and trace id, the number of the row that opened last.
     seats: BTreeMap<(u32, [u8; 16]), u64>,
 }
@@ -54,7 +56,7 @@ impl<N: Drop> TraceRows<N> {
     pub fn row(&self, tenant: u32, number: u64) -> Option<&Row<N>>
         ensures { option_copied result ≡ rows_part tenant self.now number }
     {
-        self.rows.get(&(tenant, number))
+        self.rows.get(&(tenant, Reverse(number)))
     }
 
     /// A row opens under a number that has none, as the latest of its trace. The answer is the trace's latest row until
@@ -72,11 +74,11 @@ impl<N: Drop> TraceRows<N> {
         ensures refused { OnErr result (IsSame tenant self.old self.new) }
     {
         let trace = row.trace;
-        self.rows.insert((tenant, number), row)?;
+        self.rows.insert((tenant, Reverse(number)), row)?;
         match self.seats.insert((tenant, trace), number) {
             Ok(earlier) => Ok(earlier),
             Err(failed) => {
-                self.rows.remove(&(tenant, number));
+                self.rows.remove(&(tenant, Reverse(number)));
                 Err(failed.into())
             }
         }
@@ -94,7 +96,7 @@ impl<N: Drop> TraceRows<N> {
         ensures others { (other : ℕ) → other ≢ tenant → IsSame other self.old self.new }
         ensures refused { OnErr result (IsSame tenant self.old self.new) }
     {
-        let Some(row) = self.rows.get_mut(&(tenant, number)) else {
+        let Some(row) = self.rows.get_mut(&(tenant, Reverse(number))) else {
             return Ok(note);
         };
         row.keys.push(key)?;
@@ -108,7 +110,7 @@ impl<N: Drop> TraceRows<N> {
         ensures seats { seats_part tenant self.new ≡ seats_part tenant self.old }
         ensures others { (other : ℕ) → other ≢ tenant → IsSame other self.old self.new }
     {
-        let Some(row) = self.rows.get_mut(&(tenant, number)) else {
+        let Some(row) = self.rows.get_mut(&(tenant, Reverse(number))) else {
             return;
         };
         row.keys.pop();
@@ -123,7 +125,7 @@ impl<N: Drop> TraceRows<N> {
             seats_part tenant self.new ≡ with_seat trace earlier (seats_part tenant self.old) }
         ensures others { (other : ℕ) → other ≢ tenant → IsSame other self.old self.new }
     {
-        self.rows.remove(&(tenant, number));
+        self.rows.remove(&(tenant, Reverse(number)));
         let Some(earlier) = earlier else {
             self.seats.remove(&(tenant, trace));
             return;
@@ -142,7 +144,7 @@ impl<N: Drop> TraceRows<N> {
         ensures seats { seats_part tenant self.new ≡ seats_part tenant self.old }
         ensures others { (other : ℕ) → other ≢ tenant → IsSame other self.old self.new }
     {
-        let Some(row) = self.rows.get_mut(&(tenant, number)) else {
+        let Some(row) = self.rows.get_mut(&(tenant, Reverse(number))) else {
             return Keys::new(alloc);
         };
         row.sampled = sampled;
@@ -158,7 +160,7 @@ impl<N: Drop> TraceRows<N> {
             unseated number (trace_in (rows_part tenant self.old number)) (seats_part tenant self.old) }
         ensures others { (other : ℕ) → other ≢ tenant → IsSame other self.old self.new }
     {
-        let Some(row) = self.rows.remove(&(tenant, number)) else {
+        let Some(row) = self.rows.remove(&(tenant, Reverse(number))) else {
             return Keys::new(alloc);
         };
         self.unseat(tenant, number, row.trace);

@@ -1,7 +1,7 @@
 use Rattle.std.proofs.Common.{◌≡◌, ◌∙◌, ap, sym, Some, refl, is_some, rules, Option, List, ℕ, ◌++◌, ◌∷◌, []}
 use Rattle.trace_rows.specs.declared.table.Row.{Row}
 use Rattle.trace_rows.specs.Part.{with_at, rows_part, joined, note_of, IsSame}
-use Rattle.trace_rows.proofs.Parts.{numbers, at_put, at_put_other, at_again}
+use Rattle.trace_rows.proofs.Parts.{rows_put, rows_put_other, at_again}
 use Rattle.trace_rows.proofs.table.TraceRows.join.Goals as goal
 
 pub returns : goal.returns
@@ -21,9 +21,9 @@ returns g c =
     ∙ (ap (λ (ks : List ℕ). Some (record row { keys = ks; note = c.args.note })) keys ∙ sym (ap (joined c.args.key c.args.note) had)) in
     record {
       former = c.replace.ensures.value ∙ sym (ap (note_of c.args.note) had);
-      rows = at_put numbers c.args.self.now.rows new t k (Some grown) written ∙ ap (λ (s : Option (Row g.row.N.Denot)). with_at k s f) slot;
+      rows = rows_put c.args.self.now.rows new t k (Some grown) written ∙ ap (λ (s : Option (Row g.row.N.Denot)). with_at k s f) slot;
       seats = refl;
-      others = λ other ne. record { rows = at_put_other numbers c.args.self.now.rows new t k other (Some grown) written ne; seats = refl };
+      others = λ other ne. record { rows = rows_put_other c.args.self.now.rows new t k other (Some grown) written ne; seats = refl };
       refused = tt;
     }
 
@@ -35,7 +35,7 @@ returns-in_err-push-clause-others g c = λ other ne.
     let grown : Row g.row.N.Denot = record row { keys = c.push.new.self } in
     let had : rows_part t c.args.self.now k ≡ Some row = sym c.in-Some.ensures.value in
     let written = (c.get_mut.follows.holds grown).3 (ap is_some had) in
-    record { rows = at_put_other numbers c.args.self.now.rows (c.get_mut.follows.lender grown) t k other (Some grown) written ne; seats = refl }
+    record { rows = rows_put_other c.args.self.now.rows (c.get_mut.follows.lender grown) t k other (Some grown) written ne; seats = refl }
 
 pub returns-in_err-push-clause-refused : goal.returns-in_err-push-clause-refused
 returns-in_err-push-clause-refused g c =
@@ -49,7 +49,7 @@ returns-in_err-push-clause-refused g c =
     let written = (c.get_mut.follows.holds grown).3 (ap is_some had) in
     let same : Some grown ≡ Some row = ap (λ (ks : List ℕ). Some (record row { keys = ks })) keys in
     let kept : IsSame t c.args.self.now (record { rows = c.get_mut.follows.lender grown; seats = c.args.self.now.seats }) = record {
-      rows = at_put numbers c.args.self.now.rows (c.get_mut.follows.lender grown) t k (Some grown) written ∙ (ap (λ (s : Option (Row g.row.N.Denot)). with_at k s f) same ∙ at_again f k row had);
+      rows = rows_put c.args.self.now.rows (c.get_mut.follows.lender grown) t k (Some grown) written ∙ (ap (λ (s : Option (Row g.row.N.Denot)). with_at k s f) same ∙ at_again f k row had);
       seats = refl;
     } in
     search (rules, kept)

@@ -1,7 +1,7 @@
 use Rattle.std.proofs.Common.{◌≡◌, ◌∙◌, ap, sym, Some, refl, is_some, Option, List, ℕ, []}
 use Rattle.trace_rows.specs.declared.table.Row.{Row}
 use Rattle.trace_rows.specs.Part.{with_at, rows_part, settled, keys_of}
-use Rattle.trace_rows.proofs.Parts.{numbers, at_put, at_put_other}
+use Rattle.trace_rows.proofs.Parts.{rows_put, rows_put_other}
 use Rattle.trace_rows.proofs.table.TraceRows.settle.Goals as goal
 
 pub returns : goal.returns
@@ -18,7 +18,7 @@ returns g c =
     let slot : Some less ≡ settled c.args.sampled (f k) = ap (λ (ks : List ℕ). Some (record row { keys = ks; sampled = c.args.sampled })) empty ∙ sym (ap (settled c.args.sampled) had) in
     record {
       keys = c.replace.ensures.value ∙ sym (ap keys_of had);
-      rows = at_put numbers c.args.self.now.rows new t k (Some less) written ∙ ap (λ (s : Option (Row g.row.N.Denot)). with_at k s f) slot;
+      rows = rows_put c.args.self.now.rows new t k (Some less) written ∙ ap (λ (s : Option (Row g.row.N.Denot)). with_at k s f) slot;
       seats = refl;
-      others = λ other ne. record { rows = at_put_other numbers c.args.self.now.rows new t k other (Some less) written ne; seats = refl };
+      others = λ other ne. record { rows = rows_put_other c.args.self.now.rows new t k other (Some less) written ne; seats = refl };
     }

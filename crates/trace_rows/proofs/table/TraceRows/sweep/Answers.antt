@@ -1,15 +1,15 @@
 use Rattle.std.proofs.Common.{◌∙◌, None}
-use Rattle.trace_rows.proofs.Parts.{numbers, at_put, at_put_other}
+use Rattle.trace_rows.proofs.Parts.{rows_put, rows_put_other}
 use Rattle.trace_rows.proofs.table.TraceRows.sweep.Goals as goal
 
 pub returns-in_default-clause-rows : goal.returns-in_default-clause-rows
-returns-in_default-clause-rows g c = at_put numbers c.args.self.now.rows c.remove.new.self c.args.tenant c.args.number None c.remove.ensures.updates
+returns-in_default-clause-rows g c = rows_put c.args.self.now.rows c.remove.new.self c.args.tenant c.args.number None c.remove.ensures.updates
 
 pub returns-clause-rows : goal.returns-clause-rows
-returns-clause-rows g c = c.unseat.ensures.rows c.args.tenant ∙ at_put numbers c.args.self.now.rows c.remove.new.self c.args.tenant c.args.number None c.remove.ensures.updates
+returns-clause-rows g c = c.unseat.ensures.rows c.args.tenant ∙ rows_put c.args.self.now.rows c.remove.new.self c.args.tenant c.args.number None c.remove.ensures.updates
 
 pub returns-clause-others : goal.returns-clause-others
 returns-clause-others g c = λ other ne. record {
-  rows = c.unseat.ensures.rows other ∙ at_put_other numbers c.args.self.now.rows c.remove.new.self c.args.tenant c.args.number other None c.remove.ensures.updates ne;
+  rows = c.unseat.ensures.rows other ∙ rows_put_other c.args.self.now.rows c.remove.new.self c.args.tenant c.args.number other None c.remove.ensures.updates ne;
   seats = c.unseat.ensures.others other ne;
 }

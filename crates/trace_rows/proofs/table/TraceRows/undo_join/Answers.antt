@@ -1,7 +1,7 @@
 use Rattle.std.proofs.Common.{◌≡◌, ◌∙◌, ap, sym, Some, refl, is_some, Option, List, ℕ, take, length, ◌-◌}
 use Rattle.trace_rows.specs.declared.table.Row.{Row}
 use Rattle.trace_rows.specs.Part.{with_at, rows_part, unjoined}
-use Rattle.trace_rows.proofs.Parts.{numbers, at_put, at_put_other}
+use Rattle.trace_rows.proofs.Parts.{rows_put, rows_put_other}
 use Rattle.trace_rows.proofs.table.TraceRows.undo_join.Goals as goal
 
 pub returns : goal.returns
@@ -17,7 +17,7 @@ returns g c =
     let written = (c.get_mut.follows.holds less).3 (ap is_some had) in
     let slot : Some less ≡ unjoined c.args.former (f k) = ap (λ (ks : List ℕ). Some (record row { keys = ks; note = c.args.former })) keys ∙ sym (ap (unjoined c.args.former) had) in
     record {
-      rows = at_put numbers c.args.self.now.rows new t k (Some less) written ∙ ap (λ (s : Option (Row g.row.N.Denot)). with_at k s f) slot;
+      rows = rows_put c.args.self.now.rows new t k (Some less) written ∙ ap (λ (s : Option (Row g.row.N.Denot)). with_at k s f) slot;
       seats = refl;
-      others = λ other ne. record { rows = at_put_other numbers c.args.self.now.rows new t k other (Some less) written ne; seats = refl };
+      others = λ other ne. record { rows = rows_put_other c.args.self.now.rows new t k other (Some less) written ne; seats = refl };
     }

@@ -3,11 +3,11 @@ use Rattle.std.specs.Ordering.{nat_cmp}
 use Rattle.std.specs.Cmp.Lexicographic.{slice_cmp}
 use Rattle.std.specs.BTreeMap.{BTreeMap}
 use Rattle.trace_rows.specs.Part.{with_seat, seats_part, at}
-use Rattle.trace_rows.proofs.Parts.{numbers, traces, at_put, at_put_other}
+use Rattle.trace_rows.proofs.Parts.{rows_put, rows_put_other, traces, at_put, at_put_other}
 use Rattle.trace_rows.proofs.table.TraceRows.undo_open.Goals as goal
 
 pub returns-in_default-clause-rows : goal.returns-in_default-clause-rows
-returns-in_default-clause-rows g c = at_put numbers c.args.self.now.rows c.remove.new.self c.args.tenant c.args.number None c.remove.ensures.updates
+returns-in_default-clause-rows g c = rows_put c.args.self.now.rows c.remove.new.self c.args.tenant c.args.number None c.remove.ensures.updates
 
 pub returns-in_default-clause-seats : goal.returns-in_default-clause-seats
 returns-in_default-clause-seats g c = λ had.
@@ -15,21 +15,21 @@ returns-in_default-clause-seats g c = λ had.
 
 pub returns-in_default-clause-others : goal.returns-in_default-clause-others
 returns-in_default-clause-others g c = λ other ne. record {
-  rows = at_put_other numbers c.args.self.now.rows c.remove.new.self c.args.tenant c.args.number other None c.remove.ensures.updates ne;
+  rows = rows_put_other c.args.self.now.rows c.remove.new.self c.args.tenant c.args.number other None c.remove.ensures.updates ne;
   seats = at_put_other traces c.args.self.now.seats c.remove-in_default.new.self c.args.tenant c.args.trace other None c.remove-in_default.ensures.updates ne;
 }
 
 pub returns-in_default-get_mut-clause-rows : goal.returns-in_default-get_mut-clause-rows
-returns-in_default-get_mut-clause-rows g c = at_put numbers c.args.self.now.rows c.remove.new.self c.args.tenant c.args.number None c.remove.ensures.updates
+returns-in_default-get_mut-clause-rows g c = rows_put c.args.self.now.rows c.remove.new.self c.args.tenant c.args.number None c.remove.ensures.updates
 
 pub returns-in_default-get_mut-clause-others : goal.returns-in_default-get_mut-clause-others
 returns-in_default-get_mut-clause-others g c = λ other ne. record {
-  rows = at_put_other numbers c.args.self.now.rows c.remove.new.self c.args.tenant c.args.number other None c.remove.ensures.updates ne;
+  rows = rows_put_other c.args.self.now.rows c.remove.new.self c.args.tenant c.args.number other None c.remove.ensures.updates ne;
   seats = ap (λ (m : BTreeMap (ℕ × List ℕ) ℕ). at (slice_cmp nat_cmp) other m.entries) c.get_mut.follows.holds-at-none;
 }
 
 pub returns-clause-rows : goal.returns-clause-rows
-returns-clause-rows g c = at_put numbers c.args.self.now.rows c.remove.new.self c.args.tenant c.args.number None c.remove.ensures.updates
+returns-clause-rows g c = rows_put c.args.self.now.rows c.remove.new.self c.args.tenant c.args.number None c.remove.ensures.updates
 
 pub returns-clause-seats : goal.returns-clause-seats
 returns-clause-seats g c = λ had.
@@ -46,6 +46,6 @@ returns-clause-others g c = λ other ne.
     let earlier = c.in-Some.earlier in
     let there : seats_part t c.args.self.now k ≡ Some c.in-Some-get_mut.seat.now = sym c.in-Some-get_mut.ensures.value in
     record {
-      rows = at_put_other numbers c.args.self.now.rows c.remove.new.self t c.args.number other None c.remove.ensures.updates ne;
+      rows = rows_put_other c.args.self.now.rows c.remove.new.self t c.args.number other None c.remove.ensures.updates ne;
       seats = at_put_other traces c.args.self.now.seats (c.get_mut.follows.lender earlier) t k other (Some earlier) ((c.get_mut.follows.holds earlier).3 (ap is_some there)) ne;
     }
