@@ -9,6 +9,8 @@ mod echo;
 #[cfg(test)]
 mod failures;
 #[cfg(test)]
+mod fields;
+#[cfg(test)]
 mod limits;
 #[cfg(test)]
 mod malformed;
