@@ -1,11 +1,10 @@
 -- One more origin, and the spans that come with it.
-use Rattle.std.proofs.Common.{◌≡◌, ◌∙◌, ◌<◌, ◌+◌, ℕ, Bool, true, List, [], ◌∷◌, ◌++◌, map, length, refl, sym, ap, subst, append-nil, arith}
+use Rattle.std.proofs.Common.{◌≡◌, ◌∙◌, ◌<◌, ℕ, Bool, List, [], ◌∷◌, ◌++◌, map, length, refl, sym, ap, subst, append-nil, arith}
 use Rattle.std.proofs.lemmas.List.{get_or_append_left, length-append, map-append}
 use Rattle.std.proofs.Math.Seq.{get_or-append_seam}
-use Rattle.std.specs.Prelude.{◌&&◌, Option}
+use Rattle.std.specs.Prelude.{◌&&◌}
 use Rattle.std.specs.List.{AllByRecursion}
 use Rattle.span_view.specs.Facts.{SpanFacts}
-use Rattle.span_view.specs.Reading.{facts_of}
 use Rattle.span_pool.specs.Stored.{Origin as OriginData, bytes_of}
 use Rattle.tail_settings.specs.Policy.{PolicyData}
 use Rattle.tail_policy.specs.declared.note.ResourceBits.{ResourceBits}

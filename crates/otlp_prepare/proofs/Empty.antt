@@ -1,5 +1,5 @@
 -- A span of no fields, whose text is empty.
-use Rattle.std.proofs.Common.{◌≡◌, ◌<◌, ◌^◌, length, refl, arith, suc, ℕ}
+use Rattle.std.proofs.Common.{refl, arith, suc, ℕ}
 use Rattle.std.proofs.lemmas.Str.{IsUtf8-nil}
 use Rattle.otlp_trace.specs.Text.{span_text}
 use Rattle.otlp_read.specs.Nested.{NestedSpan}

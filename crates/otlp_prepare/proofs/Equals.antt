@@ -8,7 +8,7 @@ use Rattle.std.specs.Cmp.Lexicographic.{pointwise, pointwise_decides, bytes_deci
 use Rattle.tail_settings.specs.Policy.{StatusData, unset, ok, error, LeafData, always_sample, latency, status_code, string_attribute, numeric_attribute, PolicyData, leaf, and, policy_view}
 use Rattle.tail_settings.specs.declared.policy.PolicySpec.{PolicySpec}
 use Rattle.span_view.specs.Reading.{facts_of}
-use Rattle.span_pool.specs.Stored.{Origin as OriginData, bytes_of, same_bytes, same_text}
+use Rattle.span_pool.specs.Stored.{Origin as OriginData, bytes_of, same_text}
 use Rattle.span_pool.specs.Equal.{origin_eq}
 use Rattle.tenant_rules.specs.Arrivals.{Arrival}
 use Rattle.otlp_prepare.specs.declared.noted.Origin.{Origin}

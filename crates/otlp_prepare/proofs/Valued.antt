@@ -1,17 +1,15 @@
 -- The arrivals of a body's value are those of its parts.
-use Rattle.std.proofs.Common.{◌≡◌, ◌∙◌, ℕ, true, List, [], ◌∷◌, ◌++◌, Option, map, refl, ap, sym, subst}
-use Rattle.std.specs.Prelude.{option_map, IfSome, filter, flat_map}
+use Rattle.std.proofs.Common.{◌≡◌, ◌∙◌, ℕ, true, List, [], ◌∷◌, ◌++◌, map, refl, ap, subst}
+use Rattle.std.specs.Prelude.{option_map, filter, flat_map}
 use Rattle.std.specs.List.{AllByRecursion}
-use Rattle.otlp_trace.specs.Data.{SpanData, ResourceData, ScopeSpansData, ResourceSpansData, RequestData}
+use Rattle.otlp_trace.specs.Data.{SpanData, ScopeSpansData, ResourceSpansData, RequestData}
 use Rattle.otlp_trace.specs.Text.{span_text, resource_text}
 use Rattle.otlp_read.specs.Nested.{NestedSpan, NestedScopeSpans, NestedResourceSpans, NestedRequest}
 use Rattle.otlp_read.specs.Typed.{TypedSpan, TypedScopeSpans, TypedResourceSpans, TypedRequest}
-use Rattle.otlp_parts.specs.Texts.{is_valid_span, valid_texts, ScopeTexts, ResourceTexts, BodyTexts, scope_texts, resource_texts, texts_of}
-use Rattle.span_view.specs.Facts.{facts}
-use Rattle.span_pool.specs.Stored.{Origin as OriginData, bytes_of}
+use Rattle.otlp_parts.specs.Texts.{is_valid_span, BodyTexts, scope_texts, resource_texts, texts_of}
+use Rattle.span_pool.specs.Stored.{Origin as OriginData}
 use Rattle.tail_settings.specs.Policy.{PolicyData}
 use Rattle.tail_settings.specs.Section.{SectionData}
-use Rattle.tenant_rules.specs.Arrivals.{Arrival}
 use Rattle.otlp_prepare.specs.declared.noted.Origin.{Origin}
 use Rattle.otlp_prepare.specs.declared.noted.NotedSpan.{NotedSpan}
 use Rattle.otlp_prepare.specs.Arrivals.{origin_of, arrival_of, arrival_with, arrivals_of_scope, arrivals_of_resource, arrivals_of, arrivals_in}

@@ -1,4 +1,4 @@
-use Rattle.std.proofs.Common.{◌≡◌, length, ◌∙◌, arith}
+use Rattle.std.proofs.Common.{◌≡◌, length, arith}
 use Rattle.span_pool.specs.Stored.{Origin, bytes_of}
 use Rattle.otlp_prepare.proofs.Adding.{added}
 use Rattle.otlp_prepare.proofs.found.add_scope.Goals as goal

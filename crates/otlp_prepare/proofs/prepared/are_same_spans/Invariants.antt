@@ -1,4 +1,4 @@
-use Rattle.std.proofs.Common.{◌≡◌, drop, length}
+use Rattle.std.proofs.Common.{◌≡◌, drop}
 use Rattle.std.specs.Cmp.Lexicographic.{pointwise}
 use Rattle.otlp_prepare.specs.Arrivals.{arrivals_in}
 use Rattle.otlp_prepare.specs.Equal.{arrival_eq}
