@@ -14,6 +14,8 @@ use Rattle.trace_collector.specs.declared.engine.ReplayFault.TheVariants.{Settin
 use Rattle.trace_collector.specs.Outcomes.{name_at, outcome_text, bad_protobuf}
 use Rattle.trace_collector.specs.Answered.{section_in, HasNoValue, IsAnswered}
 use Rattle.trace_collector.specs.Script.{no_steps, ScriptText, BeginsScriptText}
+use Rattle.trace_collector.specs.Own.{lines_for, own_commands}
+use Rattle.trace_collector.specs.Alone.{AnswersAlone}
 use Rattle.trace_collector.specs.Replay.{IsReplay}
 
 -- so many shards, and else the defaults
@@ -97,6 +99,38 @@ pub record Scripts : Type 0 where
   pub text : ScriptText one_tenant script told None
   pub begins : BeginsScriptText one_tenant script begun
   pub fault : ScriptText one_tenant faulty_script (codes "idle 0\n") (Some 2)
+
+-- ---- a tenant's own part
+
+-- two tenants post, and of four turns one is idle
+abbrev pub shared_script : List ℕ
+shared_script = codes "post a 0 -\n# b 1\npost b 5 0a\nturn 0 999\nturn 2 1000\nturn 1 2000\npost a 2000 00\n"
+
+abbrev pub shared_text : List ℕ
+shared_text = codes "reply a 200 -\nreply b 200 -\nidle 0\njob a 1 0aff\nworked b\nreply a 400 00\n"
+
+-- each line is the tenant's whose name is its second word; a shard's number is none, also where a tenant is called `0`.
+-- Where a turn went is not the tenant's matter
+pub record OwnParts : Type 0 where
+  pub lines_of_a : lines_for (codes "a") shared_text
+      ≡ codes "reply a 200 -" ∷ codes "job a 1 0aff" ∷ codes "reply a 400 00" ∷ []
+  pub lines_of_b : lines_for (codes "b") shared_text ≡ codes "reply b 200 -" ∷ codes "worked b" ∷ []
+  pub lines_of_0 : lines_for (codes "0") shared_text ≡ []
+  pub a_longer_name : lines_for (codes "ab") shared_text ≡ []
+  pub commands_of_a : own_commands (codes "a") shared_script shared_text
+      ≡ Post (codes "a") 0 [] ∷ Turn 0 1000 ∷ Post (codes "a") 2000 (0 ∷ []) ∷ []
+  pub commands_of_b : own_commands (codes "b") shared_script shared_text ≡ Post (codes "b") 5 (10 ∷ []) ∷ Turn 0 2000 ∷ []
+  pub commands_of_0 : own_commands (codes "0") shared_script shared_text ≡ []
+
+-- of the script of one tenant, the idle turn is not the tenant's own; alone it is answered 200 and has its job
+pub record AloneParts : Type 0 where
+  pub commands : own_commands (codes "a") script told ≡ Post (codes "a") 0 (body 17 33) ∷ Turn 0 1000 ∷ []
+  pub lines : lines_for (codes "a") told ≡ codes "reply a 200 -" ∷ (codes "job a 1 " ++ hex) ∷ []
+  pub alone : AnswersAlone (codes "a") at_default [] (Post (codes "a") 0 (body 17 33) ∷ Turn 0 1000 ∷ [])
+      (codes "reply a 200 -" ∷ (codes "job a 1 " ++ hex) ∷ [])
+  pub no_value : AnswersAlone (codes "a") at_default [] (Post (codes "a") 0 (0 ∷ 0 ∷ []) ∷ [])
+      (codes "reply a 400 120c6261642070726f746f627566" ∷ [])
+  pub a_line_less : AnswersAlone (codes "a") at_default [] (Turn 0 1000 ∷ []) [] → ⊥
 
 -- ---- replays
 

@@ -8,6 +8,7 @@ use Rattle.tail_settings.specs.Settings.{SettingsData, settings_of}
 use Rattle.tail_settings.proofs.OnLiterals.{texts_on_literals}
 use Rattle.tenant_pipeline_tests.specs.Examples.{body, value}
 use Rattle.tenant_pipeline.specs.Own.{Own}
+use Rattle.tenant_pipeline.specs.Own as own
 use Rattle.tenant_pipeline.specs.Prepared.{prepared_of}
 use Rattle.tenant_shard.specs.declared.step.Outcome.{Outcome}
 use Rattle.tenant_shard.specs.declared.step.Outcome.TheVariants.{Reply, Job, Idle}
@@ -21,6 +22,7 @@ use Rattle.replay_script.proofs.OnLiterals.{script_on_literals, answers_on_liter
 use Rattle.replay_script.specs.Command.{Post, Turn}
 use Rattle.replay_script.specs.Line.{lines_of}
 use Rattle.trace_collector.specs.Answered.{lists_of, HasNoValue, IsAnswered}
+use Rattle.trace_collector.specs.Alone.{AnswersAlone}
 use Rattle.trace_collector.specs.Script.{no_steps, ScriptText, BeginsScriptText}
 use Rattle.collector_tests.specs.ReplayExamples.{at_default, one_tenant, hex, script, told, begun, faulty_script, document, no_document}
 use Rattle.trace_collector.proofs.One.{told_one, script_answered_one, same_value}
@@ -190,6 +192,34 @@ unfolding Exact
 returns-clause-scripts c =
     let exact = c.values_or_faults.ensures.exact in
     record { text = whole_text exact; begins = begins exact; fault = second_faulty }
+
+-- ---- a tenant's own part
+
+pub returns-clause-own_parts : goal.returns-clause-own_parts
+unfolding script_on_literals
+returns-clause-own_parts c = record {
+  lines_of_a = refl;
+  lines_of_b = refl;
+  lines_of_0 = refl;
+  a_longer_name = refl;
+  commands_of_a = refl;
+  commands_of_b = refl;
+  commands_of_0 = refl;
+}
+
+alone : Exact → AnswersAlone (codes "a") at_default [] (Post (codes "a") 0 (body 17 33) ∷ Turn 0 1000 ∷ []) (codes "reply a 200 -" ∷ (codes "job a 1 " ++ hex) ∷ [])
+unfolding pipelines_on_literals answers_on_literals
+alone exact = (posted 0, inl (value 17 33, has_this_value exact, (refl, refl)), (own.Turn 1000 ∷ posted 0, ((1000, refl, omega arith), (refl, refl)), tt))
+
+no_value : Exact → AnswersAlone (codes "a") at_default [] (Post (codes "a") 0 (0 ∷ 0 ∷ []) ∷ []) (codes "reply a 400 120c6261642070726f746f627566" ∷ [])
+unfolding pipelines_on_literals answers_on_literals
+no_value exact = ([], inr (has_none exact, refl, refl), tt)
+
+pub returns-clause-alone_parts : goal.returns-clause-alone_parts
+unfolding Exact script_on_literals
+returns-clause-alone_parts c =
+    let exact = c.values_or_faults.ensures.exact in
+    record { commands = refl; lines = refl; alone = alone exact; no_value = no_value exact; a_line_less = λ h. h }
 
 -- ---- replays
 
