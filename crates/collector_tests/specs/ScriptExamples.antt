@@ -1,10 +1,11 @@
 -- What the definitions give on small scripts, worked out by hand, for the tests.
-use Rattle.std.specs.Prelude.{◌≡◌, ℕ, zero, suc, ◌+◌, ◌*◌, List, [], ◌∷◌, map, replicate, codes, Option, Some, None, Err}
+use Rattle.std.specs.Prelude.{◌≡◌, ℕ, zero, ◌+◌, ◌*◌, List, [], ◌∷◌, map, replicate, codes, Option, Some, None, Err}
 use Rattle.replay_script.specs.declared.fault.ScriptFault.TheVariants.{Script, Line}
-use Rattle.replay_script.specs.Word.{words_of, name_of, number_of, most_body_bytes, body_of}
-use Rattle.replay_script.specs.Command.{CommandData, Post, Turn, command_of}
+use Rattle.replay_script.specs.Word.{words_of, name_of, number_of, most_body_bytes, body_of, bytes_of, random_word_of, status_of, seconds_of}
+use Rattle.replay_script.specs.Command.{CommandData, Post, Turn, Answer, Report, Drain, command_of}
+use Rattle.send_retry.specs.Class.{Http, Failed}
 use Rattle.replay_script.specs.Line.{lines_of, Skipped, Says, Faulty, kind_of}
-use Rattle.replay_script.specs.Answer.{reply_text, job_text, worked_text, idle_text, refused_text}
+use Rattle.replay_script.specs.Answer.{reply_text, job_text, worked_text, idle_text, refused_text, done_text, report_text}
 use Rattle.replay_script.specs.Told.{Told, BeginsTold, Ends}
 
 -- 97 and 98 are letters; 10, a line feed, ends a line; 13, a carriage return, is a byte of it
@@ -23,7 +24,7 @@ pub record Kinds : Type 0 where
   pub space_before : kind_of (codes " # turn 0 5") ≡ Faulty
   pub comment_behind : kind_of (codes "turn 0 5 #") ≡ Faulty
   pub carriage_return : kind_of (13 ∷ []) ≡ Faulty
-  pub no_command : kind_of (codes "report a 0") ≡ Faulty
+  pub no_command : kind_of (codes "reports a 0") ≡ Faulty
 
 -- one space between two words, so that two spaces have an empty word between them, and one at an end has one beside it
 pub record Words : Type 0 where
@@ -59,6 +60,36 @@ pub record Bodies : Type 0 where
   pub two_dashes : body_of (codes "--") ≡ None
   pub most_digits : 2 * most_body_bytes ≡ 41943040
 
+-- 4,294,967,296 is 2^32; a day has 24 * 60 * 60 = 86,400 seconds
+pub record OtherWords : Type 0 where
+  pub greatest_word : random_word_of (codes "4294967295") ≡ Some 4294967295
+  pub too_great_a_word : random_word_of (codes "4294967296") ≡ None
+  pub statuses : map (λ word. status_of word) (codes "99" ∷ codes "100" ∷ codes "0999" ∷ codes "1000" ∷ [])
+      ≡ None ∷ Some 100 ∷ Some 999 ∷ None ∷ []
+  pub no_seconds : seconds_of (codes "-") ≡ Some None
+  pub a_day : seconds_of (codes "86400") ≡ Some (Some 86400)
+  pub more_than_a_day : seconds_of (codes "86401") ≡ Some (Some 86400)
+  pub minus_one : seconds_of (codes "-1") ≡ None
+  pub bytes_as_bodies : bytes_of (codes "0a020805") ≡ Some (10 ∷ 2 ∷ 8 ∷ 5 ∷ [])
+  pub no_bytes : bytes_of (codes "-") ≡ Some []
+
+-- `answer NAME MOMENT TICKET WORD STATUS RETRY HEX`, where `failed` has `-` twice behind it, `report NAME MOMENT` and
+-- `drain NAME MOMENT`
+pub record TenantCommands : Type 0 where
+  pub answer : command_of (codes "answer a 1000 1 0 503 40 -") ≡ Some (Answer (codes "a") 1000 1 0 (Http 503 (Some 40) []))
+  pub with_a_body : command_of (codes "answer a 1000 1 0 200 - 0a020805")
+      ≡ Some (Answer (codes "a") 1000 1 0 (Http 200 None (10 ∷ 2 ∷ 8 ∷ 5 ∷ [])))
+  pub failed : command_of (codes "answer b.c 7 9 4294967295 failed - -")
+      ≡ Some (Answer (codes "b.c") 7 9 4294967295 Failed)
+  pub failed_with_seconds : command_of (codes "answer a 0 1 0 failed 1 -") ≡ None
+  pub failed_with_a_body : command_of (codes "answer a 0 1 0 failed - 00") ≡ None
+  pub a_word_less : command_of (codes "answer a 0 1 0 200 -") ≡ None
+  pub a_word_more : command_of (codes "answer a 0 1 0 200 - - -") ≡ None
+  pub report : command_of (codes "report a 1000") ≡ Some (Report (codes "a") 1000)
+  pub report_of_nobody : command_of (codes "report 1000") ≡ None
+  pub drain : command_of (codes "drain a 500") ≡ Some (Drain (codes "a") 500)
+  pub drain_and_more : command_of (codes "drain a 500 -") ≡ None
+
 -- `post NAME MOMENT HEX` and `turn SHARD MOMENT`, letter by letter
 pub record Commands : Type 0 where
   pub post : command_of (codes "post a.b 7 0aFF") ≡ Some (Post (codes "a.b") 7 (10 ∷ 255 ∷ []))
@@ -81,12 +112,13 @@ pub record Answers : Type 0 where
   pub worked : worked_text (codes "b") ≡ codes "worked b\n"
   pub idle : idle_text 63 ≡ codes "idle 63\n"
   pub refused : refused_text (codes "e") 22 ≡ codes "refused e 22\n"
+  pub done : done_text (codes "a") ≡ codes "done a\n"
+  pub report : report_text (codes "a") (codes "accepted=1 undecided=1") ≡ codes "report a accepted=1 undecided=1\n"
 
 -- a session that knows shard 0 and no tenant. A turn is answered `idle` with the number of turns before it
 abbrev pub Counts : ℕ → CommandData → Option (List ℕ) → ℕ → Type 0
-Counts turns (Post name moment body) line later = (line ≡ None) × (later ≡ turns)
 Counts turns (Turn zero moment) line later = (line ≡ Some (idle_text turns)) × (later ≡ turns + 1)
-Counts turns (Turn (suc shard) moment) line later = (line ≡ None) × (later ≡ turns)
+Counts turns command line later = (line ≡ None) × (later ≡ turns)
 
 -- two turns, and then a line that lacks a word
 abbrev pub third_faulty : List (List ℕ)

@@ -31,7 +31,7 @@ impl Session for Turns {
                 put_idle(alloc, out, *moment)?;
                 Ok(())
             }
-            Command::Post { .. } => Err(AnswerFault::Unknown),
+            _ => Err(AnswerFault::Unknown),
         }
     }
 }

@@ -201,6 +201,9 @@ fn check_faulty(rt: &impl Abort, line: &str, alloc: Global) -> Result<(), Fail> 
 fn the_first_faulty_line_is_named(rt: HostRuntime) -> Result<(), Fail> {
     let lines = [
         "report a 0",
+        "answer a 0 1 0 200 - -",
+        "drain a 0",
+        "reports a 0",
         "post c 0 -",
         "turn 1 0",
         "post a 0 0a0",

@@ -1,9 +1,10 @@
 //! Lines and answers spelled by hand, and readers and writers that fail.
 
 use replay_script::{
-    AnswerFault, Command, ScriptFault, Session, parse_line, put_idle, put_job, put_refused,
-    put_reply, put_worked, run_script,
+    AnswerFault, Command, ScriptFault, Session, parse_line, put_done, put_idle, put_job,
+    put_refused, put_reply, put_report, put_worked, run_script,
 };
+use send_retry::Answer;
 use std::alloc::Global;
 use std::io;
 use std::io::{BufReader, Read, Write};
@@ -114,7 +115,7 @@ fn turns_are_read(rt: HostRuntime) -> Result<(), Fail> {
 
 #[test]
 fn other_lines_are_no_commands(rt: HostRuntime) -> Result<(), Fail> {
-    let lines: [&[u8]; 24] = [
+    let lines: [&[u8]; 22] = [
         b"",
         b"post",
         b"post a 0",
@@ -137,11 +138,94 @@ fn other_lines_are_no_commands(rt: HostRuntime) -> Result<(), Fail> {
         b"turn 0",
         b"turn 0 1 2",
         b"TURN 0 1",
-        b"report a 0",
-        b"answer a 0 1 0 200 - -",
     ];
     for line in lines {
         assert!(rt; parse_line(rt.alloc(), line)?.is_none(), "{line:?}");
+    }
+    Ok(())
+}
+
+/// Whether a line says that a back end answers job 1 of tenant `a` at moment 1,000 so, with the word 0.
+fn says_answer(alloc: Global, line: &[u8], answer: Answer) -> Result<bool, Fail> {
+    let command = Command::Answer {
+        name: "a",
+        moment: 1000,
+        ticket: 1,
+        word: 0,
+        answer,
+    };
+    says(alloc, line, command)
+}
+
+#[test]
+fn answers_of_back_ends_are_read(rt: HostRuntime) -> Result<(), Fail> {
+    let alloc = rt.alloc();
+    let taken = Answer::Http {
+        status: 200,
+        retry_after: None,
+        body: vec![in alloc; 0x0a, 0x02, 0x08, 0x05]?,
+    };
+    assert!(rt; says_answer(alloc, b"answer a 1000 1 0 200 - 0a020805", taken)?);
+    let again = Answer::Http {
+        status: 503,
+        retry_after: Some(86_400),
+        body: Vec::new(alloc),
+    };
+    assert!(rt; says_answer(alloc, b"answer a 1000 01 00 0503 86401 -", again)?);
+    assert!(rt; says_answer(alloc, b"answer a 1000 1 0 failed - -", Answer::Failed)?);
+    Ok(())
+}
+
+#[test]
+fn reports_and_drains_are_read(rt: HostRuntime) -> Result<(), Fail> {
+    let report = Command::Report {
+        name: "a",
+        moment: 1000,
+    };
+    assert!(rt; says(rt.alloc(), b"report a 1000", report)?);
+    let drain = Command::Drain {
+        name: "a",
+        moment: 500,
+    };
+    assert!(rt; says(rt.alloc(), b"drain a 500", drain)?);
+    Ok(())
+}
+
+/// Lines that lack something, or have too much, of an answer, a report or a drain.
+const NEARLY: &str = "answer
+answer a 0 1 0 200 -
+answer a 0 1 0 200 - - -
+answer a/b 0 1 0 200 - -
+answer a x 1 0 200 - -
+answer a 0 x 0 200 - -
+answer a 0 1 x 200 - -
+answer a 0 1 4294967296 200 - -
+answer a 0 1 0 99 - -
+answer a 0 1 0 1000 - -
+answer a 0 1 0 Failed - -
+answer a 0 1 0 failed 0 -
+answer a 0 1 0 failed - 00
+answer a 0 1 0 200 -1 -
+answer a 0 1 0 200 00000000000000000001 -
+answer a 0 1 0 200 - 0
+answer a 0 1 0 200  -
+report
+report a
+report a/b 0
+report a x
+report a 0 0
+drain
+drain a
+drain a -
+drain a 0 ";
+
+#[test]
+fn lines_that_are_nearly_commands_are_none(rt: HostRuntime) -> Result<(), Fail> {
+    for line in NEARLY.lines() {
+        assert!(rt;
+            parse_line(rt.alloc(), line.as_bytes())?.is_none(),
+            "{line}"
+        );
     }
     Ok(())
 }
@@ -176,9 +260,11 @@ fn answers_are_spelled(rt: HostRuntime) -> Result<(), Fail> {
     put_worked(alloc, &mut out, "c.d")?;
     put_idle(alloc, &mut out, 63)?;
     put_refused(alloc, &mut out, "e", 22)?;
+    put_done(alloc, &mut out, "a")?;
+    put_report(alloc, &mut out, "a", "accepted=1 undecided=1")?;
     let text =
         "reply a 200 -\nreply a 400 120c6261642070726f746f627566\njob b 18446744073709551615 0aff\n\
-        worked c.d\nidle 63\nrefused e 22\n";
+        worked c.d\nidle 63\nrefused e 22\ndone a\nreport a accepted=1 undecided=1\n";
     assert!(rt; out.as_slice() == text.as_bytes());
     Ok(())
 }

@@ -1,6 +1,6 @@
 //! What the definitions say, on examples that were worked out by hand.
 
-ghost use Rattle.collector_tests.specs.ScriptExamples.{Lines, Kinds, Words, Names, Numbers, Bodies, Commands, Answers, ThirdFaulty, OtherScripts, Beginnings};
+ghost use Rattle.collector_tests.specs.ScriptExamples.{Lines, Kinds, Words, Names, Numbers, Bodies, OtherWords, Commands, TenantCommands, Answers, ThirdFaulty, OtherScripts, Beginnings};
 
 /// The definitions, on small scripts, give what was worked out by hand.
 fn definitions_on_small_scripts()
@@ -10,7 +10,9 @@ fn definitions_on_small_scripts()
     ensures names { Names }
     ensures numbers { Numbers }
     ensures bodies { Bodies }
+    ensures other_words { OtherWords }
     ensures commands { Commands }
+    ensures tenant_commands { TenantCommands }
     ensures answers { Answers }
     ensures third_faulty { ThirdFaulty }
     ensures other_scripts { OtherScripts }

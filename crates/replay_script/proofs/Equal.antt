@@ -4,6 +4,8 @@ use Rattle.std.specs.Prelude.{◌↔◌}
 use Rattle.std.specs.Str.{bytes_eq}
 use Rattle.std.proofs.lemmas.Bool.{and_parts, eq-eqb, eqb-true}
 use Rattle.std.proofs.lemmas.Slice.Eq.{bytes_eq-Decides}
+use Rattle.send_retry.specs.contracts.answer.AnswerPartialEq.TheImpl as answer_equal
+use Rattle.send_retry.proofs.Equals.{answers_equal}
 use Rattle.replay_script.specs.contracts.command.CommandPartialEq.TheImpl as command_equal
 use Rattle.replay_script.specs.contracts.fault.ScriptFaultPartialEq.TheImpl as script_fault_equal
 use Rattle.replay_script.specs.contracts.session.AnswerFaultPartialEq.TheImpl as answer_fault_equal
@@ -36,6 +38,40 @@ commands_equal (commands.Turn s m) (commands.Turn t n) = (
       cc,
   λ h. rw (eq-eqb s t cc, eq-eqb m n cc),
 )
+commands_equal (commands.Answer n m t w a) (commands.Answer o p u x b) =
+    let names = bytes_eq-Decides n.now o.now in
+    let answers = answers_equal a b in (
+      λ h.
+          let one = and_parts (bytes_eq n.now o.now) ((m == p) && ((t == u) && ((w == x) && answer_equal.eq-value.it a b))) h in
+          let two = and_parts (m == p) ((t == u) && ((w == x) && answer_equal.eq-value.it a b)) one.1 in
+          let three = and_parts (t == u) ((w == x) && answer_equal.eq-value.it a b) two.1 in
+          let four = and_parts (w == x) (answer_equal.eq-value.it a b) three.1 in
+          let name = names.0 one.0 in
+          let moment = eqb-true m p two.0 in
+          let ticket = eqb-true t u three.0 in
+          let word = eqb-true w x four.0 in
+          let answer = answers.0 four.1 in
+          cc,
+      λ h. rw (names.1 cc, eq-eqb m p cc, eq-eqb t u cc, eq-eqb w x cc, answers.1 cc),
+    )
+commands_equal (commands.Report n m) (commands.Report o p) =
+    let names = bytes_eq-Decides n.now o.now in (
+      λ h.
+          let parts = and_parts (bytes_eq n.now o.now) (m == p) h in
+          let name = names.0 parts.0 in
+          let moment = eqb-true m p parts.1 in
+          cc,
+      λ h. rw (names.1 cc, eq-eqb m p cc),
+    )
+commands_equal (commands.Drain n m) (commands.Drain o p) =
+    let names = bytes_eq-Decides n.now o.now in (
+      λ h.
+          let parts = and_parts (bytes_eq n.now o.now) (m == p) h in
+          let name = names.0 parts.0 in
+          let moment = eqb-true m p parts.1 in
+          cc,
+      λ h. rw (names.1 cc, eq-eqb m p cc),
+    )
 commands_equal _ _ = (λ h. cc, λ h. cc)
 
 pub script_faults_equal : (a b : ScriptFault) → (script_fault_equal.eq-value.it a b ≡ true) ↔ (a ≡ b)

@@ -1,5 +1,5 @@
 -- A script that is being run: what was read, done, told and written.
-use Rattle.std.proofs.Common.{◌≡◌, ◌≤◌, ◌+◌, ℕ, Bool, true, false, List, [], ◌∷◌, ◌++◌, length, take, Option, Some, None, Result, Ok, Err, IfSome, refl, ap, sym, subst, ◌∙◌, arith}
+use Rattle.std.proofs.Common.{◌≡◌, ◌≤◌, ◌+◌, ℕ, Bool, true, false, List, [], ◌∷◌, ◌++◌, length, Option, Some, None, Result, Ok, Err, IfSome, ap, sym, subst, ◌∙◌, arith}
 use Rattle.std.proofs.lemmas.List.{append-nil}
 use Rattle.std.specs.Io.KnownBytes.{Appends}
 use Rattle.replay_script.specs.declared.fault.ScriptFault.{ScriptFault}
@@ -8,9 +8,9 @@ use Rattle.replay_script.specs.Command.{CommandData}
 use Rattle.replay_script.specs.Line.{kind_of, lines_of}
 use Rattle.replay_script.specs.Told.{Told, BeginsTold, Ends}
 use Rattle.replay_script.specs.Step.{Adds, Refuses}
-use Rattle.replay_script.specs.Input.{TakesLine, ReadsOne, line_room, IsOutside}
+use Rattle.replay_script.specs.Input.{TakesLine, ReadsOne, kept_of, IsOutside}
 use Rattle.replay_script.specs.Output.{Sends}
-use Rattle.replay_script.proofs.Long.{kind_cut}
+use Rattle.replay_script.proofs.Long.{kind_kept}
 use Rattle.replay_script.proofs.Ran.{RanTo, ran_more, ran_over, ran_faulty, ran_begins, ran_so_far, begins}
 use Rattle.replay_script.proofs.Sent.{sends_on, sends_more}
 
@@ -33,8 +33,8 @@ module _ {S : Type 0} (answers : S → CommandData → Option (List ℕ) → S �
       → lines ≡ line ∷ left → RanTo answers all start lines number state text → RanTo answers all start (line ∷ left) number state text
   at_line all start lines line left number state text is ran = subst (λ l. RanTo answers all start l number state text) is ran
 
-  kept_kind : (kept line : List ℕ) → kept ≡ take line_room line → kind_of kept ≡ kind_of line
-  kept_kind kept line is = ap kind_of is ∙ kind_cut line_room line refl
+  kept_kind : (kept line : List ℕ) → kept ≡ kept_of line → kind_of kept ≡ kind_of line
+  kept_kind kept line is = ap kind_of is ∙ kind_kept line
 
   found : (r : Option (List ℕ)) (rest : List ℕ) (P : List ℕ → Type 0) → IfSome r P → r ≡ Some rest → P rest
   found r rest P h e = subst (λ o. IfSome o P) e h

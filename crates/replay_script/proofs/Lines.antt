@@ -1,5 +1,5 @@
 -- The lines of a text, read in parts.
-use Rattle.std.proofs.Common.{◌≡◌, ◌≢◌, ◌+◌, ◌<◌, ◌≤◌, ◌==◌, ℕ, Bool, true, cond, not, List, [], ◌∷◌, ◌++◌, length, take, Option, Some, None, Result, Ok, IfSome, IfOk, OnSome, All, refl, ap, sym, subst, ◌∙◌, arith, lit<}
+use Rattle.std.proofs.Common.{◌≡◌, ◌≢◌, ◌+◌, ◌<◌, ◌≤◌, ◌==◌, ℕ, Bool, true, cond, not, List, [], ◌∷◌, ◌++◌, length, Option, Some, None, Result, Ok, IfSome, IfOk, OnSome, All, refl, ap, sym, subst, ◌∙◌, arith}
 use Rattle.std.specs.List.{onto_first}
 use Rattle.std.specs.Io.KnownBytes.{Consumes, Keeps, IsAtEnd}
 use Rattle.std.proofs.lemmas.List.{append-nil, append_assoc}
@@ -9,8 +9,8 @@ use Rattle.std.proofs.lemmas.Bool.Decides.{nat_tests}
 use Rattle.replay_script.specs.declared.input.Part.{Part}
 use Rattle.replay_script.specs.declared.input.Part.TheVariants.{More, LineEnd, InputEnd}
 use Rattle.replay_script.specs.Line.{lines_of}
-use Rattle.replay_script.specs.Input.{TakesPart, TakesLine, ReadsOne, line_room}
-use Rattle.replay_script.proofs.Kept.{kept_parts, kept_some, take_none, kept_fits}
+use Rattle.replay_script.specs.Input.{TakesPart, TakesLine, ReadsOne, kept_of}
+use Rattle.replay_script.proofs.Kept.{kept_more, kept_again, kept_some, kept_none}
 
 pub line_ended : (bytes rest : List ℕ) → All (λ byte. byte ≢ 10) bytes → lines_of (bytes ++ 10 ∷ rest) ≡ bytes ∷ lines_of rest
 line_ended [] rest plain = refl
@@ -39,15 +39,15 @@ lines_few (byte ∷ bytes) rest plain =
 -- so much of a line was read, and nothing behind it
 pub record Reading (before now : Option (List ℕ)) (kept : List ℕ) : Type 0 where
   pub begun : IfSome before (λ text. (bytes : List ℕ) × (rest : List ℕ) × (now ≡ Some rest) × (text ≡ bytes ++ rest)
-      × All (λ byte. byte ≢ 10) bytes × (kept ≡ take line_room bytes))
+      × All (λ byte. byte ≢ 10) bytes × (kept ≡ kept_of bytes))
 
 left : (now after : Option (List ℕ)) (rest bytes : List ℕ) → now ≡ Some rest → Consumes now after bytes → (behind : List ℕ) × (after ≡ Some behind) × (rest ≡ bytes ++ behind)
 left (Some x) (Some y) rest bytes e h = let same : x ≡ rest = cc in (y, refl, sym same ∙ h)
 left (Some x) None rest bytes e h = absurd h
 left None after rest bytes e h = absurd (cc)
 
-kept_on : (old part kept new : List ℕ) → kept ≡ take line_room old → new ≡ take line_room (kept ++ part) → new ≡ take line_room (old ++ part)
-kept_on old part kept new was is = is ∙ ap (λ l. take line_room (l ++ part)) was ∙ kept_parts line_room old part
+kept_on : (old part kept new : List ℕ) → kept ≡ kept_of old → new ≡ kept_of (kept ++ part) → new ≡ kept_of (old ++ part)
+kept_on old part kept new was is = is ∙ ap (λ l. kept_of (l ++ part)) was ∙ kept_more old part
 
 pub reading_more : (before now after : Option (List ℕ)) (old new : List ℕ) → Reading before now old → TakesPart now after old new More → Reading before after new
 reading_more None now after old new reading part = record { begun = tt }
@@ -104,12 +104,12 @@ filled : (new : List ℕ) → 0 < length new → not (length new == 0) ≡ true
 filled new some = grind (arith, nat_tests)
 
 last_line : (bytes : List ℕ) (text new : List ℕ) (after : Option (List ℕ)) (found : Bool) → text ≡ bytes → All (λ byte. byte ≢ 10) bytes
-    → after ≡ Some [] → new ≡ take line_room bytes → found ≡ not (length new == 0) → TakesLine text after found new
+    → after ≡ Some [] → new ≡ kept_of bytes → found ≡ not (length new == 0) → TakesLine text after found new
 last_line [] text new after found is plain end kept e =
-    let none : new ≡ [] = kept ∙ take_none line_room [] refl in
+    let none : new ≡ [] = kept ∙ kept_none [] refl in
     subst (λ f. TakesLine text after f new) (sym (e ∙ ap (λ l. not (length l == 0)) none)) (ap lines_of is)
 last_line (byte ∷ bytes) text new after found is plain end kept e =
-    let some = kept_some line_room byte bytes new (lit< tt) kept in
+    let some = kept_some byte bytes new kept in
     let yes = filled new some in
     subst (λ f. TakesLine text after f new) (sym (e ∙ yes)) (byte ∷ bytes, [], end, ap lines_of is ∙ line_last byte bytes plain, kept)
 
@@ -128,5 +128,5 @@ reading_over (Some text) now after old new found reading part e =
 pub taken : {E : Type 0} (r : Result Part E) (part : Part) (P : Part → Type 0) → IfOk r P → r ≡ Ok part → P part
 taken r part P h e = subst (λ r. IfOk r P) e h
 
-pub part_fits : (now after : Option (List ℕ)) (old new : List ℕ) (part : Part) → TakesPart now after old new part → length new ≤ line_room
-part_fits now after old new part h = subst (λ l. length l ≤ line_room) (sym h.2) (kept_fits line_room (old ++ h.0))
+pub part_fits : (now after : Option (List ℕ)) (old new : List ℕ) (part : Part) → TakesPart now after old new part → kept_of new ≡ new
+part_fits now after old new part h = ap kept_of h.2 ∙ kept_again (old ++ h.0) ∙ sym h.2

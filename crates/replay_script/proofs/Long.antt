@@ -1,15 +1,19 @@
 -- A line longer than any command is faulty or skipped, and so is its beginning.
-use Rattle.std.proofs.Common.{◌≡◌, ◌+◌, ◌*◌, ◌<◌, ◌==◌, ◌&&◌, ℕ, zero, suc, Bool, true, false, cond, nat_lt, nat_le, List, [], ◌∷◌, length, take, codes, Option, Some, None, refl, ap, sym, ◌∙◌, arith, inl, inr}
-use Rattle.std.specs.List.{onto_first, list_all}
+use Rattle.std.proofs.Common.{◌≡◌, ◌+◌, ◌*◌, ◌++◌, ◌<◌, ◌==◌, ◌&&◌, ℕ, zero, suc, Bool, true, false, cond, nat_lt, nat_le, List, [], ◌∷◌, length, take, codes, Option, Some, None, refl, ap, sym, ◌∙◌, arith, inl, inr}
+use Rattle.std.specs.List.{onto_first, list_all, join_with_byte}
+use Rattle.std.specs.Option.{option_map}
 use Rattle.std.specs.Str.{bytes_eq}
 use Rattle.std.specs.Char.{is_ascii_digit}
 use Rattle.std.proofs.lemmas.Bool.{cases_lt}
 use Rattle.std.proofs.lemmas.Bool.Decides.{nat_tests}
 use Rattle.std.proofs.lemmas.List.{take_all, length-take}
+use Rattle.std.proofs.lemmas.List.Splits.{join_with_byte-slice_split}
 use Rattle.std.proofs.lemmas.Slice.Eq.{bytes_eq-Decides}
-use Rattle.replay_script.specs.Word.{words_of, is_name_byte, name_of, number_of, body_of, most_body_bytes}
-use Rattle.replay_script.specs.Command.{CommandData, command_of, command_from, post_of, post_from, turn_of, turn_from}
+use Rattle.replay_script.specs.Word.{words_of, is_name_byte, name_of, number_of, body_of, bytes_of, most_body_bytes}
+use Rattle.replay_script.specs.Command.{CommandData, Report, Drain, command_of, command_from, post_of, post_from, turn_of, turn_from, answer_of, tenant_of, tenant_from, report_of, drain_of}
+use Rattle.replay_script.specs.Input.{line_room, begins_answer, kept_of}
 use Rattle.replay_script.specs.Line.{Skipped, said, kind_of}
+use Rattle.replay_script.proofs.Kept.{begins_cut}
 
 -- the bytes of words and of a space behind each
 spread : List (List ℕ) → ℕ
@@ -33,16 +37,8 @@ off : {T : Type 0} (a b c : Bool) (x : T) → b ≡ false → cond (a && b && c)
 off true b c x e = rw e refl
 off false b c x e = refl
 
-off_two : {T : Type 0} (a b c : Bool) (x y : Option T) → a ≡ false → c ≡ false → cond a x (cond (b && c) y None) ≡ None
-off_two a true c x y first e = rw (first, e) refl
-off_two a false c x y first e = rw first refl
-
 above : (n most : ℕ) → most < n → nat_le n most ≡ false
 above n most long = grind (arith, nat_tests)
-
-is_false : (b : Bool) → (b ≡ true → ⊥) → b ≡ false
-is_false true e = absurd (e refl)
-is_false false e = refl
 
 name_long : (word : List ℕ) → 64 < length word → name_of word ≡ None
 unfolding name_of
@@ -54,9 +50,7 @@ number_long word long = off (nat_lt 0 (length word)) _ (list_all is_ascii_digit 
 
 body_long : (word : List ℕ) → 2 * most_body_bytes < length word → body_of word ≡ None
 unfolding body_of
-body_long word long =
-    let other : bytes_eq word (codes "-") ≡ true → ⊥ = λ e. let same = ap length ((bytes_eq-Decides word (codes "-")).0 e) in omega arith in
-    off_two (bytes_eq word (codes "-")) (nat_lt 0 (length word)) _ _ _ (is_false _ other) (above (length word) (2 * most_body_bytes) long)
+body_long word long = ap (λ b. cond b (bytes_of word) None) (above (length word) (2 * most_body_bytes) long)
 
 no_body : (name : Option (List ℕ)) (moment : Option ℕ) → post_from name moment None ≡ None
 no_body (Some name) (Some moment) = refl
@@ -81,6 +75,10 @@ post_long (name ∷ moment ∷ body ∷ []) long = elim (cases_lt 64 (length nam
 ]
 post_long (name ∷ moment ∷ body ∷ word ∷ words) long = refl
 
+no_time : (name : Option (List ℕ)) → tenant_from name None ≡ None
+no_time (Some name) = refl
+no_time None = refl
+
 no_end : (shard : Option ℕ) → turn_from shard None ≡ None
 no_end (Some shard) = refl
 no_end None = refl
@@ -95,36 +93,76 @@ turn_long (shard ∷ moment ∷ []) long = elim (cases_lt 19 (length shard)) [
 ]
 turn_long (shard ∷ moment ∷ word ∷ words) long = refl
 
-one_of : (a b : Bool) (x y : Option CommandData) → (a ≡ true → x ≡ None) → (b ≡ true → y ≡ None) → cond a x (cond b y None) ≡ None
-one_of true b x y first second = first refl
-one_of false true x y first second = second refl
-one_of false false x y first second = refl
+tenant_long : (words : List (List ℕ)) → 90 < spread words → tenant_of words ≡ None
+unfolding tenant_of spread
+tenant_long [] long = refl
+tenant_long (name ∷ []) long = refl
+tenant_long (name ∷ moment ∷ []) long = elim (cases_lt 64 (length name)) [
+  | inl more ↦ rw (name_long name more) refl
+  | inr few ↦ let more : 19 < length moment = omega arith in rw (number_long moment more) (no_time (name_of name))
+]
+tenant_long (name ∷ moment ∷ word ∷ words) long = refl
 
-from_long : (words : List (List ℕ)) → 41943131 < spread words → command_from words ≡ None
-unfolding spread
-from_long [] long = refl
-from_long (verb ∷ words) long =
-    one_of (bytes_eq verb (codes "post")) (bytes_eq verb (codes "turn")) (post_of words) (turn_of words)
+-- an answer's first words
+answer_begins : (line verb word : List ℕ) (words : List (List ℕ)) → words_of line ≡ verb ∷ word ∷ words → verb ≡ codes "answer" → begins_answer line ≡ true
+answer_begins line verb word words split is =
+    let whole : line ≡ codes "answer " ++ join_with_byte 32 (word ∷ words) =
+    sym (join_with_byte-slice_split 32 line) ∙ ap (join_with_byte 32) split ∙ ap (λ v. v ++ 32 ∷ join_with_byte 32 (word ∷ words)) is in
+    ap begins_answer whole
+
+no_answer : (line verb : List ℕ) (words : List (List ℕ)) → begins_answer line ≡ false → words_of line ≡ verb ∷ words → verb ≡ codes "answer" → answer_of words ≡ None
+unfolding answer_of
+no_answer line verb [] other split is = refl
+no_answer line verb (word ∷ words) other split is =
+    absurd (let never : true ≡ false = sym (answer_begins line verb word words split is) ∙ other in cc)
+
+one_of : (a b c d e : Bool) (v w x y z : Option CommandData) → (a ≡ true → v ≡ None) → (b ≡ true → w ≡ None) → (c ≡ true → x ≡ None) → (d ≡ true → y ≡ None) → (e ≡ true → z ≡ None)
+    → cond a v (cond b w (cond c x (cond d y (cond e z None)))) ≡ None
+one_of true b c d e v w x y z first second third fourth fifth = first refl
+one_of false true c d e v w x y z first second third fourth fifth = second refl
+one_of false false true d e v w x y z first second third fourth fifth = third refl
+one_of false false false true e v w x y z first second third fourth fifth = fourth refl
+one_of false false false false true v w x y z first second third fourth fifth = fifth refl
+one_of false false false false false v w x y z first second third fourth fifth = refl
+
+from_long : (line : List ℕ) (words : List (List ℕ)) → begins_answer line ≡ false → words_of line ≡ words → 41943131 < spread words → command_from words ≡ None
+unfolding spread command_from
+from_long line [] other split long = refl
+from_long line (verb ∷ words) other split long =
+    one_of (bytes_eq verb (codes "post")) (bytes_eq verb (codes "turn")) (bytes_eq verb (codes "answer")) (bytes_eq verb (codes "report")) (bytes_eq verb (codes "drain"))
+    (post_of words) (turn_of words) (answer_of words) (report_of words) (drain_of words)
     (λ e. let same = ap length ((bytes_eq-Decides verb (codes "post")).0 e) in post_long words (omega arith))
     (λ e. let same = ap length ((bytes_eq-Decides verb (codes "turn")).0 e) in turn_long words (omega arith))
+    (λ e. no_answer line verb words other split ((bytes_eq-Decides verb (codes "answer")).0 e))
+    (λ e. let same = ap length ((bytes_eq-Decides verb (codes "report")).0 e) in ap (option_map (λ found. Report found.0 found.1)) (tenant_long words (omega arith)))
+    (λ e. let same = ap length ((bytes_eq-Decides verb (codes "drain")).0 e) in ap (option_map (λ found. Drain found.0 found.1)) (tenant_long words (omega arith)))
 
-pub command_long : (line : List ℕ) → 41943130 < length line → command_of line ≡ None
+command_long : (line : List ℕ) → begins_answer line ≡ false → 41943130 < length line → command_of line ≡ None
 unfolding command_of
-command_long line long = from_long (words_of line) (omega (arith, spread_words line))
+command_long line other long = from_long line (words_of line) other refl (omega (arith, spread_words line))
 
-cut_rest : (room byte : ℕ) (line : List ℕ) → room ≡ 41943130 → command_of (byte ∷ take room line) ≡ command_of (byte ∷ line)
-cut_rest room byte line is = elim (cases_lt room (length line)) [
+cut_rest : (room byte : ℕ) (line : List ℕ) → room ≡ 41943130 → begins_answer (byte ∷ line) ≡ false → begins_answer (byte ∷ take room line) ≡ false
+    → command_of (byte ∷ take room line) ≡ command_of (byte ∷ line)
+cut_rest room byte line is other still = elim (cases_lt room (length line)) [
   | inl long ↦
       let cut : 41943130 < length (byte ∷ take room line) = omega (arith, length-take room line) in
       let whole : 41943130 < length (byte ∷ line) = omega arith in
-      command_long (byte ∷ take room line) cut ∙ sym (command_long (byte ∷ line) whole)
+      command_long (byte ∷ take room line) still cut ∙ sym (command_long (byte ∷ line) other whole)
   | inr short ↦ ap (λ l. command_of (byte ∷ l)) (take_all room line short)
 ]
 
-pub kind_cut : (room : ℕ) (line : List ℕ) → room ≡ 41943131 → kind_of (take room line) ≡ kind_of line
+cut_other : (room : ℕ) (line : List ℕ) → room ≡ 41943131 → begins_answer line ≡ false → begins_answer (take room line) ≡ false → kind_of (take room line) ≡ kind_of line
 unfolding kind_of
-kind_cut zero line is = absurd (omega arith)
-kind_cut (suc room) [] is = refl
-kind_cut (suc room) (byte ∷ line) is =
+cut_other zero line is other still = absurd (omega arith)
+cut_other (suc room) [] is other still = refl
+cut_other (suc room) (byte ∷ line) is other still =
     let least : room ≡ 41943130 = omega arith in
-    ap (λ c. cond (byte == 35) Skipped (said c)) (cut_rest room byte line least)
+    ap (λ c. cond (byte == 35) Skipped (said c)) (cut_rest room byte line least other still)
+
+-- what is kept of a line tells what the line is
+pub kind_kept : (line : List ℕ) → kind_of (kept_of line) ≡ kind_of line
+kind_kept line = by_test (begins_answer line) refl
+  where
+    by_test : (b : Bool) → begins_answer line ≡ b → kind_of (cond b line (take line_room line)) ≡ kind_of line
+    by_test true is = refl
+    by_test false is = cut_other line_room line refl is (begins_cut line ∙ is)

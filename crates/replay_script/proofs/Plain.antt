@@ -1,5 +1,5 @@
 -- Within the lines that answer commands there is no line feed.
-use Rattle.std.proofs.Common.{◌≡◌, ◌≢◌, ◌+◌, ◌/◌, ◌%◌, ◌==◌, ℕ, zero, suc, Bool, true, false, cond, not, List, [], ◌∷◌, length, All, refl, sym, ◌∙◌, arith, codes, inl, inr}
+use Rattle.std.proofs.Common.{◌≡◌, ◌≢◌, ◌/◌, ◌%◌, ◌==◌, ℕ, zero, suc, true, false, cond, not, List, [], ◌∷◌, length, All, refl, arith, codes, inl, inr}
 use Rattle.std.specs.List.{list_all, slice_index}
 use Rattle.std.specs.Fmt.{decimal, digit_glyph, digits, digits_onto}
 use Rattle.std.proofs.lemmas.Bool.{cases_lt}

@@ -1,9 +1,9 @@
 -- The first word of a text, and words that are text.
-use Rattle.std.proofs.Common.{◌≡◌, ◌+◌, ◌-◌, ◌<◌, ◌^◌, ◌≤◌, ◌&&◌, ℕ, Bool, true, false, cond, List, [], ◌∷◌, length, take, drop, Option, Some, None, Result, Ok, Err, MatchResult, refl, sym, ap, ◌∙◌, arith, rules, nat_lt, nat_le, ◌==◌}
+use Rattle.std.proofs.Common.{◌≡◌, ◌+◌, ◌-◌, ◌<◌, ◌^◌, ◌≤◌, ◌&&◌, ℕ, Bool, true, false, cond, List, [], ◌∷◌, length, take, drop, codes, Option, Some, None, Result, Ok, Err, MatchResult, refl, sym, ap, ◌∙◌, arith, rules, nat_lt, nat_le, ◌==◌}
 use Rattle.std.specs.Option.{option_map}
 use Rattle.std.specs.Result.{result_ok}
 use Rattle.std.specs.List.{position, onto_first, list_all}
-use Rattle.std.specs.Str.{IsUtf8, IsAscii}
+use Rattle.std.specs.Str.{IsUtf8, IsAscii, bytes_eq}
 use Rattle.std.specs.Char.{is_ascii_digit}
 use Rattle.std.specs.Borrow.{Bor}
 use Rattle.std.proofs.lemmas.List.Splits.{slice_split_first, slice_split_none}
@@ -15,7 +15,7 @@ use Rattle.std.specs.Str.Parse.{ParsesUnsigned, digits_value}
 use Rattle.std.proofs.lemmas.Str.Parse.{IsNumeralModel, numerals_by_value, digits_value_short, parse_gives}
 use Rattle.std.proofs.lemmas.Bool.Decides.{nat_tests}
 use Rattle.replay_script.specs.Word.{words_of, is_name_byte, name_of, number_of}
-use Rattle.replay_script.specs.Command.{post_of, turn_of}
+use Rattle.replay_script.specs.Command.{CommandData, command_from, post_of, turn_of, answer_of, answer_from, back_end_answer_from, tenant_of}
 use Rattle.replay_script.proofs.Places.{found_at, missing, tested, further}
 
 cut : (text : List ℕ) (n at : ℕ) → n ≡ at → take n text ∷ words_of (drop (n + 1) text) ≡ take at text ∷ words_of (take (length text - (at + 1)) (drop (at + 1) text))
@@ -54,6 +54,33 @@ post_of_more a b c text = let more = begins text in rw more.2 refl
 pub turn_of_more : (a b text : List ℕ) → turn_of (a ∷ b ∷ words_of text) ≡ None
 unfolding turn_of Begins
 turn_of_more a b text = let more = begins text in rw more.2 refl
+
+pub back_end_answer_more : (a b c text : List ℕ) → back_end_answer_from (a ∷ b ∷ c ∷ words_of text) ≡ None
+unfolding back_end_answer_from Begins
+back_end_answer_more a b c text = let more = begins text in rw more.2 refl
+
+pub tenant_of_more : (a b text : List ℕ) → tenant_of (a ∷ b ∷ words_of text) ≡ None
+unfolding tenant_of Begins
+tenant_of_more a b text = let more = begins text in rw more.2 refl
+
+same_none : (b : Bool) (rest : Option CommandData) → rest ≡ None → cond b None rest ≡ None
+same_none true rest is = refl
+same_none false rest is = is
+
+-- a word alone is no command
+pub alone_none : (verb : List ℕ) → command_from (verb ∷ []) ≡ None
+unfolding command_from post_of turn_of answer_of tenant_of
+alone_none verb =
+    same_none (bytes_eq verb (codes "post")) _ (same_none (bytes_eq verb (codes "turn")) _ (same_none (bytes_eq verb (codes "answer")) _
+    (same_none (bytes_eq verb (codes "report")) _ (same_none (bytes_eq verb (codes "drain")) None refl))))
+
+-- an answer whose last three words say none
+pub no_answer : (name : Option (List ℕ)) (moment ticket word : Option ℕ) → answer_from name moment ticket word None ≡ None
+no_answer (Some name) (Some moment) (Some ticket) (Some word) = refl
+no_answer (Some name) (Some moment) (Some ticket) None = refl
+no_answer (Some name) (Some moment) None word = refl
+no_answer (Some name) None ticket word = refl
+no_answer None moment ticket word = refl
 
 -- what `from_utf8` gives for a text
 pub told : {E : Type 0} (Q : E → Type 0) (r : Result (Bor (List ℕ)) E) (o : Option (Bor (List ℕ))) (bytes : List ℕ) → IsAscii bytes

@@ -29,3 +29,11 @@ idle_text shard = codes "idle " ++ decimal shard ++ codes "\n"
 -- a step that was refused, by the refusal's number
 abbrev pub refused_text : List ℕ → ℕ → List ℕ
 refused_text name number = codes "refused " ++ name ++ codes " " ++ decimal number ++ codes "\n"
+
+-- an answer to a job, or a drain, that was done
+abbrev pub done_text : List ℕ → List ℕ
+done_text name = codes "done " ++ name ++ codes "\n"
+
+-- a tenant's report: the line that reports it
+abbrev pub report_text : List ℕ → List ℕ → List ℕ
+report_text name report = codes "report " ++ name ++ codes " " ++ report ++ codes "\n"

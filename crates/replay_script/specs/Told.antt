@@ -1,6 +1,7 @@
 -- What a script is told: the text of its answers, one line after another, up to its first faulty line.
 -- S is what has been told so far, in whatever words. `answers state command line after` says that in this state the
--- command may be answered by this line (none: it names no tenant or no shard), and what has been told after it.
+-- command may be answered by this line (none: it names no tenant or no shard, or isn't done here), and what has been
+-- told after it.
 use Rattle.std.specs.Prelude.{◌≡◌, ◌≤◌, ℕ, ◌+◌, List, [], ◌∷◌, ◌++◌, length, Option, Some, None, Result, Ok, Err}
 use Rattle.replay_script.specs.declared.fault.ScriptFault.{ScriptFault}
 use Rattle.replay_script.specs.declared.fault.ScriptFault.TheVariants.{Script, Line, OutOfMemory}

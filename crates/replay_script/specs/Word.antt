@@ -1,5 +1,5 @@
 -- The words of a script's line, and the names, decimal numbers and hexadecimal bytes that they spell.
-use Rattle.std.specs.Prelude.{ℕ, ◌*◌, ◌==◌, ◌&&◌, ◌||◌, Bool, nat_le, nat_lt, if◌then◌else◌, List, [], length, codes, Option, Some, None}
+use Rattle.std.specs.Prelude.{ℕ, ◌*◌, ◌^◌, ◌==◌, ◌&&◌, ◌||◌, Bool, nat_le, nat_lt, min, if◌then◌else◌, List, [], length, codes, Option, Some, None, option_map}
 use Rattle.std.specs.List.{slice_split, list_all}
 use Rattle.std.specs.Char.{is_ascii_alphanumeric, is_ascii_digit}
 use Rattle.std.specs.Str.{bytes_eq}
@@ -7,6 +7,7 @@ use Rattle.std.specs.Str.Parse.{digits_value}
 use Rattle.std.specs.Result.{result_ok}
 use Rattle.std.specs.Borrow.{Bor}
 use Rattle.hex.specs.Hex.{decode_of}
+use Rattle.send_retry.specs.Class.{longest_wait}
 
 -- words are parted by one space each: between two spaces stands an empty word
 abbrev pub words_of : List ℕ → List (List ℕ)
@@ -37,13 +38,36 @@ is_number word = nat_lt 0 (length word) && nat_le (length word) 19 && list_all i
 unfoldable pub number_of : List ℕ → Option ℕ
 number_of word = if is_number word then Some (digits_value 10 word) else None
 
--- the most bytes that a body may have
+-- bytes: `-` for none, or hexadecimal digits of either case, two a byte, at least two of them
+unfoldable pub bytes_of : List ℕ → Option (List ℕ)
+bytes_of word =
+    if bytes_eq word (codes "-") then Some []
+    else if nat_lt 0 (length word) then result_ok (decode_of word)
+    else None
+
+-- the most bytes that a post's body may have
 abbrev pub most_body_bytes : ℕ
 most_body_bytes = 20971520
 
--- bytes: `-` for none, or hexadecimal digits of either case, two a byte, at least two of them
+-- a post's body: so many bytes at most
 unfoldable pub body_of : List ℕ → Option (List ℕ)
-body_of word =
-    if bytes_eq word (codes "-") then Some []
-    else if nat_lt 0 (length word) && nat_le (length word) (2 * most_body_bytes) then result_ok (decode_of word)
-    else None
+body_of word = if nat_le (length word) (2 * most_body_bytes) then bytes_of word else None
+
+-- a number, where it is one that passes a test
+abbrev pub tested : (ℕ → Bool) → Option ℕ → Option ℕ
+tested test None = None
+tested test (Some number) = if test number then Some number else None
+
+-- a number below 2^32
+unfoldable pub random_word_of : List ℕ → Option ℕ
+random_word_of word = tested (λ number. nat_lt number (2 ^ 32)) (number_of word)
+
+-- a status of HTTP: a number from 100 to 999
+unfoldable pub status_of : List ℕ → Option ℕ
+status_of word = tested (λ number. nat_le 100 number && nat_le number 999) (number_of word)
+
+-- seconds to wait, `-` for none: a day at most is heeded
+unfoldable pub seconds_of : List ℕ → Option (Option ℕ)
+seconds_of word =
+    if bytes_eq word (codes "-") then Some None
+    else option_map (λ seconds. Some (min seconds longest_wait)) (number_of word)

@@ -2,7 +2,7 @@
 
 ghost use Rattle.std.specs.Prelude.{◌≡◌, ◌++◌, IfOk, OnOk, OnErr};
 ghost use Rattle.std.specs.String.{string_bytes};
-ghost use Rattle.replay_script.specs.Answer.{hex_text, reply_text, job_text, worked_text, idle_text, refused_text};
+ghost use Rattle.replay_script.specs.Answer.{hex_text, reply_text, job_text, worked_text, idle_text, refused_text, done_text, report_text};
 
 use std::alloc::{AllocError, Global};
 
@@ -67,6 +67,29 @@ pub fn put_refused(
     ensures err { OnErr result (out.new.items ≡ out.old.items) }
 {
     let line = format!(in alloc; "refused {name} {number}\n")?;
+    out.extend_from_slice(line.as_bytes())
+}
+
+/// Appends the line of an answer to a job, or of a drain, that was done.
+pub fn put_done(alloc: Global, out: &mut Vec<u8>, name: &str) -> Result<(), AllocError>
+    ensures ok { OnOk result (out.new.items ≡ out.old.items ++ done_text name.now) }
+    ensures err { OnErr result (out.new.items ≡ out.old.items) }
+{
+    let line = format!(in alloc; "done {name}\n")?;
+    out.extend_from_slice(line.as_bytes())
+}
+
+/// Appends the line of a tenant's report, which is given without its line end.
+pub fn put_report(
+    alloc: Global,
+    out: &mut Vec<u8>,
+    name: &str,
+    report: &str,
+) -> Result<(), AllocError>
+    ensures ok { OnOk result (out.new.items ≡ out.old.items ++ report_text name.now report.now) }
+    ensures err { OnErr result (out.new.items ≡ out.old.items) }
+{
+    let line = format!(in alloc; "report {name} {report}\n")?;
     out.extend_from_slice(line.as_bytes())
 }
 

@@ -9,8 +9,8 @@ use thiserror::Error;
 /// Why a script's replay ended early.
 #[derive(Debug, Clone, Copy, PartialEq, Eq, Error)]
 pub enum ScriptFault {
-    /// That line says no command, or one for a tenant or a shard that there isn't. Lines count from
-    /// 1, those that are skipped among them.
+    /// That line says no command, one for a tenant or a shard that there isn't, or one that the session doesn't do.
+    /// Lines count from 1, those that are skipped among them.
     #[error("script fault at line {line}")]
     Script { line: u64 },
     /// The reader or the writer failed, or was called 2^62 times.

@@ -4,7 +4,7 @@ ghost use Rattle.std.specs.Prelude.{◌≡◌, ◌≢◌, ◌==◌, ℕ, ◌+◌
 ghost use Rattle.std.specs.Io.KnownBytes.{Keeps};
 ghost use Rattle.std.specs.List.{position};
 ghost use Rattle.replay_script.specs.declared.input.Part.TheVariants.{More, LineEnd, InputEnd};
-ghost use Rattle.replay_script.specs.Input.{TakesPart, TakesLine, ReadsOne, line_room, with_end, IsOutside};
+ghost use Rattle.replay_script.specs.Input.{TakesPart, TakesLine, ReadsOne, kept_of, with_end, IsOutside};
 ghost use Rattle.replay_script.specs.Output.{Sends};
 
 use crate::fault::ScriptFault;
@@ -13,8 +13,8 @@ use memchr::memchr;
 use std::alloc::AllocError;
 use std::io::{BufRead, ErrorKind, Write};
 
-/// A line of which so much is kept is longer than any command, so that it is refused, or skipped,
-/// like the whole line.
+/// A line of which so much is kept is longer than any command but an answer, so that it is refused, or skipped, like
+/// the whole line. An answer may be of any length, and is kept whole.
 const LINE_ROOM: usize = 41_943_131;
 
 /// What came behind a part of a line.
@@ -84,11 +84,11 @@ fn take_part<R: BufRead>(
     held: &Output,
     line: &mut Vec<u8>,
 ) -> Result<Part, ScriptFault>
-    requires room { length line.old.items ≤ line_room }
+    requires kept { kept_of line.old.items ≡ line.old.items }
     requires nothing_held { ahead.old ≡ 0 → held.now.text.items ≡ [] }
     ensures part { IfOk result
         (TakesPart (R.remaining reader.old) (R.remaining reader.new) line.old.items line.new.items) }
-    ensures kept { OnErr result (Keeps (R.remaining reader.old) (R.remaining reader.new)) }
+    ensures unread { OnErr result (Keeps (R.remaining reader.old) (R.remaining reader.new)) }
     ensures err { IfErr result IsOutside }
 {
     prove!(*ahead > 0 || held.text.is_empty());
@@ -143,11 +143,15 @@ fn line_end(shown: &[u8]) -> Option<usize>
     memchr(b'\n', shown)
 }
 
-/// Joins a part to a line, as far as there is room.
+/// Joins a part to a line, as far as it is to be kept.
 fn keep(line: &mut Vec<u8>, part: &[u8]) -> Result<(), AllocError>
-    requires { length line.old.items ≤ line_room }
-    ensures { OnOk result (line.new.items ≡ take line_room (line.old.items ++ part.now)) }
+    requires { kept_of line.old.items ≡ line.old.items }
+    ensures { OnOk result (line.new.items ≡ kept_of (line.old.items ++ part.now)) }
 {
-    let len = part.len().min(LINE_ROOM - line.len());
-    line.extend_from_slice(&part[..len])
+    let len = part.len().min(LINE_ROOM.saturating_sub(line.len()));
+    line.extend_from_slice(&part[..len])?;
+    if line.starts_with(b"answer ") {
+        line.extend_from_slice(&part[len..])?;
+    }
+    Ok(())
 }

@@ -5,7 +5,8 @@
 //! to a writer, up to the first faulty line, and each before it waits for more of the script. What is written is
 //! exactly the answers' text.
 //!
-//! It stands on the library's `hex`. The grammar is its own, and the README has it.
+//! It stands on the library's `hex` and, for a back end's answers, on `send_retry`. The grammar is its own, and the
+//! README has it.
 #![tactic(auto)]
 
 mod answer;
@@ -16,8 +17,9 @@ mod law;
 mod output;
 mod run;
 mod session;
+mod word;
 
-pub use answer::{put_idle, put_job, put_refused, put_reply, put_worked};
+pub use answer::{put_done, put_idle, put_job, put_refused, put_reply, put_report, put_worked};
 pub use command::{Command, parse_line};
 pub use fault::ScriptFault;
 pub use law::equal_commands;

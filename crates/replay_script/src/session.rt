@@ -12,7 +12,7 @@ use thiserror::Error;
 /// What does a script's commands.
 pub trait Session {
     // From a state, a command may be answered by this line, or by none where it names a tenant or a shard that there
-    // isn't, and lead to that state.
+    // isn't, or asks for what the session doesn't do, and lead to that state.
     ghost answers: { Self → CommandData → Option (List ℕ) → Self → Type 0 };
 
     /// Does a command, and appends the line that answers it.
@@ -31,8 +31,8 @@ pub trait Session {
 /// Why a command got no answer.
 #[derive(Debug, Clone, Copy, PartialEq, Eq, Error)]
 pub enum AnswerFault {
-    /// There is no such tenant, or no such shard.
-    #[error("no such tenant or shard")]
+    /// There is no such tenant or no such shard, or the session does no such commands.
+    #[error("no such tenant, shard or command")]
     Unknown,
     /// There was no memory.
     #[error("out of memory")]

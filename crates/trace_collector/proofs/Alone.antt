@@ -219,6 +219,7 @@ sees settings pasts later (Post name moment body) line are answered =
     post_sees settings pasts later (position (λ t. bytes_eq name t.name) settings.tenants) name moment body line are refl answered
 sees settings pasts later (Turn shard moment) line are answered =
     turn_sees settings pasts later shard moment (nat_lt shard settings.global.shards) line are answered
+sees settings pasts later command line are answered = λ other seer at_other. absurd (let never = answered.0 in cc)
 
 module _ (settings : SettingsData) (are : AreNamed settings) (number : ℕ) (tenant : TenantData) (at : slice_get settings.tenants number ≡ Some tenant) where
   abbrev LinesAlone : List Own → List CommandData → List (List ℕ) → Type 0

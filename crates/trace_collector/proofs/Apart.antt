@@ -36,6 +36,7 @@ use Rattle.trace_collector.proofs.Taken.{own_policies}
 abbrev pub IsOwn : List ℕ → CommandData → Type 0
 IsOwn name (Post other moment body) = other ≡ name
 IsOwn name (Turn shard moment) = shard ≡ 0
+IsOwn name command = Unit
 
 abbrev pub AllOwn : List ℕ → List CommandData → Type 0
 AllOwn name [] = Unit
@@ -44,6 +45,7 @@ AllOwn name (command ∷ commands) = IsOwn name command × AllOwn name commands
 own_is : (name line : List ℕ) (command : CommandData) → is_own name (named_by command) line ≡ true → IsOwn name (of_any_shard command)
 own_is name line (Post other moment body) is = (bytes_eq-Decides other name).0 is
 own_is name line (Turn shard moment) is = refl
+own_is name line command is = tt
 
 all_own : (name : List ℕ) (commands : List CommandData) (lines : List (List ℕ)) → AllOwn name (own_among name commands lines)
 all_own name [] lines = tt
@@ -130,6 +132,7 @@ module _ (settings : SettingsData) (tenant : TenantData) where
   answered_apart (Turn shard moment) line pasts later same alone =
       let turned = turn_apart pasts later moment line alone.0 alone.1 in
       (turned.0, subst (λ n. collector.IsAnswered (only settings tenant) pasts (Turn n moment) (Some line) turned.0) (sym same) turned.1, turned.2)
+  answered_apart command line pasts later same alone = absurd alone
 
   pub each_apart : (commands : List CommandData) (lines : List (List ℕ)) (past : List Own) (pasts : ℕ → List Own) → pasts 0 ≡ past → AllOwn tenant.name commands
       → AnswersAlone tenant.name tenant.section past commands lines → AnswersEach (collector.IsAnswered (only settings tenant)) pasts commands lines

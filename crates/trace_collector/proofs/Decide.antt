@@ -32,6 +32,7 @@ module _ (one_value : (body : List ℕ) (v v' : RequestData) → IsValue body v 
       → IsAnsweredAlone name section past command line later → IsAnsweredAlone name section past command line' later' → (line ≡ line') × (later ≡ later')
   answered_one name section past later later' (Post named moment body) line line' h k = post_one name section past later later' moment body line line' h k
   answered_one name section past later later' (Turn shard moment) line line' h k = step_one name section past later later' (own.Turn moment) line line' h.1 k.1
+  answered_one name section past later later' command line line' h k = absurd h
 
   alone_one : (name : List ℕ) (section : SectionData) (past : List Own) (commands : List CommandData) (lines lines' : List (List ℕ))
       → AnswersAlone name section past commands lines → AnswersAlone name section past commands lines' → lines' ≡ lines

@@ -160,6 +160,7 @@ module _ (one_value : (body : List ℕ) (v v' : RequestData) → IsValue body v 
       posted_to_one settings pasts later later' (position (λ t. bytes_eq name t.name) settings.tenants) name moment body line line' h k
   script_answered_one settings pasts later later' (Turn shard moment) line line' h k =
       turn_one settings pasts later later' shard moment (nat_lt shard settings.global.shards) line line' h k
+  script_answered_one settings pasts later later' command line line' h k = (h.0 ∙ sym k.0, h.1 ∙ sym k.1)
 
 pub same_value : ((body : List ℕ) (v : RequestData) → (value_of body ≡ Ok v) ↔ IsValue body v) → (body : List ℕ) (v v' : RequestData) → IsValue body v → IsValue body v' → v ≡ v'
 same_value exact body v v' h k =

@@ -34,12 +34,14 @@ abbrev pub IsReadyBy : SectionData → List Own → ℕ → Type 0
 IsReadyBy section past moment =
     (least : ℕ) × (ready (state section past) ≡ Some least) × (least ≤ own.moment_of (own.Turn moment))
 
--- the line that a tenant alone is answered to its command, and its past afterwards
+-- the line that a tenant alone is answered to its command, and its past afterwards. No line answers the commands that
+-- the shards don't do yet
 abbrev pub IsAnsweredAlone : List ℕ → SectionData → List Own → CommandData → List ℕ → List Own → Type 0
 IsAnsweredAlone name section past (Post named moment body) line later =
     IsPostAlone name section past moment body line later
 IsAnsweredAlone name section past (Turn shard moment) line later =
     IsReadyBy section past moment × IsStepAlone name section past (own.Turn moment) line later
+IsAnsweredAlone name section past command line later = ⊥
 
 -- the lines, without their line feeds, that a tenant alone is answered to its commands, one each
 abbrev pub AnswersAlone : List ℕ → SectionData → List Own → List CommandData → List (List ℕ) → Type 0

@@ -57,10 +57,12 @@ IsPostedTo settings pasts None name moment body line new = (line ≡ None) × (n
 IsPostedTo settings pasts (Some tenant) name moment body line new =
     IsPosted settings pasts tenant name moment body line new
 
--- the line of a command, none where it names no tenant or no shard, and the own steps afterwards
+-- the line of a command, none where it names no tenant or no shard, and the own steps afterwards. The shards do posts
+-- and turns alone yet: no line answers the other commands
 abbrev pub IsAnswered : SettingsData → (ℕ → List Own) → CommandData → Option (List ℕ) → (ℕ → List Own) → Type 0
 IsAnswered settings pasts (Post name moment body) line new =
     IsPostedTo settings pasts (position (λ t. bytes_eq name t.name) settings.tenants) name moment body line new
 IsAnswered settings pasts (Turn shard moment) line new =
     MatchBool (nat_lt shard settings.global.shards) (IsStepped settings pasts shard (steps.Turn moment) line new)
     ((line ≡ None) × (new ≡ pasts))
+IsAnswered settings pasts command line new = (line ≡ None) × (new ≡ pasts)

@@ -3,7 +3,7 @@
 use Rattle.std.specs.Prelude.{ℕ, Bool, false, ◌&&◌, not, if◌then◌else◌, List, [], ◌∷◌, Option, Some, None, filter, codes}
 use Rattle.std.specs.Str.{bytes_eq}
 use Rattle.replay_script.specs.Word.{words_of}
-use Rattle.replay_script.specs.Command.{CommandData, Post, Turn}
+use Rattle.replay_script.specs.Command.{CommandData, Post, Turn, Answer, Report, Drain}
 use Rattle.replay_script.specs.Line.{Kind, Skipped, Says, Faulty, kind_of, lines_of}
 
 -- whether the words of an answer's line name the tenant: it is the second word, but where that is an idle shard
@@ -24,6 +24,9 @@ lines_for name text = filter (names name) (lines_of text)
 abbrev pub named_by : CommandData → Option (List ℕ)
 named_by (Post name moment body) = Some name
 named_by (Turn shard moment) = None
+named_by (Answer name moment ticket word answer) = Some name
+named_by (Report name moment) = Some name
+named_by (Drain name moment) = Some name
 
 -- whether a command that this line answers is the tenant's own, by the tenant that it names
 abbrev pub is_own : List ℕ → Option (List ℕ) → List ℕ → Bool
@@ -32,8 +35,8 @@ is_own name None line = names name line
 
 -- a command as its tenant has it: to which shard a turn went is not the tenant's matter
 abbrev pub of_any_shard : CommandData → CommandData
-of_any_shard (Post name moment body) = Post name moment body
 of_any_shard (Turn shard moment) = Turn 0 moment
+of_any_shard command = command
 
 -- a line's command and those behind it; behind a faulty line none
 abbrev pub commands_from : Kind → List CommandData → List CommandData

@@ -20,8 +20,8 @@ pub enum ReplayFault {
     /// The settings' text means no settings.
     #[error("{0}")]
     Settings(SettingsFault),
-    /// That line says no command, or one for a tenant or a shard that there isn't. Lines count from
-    /// 1, those that are skipped among them.
+    /// That line says no command, one for a tenant or a shard that there isn't, or, as yet, one that is neither a post
+    /// nor a turn. Lines count from 1, those that are skipped among them.
     #[error("script fault at line {line}")]
     Script { line: u64 },
     /// The reader or the writer failed, or was called 2^62 times.

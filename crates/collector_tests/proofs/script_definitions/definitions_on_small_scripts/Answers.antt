@@ -2,8 +2,8 @@ use Rattle.std.proofs.Common.{◌≡◌, ◌+◌, ℕ, List, [], ◌∷◌, ◌+
 use Rattle.std.specs.Prelude.{codes}
 use Rattle.std.specs.Fmt.{digits}
 use Rattle.hex.specs.Hex.{encode_with, decode_pairs}
-use Rattle.replay_script.specs.Word.{name_of, number_of, body_of}
-use Rattle.replay_script.specs.Command.{post_of, turn_of, command_of}
+use Rattle.replay_script.specs.Word.{name_of, number_of, body_of, bytes_of, random_word_of, status_of, seconds_of}
+use Rattle.replay_script.specs.Command.{post_of, turn_of, answer_of, back_end_answer_from, back_end_answer_of, tenant_of, command_from, command_of}
 use Rattle.replay_script.specs.Line.{kind_of}
 use Rattle.replay_script.specs.Answer.{idle_text}
 use Rattle.replay_script.specs.Told.{Told, Goes, Answered, BeginsTold}
@@ -14,7 +14,7 @@ pub returns-clause-lines : goal.returns-clause-lines
 returns-clause-lines c = record { of_no_text = refl; last_with_its_end = refl; last_without = refl; carriage_return = refl; empty_ones = refl }
 
 pub returns-clause-kinds : goal.returns-clause-kinds
-unfolding kind_of command_of post_of turn_of name_of number_of body_of
+unfolding kind_of command_of command_from post_of turn_of name_of number_of body_of bytes_of
 returns-clause-kinds c = record {
   empty = refl;
   comment = refl;
@@ -45,7 +45,7 @@ returns-clause-numbers c = record {
 }
 
 pub returns-clause-bodies : goal.returns-clause-bodies
-unfolding body_of decode_pairs
+unfolding body_of bytes_of decode_pairs
 returns-clause-bodies c = record {
   of_none = refl;
   both_cases = refl;
@@ -57,7 +57,7 @@ returns-clause-bodies c = record {
 }
 
 pub returns-clause-commands : goal.returns-clause-commands
-unfolding command_of post_of turn_of name_of number_of body_of decode_pairs
+unfolding command_of command_from post_of turn_of name_of number_of body_of bytes_of decode_pairs
 returns-clause-commands c = record {
   post = refl;
   empty_post = refl;
@@ -72,9 +72,39 @@ returns-clause-commands c = record {
   no_number = refl;
 }
 
+pub returns-clause-other_words : goal.returns-clause-other_words
+unfolding number_of random_word_of status_of seconds_of bytes_of decode_pairs
+returns-clause-other_words c = record {
+  greatest_word = refl;
+  too_great_a_word = refl;
+  statuses = refl;
+  no_seconds = refl;
+  a_day = refl;
+  more_than_a_day = refl;
+  minus_one = refl;
+  bytes_as_bodies = refl;
+  no_bytes = refl;
+}
+
+pub returns-clause-tenant_commands : goal.returns-clause-tenant_commands
+unfolding command_of command_from answer_of back_end_answer_from back_end_answer_of tenant_of name_of number_of random_word_of status_of seconds_of bytes_of decode_pairs
+returns-clause-tenant_commands c = record {
+  answer = refl;
+  with_a_body = refl;
+  failed = refl;
+  failed_with_seconds = refl;
+  failed_with_a_body = refl;
+  a_word_less = refl;
+  a_word_more = refl;
+  report = refl;
+  report_of_nobody = refl;
+  drain = refl;
+  drain_and_more = refl;
+}
+
 pub returns-clause-answers : goal.returns-clause-answers
 unfolding digits encode_with
-returns-clause-answers c = record { reply = refl; reply_with_a_body = refl; job = refl; worked = refl; idle = refl; refused = refl }
+returns-clause-answers c = record { reply = refl; reply_with_a_body = refl; job = refl; worked = refl; idle = refl; refused = refl; done = refl; report = refl }
 
 -- what a turn of shard 0 adds
 turned : (number turns : ℕ) (rest : ℕ → List ℕ → Option ℕ → Type 0) (text : List ℕ) (fault : Option ℕ) (line : Option (List ℕ)) (later : ℕ)
@@ -83,11 +113,11 @@ turned number turns rest text fault line later l s h =
     subst (λ x. Answered number x (rest (turns + 1)) text fault) l (subst (λ x. Answered number line (rest x) text fault) s h)
 
 third_told : Told Counts third_faulty 1 0 two_answers (Some 3)
-unfolding kind_of command_of turn_of number_of digits
+unfolding kind_of command_of command_from turn_of number_of digits
 third_told = (Some (idle_text 0), 1, (refl, refl), (codes "idle 1\n", refl, (Some (idle_text 1), 2, (refl, refl), ([], refl, (refl, refl)))))
 
 third_alone : (text : List ℕ) (fault : Option ℕ) → Told Counts third_faulty 1 0 text fault → (text ≡ two_answers) × (fault ≡ Some 3)
-unfolding kind_of command_of turn_of number_of digits
+unfolding kind_of command_of command_from turn_of number_of digits
 third_alone text fault h =
     let first = turned 1 0 (Told Counts (codes "turn 0 6" ∷ codes "turn 0" ∷ codes "turn 0 7" ∷ []) 2) text fault h.0 h.1 h.2.0 h.2.1 h.3 in
     let t = first.2 in
@@ -98,14 +128,14 @@ pub returns-clause-third_faulty : goal.returns-clause-third_faulty
 returns-clause-third_faulty c = record { told = third_told; alone = third_alone; ends = third_told }
 
 nothing_more : Told Counts (codes "turn 0 5" ∷ []) 1 0 [] None → ⊥
-unfolding kind_of command_of turn_of number_of digits
+unfolding kind_of command_of command_from turn_of number_of digits
 nothing_more h =
     let first = turned 1 0 (Told Counts [] 2) [] None h.0 h.1 h.2.0 h.2.1 h.3 in
     let same : 0 ≡ 105 = ap (λ l. slice_index l 0) first.1 in
     omega (arith, same)
 
 pub returns-clause-other_scripts : goal.returns-clause-other_scripts
-unfolding kind_of command_of post_of turn_of name_of number_of body_of digits
+unfolding kind_of command_of command_from post_of turn_of name_of number_of body_of bytes_of digits
 returns-clause-other_scripts c = record {
   no_shard = (Some (idle_text 0), 1, (refl, refl), ([], refl, (None, 1, (refl, refl), (refl, refl))));
   no_tenant = (None, 0, (refl, refl), (refl, refl));
@@ -119,7 +149,7 @@ first_of_all (line ∷ lines) = line
 
 otherwise : (done left : List (List ℕ)) (missing : List ℕ) (fault : Option ℕ) → codes "turn 0 5" ∷ [] ≡ done ++ left
     → Told Counts done 1 0 (codes "idle 1" ++ missing) fault → ⊥
-unfolding kind_of command_of turn_of number_of digits
+unfolding kind_of command_of command_from turn_of number_of digits
 otherwise [] left missing fault are h = let same : 105 ≡ 0 = ap (λ l. slice_index l 0) h.0 in omega (arith, same)
 otherwise (line ∷ done) left missing fault are h =
     let t = subst (λ l. Goes Counts 1 0 (kind_of l) (Told Counts done 2) (codes "idle 1" ++ missing) fault) (sym (ap first_of_all are)) h in
@@ -128,7 +158,7 @@ otherwise (line ∷ done) left missing fault are h =
     omega (arith, same)
 
 two_begin : BeginsTold Counts (codes "turn 0 5" ∷ codes "turn 0 6" ∷ []) 0 (codes "idle 0\nid")
-unfolding kind_of command_of turn_of number_of digits
+unfolding kind_of command_of command_from turn_of number_of digits
 two_begin = (
   codes "turn 0 5" ∷ codes "turn 0 6" ∷ [],
   [],

@@ -11,7 +11,7 @@ parts-preserved g c =
     let part = taken c.take_part.result _ _ c.take_part.ensures.part (c.in_ok-take_part.was ∙ ap Ok c.in-More.is) in
     record {
       reading = reading_more _ _ _ _ _ c.parts.invariant.reading part;
-      fits = part_fits _ _ _ _ _ part;
+      fits = part_fits _ _ c.parts.line.items _ _ part;
       fewer = omega arith;
       sent = sends_on _ _ _ _ [] _ _ c.parts.invariant.sent c.in_ok-send_before_wait.ensures.sends;
     }
@@ -27,7 +27,7 @@ returns-in_err-send_before_wait-clause-sends g c = sends_on _ _ _ _ [] _ _ c.par
 pub returns-in_err-take_part-clause-unread : goal.returns-in_err-take_part-clause-unread
 returns-in_err-take_part-clause-unread g c =
     let p = err_from_is_err_and c.from_residual-in_err-take_part.result c.from_residual-in_err-take_part.ensures.1 in
-    rw (p.1) (reading_stops _ _ _ _ c.parts.invariant.reading c.in_err-take_part.ensures.kept)
+    rw (p.1) (reading_stops _ _ _ _ c.parts.invariant.reading c.in_err-take_part.ensures.unread)
 
 pub returns-in_err-take_part-clause-sends : goal.returns-in_err-take_part-clause-sends
 returns-in_err-take_part-clause-sends g c = sends_on _ _ _ _ [] _ _ c.parts.invariant.sent c.in_ok-send_before_wait.ensures.sends

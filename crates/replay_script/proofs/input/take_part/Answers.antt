@@ -4,7 +4,6 @@ use Rattle.std.specs.Io.BufRead.{FillKeeps}
 use Rattle.std.proofs.KnownBytes.{Consumes-nil, Consumes-kept}
 use Rattle.std.proofs.BufReadLemmas.{Consumes_shown}
 use Rattle.std.proofs.lemmas.List.Elements.{All-nil}
-use Rattle.replay_script.specs.Input.{line_room}
 use Rattle.replay_script.proofs.Kept.{kept_nothing, take_none}
 use Rattle.replay_script.proofs.input.take_part.Goals as goal
 
@@ -12,7 +11,7 @@ pub returns-then-eq-clause-part : goal.returns-then-eq-clause-part
 returns-then-eq-clause-part g c = (
   [],
   All-nil _,
-  kept_nothing line_room c.args.line.now.items c.requires.room,
+  kept_nothing c.args.line.now.items c.requires.kept,
   Consumes-kept _ _ _ [] (Consumes-nil _) c.fill_buf.follows.holds-at-none.0,
   λ e. absurd (cc),
 )

@@ -3,7 +3,7 @@ use Rattle.std.specs.List.{list_all}
 use Rattle.std.proofs.lemmas.Grind.{common_steps}
 use Rattle.replay_script.specs.Word.{is_name_byte}
 use Rattle.replay_script.proofs.Words.{told, ascii_of_name, name_is}
-use Rattle.replay_script.proofs.command.name.Goals as goal
+use Rattle.replay_script.proofs.word.name.Goals as goal
 
 pub returns : goal.returns
 returns c =

@@ -4,7 +4,7 @@ use Rattle.std.specs.Char.{is_ascii_digit}
 use Rattle.std.specs.Str.Parse.{ParsesUnsigned}
 use Rattle.std.proofs.lemmas.Grind.{common_steps}
 use Rattle.replay_script.proofs.Words.{told, ascii_of_digits, number_is, no_text, same_text}
-use Rattle.replay_script.proofs.command.number.Goals as goal
+use Rattle.replay_script.proofs.word.number.Goals as goal
 
 pub returns-in_err-digits : goal.returns-in_err-digits
 returns-in_err-digits c =
