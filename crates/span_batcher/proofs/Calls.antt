@@ -4,7 +4,7 @@ use Rattle.std.specs.Prelude.{unwrap_or}
 use Rattle.std.proofs.lemmas.Bool.Decides.{nat_tests}
 use Rattle.span_batcher.specs.Batches.{Rules, IsSound, Batch}
 use Rattle.span_batcher.specs.State.{State, next_due, IsAfter, Adds, Fires, Drains, Begins, state, state_of}
-use Rattle.span_batcher.specs.Machine.{threshold, cuts, uncut, start_in, added, drained}
+use Rattle.span_batcher.specs.Machine.{threshold, cuts, uncut, start_in, added, fired, drained}
 use Rattle.span_batcher.specs.Batches.{rest_in}
 use Rattle.span_batcher.proofs.Added.{cuts_none}
 use Rattle.span_batcher.proofs.Laws.{adds, fires, drains}
@@ -97,3 +97,57 @@ module _ {X : Type 0} where
       Drains x old (Some batch) (record { rules = r; start = None; spans = left })
   drains_some r start [] x old batch left is sound after some e e' = absurd (omega arith)
   drains_some r start (s ∷ pending) x old batch left is sound after some e e' = drains_by r start (s ∷ pending) x old (Some batch) left is sound after (ap Some e) e'
+
+-- ---- the same by the pending spans alone
+
+module _ {X : Type 0} where
+  -- a plan that cuts nothing, and one that cuts
+  pub plan_short : (r : Rules) (start : Option ℕ) (pending : List X) (m : ℕ) (spans : List X) (old : State X) (answered : List (Batch X)) (all : List X) (start' : ℕ) → record { rules = r; start = start; spans = pending } ≡ old → IsSound r →
+      all ≡ pending ++ spans → length all < threshold r → answered ≡ [] → start' ≡ unwrap_or start m →
+      (answered ≡ cuts old.rules m (old.spans ++ spans)) × (record { rules = old.rules; start = Some start'; spans = all } ≡ added m spans old)
+  unfolding added
+  plan_short r start pending m spans old answered all start' is sound e lt none e' =
+      let few : length (pending ++ spans) < threshold r = subst (λ (ss : List X). length ss < threshold r) e lt in
+      let kept = cuts_none r m (pending ++ spans) sound few in
+      let no : leb (threshold r) (length (pending ++ spans)) ≡ false = grind (arith, nat_tests) in
+      subst (λ (o : State X). (answered ≡ cuts o.rules m (o.spans ++ spans)) × (record { rules = o.rules; start = Some start'; spans = all } ≡ added m spans o)) is
+      (none ∙ sym kept.0, rw (e', e, no, kept.1) refl)
+
+module _ {X : Type 0} where
+  pub plan_far : (r : Rules) (start : Option ℕ) (pending : List X) (m : ℕ) (spans : List X) (old : State X) (answered : List (Batch X)) (all rest : List X) (start' : Option ℕ) → record { rules = r; start = start; spans = pending } ≡ old →
+      all ≡ pending ++ spans → threshold r ≤ length all → answered ≡ cuts r m all → rest ≡ uncut r all → start' ≡ start_in m rest →
+      (answered ≡ cuts old.rules m (old.spans ++ spans)) × (record { rules = old.rules; start = start'; spans = rest } ≡ added m spans old)
+  unfolding added
+  plan_far r start pending m spans old answered all rest start' is e le e1 e2 e3 =
+      let enough : threshold r ≤ length (pending ++ spans) = subst (λ (ss : List X). threshold r ≤ length ss) e le in
+      let yes : leb (threshold r) (length (pending ++ spans)) ≡ true = grind (arith, nat_tests) in
+      subst (λ (o : State X). (answered ≡ cuts o.rules m (o.spans ++ spans)) × (record { rules = o.rules; start = start'; spans = rest } ≡ added m spans o)) is
+      (e1 ∙ ap (cuts r m) e, rw (e3, e2, e, yes) refl)
+
+module _ {X : Type 0} where
+  -- the batch of the timer
+  pub fire_is : (r : Rules) (start : ℕ) (pending : List X) (old : State X) (batch : Batch X) → record { rules = r; start = Some start; spans = pending } ≡ old → batch ≡ record { moment = start + r.timeout; spans = pending } →
+      (due : ℕ) → next_due old ≡ Some due → batch ≡ record { moment = due; spans = old.spans }
+  fire_is r start pending old batch is e due at_due =
+      let same : Path (Option ℕ) (Some (start + r.timeout)) (Some due) = ap next_due is ∙ at_due in
+      let now : start + r.timeout ≡ due = cc in
+      e ∙ ap (λ (n : ℕ). record { moment = n; spans = pending }) now ∙ ap (λ (o : State X). record { moment = due; spans = o.spans }) is
+
+module _ {X : Type 0} where
+  -- what it leaves
+  pub fired_is : (r : Rules) (start : Option ℕ) (pending : List X) (old : State X) (left : List X) → record { rules = r; start = start; spans = pending } ≡ old → left ≡ [] →
+      record { rules = r; start = None; spans = left } ≡ fired old
+  fired_is r start pending old left is e = rw e (ap fired is)
+
+module _ {X : Type 0} where
+  -- the batch of a drain
+  pub drain_none : (r : Rules) (start : Option ℕ) (pending : List X) (x : ℕ) (old : State X) → record { rules = r; start = start; spans = pending } ≡ old → length pending ≡ 0 →
+      (None ≡ drained x old.spans) × (pending ≡ [])
+  drain_none r start [] x old is none = (ap (λ (o : State X). drained x o.spans) is, refl)
+  drain_none r start (s ∷ pending) x old is none = absurd (omega arith)
+
+module _ {X : Type 0} where
+  pub drain_some : (r : Rules) (start : Option ℕ) (pending : List X) (x : ℕ) (old : State X) (batch : Batch X) → record { rules = r; start = start; spans = pending } ≡ old → 0 < length pending → batch ≡ record { moment = x; spans = pending } →
+      Some batch ≡ drained x old.spans
+  drain_some r start [] x old batch is some e = absurd (omega arith)
+  drain_some r start (s ∷ pending) x old batch is some e = ap Some e ∙ ap (λ (o : State X). drained x o.spans) is

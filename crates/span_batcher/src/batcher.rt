@@ -3,7 +3,7 @@
 ghost use Rattle.std.specs.Prelude.{◌≡◌, ℕ, ◌+◌, ◌^◌, ◌≤◌, ◌<◌, List, [], ◌∷◌, ◌++◌, length, IfOk, Option, Some, None, ◌≢◌};
 ghost use Rattle.span_batcher.specs.Batches.{IsSound, at_most};
 ghost use Rattle.span_batcher.specs.State.{State, state, next_due, IsAfter, Adds, Fires, Drains, Begins};
-ghost use Rattle.span_batcher.specs.Machine.{rules_of, threshold, start_in, cuts, uncut, taken};
+ghost use Rattle.span_batcher.specs.Machine.{rules_of, threshold, start_in, cuts, uncut, added, fired, drained, taken};
 
 use crate::batch::Batch;
 use crate::planned::Planned;
@@ -94,7 +94,8 @@ impl SpanBatcher {
     pub fn new(alloc: Global, timeout: u64, size: usize, most: usize) -> Self
         requires sound { IsSound (rules_of timeout size most) }
         requires timer { timeout ≤ 2 ^ 32 }
-        ensures { Begins (rules_of timeout size most) result }
+        ensures begins { Begins (rules_of timeout size most) result }
+        ensures none { result ≡ record { rules = rules_of timeout size most; start = None; spans = [] } }
     {
         SpanBatcher {
             alloc,
@@ -104,6 +105,13 @@ impl SpanBatcher {
             start: None,
             spans: Vec::new(alloc),
         }
+    }
+
+    /// The keys of the pending spans, in the order in which the spans came.
+    pub fn spans(&self) -> &[usize]
+        ensures { result.now ≡ self.now.spans }
+    {
+        self.spans.as_slice()
     }
 
     /// When the timer runs out, in milliseconds; none where nothing is pending.
@@ -122,7 +130,13 @@ impl SpanBatcher {
         requires some { 0 < length spans.now }
         requires moment { moment ≤ 2 ^ 62 }
         requires timer { IsAfter (next_due self.now) moment }
-        ensures { IfOk result (λ planned. Adds moment spans.now self.now planned.batches (taken planned self.now)) }
+        ensures adds { IfOk result (λ planned.
+            Adds moment spans.now self.now planned.batches (taken planned self.now)) }
+
+        // What that is, in terms of the pending spans alone.
+        ensures batches { IfOk result (λ planned.
+            planned.batches ≡ cuts self.now.rules moment (self.now.spans ++ spans.now)) }
+        ensures pending { IfOk result (λ planned. taken planned self.now ≡ added moment spans.now self.now) }
     {
         let mut all = Vec::from_slice(self.alloc, &self.spans)?;
         all.extend_from_slice(spans)?;
@@ -166,10 +180,23 @@ impl SpanBatcher {
         batches
     }
 
+    /// What was planned comes about, and `planned` has what was pending before, so that a second call takes it back.
+    /// The batches stay with it. It takes no memory.
+    pub fn exchange(&mut self, planned: &mut Planned)
+        ensures pending { self.new ≡ taken planned.old self.old }
+        ensures former { planned.new ≡ record planned.old { start = self.old.start; spans = self.old.spans } }
+    {
+        std::mem::swap(&mut self.start, &mut planned.start);
+        std::mem::swap(&mut self.spans, &mut planned.spans);
+    }
+
     /// The timer runs out: all that is pending is one batch. It takes no memory.
     pub fn fire(&mut self) -> Batch
         requires pending { next_due self.old ≢ None }
-        ensures { (due : ℕ) → next_due self.old ≡ Some due → Fires due self.old result self.new }
+        ensures fires { (due : ℕ) → next_due self.old ≡ Some due → Fires due self.old result self.new }
+        ensures batch { (due : ℕ) → next_due self.old ≡ Some due →
+            result ≡ record { moment = due; spans = self.old.spans } }
+        ensures pending { self.new ≡ fired self.old }
     {
         let due = match self.start {
             None => unreachable!(),
@@ -184,7 +211,9 @@ impl SpanBatcher {
     /// more wait. It takes no memory.
     pub fn drain(&mut self, moment: u64) -> Option<Batch>
         requires timer { IsAfter (next_due self.old) moment }
-        ensures { Drains moment self.old result self.new }
+        ensures drains { Drains moment self.old result self.new }
+        ensures batch { result ≡ drained moment self.old.spans }
+        ensures pending { self.new ≡ fired self.old }
     {
         self.start = None;
         if self.spans.is_empty() {

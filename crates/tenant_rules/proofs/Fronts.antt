@@ -58,11 +58,11 @@ all_queued-is (b ∷ bs) s =
 
 -- ---- what is left to run falls
 
-abbrev started : Option ℕ → ℕ
+abbrev pub started : Option ℕ → ℕ
 started None = 0
 started (Some start) = 1
 
-abbrev to_run : State → ℕ
+abbrev pub to_run : State → ℕ
 to_run s = started s.pending.start + (length s.waiting + length s.waiting)
 
 started_most : (start : Option ℕ) → started start ≤ 1
@@ -87,7 +87,7 @@ decide_less : (w : List WaitingData) (s : State) (e : ℕ) → s.waiting ≡ w �
 decide_less [] s e is now = absurd (cc)
 decide_less (row ∷ rows) s e is now = sample_less row rows s (are_sampled s.section.tail_sampling.policies row.spans) (are_sampled s.section.tail_sampling.policies row.spans) is
 
-due_first : (a b : Option ℕ) (e : ℕ) → is_batch a b ≡ false → is_due (lesser a b) e ≡ true → is_due b e ≡ true
+pub due_first : (a b : Option ℕ) (e : ℕ) → is_batch a b ≡ false → is_due (lesser a b) e ≡ true → is_due b e ≡ true
 due_first None b e no' now = now
 due_first (Some a) None e no' now = absurd (cc)
 due_first (Some a) (Some b) e no' now = grind (arith, nat_tests, no', now)
@@ -100,7 +100,7 @@ flushed_less (Some x) s is first =
     let same = all_queued-to_run (all_sent (record { moment = due; spans = s.pending.spans } ∷ [])) (record s { clock = due; pending = fired s.pending }) in
     omega (arith, one, same)
 
-one_run_less : (s : State) (e : ℕ) → is_due (next_timer s) e ≡ true → to_run (one_run s) < to_run s
+pub one_run_less : (s : State) (e : ℕ) → is_due (next_timer s) e ≡ true → to_run (one_run s) < to_run s
 one_run_less s e now = by_test (is_batch (next_due s.pending) (first_due s.waiting)) refl
   where
     by_test : (b : Bool) → is_batch (next_due s.pending) (first_due s.waiting) ≡ b → to_run (cond b (flushed (next_due s.pending) s) (decide s.waiting s)) < to_run s

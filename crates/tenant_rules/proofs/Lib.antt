@@ -1,31 +1,31 @@
-mod Times
-mod Order
-mod Later
-mod Fronts
-mod Walks
-mod Walked
-mod Tally
-mod Elapsed
-mod Intakes
-mod Stays
-mod Steps
-mod Closing
-mod Drained
-mod FrontsAre
-mod Lookups
-mod Rooms
-mod Coming
-mod Opening
-mod Came
-mod Posted
-mod AnyStep
-mod InOrder
-mod Sums
-mod Arrived
-mod Counted
-mod Least
-mod Others
-mod Rests
-mod Limits
-mod Formed
-mod Turns
+pub mod Times
+pub mod Order
+pub mod Later
+pub mod Fronts
+pub mod Walks
+pub mod Walked
+pub mod Tally
+pub mod Elapsed
+pub mod Intakes
+pub mod Stays
+pub mod Steps
+pub mod Closing
+pub mod Drained
+pub mod FrontsAre
+pub mod Lookups
+pub mod Rooms
+pub mod Coming
+pub mod Opening
+pub mod Came
+pub mod Posted
+pub mod AnyStep
+pub mod InOrder
+pub mod Sums
+pub mod Arrived
+pub mod Counted
+pub mod Least
+pub mod Others
+pub mod Rests
+pub mod Limits
+pub mod Formed
+pub mod Turns
