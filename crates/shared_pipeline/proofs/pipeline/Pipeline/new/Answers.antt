@@ -1,0 +1,18 @@
+use Rattle.std.proofs.Common.{◌≡◌, ◌∙◌, ℕ, List, [], false}
+use Rattle.tail_settings.specs.Section.{SectionData, section_view}
+use Rattle.shared_pipeline.proofs.Beginning.{begins}
+use Rattle.shared_pipeline.proofs.pipeline.Pipeline.new.Goals as goal
+
+pub returns-clause-stands : goal.returns-clause-stands
+returns-clause-stands c p sound =
+    begins (record {
+      alloc = c.args.alloc;
+      tenant = c.args.tenant;
+      section = c.in_ok-section.section;
+      clock = 0;
+      drained = false;
+      rows = record { swept = 0; first = 0; decided = 0; opened = 0 };
+      batcher = c.new-batcher.result;
+      sender = c.in_ok-sender.sender;
+      ledger = c.new-2.result;
+    }) p (section_view c.args.section.now) c.in_ok-section.ensures c.new-batcher.ensures.none c.in_ok-sender.ensures c.new-2.ensures

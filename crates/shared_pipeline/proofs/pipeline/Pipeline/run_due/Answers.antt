@@ -1,0 +1,46 @@
+use Rattle.std.proofs.Common.{arith, ◌≡◌, ◌≢◌, ℕ, ◌<◌, ◌≤◌, sym, ap, ◌∙◌, true, false, Option}
+use Rattle.span_batcher.specs.Timers.{is_due}
+use Rattle.tenant_rules.specs.State.{State}
+use Rattle.tenant_rules.specs.Timers.{IsFront, next_timer, one_run}
+use Rattle.tenant_rules.proofs.Fronts.{to_run, one_run_less, IsFront-push}
+use Rattle.shared_pipeline.specs.StateIn.{part_in, state_in}
+use Rattle.shared_pipeline.proofs.Timing.{all_ran}
+use Rattle.shared_pipeline.proofs.Holding.{held_later}
+use Rattle.shared_pipeline.proofs.pipeline.Pipeline.run_due.Goals as goal
+
+pub loop-self-preserved : goal.loop-self-preserved
+loop-self-preserved c =
+    let s = state_in c.loop-self.self c.loop-self.stores in
+    let due : is_due (next_timer s) c.args.moment ≡ true = sym (c.is_due.ensures ∙ ap (λ (t : Option ℕ). is_due t c.args.moment) c.next_timer.ensures) ∙ c.loop-self-test.true in
+    record {
+      front = IsFront-push c.args.moment (state_in c.args.self.now c.args.stores.now) s (state_in c.run_one.new.self c.run_one.new.stores) c.loop-self.invariant.front due c.in_ok-run_one.ensures.ok;
+      held = c.in_ok-run_one.ensures.held;
+      clock = c.in_ok-run_one.ensures.clock c.loop-self.invariant.clock;
+      others = λ other ne. c.in_ok-run_one.ensures.others other (λ e. ne (e ∙ c.loop-self.invariant.tenant)) ∙ c.loop-self.invariant.others other ne;
+      tenant = c.in_ok-run_one.ensures.tenant ∙ c.loop-self.invariant.tenant;
+      section = c.in_ok-run_one.ensures.section ∙ c.loop-self.invariant.section;
+      swept = λ is. c.in_ok-run_one.ensures.swept (c.loop-self.invariant.swept is);
+    }
+
+pub loop-self-smaller : goal.loop-self-smaller
+loop-self-smaller c =
+    let s = state_in c.loop-self.self c.loop-self.stores in
+    let due : is_due (next_timer s) c.args.moment ≡ true = sym (c.is_due.ensures ∙ ap (λ (t : Option ℕ). is_due t c.args.moment) c.next_timer.ensures) ∙ c.loop-self-test.true in
+    let less = one_run_less s c.args.moment due in
+    let same = ap to_run c.in_ok-run_one.ensures.ok in
+    omega (arith, less, same)
+
+pub returns-in_err-run_one-clause-others : goal.returns-in_err-run_one-clause-others
+returns-in_err-run_one-clause-others c = λ other ne. c.in_err-run_one.ensures.others other (λ e. ne (e ∙ c.loop-self.invariant.tenant)) ∙ c.loop-self.invariant.others other ne
+
+pub returns-clause-ok : goal.returns-clause-ok
+returns-clause-ok c =
+    let s = state_in c.loop-self.self c.loop-self.stores in
+    let quiet : is_due (next_timer s) c.args.moment ≡ false = sym (c.is_due.ensures ∙ ap (λ (t : Option ℕ). is_due t c.args.moment) c.next_timer.ensures) ∙ c.loop-self-test.false in
+    all_ran c.args.moment c.loop-self.invariant.front.0 (state_in c.args.self.now c.args.stores.now) s c.loop-self.invariant.front.1 quiet
+
+pub returns-clause-reached : goal.returns-clause-reached
+returns-clause-reached c =
+    let s = state_in c.loop-self.self c.loop-self.stores in
+    let quiet : is_due (next_timer s) c.args.moment ≡ false = sym (c.is_due.ensures ∙ ap (λ (t : Option ℕ). is_due t c.args.moment) c.next_timer.ensures) ∙ c.loop-self-test.false in
+    held_later c.loop-self.self (part_in c.loop-self.self c.loop-self.stores) c.args.moment c.loop-self.invariant.held c.loop-self.invariant.clock c.requires.fits quiet

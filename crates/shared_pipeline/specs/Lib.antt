@@ -1,0 +1,10 @@
+pub mod Prepared
+pub mod StateIn
+pub mod Held
+pub mod Steps
+pub mod Outbox
+pub mod Undo
+pub mod Acts
+pub mod Drains
+pub mod Posts
+pub mod AfterDrain

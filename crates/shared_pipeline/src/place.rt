@@ -1,0 +1,318 @@
+//! A span of a post goes to its trace's row, leaves late, or opens a row.
+
+ghost use Rattle.std.specs.Prelude.{◌≡◌, ◌≢◌, ◌<◌, ◌≤◌, ◌+◌, ◌-◌, ◌++◌, ◌∷◌, [], ◌^◌, ℕ, List, Some, IfOk, OnOk, OnErr, if◌then◌else◌, nat_lt, length, vec_len, vec_capacity};
+ghost use Rattle.drop_ledger.specs.Ledger.{IsSound as IsSoundLedger, counted, moved, most_counted};
+ghost use Rattle.drop_ledger.specs.declared.places.Place.TheVariants.{Undecided, TooEarly};
+ghost use Rattle.span_pool.specs.Keyed.{origin_at};
+ghost use Rattle.tail_policy.specs.declared.note.TraceNote.{TraceNote as Note};
+ghost use Rattle.trace_rows.specs.Part.{keys_of};
+ghost use Rattle.tenant_stores.specs.Part.{Part, part};
+ghost use Rattle.tenant_stores.specs.Counts.{Counts, room_made};
+ghost use Rattle.tenant_stores.specs.Sound.{IsSound};
+ghost use Rattle.tenant_stores.specs.View.{view, text_at, text_keys};
+ghost use Rattle.tenant_stores.specs.Trail.{HoldsAll};
+ghost use Rattle.tenant_rules.specs.Machine.{come, joins, opens, evicted, counted_in};
+ghost use Rattle.tenant_rules.specs.Timers.{grouped};
+ghost use Rattle.shared_pipeline.specs.declared.pipeline.Pipeline.{Pipeline as Own};
+ghost use Rattle.tenant_stores.specs.Shows.{AreAmong, Stay};
+ghost use Rattle.shared_pipeline.specs.StateIn.{counts_in, part_in, state_in};
+ghost use Rattle.shared_pipeline.specs.Held.{IsHeldAt};
+ghost use Rattle.shared_pipeline.specs.Posts.{arrival_at, IsComing, Came, IsWritten, IsSameTenant, IsSeat, IsSeatAt};
+
+use crate::journal::Journal;
+use crate::pipeline::Pipeline;
+use drop_ledger::Place;
+use otlp_prepare::NotedSpan;
+use span_pool::{KeyedSpan, TextKeys};
+use std::alloc::AllocError;
+use tail_policy::TraceNote;
+use tenant_stores::{Placed, Stores};
+
+/// Where a trace has its latest row.
+#[derive(Clone, Copy, Debug, PartialEq, Eq)]
+pub enum Seat {
+    /// It has none that is present.
+    Nowhere,
+    /// Its row was decided, and is sampled or not.
+    Decided(bool),
+    /// Its row waits, and has this number.
+    Waits(u64),
+}
+
+impl Pipeline {
+    /// Where a trace has its latest row.
+    fn seat(&self, stores: &Stores<TraceNote>, trace: [u8; 16]) -> Seat
+        requires held { (reached : ℕ) × (gone held : List ℕ)
+            × IsHeldAt reached gone held self.now (part_in self.now stores.now) }
+        ensures seat { IsSeat trace result (state_in self.now stores.now) }
+        ensures number { IsSeatAt trace result self.now (part_in self.now stores.now) }
+    {
+        let Some(number) = stores.seat(self.tenant, trace) else {
+            return Seat::Nowhere;
+        };
+        if number <= self.rows.first {
+            return Seat::Nowhere;
+        }
+        if number > self.rows.decided {
+            return Seat::Waits(number);
+        }
+        match stores.row(self.tenant, number) {
+            Some(row) => Seat::Decided(row.sampled),
+            None => unreachable!(),
+        }
+    }
+
+    /// Whether there is room for one more span.
+    fn has_room(&self) -> bool
+        requires sound { IsSoundLedger self.now.ledger }
+        ensures { result ≡ nat_lt (self.now.ledger.places.undecided + self.now.ledger.places.pending)
+            self.now.section.max_spans }
+    {
+        let places = self.ledger.places();
+        places.undecided + places.pending < self.section.max_spans as u64
+    }
+
+    /// A span of a post comes at a moment, in milliseconds, and is taken where there is room. The texts of its origin
+    /// are held at these keys. What it changes is written down, also where memory is refused.
+    pub(crate) fn place(
+        &mut self,
+        stores: &mut Stores<TraceNote>,
+        journal: &mut Journal,
+        moment: u64,
+        keys: TextKeys,
+        span: &NotedSpan,
+    ) -> Result<(), AllocError>
+        requires coming { (held : List ℕ)
+            × IsComing moment journal.old keys span.now held self.old (part_in self.old stores.old) }
+        requires fits { counted self.old.ledger + 1 ≤ most_counted }
+        ensures came { OnOk result (Came (come moment (arrival_at (part_in self.old stores.old) keys span.now.text))
+            moment journal.old journal.new self.old self.new
+            (part_in self.old stores.old) (part_in self.new stores.new)) }
+
+        // It can be taken back, on success and where memory is refused.
+        ensures written { (start : Own) (first : Part Note)
+            → IsWritten journal.old start self.old first (part_in self.old stores.old)
+            → IsWritten journal.new start self.new first (part_in self.new stores.new) }
+        ensures others { (other : ℕ) → other ≢ self.old.tenant → part other stores.new ≡ part other stores.old }
+        ensures same { IsSameTenant self.old self.new }
+    {
+        if !self.has_room() {
+            return Ok(());
+        }
+        journal.placed.reserve(1)?;
+        match self.seat(stores, span.trace) {
+            Seat::Waits(number) => self.join(stores, journal, number, moment, keys, span),
+            Seat::Decided(true) => self.come_late(stores, journal, moment, keys, span),
+            Seat::Decided(false) => {
+                self.ledger.take(1);
+                self.ledger
+                    .move_spans(Place::Undecided, Place::NotSampled, 1);
+                Ok(())
+            }
+            Seat::Nowhere => self.open(stores, journal, moment, keys, span),
+        }
+    }
+
+    /// A span joins the row of this number, which waits.
+    fn join(
+        &mut self,
+        stores: &mut Stores<TraceNote>,
+        journal: &mut Journal,
+        number: u64,
+        moment: u64,
+        keys: TextKeys,
+        span: &NotedSpan,
+    ) -> Result<(), AllocError>
+        requires coming { (held : List ℕ)
+            × IsComing moment journal.old keys span.now held self.old (part_in self.old stores.old) }
+        requires fits { counted self.old.ledger + 1 ≤ most_counted }
+        requires seat { (part_in self.old stores.old).seats span.now.trace ≡ Some number }
+        requires waits { self.old.rows.decided < number }
+        requires budget { self.old.ledger.places.undecided + self.old.ledger.places.pending
+            < self.old.section.max_spans }
+        requires room { vec_len journal.old.placed < vec_capacity journal.old.placed }
+        ensures came { OnOk result (Came (λ s. joins (arrival_at (part_in self.old stores.old) keys span.now.text)
+            (counted_in s)) moment journal.old journal.new self.old self.new
+            (part_in self.old stores.old) (part_in self.new stores.new)) }
+        ensures written { (start : Own) (first : Part Note)
+            → IsWritten journal.old start self.old first (part_in self.old stores.old)
+            → IsWritten journal.new start self.new first (part_in self.new stores.new) }
+        ensures others { (other : ℕ) → other ≢ self.old.tenant → part other stores.new ≡ part other stores.old }
+        ensures same { IsSameTenant self.old self.new }
+    {
+        let Some(row) = stores.row(self.tenant, number) else {
+            unreachable!()
+        };
+        let note = row.note.joined(span.note);
+        let keyed = self.keyed(stores, keys, span)?;
+        let held = keyed.keys();
+        match stores.join(number, keyed, note) {
+            Ok(joining) => {
+                self.ledger.take(1);
+                journal
+                    .placed
+                    .push_reserved(Placed::Joined(number, joining.key, joining.former));
+                Ok(())
+            }
+            Err(refused) => {
+                stores.release_all(self.tenant, held);
+                Err(refused)
+            }
+        }
+    }
+
+    /// A span comes after its row was decided and sampled: it waits for a batch alone.
+    fn come_late(
+        &mut self,
+        stores: &mut Stores<TraceNote>,
+        journal: &mut Journal,
+        moment: u64,
+        keys: TextKeys,
+        span: &NotedSpan,
+    ) -> Result<(), AllocError>
+        requires coming { (held : List ℕ)
+            × IsComing moment journal.old keys span.now held self.old (part_in self.old stores.old) }
+        requires fits { counted self.old.ledger + 1 ≤ most_counted }
+        requires budget { self.old.ledger.places.undecided + self.old.ledger.places.pending
+            < self.old.section.max_spans }
+        requires room { vec_len journal.old.placed < vec_capacity journal.old.placed }
+        ensures came { OnOk result (Came (λ s. grouped Undecided moment
+            (arrival_at (part_in self.old stores.old) keys span.now.text ∷ []) (counted_in s))
+            moment journal.old journal.new self.old self.new
+            (part_in self.old stores.old) (part_in self.new stores.new)) }
+        ensures written { (start : Own) (first : Part Note)
+            → IsWritten journal.old start self.old first (part_in self.old stores.old)
+            → IsWritten journal.new start self.new first (part_in self.new stores.new) }
+        ensures others { (other : ℕ) → other ≢ self.old.tenant → part other stores.new ≡ part other stores.old }
+        ensures same { IsSameTenant self.old self.new }
+    {
+        let keyed = self.keyed(stores, keys, span)?;
+        let held = keyed.keys();
+        match stores.keep_late(keyed) {
+            Ok(key) => {
+                journal.placed.push_reserved(Placed::Late(key));
+                self.ledger.take(1);
+                let keys = [key];
+                self.group(stores, &mut journal.undo, moment, keys.as_slice())
+            }
+            Err(refused) => {
+                stores.release_all(self.tenant, held);
+                Err(refused)
+            }
+        }
+    }
+
+    /// A span opens a row, for which room is made.
+    fn open(
+        &mut self,
+        stores: &mut Stores<TraceNote>,
+        journal: &mut Journal,
+        moment: u64,
+        keys: TextKeys,
+        span: &NotedSpan,
+    ) -> Result<(), AllocError>
+        requires coming { (held : List ℕ)
+            × IsComing moment journal.old keys span.now held self.old (part_in self.old stores.old) }
+        requires fits { counted self.old.ledger + 1 ≤ most_counted }
+        requires budget { self.old.ledger.places.undecided + self.old.ledger.places.pending
+            < self.old.section.max_spans }
+        requires room { vec_len journal.old.placed < vec_capacity journal.old.placed }
+        ensures came { OnOk result (Came (λ s. opens moment
+            (arrival_at (part_in self.old stores.old) keys span.now.text) (evicted (counted_in s)))
+            moment journal.old journal.new self.old self.new
+            (part_in self.old stores.old) (part_in self.new stores.new)) }
+        ensures written { (start : Own) (first : Part Note)
+            → IsWritten journal.old start self.old first (part_in self.old stores.old)
+            → IsWritten journal.new start self.new first (part_in self.new stores.new) }
+        ensures others { (other : ℕ) → other ≢ self.old.tenant → part other stores.new ≡ part other stores.old }
+        ensures same { IsSameTenant self.old self.new }
+    {
+        let keyed = self.keyed(stores, keys, span)?;
+        let held = keyed.keys();
+        self.make_room(stores);
+        let number = self.rows.opened + 1;
+        let due = moment + self.section.tail_sampling.decision_wait;
+        match stores.open(number, due, span.trace, keyed, span.note) {
+            Ok(opening) => {
+                self.rows.opened = number;
+                self.ledger.take(1);
+                journal.placed.push_reserved(Placed::Opened(
+                    number,
+                    opening.key,
+                    span.trace,
+                    opening.earlier,
+                ));
+                Ok(())
+            }
+            Err(refused) => {
+                stores.release_all(self.tenant, held);
+                Err(refused)
+            }
+        }
+    }
+
+    /// The first row leaves where as many are present as may be: only numbers change, and its spans are no longer
+    /// undecided.
+    fn make_room(&mut self, stores: &Stores<TraceNote>)
+        requires few { self.old.rows.opened < 2 ^ 63 }
+        requires most { 0 < self.old.section.tail_sampling.num_traces }
+        requires undecided { let first = self.old.rows.opened + 1 - self.old.section.tail_sampling.num_traces in
+            self.old.rows.decided < first
+            → length (keys_of ((part_in self.old stores.now).rows first)) ≤ self.old.ledger.places.undecided }
+        ensures rows { counts_in self.new ≡
+            room_made self.old.section.tail_sampling.num_traces (counts_in self.old) }
+        ensures ledger { let first = self.old.rows.opened + 1 - self.old.section.tail_sampling.num_traces in
+            self.new.ledger ≡ (if nat_lt self.old.rows.decided first
+            then moved Undecided TooEarly (length (keys_of ((part_in self.old stores.now).rows first))) self.old.ledger
+            else self.old.ledger) }
+        ensures same { self.new ≡ record self.old { rows = self.new.rows; ledger = self.new.ledger } }
+    {
+        let most = self.section.tail_sampling.num_traces as u64;
+        let first = (self.rows.opened + 1).saturating_sub(most);
+        if self.rows.decided < first {
+            if let Some(row) = stores.row(self.tenant, first) {
+                let spans = row.keys.as_slice().len() as u64;
+                self.ledger
+                    .move_spans(Place::Undecided, Place::TooEarly, spans);
+            }
+            self.rows.decided = first;
+        }
+        self.rows.first = first;
+    }
+
+    /// A span as it is kept, with one use more of each of its origin's texts.
+    fn keyed(
+        &self,
+        stores: &mut Stores<TraceNote>,
+        keys: TextKeys,
+        span: &NotedSpan,
+    ) -> Result<KeyedSpan, AllocError>
+        ensures owner { IfOk result (λ keyed. keyed.owner ≡ self.now.tenant) }
+        ensures text { IfOk result (λ keyed. keyed.text ≡ span.now.text) }
+        ensures own { IfOk result (λ keyed. (n : Counts) (pending held : List ℕ)
+            → AreAmong (text_keys keys) held → IsSound n pending held (part_in self.now stores.old)
+            → HoldsAll (text_keys keyed.keys) (part_in self.now stores.old) (part_in self.now stores.new)) }
+        ensures sound { IfOk result (λ keyed. (n : Counts) (pending held : List ℕ)
+            → AreAmong (text_keys keys) held → IsSound n pending held (part_in self.now stores.old)
+            → IsSound n pending (text_keys keyed.keys ++ held) (part_in self.now stores.new)) }
+        ensures texts { IfOk result (λ keyed. (n : Counts) (pending held : List ℕ)
+            → AreAmong (text_keys keys) held → IsSound n pending held (part_in self.now stores.old)
+            → origin_at (text_at (part_in self.now stores.new).texts) keyed.keys ≡
+            origin_at (text_at (part_in self.now stores.old).texts) keys) }
+        ensures shows { OnOk result ((n : Counts) (pending held shown : List ℕ)
+            → AreAmong (text_keys keys) held → IsSound n pending held (part_in self.now stores.old)
+            → AreAmong shown pending
+            → view n shown (part_in self.now stores.new) ≡ view n shown (part_in self.now stores.old)) }
+        ensures stay { OnOk result ((n : Counts) (pending held : List ℕ)
+            → AreAmong (text_keys keys) held → IsSound n pending held (part_in self.now stores.old)
+            → Stay held (part_in self.now stores.old).texts (part_in self.now stores.new).texts) }
+        ensures others { (other : ℕ) → other ≢ self.now.tenant → part other stores.new ≡ part other stores.old }
+        ensures refused { OnErr result ((n : Counts) (pending held : List ℕ)
+            → AreAmong (text_keys keys) held → IsSound n pending held (part_in self.now stores.old)
+            → part_in self.now stores.new ≡ part_in self.now stores.old) }
+    {
+        let text = span.text.clone()?;
+        let keys = stores.hold_again(self.tenant, keys)?;
+        Ok(KeyedSpan::of(self.tenant, keys, text))
+    }
+}
