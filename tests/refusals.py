@@ -24,8 +24,10 @@ WORDS = TYPES | {"OutOfMemory"}
 
 # the file under crates/, the function, how often, and why
 KNOWN = [
+    ("shared_pipeline/src/outbox.rt", "offer", 1, "the queue gives the batch back with its want of memory"),
     ("tail_settings/src/document.rt", "load", 1, "the TOML reader's error says that it is want of memory"),
     ("tenant_shard/src/shard.rt", "run", 2, "room for the outcomes was refused, or a step was"),
+    ("shared_shard/src/shard.rt", "run", 2, "room for the outcomes was refused, or a step was"),
 ]
 
 CLAUSE = re.compile(r"(?:ensures|requires|decreases|invariant|variant)\b\*?\s*(?:[a-z_]\w*\s*)?\{")

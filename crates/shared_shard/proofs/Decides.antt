@@ -1,0 +1,109 @@
+-- What is kept before a run decides what it tells and what it leaves.
+use Rattle.std.proofs.Common.{◌≡◌, ℕ, List, [], ◌∷◌, refl, sym, subst, ap, ◌∙◌, arith, true, false, Option, Some, None, inl, inr}
+use Rattle.std.specs.Prelude.{option_and_then}
+use Rattle.std.specs.Option.{unwrap_or}
+use Rattle.tenant_rules.specs.Own.{moment_of}
+use Rattle.tenant_rules.specs.State.{State}
+use Rattle.tenant_rules.specs.Machine.{next, told}
+use Rattle.tenant_rules.specs.Ready.{ready}
+use Rattle.shared_shard.specs.declared.step.Step.{Step}
+use Rattle.shared_shard.specs.declared.step.Outcome.{Outcome}
+use Rattle.shared_shard.specs.declared.step.Outcome.TheVariants.{Refused}
+use Rattle.shared_shard.specs.View.{View, kept_of}
+use Rattle.shared_shard.specs.Outcomes.{OwnStep, own_step, named_in, Answered, named}
+use Rattle.shared_shard.specs.Pick.{ready_in}
+use Rattle.shard_agenda.specs.Pick.{NotAfter, IsPick}
+use Rattle.shared_shard.specs.Refusal.{Reaches, ReachesNone, IsFor, IsStepFor, IsForNone, IsNobodys}
+use Rattle.shared_shard.specs.GoesOn.{refusal_number, told_of_none, told_of_nobodys, MemberGoesOn, ShardGoesOn}
+use Rattle.shared_shard.specs.Chain.{KeepSame, KeptDecides}
+use Rattle.shared_shard.proofs.Frame.{same_or_other}
+use Rattle.shared_shard.proofs.Runs.{IsPick-same, not_both}
+
+-- one tenant alone is picked
+one_of_both : (m t n u : ℕ) → NotAfter m t n u → NotAfter n u m t → u ≡ t
+one_of_both m t n u (inl p) (inl q) = absurd (omega (arith, p, q))
+one_of_both m t n u (inl p) (inr q) = absurd (omega (arith, p, q.0))
+one_of_both m t n u (inr p) (inl q) = absurd (omega (arith, p.0, q))
+one_of_both m t n u (inr p) (inr q) = omega (arith, p.1, q.1)
+
+one_pick : (f : ℕ → Option ℕ) (now t u : ℕ) → IsPick f now (Some t) → IsPick f now (Some u) → u ≡ t
+one_pick f now t u p q = one_of_both p.0 t q.0 u (p.3 u q.0 q.1) (q.3 t p.0 p.1)
+
+-- picks are alike where the same is kept
+pick_too : (old old' : List View) (now : ℕ) (picked : Option ℕ) → KeepSame old old' → IsPick (ready_in old') now picked → IsPick (ready_in old) now picked
+pick_too old old' now picked same pick = IsPick-same (ready_in old') (ready_in old) now picked (λ u. ap (option_and_then ready) (sym (same u))) pick
+
+-- a step doesn't both reach a pipeline and reach none
+not_reached : (step : OwnStep) (kept : Option State) → ReachesNone step kept → Reaches step kept → ⊥
+not_reached step None none some = some
+not_reached step (Some kept) none some = absurd (let both : false ≡ true = sym none ∙ some in cc)
+
+none_alone : (whom : Option ℕ) (step : OwnStep) (old old' : List View) (t : ℕ) → KeepSame old old' → IsForNone whom step old → IsFor whom t step old' → ⊥
+none_alone (Some u) step old old' t same none some = not_reached step (kept_of u old) none (subst (Reaches step) (same u) (subst (λ (v : ℕ). Reaches step (kept_of v old')) (sym some.0) some.1))
+none_alone None step old old' t same none some =
+    not_both (ready_in old) (moment_of step.step) t (pick_too old old' (moment_of step.step) (Some t) same some) none
+
+nobodys_alone : (step : Step) (old old' : List View) (t : ℕ) → KeepSame old old' → IsNobodys step old → IsStepFor t step old' → ⊥
+nobodys_alone step old old' t same none some = none_alone (named_in step) (own_step step) old old' t same none some
+
+-- a step is one member's
+one_for : (whom : Option ℕ) (step : OwnStep) (old old' : List View) (t u : ℕ) → KeepSame old old' → IsFor whom t step old → IsFor whom u step old' → u ≡ t
+one_for (Some v) step old old' t u same is is' = sym is'.0 ∙ is.0
+one_for None step old old' t u same is is' =
+    one_pick (ready_in old) (moment_of step.step) t u is (pick_too old old' (moment_of step.step) (Some u) same is')
+
+one_whose : (step : Step) (old old' : List View) (t u : ℕ) → KeepSame old old' → IsStepFor t step old → IsStepFor u step old' → u ≡ t
+one_whose step old old' t u same is is' = one_for (named_in step) (own_step step) old old' t u same is is'
+
+none_told : (whom : Option ℕ) (old old' : List View) → KeepSame old old' → told_of_none whom old' ≡ told_of_none whom old
+none_told (Some u) old old' same = ap (λ kept. Refused u (refusal_number kept)) (same u)
+none_told None old old' same = refl
+
+nobodys_told : (step : Step) (old old' : List View) → KeepSame old old' → told_of_nobodys step old' ≡ told_of_nobodys step old
+nobodys_told step old old' same = none_told (named_in step) old old' same
+
+some_same : (a b : State) → Some a ≡ Some b → a ≡ b
+some_same a b e = ap (λ o. unwrap_or o a) e
+
+-- what a member is told, and what is left of all tenants
+module _ (step : Step) (old old' : List View) (o o' : Outcome) (new new' : List View) (t u : ℕ) (same : KeepSame old old') (is : MemberGoesOn t step old o new) (is' : MemberGoesOn u step old' o' new') where
+  whom : u ≡ t
+  whom = one_whose step old old' t u same is.whose is'.whose
+
+  before : is'.before ≡ is.before
+  before = some_same is'.before is.before (sym is'.was ∙ (same u ∙ (ap (λ x. kept_of x old) whom ∙ is.was)))
+
+  said : is'.said ≡ is.said
+  said = is'.goes_on.said_is ∙ (ap (told (own_step step).step) before ∙ sym is.goes_on.said_is)
+
+  left : is'.after ≡ is.after
+  left = is'.goes_on.new_is ∙ (ap (next (own_step step).step) before ∙ sym is.goes_on.new_is)
+
+  member_decides : (o' ≡ o) × KeepSame new new'
+  member_decides = (
+    is'.outcome_is ∙ (ap (λ x. named x (Answered is'.said)) whom ∙ (ap (λ x. named t (Answered x)) said ∙ sym is.outcome_is)),
+    λ x. elim (same_or_other x t) [
+      | inl e ↦ ap (λ y. kept_of y new') (e ∙ sym whom) ∙ (is'.is_now ∙ (ap Some left ∙ (sym is.is_now ∙ ap (λ y. kept_of y new) (sym e))))
+      | inr other ↦ is'.others x (λ e. other (e ∙ whom)) ∙ (same x ∙ sym (is.others x other))
+    ],
+  )
+
+step_decides : (step : Step) (old old' : List View) (o o' : Outcome) (new new' : List View) → KeepSame old old' → ShardGoesOn step old o new → ShardGoesOn step old' o' new' → (o' ≡ o) × KeepSame new new'
+step_decides step old old' o o' new new' same (inl is) (inl is') = (
+  is'.outcome_is ∙ (nobodys_told step old old' same ∙ sym is.outcome_is),
+  λ x. rw (is.new_is, is'.new_is) (same x),
+)
+step_decides step old old' o o' new new' same (inl is) (inr is') = absurd (nobodys_alone step old old' is'.0 same is.whose is'.1.whose)
+step_decides step old old' o o' new new' same (inr is) (inl is') = absurd (nobodys_alone step old' old is.0 (λ x. sym (same x)) is'.whose is.1.whose)
+step_decides step old old' o o' new new' same (inr is) (inr is') = member_decides step old old' o o' new new' is.0 is'.0 same is.1 is'.1
+
+pub kept_decides : KeptDecides
+kept_decides [] old old' [] [] new new' same is is' = (refl, λ x. rw (is, is') (same x))
+kept_decides [] old old' (o ∷ os) os' new new' same is is' = absurd is
+kept_decides [] old old' [] (o' ∷ os') new new' same is is' = absurd is'
+kept_decides (s ∷ ss) old old' [] os' new new' same is is' = absurd is
+kept_decides (s ∷ ss) old old' (o ∷ os) [] new new' same is is' = absurd is'
+kept_decides (s ∷ ss) old old' (o ∷ os) (o' ∷ os') new new' same is is' =
+    let first = step_decides s old old' o o' is.0 is'.0 same is.1 is'.1 in
+    let rest = kept_decides ss is.0 is'.0 os os' new new' first.1 is.2 is'.2 in
+    (ap (λ x. x ∷ os') first.0 ∙ ap (λ xs. o ∷ xs) rest.0, rest.1)

@@ -1,0 +1,6 @@
+mod Places
+mod Frame
+mod Runs
+mod Wholes
+pub mod Decides
+mod Tables

@@ -1,0 +1,13 @@
+use Rattle.std.proofs.Common.{take}
+use Rattle.tail_settings.specs.Settings.{settings_view}
+use Rattle.shared_shard.specs.Lists.{ShardStands}
+use Rattle.shared_shard.specs.Members.{views}
+use Rattle.shared_shard.specs.Table.{opened}
+use Rattle.shared_shard.specs.Whole.{IsWhole}
+use Rattle.shared_shard.proofs.shard.Shard.open.Given as goal
+
+abbrev pub invariant-loop-tenant : goal.invariant-loop-tenant
+invariant-loop-tenant l = record {
+  whole : IsWhole l.stores l.agenda l.opened.items;
+  stands : ShardStands (opened (settings_view l.settings) (take l.tenant-index l.members)) (views l.stores l.opened.items);
+}

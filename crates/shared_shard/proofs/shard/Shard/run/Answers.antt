@@ -1,0 +1,63 @@
+use Rattle.std.proofs.Common.{◌≡◌, ◌≤◌, length, take, refl, arith}
+use Rattle.std.proofs.lemmas.List.{take_more, take_all}
+use Rattle.shared_shard.specs.Chain.{ShardDoes, ShardRuns}
+use Rattle.shared_shard.proofs.Frame.{all_counted}
+use Rattle.shared_shard.proofs.Wholes.{Chain-push, by_own_steps, stands_after, each_alone, stopped_at_start, stopped_at}
+use Rattle.shared_shard.proofs.shard.Shard.run.Goals as goal
+
+pub returns-in_default-clause-stopped : goal.returns-in_default-clause-stopped
+returns-in_default-clause-stopped c = rw c.new.ensures.items (stopped_at_start c.args.steps.now c.args.self.now)
+
+pub returns-in_default-clause-counted : goal.returns-in_default-clause-counted
+returns-in_default-clause-counted c = rw (← c.self.view_is) (all_counted c.self.inside.stores c.self.inside.agenda c.self.inside.members.items c.self.invariant)
+
+pub loop-step-init : goal.loop-step-init
+loop-step-init c = record {
+  runs = rw c.in-Ok.ensures.items refl;
+  count = c.in-Ok.ensures.len;
+  room = omega (arith, c.in-Ok.ensures.capacity);
+  counted = rw (← c.self.view_is) (all_counted c.self.inside.stores c.self.inside.agenda c.self.inside.members.items c.self.invariant);
+}
+
+pub returns-clause-counted : goal.returns-clause-counted
+returns-clause-counted c = c.loop-step.invariant.counted
+
+pub returns-in_default-step-clause-stopped : goal.returns-in_default-step-clause-stopped
+returns-in_default-step-clause-stopped c =
+    let count : length c.loop-step.outcomes.items ≡ c.loop-step.step-index = omega (arith, c.loop-step.outcomes.ok.0, c.loop-step.invariant.count) in
+    stopped_at c.args.steps.now c.args.self.now c.loop-step.self c.step.new.self c.loop-step.outcomes.items c.loop-step.step-index c.step-item.result count c.loop-step-test.true c.step-item.is c.loop-step.invariant.runs c.in_default-step.ensures.refused
+
+pub loop-step-preserved : goal.loop-step-preserved
+loop-step-preserved c =
+    let i = c.loop-step.step-index in
+    let does : ShardDoes c.step-item.result c.loop-step.self c.in-Ok-step.outcome c.step.new.self = record { by_own_steps = c.in-Ok-step.ensures.ok; goes_on = c.in-Ok-step.ensures.goes_on } in
+    let runs = Chain-push ShardDoes (take i c.args.steps.now) c.loop-step.outcomes.items c.step-item.result c.in-Ok-step.outcome c.args.self.now c.loop-step.self c.step.new.self c.loop-step.invariant.runs does in
+    record {
+      runs = rw (take_more c.args.steps.now i c.step-item.result c.loop-step-test.true, ← c.step-item.is, c.in-Ok-push.ensures.items) runs;
+      count = omega (arith, c.in-Ok-push.ensures.len, c.loop-step.invariant.count);
+      room = omega (arith, c.in-Ok-push.ensures.capacity, c.loop-step.invariant.room);
+      counted = c.step.ensures.counted;
+    }
+
+pub returns-clause-ok : goal.returns-clause-ok
+returns-clause-ok c =
+    let all : length c.args.steps.now ≤ c.loop-step.step-index = c.loop-step-test.false in
+    rw take_all at c.loop-step.invariant.runs
+
+pub returns-clause-each_alone : goal.returns-clause-each_alone
+returns-clause-each_alone c =
+    let all : length c.args.steps.now ≤ c.loop-step.step-index = c.loop-step-test.false in
+    let runs : ShardRuns c.args.steps.now c.args.self.now c.loop-step.outcomes.items c.loop-step.self = rw take_all at c.loop-step.invariant.runs in
+    each_alone c.args.steps.now c.args.self.now c.loop-step.outcomes.items c.loop-step.self runs
+
+pub returns-clause-by_own_steps : goal.returns-clause-by_own_steps
+returns-clause-by_own_steps c =
+    let all : length c.args.steps.now ≤ c.loop-step.step-index = c.loop-step-test.false in
+    let runs : ShardRuns c.args.steps.now c.args.self.now c.loop-step.outcomes.items c.loop-step.self = rw take_all at c.loop-step.invariant.runs in
+    by_own_steps c.args.steps.now c.args.self.now c.loop-step.outcomes.items c.loop-step.self runs
+
+pub returns-clause-stands : goal.returns-clause-stands
+returns-clause-stands c =
+    let all : length c.args.steps.now ≤ c.loop-step.step-index = c.loop-step-test.false in
+    let runs : ShardRuns c.args.steps.now c.args.self.now c.loop-step.outcomes.items c.loop-step.self = rw take_all at c.loop-step.invariant.runs in
+    stands_after c.args.steps.now c.args.self.now c.loop-step.outcomes.items c.loop-step.self runs

@@ -1,0 +1,49 @@
+-- A run: one chain of what is kept, each step from what the one before it left. All that is promised of a run follows
+-- from the chain.
+use Rattle.std.specs.Prelude.{◌≡◌, ℕ, List, [], ◌∷◌}
+use Rattle.shared_shard.specs.declared.step.Step.{Step}
+use Rattle.shared_shard.specs.declared.step.Outcome.{Outcome}
+use Rattle.shared_shard.specs.View.{View, kept_of}
+use Rattle.shared_shard.specs.Lists.{Lists, ShardStands}
+use Rattle.shared_shard.specs.Run.{AllKnown, Run, ShardSteps, after_all}
+use Rattle.shared_shard.specs.GoesOn.{ShardGoesOn}
+
+-- the steps are done one after the other, each as `Does` says, from what the one before it left
+abbrev pub Chain : (Step → List View → Outcome → List View → Type 0)
+    → List Step → List View → List Outcome → List View → Type 0
+Chain Does [] old [] new = new ≡ old
+Chain Does (step ∷ steps) old (outcome ∷ outcomes) new =
+    (middle : List View) × Does step old outcome middle × Chain Does steps middle outcomes new
+Chain Does [] old (outcome ∷ outcomes) new = ⊥
+Chain Does (step ∷ steps) old [] new = ⊥
+
+-- a step was done: as the own steps say that the shard stands for, and, whether or not they are known, by what was kept
+-- before it
+pub record ShardDoes (step : Step) (old : List View) (outcome : Outcome) (new : List View) : Type 0 where
+  pub by_own_steps : ShardSteps step old outcome new
+  pub goes_on : ShardGoesOn step old outcome new
+
+-- the shard did these steps
+abbrev pub ShardRuns : List Step → List View → List Outcome → List View → Type 0
+ShardRuns = Chain ShardDoes
+
+-- where every member's own steps are known, the outcomes are those that these say: what is kept doesn't count
+abbrev pub RunsByOwnSteps : List Step → List View → List Outcome → Type 0
+RunsByOwnSteps steps old outcomes =
+    (lists : Lists) → ShardStands lists old → AllKnown lists → Run lists steps outcomes
+
+-- whatever own steps the shard stood for, it stands for them with those of the run
+abbrev pub StandsAfter : List Step → List View → List Outcome → List View → Type 0
+StandsAfter steps old outcomes new =
+    (lists : Lists) → ShardStands lists old → ShardStands (after_all steps outcomes lists) new
+
+-- the same is kept of every tenant
+abbrev pub KeepSame : List View → List View → Type 0
+KeepSame views views' = (tenant : ℕ) → kept_of tenant views' ≡ kept_of tenant views
+
+-- what is kept before a run decides its outcomes and what is kept after it: whose turn each one is, and what each
+-- tenant is told, also a member whose own steps are not known
+abbrev pub KeptDecides : Type 0
+KeptDecides = (steps : List Step) (old old' : List View) (outcomes outcomes' : List Outcome) (new new' : List View)
+    → KeepSame old old' → Chain ShardGoesOn steps old outcomes new → Chain ShardGoesOn steps old' outcomes' new'
+    → (outcomes' ≡ outcomes) × KeepSame new new'

@@ -1,0 +1,16 @@
+pub mod View
+pub mod Lists
+pub mod Outcomes
+pub mod Pick
+pub mod Run
+pub mod Refusal
+pub mod GoesOn
+pub mod Chain
+pub mod Alone
+pub mod Stop
+pub mod Table
+pub mod Members
+pub mod Whole
+pub mod Empty
+pub mod Steps
+pub mod Equal

@@ -1,0 +1,93 @@
+//! The members, which stand by number, and what a step of one of them does.
+
+ghost use Rattle.std.specs.Prelude.{◌≡◌, ◌≢◌, ℕ, true, ◌<◌, ◌≤◌, IfOk, IfErr, OnErr, length};
+ghost use Rattle.tail_settings.specs.Section.{section_view};
+ghost use Rattle.tenant_rules.specs.Machine.{effective};
+ghost use Rattle.tenant_rules.specs.Timers.{IsFront};
+ghost use Rattle.tenant_stores.specs.Part.{part};
+ghost use Rattle.shared_pipeline.specs.StateIn.{state_in};
+ghost use Rattle.shared_pipeline.specs.Held.{IsHeld, IsSwept};
+ghost use Rattle.shared_pipeline.specs.Steps.{Answers, GoesOnFrom};
+ghost use Rattle.shared_shard.specs.Members.{AreInOrder, IsPlaceOf, IsGapFor};
+ghost use Rattle.shared_shard.specs.Outcomes.{Answered, is_taken, named, own_step};
+
+use crate::step::{Outcome, Step};
+use shared_pipeline::Pipeline;
+use std::alloc::AllocError;
+use tail_policy::TraceNote;
+use tenant_rules::Told;
+use tenant_stores::Stores;
+
+/// The number of the refusal of an answer to a job that isn't in flight.
+const UNKNOWN_TICKET: u8 = 21;
+
+/// What a pipeline told, with the number of the tenant whose it is.
+pub fn named(tenant: u32, told: Told) -> Outcome
+    ensures { result ≡ named tenant (Answered told) }
+{
+    match told {
+        Told::Reply(reply) => Outcome::Reply(tenant, reply),
+        Told::Job { ticket, payload } => Outcome::Job(tenant, ticket, payload),
+        Told::Worked => Outcome::Worked(tenant),
+        Told::Done => Outcome::Done(tenant),
+        Told::Report(text) => Outcome::Report(tenant, text),
+        Told::UnknownTicket => Outcome::Refused(tenant, UNKNOWN_TICKET),
+    }
+}
+
+/// Where the member stands, or would.
+pub fn place_of(members: &[Pipeline], tenant: u32) -> Result<usize, usize>
+    requires { AreInOrder members.now }
+    ensures found { IfOk result (λ i. (i < length members.now) × IsPlaceOf tenant members.now i) }
+    ensures absent { IfErr result (λ i. (i ≤ length members.now) × IsGapFor tenant members.now i) }
+{
+    members.binary_search_by_key(&tenant, |member| member.tenant())
+}
+
+/// Whether a step reaches the member's pipeline: a body does that was prepared for its policies, and any other step.
+pub fn takes(own: &Pipeline, step: &Step<'_>) -> bool
+    ensures { result ≡ is_taken (section_view own.now.section) (own_step step.now) }
+{
+    match step {
+        Step::Post { prepared, .. } => own.is_for(prepared),
+        _ => true,
+    }
+}
+
+/// The member's pipeline does a step that reaches it. A step that names a tenant is taken as this member's.
+pub fn act(
+    own: &mut Pipeline,
+    stores: &mut Stores<TraceNote>,
+    step: &Step<'_>,
+) -> Result<Told, AllocError>
+    requires held { IsHeld own.old stores.old }
+    requires taken { is_taken (section_view own.old.section) (own_step step.now) ≡ true }
+    ensures ok { IfOk result (λ told.
+        Answers (own_step step.now).step (state_in own.old stores.old) told (state_in own.new stores.new)) }
+    ensures goes_on { IfOk result (λ told.
+        GoesOnFrom (own_step step.now).step (state_in own.old stores.old) told (state_in own.new stores.new)) }
+    ensures refused { OnErr result (let taken = (own_step step.now).step in let old = state_in own.old stores.old in
+        IsFront (effective taken old) old (state_in own.new stores.new)) }
+    ensures held { IsHeld own.new stores.new }
+    ensures swept { IsSwept own.old → IsSwept own.new }
+    ensures others { (other : ℕ) → other ≢ own.old.tenant → part other stores.new ≡ part other stores.old }
+    ensures tenant { own.new.tenant ≡ own.old.tenant }
+    ensures section { own.new.section ≡ own.old.section }
+{
+    match step {
+        Step::Post { now, prepared } => {
+            let reply = own.post(stores, *now, prepared)?;
+            Ok(Told::Reply(reply))
+        }
+        Step::Turn { now } => own.turn(stores, *now),
+        Step::Answer {
+            now,
+            ticket,
+            word,
+            answer,
+            ..
+        } => own.answer(stores, *now, *ticket, *word, answer),
+        Step::Report { now, .. } => own.report(stores, *now),
+        Step::Drain { now, .. } => own.drain(stores, *now),
+    }
+}
