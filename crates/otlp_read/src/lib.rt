@@ -5,7 +5,7 @@
 //! their order, and fields that aren't known, and known ones with another wire type, are kept as they were spelled, or
 //! dropped in a message that keeps none. `read_request` answers the value exactly where the body has one. Otherwise it
 //! answers a fault that stands in the body, or `OutOfMemory` where a growth was refused. What `otlp_trace` wrote reads
-//! back ([`written_reads_back`]).
+//! back ([`written_reads_back`]). A message that stands in a body can be read by itself ([`read_span`] and the like).
 //!
 //! It stands on `pb_wire` and `otlp_trace`. The rules are those of the proto3 language guide and the Protocol Buffers
 //! encoding guide, over the messages of OTLP 1.x.
@@ -17,6 +17,7 @@ mod message;
 mod request;
 mod response;
 mod round_trip;
+mod single;
 mod span;
 mod typed;
 mod value;
@@ -29,6 +30,7 @@ pub use round_trip::{
     values_are_sound, written_reads_back, written_request_reads_back, written_resource_reads_back,
     written_response_reads_back, written_scope_reads_back, written_span_reads_back,
 };
+pub use single::{read_resource, read_resource_spans, read_scope, read_scope_spans, read_span};
 pub use typed::{
     request_is_typed, resource_is_typed, response_is_typed, scope_is_typed, span_is_typed,
 };

@@ -15,4 +15,6 @@ mod replies;
 #[cfg(test)]
 mod requests;
 #[cfg(test)]
+mod single;
+#[cfg(test)]
 mod values;

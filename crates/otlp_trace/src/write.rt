@@ -11,7 +11,7 @@ mod response;
 mod span;
 mod value;
 
-ghost use Rattle.std.specs.Prelude.{◌≡◌, ◌++◌, OnOk, OnErr};
+ghost use Rattle.std.specs.Prelude.{◌≡◌, ◌++◌, [], OnOk, OnErr};
 ghost use Rattle.otlp_trace.specs.Text.{resource_text, scope_text, span_text, request_text, response_text, refusal_text};
 ghost use Rattle.otlp_trace.specs.View.{resource_view, scope_view, span_view, request_view, response_view};
 
@@ -21,12 +21,29 @@ use crate::span::Span;
 use embedded::Message;
 pub use fields::{put_bytes_field, put_some_bytes, wrap_in_field};
 use std::alloc::{AllocError, Global};
+use std::mem;
+
+/// Puts a message's text into an empty vector, whose room it takes. Where memory is refused the vector stays empty.
+fn fill<M: Message>(alloc: Global, out: &mut Vec<u8>, message: &M) -> Result<(), AllocError>
+    requires empty { out.old.items ≡ [] }
+    ensures ok { OnOk result (out.new.items ≡ M.text (M.view message.now)) }
+    ensures err { OnErr result (out.new.items ≡ []) }
+{
+    let mut text = mem::replace(out, Vec::new(alloc));
+    message.put(&mut text)?;
+    *out = text;
+    Ok(())
+}
 
 /// Appends all of a message's text, or nothing.
 fn append<M: Message>(alloc: Global, out: &mut Vec<u8>, message: &M) -> Result<(), AllocError>
     ensures ok { OnOk result (out.new.items ≡ out.old.items ++ M.text (M.view message.now)) }
     ensures err { OnErr result (out.new.items ≡ out.old.items) }
 {
+    // Room that was asked for is taken as it is; else the text is held in no more than it needs.
+    if out.is_empty() && out.capacity() > 0 {
+        return fill(alloc, out, message);
+    }
     let mut text = Vec::new(alloc);
     message.put(&mut text)?;
     out.extend_from_slice(text.as_slice())

@@ -3,7 +3,7 @@
 ghost use Rattle.span_tests.specs.Views.{Told, Members, CanonicalTexts};
 
 use otlp_trace::DoubleBits;
-use span_view::{SpanRef, ValueRef, canonical_text_is_viewed, equal_values, is_text};
+use span_view::{SpanField, SpanRef, ValueRef, canonical_text_is_viewed, equal_values, is_text};
 use std::process::Abort;
 
 /// The span of opentelemetry-proto's example of a trace (examples/trace.json), with a status of code 2 and fields that
@@ -57,10 +57,32 @@ fn has_attributes(view: &SpanRef<'_>) -> bool {
         && attributes.next().is_none()
 }
 
+/// Whether this field tells an attribute with that key and value.
+fn tells_attribute(found: Option<SpanField<'_>>, key: &str, want: ValueRef<'_>) -> bool {
+    match found {
+        Some(SpanField::Attribute(pair)) => pair.key() == key && pair.value() == want,
+        _ => false,
+    }
+}
+
+fn has_fields(view: &SpanRef<'_>) -> bool {
+    let own = ValueRef::String("some value");
+    let of_resource = ValueRef::String("my.service");
+    let mut fields = view.fields();
+    matches!(fields.next(), Some(SpanField::Start(1544712660000000000)))
+        && matches!(fields.next(), Some(SpanField::End(1544712661000000000)))
+        && tells_attribute(fields.next(), "my.span.attr", own)
+        && matches!(fields.next(), Some(SpanField::Status(2)))
+        && tells_attribute(fields.next(), "service.name", of_resource)
+        && fields.next().is_none()
+        && fields.next().is_none()
+}
+
 #[test]
 fn the_example_of_a_trace_is_viewed(rt: HostRuntime) {
     let view = checked(&rt, SPAN, RESOURCE);
     assert!(rt; has_ids(&view) && has_times_and_status(&view) && has_attributes(&view));
+    assert!(rt; has_fields(&view));
 }
 
 /// Whether the one attribute of this resource has no key and this value.

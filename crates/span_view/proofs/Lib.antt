@@ -4,3 +4,4 @@ pub mod Parts
 pub mod Messages
 pub mod Told
 pub mod Values
+pub mod FieldsTold

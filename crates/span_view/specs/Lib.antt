@@ -1,4 +1,5 @@
 pub mod Facts
 pub mod Reading
 pub mod Shown
+pub mod Fields
 pub mod Canonical

@@ -3,8 +3,8 @@
 //! A [`SpanRef`] stands on two texts: a span's and its resource's, which is empty where there is no resource. It
 //! tells the span's trace id, span id, times and status, and the attributes of the span and then of the resource,
 //! each as a key and a [`ValueRef`]. It takes no memory and copies nothing. Each call walks a text at most once, and
-//! no further than to the field that it looks for; the iterator over the attributes walks each text once over its
-//! whole life.
+//! no further than to the field that it looks for; the iterators over the attributes, and over all that policies look
+//! at, walk each text once over their whole life.
 //!
 //! Over canonical text a view tells exactly what the span and the resource are ([`canonical_text_is_viewed`]); fields
 //! that they have kept without knowing them are skipped. Over other bytes it tells what stands first: of several
@@ -16,15 +16,20 @@
 //! `trace.proto`, `common.proto` and `resource.proto`.
 #![tactic(auto)]
 
+mod attribute;
 mod attributes;
 mod fields;
 mod law;
 mod span;
+mod status;
 mod text;
 mod value;
+mod walk;
 
+pub use attribute::AttributeRef;
 pub use attributes::Attributes;
 pub use law::{canonical_text_is_viewed, equal_values};
 pub use span::SpanRef;
 pub use text::is_text;
 pub use value::ValueRef;
+pub use walk::{SpanField, SpanFields};

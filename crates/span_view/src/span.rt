@@ -2,10 +2,13 @@
 
 ghost use Rattle.std.specs.Prelude.{◌≡◌};
 ghost use Rattle.span_view.specs.Facts.{AreText};
+ghost use Rattle.span_view.specs.Fields.{first_start, first_end, first_status, attributes_told};
 ghost use Rattle.span_view.specs.Reading.{facts_of};
 
 use crate::attributes::Attributes;
-use crate::fields::{bytes, eight, varint};
+use crate::fields::{bytes, eight};
+use crate::status::code_of;
+use crate::walk::SpanFields;
 use std::marker::Model;
 
 /// A span with its resource, which contracts see as its facts.
@@ -68,8 +71,7 @@ impl<'a> SpanRef<'a> {
     pub fn status(&self) -> i32
         ensures { result ≡ self.now.status }
     {
-        let code = varint(bytes(self.span, 15), 3);
-        ((code & 0xffff_ffff) as u32).cast_signed()
+        code_of(bytes(self.span, 15))
     }
 
     /// The attributes of the span, and then those of its resource.
@@ -77,5 +79,15 @@ impl<'a> SpanRef<'a> {
         ensures { result ≡ self.now.attributes }
     {
         Attributes::of(self.span, self.resource)
+    }
+    /// What policies look at, field by field: the fields of the span and then those of its resource, each of which is
+    /// come by once. Of several of one kind the first counts, but for attributes, and where there is none it is 0.
+    pub fn fields(&self) -> SpanFields<'a>
+        ensures start { first_start result ≡ self.now.start_time_unix_nano }
+        ensures end { first_end result ≡ self.now.end_time_unix_nano }
+        ensures status { first_status result ≡ self.now.status }
+        ensures attributes { attributes_told result ≡ self.now.attributes }
+    {
+        SpanFields::of(self.span, self.resource)
     }
 }

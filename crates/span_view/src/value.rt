@@ -44,7 +44,7 @@ fn member_of(field: Field<'_>) -> ValueRef<'_>
 }
 
 /// The value that a text says with its first field.
-fn value_of(text: &[u8]) -> ValueRef<'_>
+pub fn value_of(text: &[u8]) -> ValueRef<'_>
     requires text { IsValueText (value_in text.now) }
     ensures { value_shown result ≡ value_in text.now }
 {

@@ -8,7 +8,7 @@ use Rattle.tail_settings.specs.declared.policy.LeafPolicy.{LeafPolicy}
 use Rattle.tail_settings.specs.declared.policy.PolicySpec.{PolicySpec}
 use Rattle.tail_settings.specs.Policy.{LeafData, PolicyData, and, leaves_of, leaf_view, policy_view}
 use Rattle.tail_settings.specs.Policy.{always_sample, latency, status_code, string_attribute, numeric_attribute}
-use Rattle.span_view.specs.Facts.{AttributeFact, SpanFacts}
+use Rattle.span_view.specs.Facts.{AttributeFact, SpanFacts, ValueFact}
 use Rattle.tail_policy.specs.Note.{leaves_in, with_bit, bits_below, bits_of, status, attribute, fact_meets, attributes_meet, span_meets}
 use Rattle.tail_policy.specs.Parts.{none_any}
 use Rattle.tail_policy.specs.Words.{bits_below-append, bits_least, bits_most, leaves_in-append, leaves_in-count, or_none, or_assoc, or_bits, same_bits, no_bits}
@@ -72,3 +72,9 @@ none_left all ls bits total ends so_far =
     sym (or_none bits) ∙ ap (bit_or bits) (sym (no_bits ls))
     ∙ ap (λ xs. bit_or bits (bits_of (attributes_meet xs) ls)) (sym ends)
     ∙ so_far
+
+-- an attribute is its key and its value
+pub attribute_is : (a : AttributeFact) (key : List ℕ) (value : ValueFact) → key ≡ a.key → value ≡ a.value
+    → ◌≡◌ {A = AttributeFact} (record { key = key; value = value }) a
+attribute_is a key value keys values =
+    ap (λ k. record { key = k; value = value }) keys ∙ ap (λ v. record { key = a.key; value = v }) values

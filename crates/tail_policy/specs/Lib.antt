@@ -8,3 +8,4 @@ pub mod Apart
 pub mod Parts
 pub mod Both
 pub mod Marks
+pub mod Tally

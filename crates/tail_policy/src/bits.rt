@@ -1,19 +1,15 @@
 //! The bits of a note: which policies that hold no other a fact of a span meets.
 
-ghost use Rattle.std.specs.Prelude.{◌≡◌, ◌≤◌, ◌<◌, ◌^◌, ◌*◌, ◌+◌, [], map};
-ghost use Rattle.span_view.specs.Facts.{AreText};
-ghost use Rattle.span_view.specs.Reading.{facts_of};
+ghost use Rattle.std.specs.Prelude.{◌≡◌, ◌≤◌, ◌<◌, ◌^◌, ◌*◌, ◌+◌, map};
 ghost use Rattle.tail_settings.specs.Policy.{leaf_view, policy_view, leaves_of};
-ghost use Rattle.span_view.specs.Shown.{value_shown};
 ghost use Rattle.tail_policy.specs.Note.{leaves_in, with_bit, bits_below, bits_of, attribute, fact_meets};
-ghost use Rattle.tail_policy.specs.Note.{attributes_meet};
 ghost use Rattle.tail_policy.specs.Marks.{IsReady};
 ghost use Rattle.tail_policy.specs.Wanted.{fact_view};
 
 use crate::attribute::{Wanted, is_wanted};
 use crate::marks::mark;
 use crate::status::is_listed;
-use span_view::{Attributes, ValueRef};
+use span_view::{AttributeRef, ValueRef};
 use tail_settings::{LeafPolicy, PolicySpec};
 
 /// What a policy that holds no other may ask of a span.
@@ -87,37 +83,15 @@ pub fn fact_bits(policies: &[PolicySpec], fact: Fact<'_>) -> u64
     bits
 }
 
-/// The same of an attribute. Where its key has no mark, no policy is looked at.
-fn key_bits(policies: &[PolicySpec], marks: &[bool], key: &str, value: ValueRef<'_>) -> u64
+/// The same of an attribute. Where its key has no mark, neither its value nor a policy is looked at.
+pub fn attribute_bits(policies: &[PolicySpec], marks: &[bool], pair: &AttributeRef<'_>) -> u64
     requires ready { IsReady (map policy_view policies.now) marks.now }
-    ensures { result ≡ bits_of (fact_meets (attribute (record { key = key.now; value = value_shown value.entry })))
-        (leaves_in (map policy_view policies.now)) }
+    ensures { result ≡ bits_of (fact_meets (attribute pair.now)) (leaves_in (map policy_view policies.now)) }
 {
+    let key = pair.key();
     if marks[mark(key)] {
-        fact_bits(policies, Fact::Attribute(key, value))
+        fact_bits(policies, Fact::Attribute(key, pair.value()))
     } else {
         0
     }
-}
-
-/// One bit a policy that holds no other, whether one of the attributes meets it.
-pub fn attribute_bits(policies: &[PolicySpec], marks: &[bool], attributes: Attributes<'_>) -> u64
-    requires ready { IsReady (map policy_view policies.now) marks.now }
-    ensures { result ≡ bits_of (attributes_meet attributes.entry) (leaves_in (map policy_view policies.now)) }
-{
-    let mut bits = 0;
-    for (key, value) in attributes {
-        bits |= key_bits(policies, marks, key, value);
-    }
-    bits
-}
-
-/// One bit a policy that holds no other, whether an attribute of the resource meets it.
-pub fn resource_bits(policies: &[PolicySpec], marks: &[bool], resource: &[u8]) -> u64
-    requires ready { IsReady (map policy_view policies.now) marks.now }
-    requires text { AreText (facts_of [] resource.now).attributes }
-    ensures { result
-        ≡ bits_of (attributes_meet (facts_of [] resource.now).attributes) (leaves_in (map policy_view policies.now)) }
-{
-    attribute_bits(policies, marks, Attributes::of(&[], resource))
 }

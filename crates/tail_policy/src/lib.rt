@@ -20,6 +20,7 @@ mod note;
 mod noting;
 mod policy;
 mod status;
+mod tally;
 mod tenant;
 mod time;
 

@@ -3,10 +3,11 @@
 ghost use Rattle.std.specs.Prelude.{◌≡◌, ◌≤◌, map};
 ghost use Rattle.tail_settings.specs.Policy.{policy_view, leaves_of};
 
-use crate::bits::{Fact, attribute_bits, fact_bits, resource_bits};
+use crate::bits::{Fact, fact_bits};
 use crate::marks::{COUNT, mark_policies};
 use crate::note::{ResourceBits, TraceNote};
 use crate::noting::{Policy, PolicyByParts};
+use crate::tally::{Told, resource_bits, tally};
 use span_view::SpanRef;
 use std::alloc::AllocError;
 use std::marker::Model;
@@ -66,9 +67,14 @@ impl<'a> Policy for TenantPolicies<'a> {
 
     /// It takes no memory and is never refused.
     fn note(&self, span: &SpanRef<'_>) -> Result<TraceNote, AllocError> {
-        let status = fact_bits(self.policies, Fact::Status(span.status()));
-        let attributes = attribute_bits(self.policies, &self.marks, span.attributes());
-        Ok(TraceNote::new(status | attributes, span.start(), span.end()))
+        let Told {
+            met,
+            start,
+            end,
+            status,
+        } = tally(self.policies, &self.marks, span.fields());
+        let listed = fact_bits(self.policies, Fact::Status(status));
+        Ok(TraceNote::new(listed | met, start, end))
     }
 
     fn join(&self, first: TraceNote, second: TraceNote) -> TraceNote {

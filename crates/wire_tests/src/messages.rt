@@ -121,11 +121,13 @@ fn span(alloc: Global) -> Result<Span, Fail> {
     })
 }
 
-/// Whether this is the span's text.
+/// Whether this is the span's text, also where room was made for it.
 fn is_span(alloc: Global, span: &Span, text: &[u8]) -> Result<bool, Fail> {
     let mut out = Vec::new(alloc);
     write_span(alloc, &mut out, span)?;
-    Ok(out.as_slice() == text)
+    let mut room = Vec::with_capacity(alloc, text.len())?;
+    write_span(alloc, &mut room, span)?;
+    Ok(out.as_slice() == text && room.as_slice() == text)
 }
 
 #[test]
