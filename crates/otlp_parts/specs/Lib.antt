@@ -2,3 +2,4 @@ pub mod ReadAs
 pub mod Texts
 pub mod Kept
 pub mod Parts
+pub mod Sizes

@@ -1,6 +1,6 @@
 //! Bodies.
 
-ghost use Rattle.std.specs.Prelude.{◌≡◌, ◌≢◌, ◌<◌, ◌≤◌, ◌^◌, Ok, IfOk, IfErr, length, slice_range};
+ghost use Rattle.std.specs.Prelude.{◌≡◌, ◌≢◌, ◌<◌, ◌≤◌, ◌+◌, ◌*◌, ◌^◌, ◌⊎◌, Ok, IfOk, IfErr, length, slice_range};
 ghost use Rattle.otlp_trace.specs.Data.{RequestData};
 ghost use Rattle.otlp_read.specs.declared.fault.ReadFault.{ReadFault};
 ghost use Rattle.otlp_read.specs.Fault.{Gives};
@@ -8,6 +8,7 @@ ghost use Rattle.otlp_read.specs.Value.{IsValue, IsFault};
 ghost use Rattle.otlp_parts.specs.Texts.{BodyTexts, texts_of, ArePartsOf};
 ghost use Rattle.otlp_parts.specs.Kept.{kept_of, kept_body_step, resource_spans_onto, no_texts};
 ghost use Rattle.otlp_parts.specs.Parts.{body_parts_view};
+ghost use Rattle.otlp_parts.specs.Sizes.{body_size};
 
 use crate::copies::copied_body;
 use crate::parts::BodyParts;
@@ -28,6 +29,7 @@ fn no_parts(alloc: Global) -> BodyParts
     BodyParts {
         resources: Vec::new(alloc),
         invalid: 0,
+        sliced: 0,
     }
 }
 
@@ -44,6 +46,8 @@ fn with_resource_spans(
     requires within { end ≤ length text.now }
     ensures exact { Gives body_parts_view result
         (resource_spans_onto (body_parts_view before) (slice_range text.now start end)) }
+    ensures held { IfOk result (λ after. sliced.new + body_size (body_parts_view before)
+        ≤ sliced.old + body_size (body_parts_view after)) }
 {
     let inside = text.slice(start..end)?;
     let resource = walk_fields(alloc, no_resource(alloc), &inside, BODY_ROOM - 1, sliced)?;
@@ -65,6 +69,8 @@ impl Walked for BodyParts {
     ghost view = { body_parts_view };
 
     ghost step = { kept_body_step };
+
+    ghost size = { body_size };
 
     fn field(
         self,
@@ -88,15 +94,15 @@ impl Walked for BodyParts {
 fn body_parts(alloc: Global, body: &Bytes) -> Result<BodyParts, ReadFault>
     ensures exact { Gives body_parts_view result (kept_of body.now) }
     ensures short { length body.now < 2 ^ 64 }
+    ensures sliced { IfOk result (λ parts. parts.sliced ≤ body_size (body_parts_view parts)) }
+    ensures pinned { IfOk result (λ parts. (parts.sliced ≡ 0) ⊎ (length body.now ≤ 2 * parts.sliced)) }
 {
     let size = body.len();
     let mut sliced = 0;
-    let parts = walk_fields(alloc, no_parts(alloc), body, BODY_ROOM, &mut sliced)?;
+    let mut parts = walk_fields(alloc, no_parts(alloc), body, BODY_ROOM, &mut sliced)?;
     // Without slices nothing holds the body.
-    if sliced == 0 {
-        return Ok(parts);
-    }
-    if sliced >= size.saturating_sub(sliced) {
+    if sliced == 0 || sliced >= size.saturating_sub(sliced) {
+        parts.sliced = sliced;
         return Ok(parts);
     }
     let copies = copied_body(alloc, parts)?;
@@ -114,6 +120,10 @@ pub fn read_parts(alloc: Global, body: &Bytes) -> Result<BodyParts, ReadFault>
 
     // A fault stands in the body.
     ensures fault { IfErr result (λ fault. fault ≢ ReadFault.OutOfMemory → IsFault body.now fault) }
+
+    // Slices hold the whole body, so there are none, or they are at least half of it.
+    ensures sliced { IfOk result (λ parts. parts.sliced ≤ body_size (body_parts_view parts)) }
+    ensures pinned { IfOk result (λ parts. (parts.sliced ≡ 0) ⊎ (length body.now ≤ 2 * parts.sliced)) }
 {
     body_parts(alloc, body)
 }

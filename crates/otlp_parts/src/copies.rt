@@ -65,7 +65,8 @@ fn copied_resource(alloc: Global, parts: ResourceParts) -> Result<ResourceParts,
 
 /// The same parts of a body.
 pub fn copied_body(alloc: Global, parts: BodyParts) -> Result<BodyParts, AllocError>
-    ensures { IfOk result (λ copy. body_parts_view copy ≡ body_parts_view parts) }
+    ensures same { IfOk result (λ copy. body_parts_view copy ≡ body_parts_view parts) }
+    ensures sliced { IfOk result (λ copy. copy.sliced ≡ 0) }
 {
     let mut resources = Vec::with_capacity(alloc, parts.resources.len())?;
     for resource in parts.resources {
@@ -75,5 +76,6 @@ pub fn copied_body(alloc: Global, parts: BodyParts) -> Result<BodyParts, AllocEr
     Ok(BodyParts {
         resources,
         invalid: parts.invalid,
+        sliced: 0,
     })
 }

@@ -1,6 +1,6 @@
 //! What is known of a scope spans or a resource spans before its last field was read.
 
-ghost use Rattle.std.specs.Prelude.{◌≡◌, true, is_ok};
+ghost use Rattle.std.specs.Prelude.{◌≡◌, ◌≤◌, true, length, is_ok};
 ghost use Rattle.otlp_trace.specs.Text.{resource_text, scope_text};
 ghost use Rattle.otlp_parts.specs.ReadAs.{scope_in, scope_of, resource_in, resource_of, scope_spans_in, resource_spans_in};
 
@@ -16,6 +16,7 @@ pub struct ScopeText {
     pub sliced: usize,
     ghost is: { is_ok (scope_in bytes) ≡ true },
     ghost canonical: { scope_text (scope_of bytes) ≡ text },
+    ghost counted: { sliced ≤ length text },
 }
 
 /// Several scopes of one scope spans, each as a field of it.
@@ -45,6 +46,7 @@ pub struct ResourceText {
     pub sliced: usize,
     ghost is: { is_ok (resource_in bytes) ≡ true },
     ghost canonical: { resource_text (resource_of bytes) ≡ text },
+    ghost counted: { sliced ≤ length text },
 }
 
 /// Several resources of one resource spans, each as a field of it.

@@ -31,4 +31,7 @@ pub struct BodyParts {
     pub resources: Vec<ResourceParts>,
     /// How many spans were left out, since an id of theirs has another length or is all zeros.
     pub invalid: u64,
+    /// How many bytes of the parts are slices of the body. Where there are any the whole body is held with them, and
+    /// else nothing of it.
+    pub sliced: usize,
 }

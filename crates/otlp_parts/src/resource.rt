@@ -1,20 +1,21 @@
 //! Resource spans, and the resources in them.
 
-ghost use Rattle.std.specs.Prelude.{◌≡◌, ◌≤◌, Ok, Some, length, slice_range, option_map};
+ghost use Rattle.std.specs.Prelude.{◌≡◌, ◌≤◌, ◌+◌, Ok, Some, length, map, slice_range, option_map, IfOk};
 ghost use Rattle.otlp_trace.specs.Text.{resource_text};
 ghost use Rattle.otlp_read.specs.Fault.{Gives};
 ghost use Rattle.otlp_parts.specs.ReadAs.{resource_in, resource_of, resource_among, another_resource};
 ghost use Rattle.otlp_parts.specs.Kept.{KeptResource, no_kept_resource, kept_resource_step, kept_resource_texts, scope_spans_onto};
-ghost use Rattle.otlp_parts.specs.Parts.{found_resource_view, resource_reading_view, resource_parts_view};
+ghost use Rattle.otlp_parts.specs.Parts.{found_resource_view, resource_reading_view, resource_parts_view, scope_parts_view};
+ghost use Rattle.otlp_parts.specs.Sizes.{text_size, scopes_size, resource_size};
 
 use crate::held::{FoundResource, ResourceFields, ResourceReading, ResourceText};
-use crate::message::{as_field, read_resource, read_resource_spans, resource_written, string};
+use crate::message::{as_field, resource_written, string};
 use crate::parts::ResourceParts;
 use crate::scope::{no_scope, scope_parts};
 use crate::walk::{Walked, walk_fields};
 use bytes::Bytes;
 use otlp_canonical::is_resource_text;
-use otlp_read::ReadFault;
+use otlp_read::{ReadFault, read_resource, read_resource_spans};
 use otlp_trace::{ResourceSpans, put_bytes_field};
 use pb_wire::{Field, Value};
 use std::alloc::Global;
@@ -43,7 +44,7 @@ fn first_resource(
             sliced,
         });
     }
-    let resource = read_resource(alloc, bytes.as_slice())?;
+    let resource = read_resource(alloc, bytes.as_slice(), RESOURCE_ROOM)?;
     let text = resource_written(alloc, &resource)?;
     Ok(ResourceText {
         bytes,
@@ -71,7 +72,7 @@ fn with_resource(
         (another_resource (resource_among several.fields.items) bytes.now) }
 {
     // Its fault comes before those of fields behind it, so it is looked for at once.
-    let _sound = read_resource(alloc, bytes)?;
+    let _sound = read_resource(alloc, bytes, RESOURCE_ROOM)?;
     let mut fields = several.fields;
     put_bytes_field(&mut fields, 1, bytes)?;
     Ok(ResourceFields { fields })
@@ -111,7 +112,11 @@ fn resource_again(
 fn merged_resource_text(alloc: Global, several: ResourceFields) -> Result<Option<Bytes>, ReadFault>
     ensures exact { Gives (λ text. text) result (Ok (option_map resource_text (resource_among several.fields.items))) }
 {
-    let ResourceSpans { resource, .. } = read_resource_spans(alloc, several.fields)?;
+    let ResourceSpans { resource, .. } = read_resource_spans(
+        alloc,
+        several.fields.as_slice(),
+        RESOURCE_ROOM + 1,
+    )?;
     match resource {
         Some(resource) => {
             let text = resource_written(alloc, &resource)?;
@@ -128,6 +133,7 @@ fn resource_part(
     sliced: &mut usize,
 ) -> Result<Option<Bytes>, ReadFault>
     ensures exact { Gives (λ text. text) result (Ok (option_map resource_text (found_resource_view found))) }
+    ensures held { IfOk result (λ text. sliced.new ≤ sliced.old + text_size text) }
 {
     match found {
         FoundResource::Missing => Ok(None),
@@ -158,6 +164,9 @@ pub fn resource_parts(
     sliced: &mut usize,
 ) -> Result<ResourceParts, ReadFault>
     ensures exact { Gives resource_parts_view result (Ok (kept_resource_texts (resource_reading_view reading))) }
+    ensures held { IfOk result (λ parts.
+        sliced.new + scopes_size (map scope_parts_view reading.scopes.items)
+        ≤ sliced.old + resource_size (resource_parts_view parts)) }
 {
     *sliced = sliced.saturating_add(reading.schema_url.len());
     let resource = resource_part(alloc, reading.resource, sliced)?;
@@ -181,6 +190,8 @@ fn with_scope_spans(
     requires within { end ≤ length text.now }
     ensures exact { Gives resource_reading_view result
         (scope_spans_onto (resource_reading_view before) (slice_range text.now start end)) }
+    ensures held { IfOk result (λ after. sliced.new + scopes_size (map scope_parts_view before.scopes.items)
+        ≤ sliced.old + scopes_size (map scope_parts_view after.scopes.items)) }
 {
     let inside = text.slice(start..end)?;
     let scope = walk_fields(alloc, no_scope(alloc), &inside, RESOURCE_ROOM, sliced)?;
@@ -202,6 +213,8 @@ impl Walked for ResourceReading {
     ghost view = { resource_reading_view };
 
     ghost step = { kept_resource_step };
+
+    ghost size = { λ k. scopes_size k.scopes };
 
     fn field(
         self,

@@ -1,20 +1,21 @@
 //! Scope spans, and the instrumentation scopes in them.
 
-ghost use Rattle.std.specs.Prelude.{◌≡◌, ◌≤◌, Ok, Some, length, slice_range, option_map};
+ghost use Rattle.std.specs.Prelude.{◌≡◌, ◌≤◌, ◌+◌, Ok, Some, length, slice_range, option_map, IfOk};
 ghost use Rattle.otlp_trace.specs.Text.{scope_text};
 ghost use Rattle.otlp_read.specs.Fault.{Gives};
 ghost use Rattle.otlp_parts.specs.ReadAs.{scope_in, scope_of, scope_among, another_scope};
 ghost use Rattle.otlp_parts.specs.Kept.{KeptScope, no_kept_scope, kept_scope_step, kept_scope_texts, span_onto};
 ghost use Rattle.otlp_parts.specs.Parts.{found_scope_view, scope_reading_view, scope_parts_view};
+ghost use Rattle.otlp_parts.specs.Sizes.{text_size, texts_size, scope_size};
 
 use crate::held::{FoundScope, ScopeFields, ScopeReading, ScopeText};
-use crate::message::{as_field, read_scope, read_scope_spans, scope_written, string};
+use crate::message::{as_field, scope_written, string};
 use crate::parts::ScopeParts;
 use crate::span::span_part;
 use crate::walk::Walked;
 use bytes::Bytes;
 use otlp_canonical::is_scope_text;
-use otlp_read::ReadFault;
+use otlp_read::{ReadFault, read_scope, read_scope_spans};
 use otlp_trace::{ScopeSpans, put_bytes_field};
 use pb_wire::{Field, Value};
 use std::alloc::Global;
@@ -43,7 +44,7 @@ fn first_scope(
             sliced,
         });
     }
-    let scope = read_scope(alloc, bytes.as_slice())?;
+    let scope = read_scope(alloc, bytes.as_slice(), SCOPE_ROOM)?;
     let text = scope_written(alloc, &scope)?;
     Ok(ScopeText {
         bytes,
@@ -66,7 +67,7 @@ fn with_scope(alloc: Global, several: ScopeFields, bytes: &[u8]) -> Result<Scope
         (another_scope (scope_among several.fields.items) bytes.now) }
 {
     // Its fault comes before those of fields behind it, so it is looked for at once.
-    let _sound = read_scope(alloc, bytes)?;
+    let _sound = read_scope(alloc, bytes, SCOPE_ROOM)?;
     let mut fields = several.fields;
     put_bytes_field(&mut fields, 1, bytes)?;
     Ok(ScopeFields { fields })
@@ -106,7 +107,11 @@ fn scope_again(
 fn merged_scope_text(alloc: Global, several: ScopeFields) -> Result<Option<Bytes>, ReadFault>
     ensures exact { Gives (λ text. text) result (Ok (option_map scope_text (scope_among several.fields.items))) }
 {
-    let ScopeSpans { scope, .. } = read_scope_spans(alloc, several.fields)?;
+    let ScopeSpans { scope, .. } = read_scope_spans(
+        alloc,
+        several.fields.as_slice(),
+        SCOPE_ROOM + 1,
+    )?;
     match scope {
         Some(scope) => {
             let text = scope_written(alloc, &scope)?;
@@ -123,6 +128,7 @@ fn scope_part(
     sliced: &mut usize,
 ) -> Result<Option<Bytes>, ReadFault>
     ensures exact { Gives (λ text. text) result (Ok (option_map scope_text (found_scope_view found))) }
+    ensures held { IfOk result (λ text. sliced.new ≤ sliced.old + text_size text) }
 {
     match found {
         FoundScope::Missing => Ok(None),
@@ -153,6 +159,8 @@ pub fn scope_parts(
     sliced: &mut usize,
 ) -> Result<ScopeParts, ReadFault>
     ensures exact { Gives scope_parts_view result (Ok (kept_scope_texts (scope_reading_view reading))) }
+    ensures held { IfOk result (λ parts.
+        sliced.new + texts_size reading.spans.items ≤ sliced.old + scope_size (scope_parts_view parts)) }
 {
     *sliced = sliced.saturating_add(reading.schema_url.len());
     let scope = scope_part(alloc, reading.scope, sliced)?;
@@ -176,6 +184,8 @@ fn with_span(
     requires within { end ≤ length text.now }
     ensures exact { Gives scope_reading_view result
         (span_onto (scope_reading_view before) (slice_range text.now start end)) }
+    ensures held { IfOk result (λ after.
+        sliced.new + texts_size before.spans.items ≤ sliced.old + texts_size after.spans.items) }
 {
     let mut reading = before;
     match span_part(alloc, text, start, end, sliced)? {
@@ -196,6 +206,8 @@ impl Walked for ScopeReading {
     ghost view = { scope_reading_view };
 
     ghost step = { kept_scope_step };
+
+    ghost size = { λ k. texts_size k.spans };
 
     fn field(
         self,

@@ -1,6 +1,6 @@
 //! Spans of a body.
 
-ghost use Rattle.std.specs.Prelude.{◌≡◌, ◌≤◌, ◌==◌, length, slice_range, IsTrue};
+ghost use Rattle.std.specs.Prelude.{◌≡◌, ◌≤◌, ◌+◌, ◌==◌, length, slice_range, IsTrue, IfOk};
 ghost use Rattle.std.specs.List.{list_all};
 ghost use Rattle.otlp_trace.specs.View.{span_view};
 ghost use Rattle.otlp_read.specs.Fault.{Gives};
@@ -8,11 +8,11 @@ ghost use Rattle.otlp_canonical.specs.Canonical.{CanonicalSpan};
 ghost use Rattle.otlp_parts.specs.Texts.{is_id, is_valid_span};
 ghost use Rattle.otlp_parts.specs.Kept.{kept_span};
 ghost use Rattle.otlp_parts.specs.ReadAs.{span_of};
+ghost use Rattle.otlp_parts.specs.Sizes.{text_size};
 
-use crate::message::read_span;
 use bytes::Bytes;
 use otlp_canonical::is_span_text;
-use otlp_read::ReadFault;
+use otlp_read::{ReadFault, read_span};
 use otlp_trace::{Span, write_span};
 use span_pool::read_spans_are_viewed;
 use span_view::SpanRef;
@@ -20,6 +20,14 @@ use std::alloc::Global;
 
 /// The levels that a span in a body has room for, its own among them.
 const SPAN_ROOM: u32 = 98;
+
+/// The most bytes of a text for which room is made before it is written: what it doesn't fill is held with it.
+const TEXT_ROOM: usize = 512;
+
+/// How much room to make for the canonical text of a span of so many bytes.
+fn room_for(size: usize) -> usize {
+    if size <= TEXT_ROOM { size } else { 0 }
+}
 
 /// Whether all bytes are zero.
 fn is_zero(bytes: &[u8]) -> bool
@@ -68,6 +76,7 @@ pub fn span_part(
     requires order { start ≤ end }
     requires within { end ≤ length text.now }
     ensures exact { Gives (λ part. part) result (kept_span (slice_range text.now start end)) }
+    ensures held { IfOk result (λ part. sliced.new ≤ sliced.old + text_size part) }
 {
     let bytes = &text.as_slice()[start..end];
     if is_span_text(bytes, SPAN_ROOM) {
@@ -78,11 +87,11 @@ pub fn span_part(
         let part = text.slice(start..end)?;
         return Ok(Some(part));
     }
-    let span = read_span(alloc, bytes)?;
+    let span = read_span(alloc, bytes, SPAN_ROOM)?;
     if !is_valid(&span) {
         return Ok(None);
     }
-    let mut written = Vec::new(alloc);
+    let mut written = Vec::with_capacity(alloc, room_for(bytes.len()))?;
     write_span(alloc, &mut written, &span)?;
     let part = Bytes::from_vec(written)?;
     Ok(Some(part))

@@ -1,6 +1,6 @@
 //! Messages that are read field by field, and keep what stands in the text.
 
-ghost use Rattle.std.specs.Prelude.{◌≡◌, ◌≤◌, ℕ, List, length};
+ghost use Rattle.std.specs.Prelude.{◌≡◌, ◌≤◌, ◌+◌, ℕ, List, length, IfOk};
 ghost use Rattle.pb_wire.specs.Grammar.{datum, entry, Bytes as bytes_datum};
 ghost use Rattle.otlp_read.specs.Fault.{Gives};
 ghost use Rattle.otlp_read.specs.Walk.{Step, read_with};
@@ -19,6 +19,9 @@ pub trait Walked: Drop {
 
     ghost step: { ℕ → Step Data };
 
+    // how many bytes the texts have that may be slices
+    ghost size: { Data → ℕ };
+
     /// The message after one more field, which ends at `end` of the text. The bytes that are kept as slices are added
     /// to `sliced`.
     fn field(
@@ -32,7 +35,8 @@ pub trait Walked: Drop {
         requires within { end ≤ length text.now }
         requires stands { (content : List ℕ) → datum field.value ≡ bytes_datum content → Stands text.now end content }
         ensures exact { (room : ℕ) (spelled : List ℕ) →
-            Gives view result (step room (view self) (entry field.entry) spelled) };
+            Gives view result (step room (view self) (entry field.entry) spelled) }
+        ensures held { IfOk result (λ after. sliced.new + size (view self) ≤ sliced.old + size (view after)) };
 }
 
 /// Goes on reading a message, where there is room for so many levels, its own among them.
@@ -45,6 +49,8 @@ pub fn walk_fields<M: Walked>(
 ) -> Result<M, ReadFault>
     requires room { room ≤ 101 }
     ensures exact { Gives M.view result (read_with M.step room (M.view before) text.now) }
+    ensures held { IfOk result (λ after.
+        sliced.new + M.size (M.view before) ≤ sliced.old + M.size (M.view after)) }
 {
     if room == 0 {
         return Err(ReadFault::TooDeep);

@@ -48,3 +48,17 @@ fn a_body_is_let_go_with_its_parts(rt: HostRuntime) -> Result<(), Fail> {
     assert!(rt; body.is_unique());
     Ok(())
 }
+
+/// How many bytes of the body's parts are slices of it.
+fn sliced(alloc: Global, body: &Bytes) -> Result<usize, Fail> {
+    let parts = read_parts(alloc, body)?;
+    Ok(parts.sliced)
+}
+
+#[test]
+fn slices_are_counted(rt: HostRuntime) -> Result<(), Fail> {
+    let alloc = rt.alloc();
+    assert!(rt; sliced(alloc, &Bytes::copy_from_slice(alloc, &SPAN)?)? == 28);
+    assert!(rt; sliced(alloc, &with_dropped(alloc, 21)?)? == 0);
+    Ok(())
+}

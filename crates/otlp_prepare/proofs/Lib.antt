@@ -1,5 +1,5 @@
 mod Lists
-mod Equals
+pub mod Equals
 mod Read
 mod Empty
 mod Adding

@@ -7,4 +7,6 @@ returns c = record {
   value = parts_value body_parts_view c.args.body.now c.body_parts.result c.body_parts.ensures.short c.body_parts.ensures.exact;
   only = λ v is. parts_only body_parts_view c.args.body.now v c.body_parts.result c.body_parts.ensures.short is c.body_parts.ensures.exact;
   fault = parts_fault body_parts_view c.args.body.now c.body_parts.result c.body_parts.ensures.exact;
+  sliced = c.body_parts.ensures.sliced;
+  pinned = c.body_parts.ensures.pinned;
 }

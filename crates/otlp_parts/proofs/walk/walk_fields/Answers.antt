@@ -1,4 +1,4 @@
-use Rattle.std.proofs.Common.{rules, sym, ◌≡◌, ◌-◌, ◌++◌, ◌∙◌, Ok, Some, None, refl, ap, append_assoc, [], List, ℕ}
+use Rattle.std.proofs.Common.{arith, rules, sym, ◌≡◌, ◌-◌, ◌++◌, ◌∙◌, Ok, Some, None, refl, ap, append_assoc, [], List, ℕ}
 use Rattle.std.proofs.lemmas.Result.{err_from_is_err_and}
 use Rattle.pb_wire.specs.Grammar.{entry, Begins}
 use Rattle.pb_wire.specs.Reading.{next_at}
@@ -9,45 +9,51 @@ use Rattle.otlp_read.proofs.Turns.{ends, goes_on, stops, fails}
 use Rattle.otlp_parts.proofs.Places.{place}
 use Rattle.otlp_parts.proofs.walk.walk_fields.Goals as goal
 
-pub returns-then-room-eq0 : goal.returns-then-room-eq0
+pub returns-then-room-eq0-clause-exact : goal.returns-then-room-eq0-clause-exact
 unfolding read_with
-returns-then-room-eq0 g c = record { exact = let none : c.args.room ≡ 0 = search rules in rw none refl }
+returns-then-room-eq0-clause-exact g c = let none : c.args.room ≡ 0 = search rules in rw none refl
 
 pub fields-init : goal.fields-init
-fields-init g c = rw c.as_slice-left.ensures (record {
-  kept = record { same = sym (opened g.M.Walked.step c.args.room (g.M.Walked.view c.args.before) c.args.text.now (search rules)) };
-  taken = [];
-  parts = refl;
-})
+fields-init g c = record {
+  read = rw c.as_slice-left.ensures (record {
+    kept = record { same = sym (opened g.M.Walked.step c.args.room (g.M.Walked.view c.args.before) c.args.text.now (search rules)) };
+    taken = [];
+    parts = refl;
+  });
+  held = omega arith;
+}
 
-pub returns-in_err-field : goal.returns-in_err-field
-returns-in_err-field g c =
+pub returns-in_err-field-clause-exact : goal.returns-in_err-field-clause-exact
+returns-in_err-field-clause-exact g c =
     let p = err_from_is_err_and c.from_residual.result c.from_residual.ensures.1 in
-    record { exact = stops g.M.Walked.view c.fields.invariant.kept c.in_err-field.ensures.exact p.1 p.2 }
+    stops g.M.Walked.view c.fields.invariant.read.kept c.in_err-field.ensures.exact p.1 p.2
 
-pub returns-in_err-value : goal.returns-in_err-value
-returns-in_err-value g c =
+pub returns-in_err-value-clause-exact : goal.returns-in_err-value-clause-exact
+returns-in_err-value-clause-exact g c =
     let p = err_from_is_err_and c.from_residual-in_err-value.result c.from_residual-in_err-value.ensures.1 in
     let found : next_at (101 - c.args.room) c.fields.left.now ≡ Ok (Some (entry c.in-Some.field, c.in-Some.rest.now)) = search rules in
-    record { exact = fails g.M.Walked.view c.fields.invariant.kept found (c.in_err-value.ensures.exact (c.args.room - 1) _) p.1 p.2 }
+    fails g.M.Walked.view c.fields.invariant.read.kept found (c.in_err-value.ensures.exact (c.args.room - 1) _) p.1 p.2
 
 pub field-requires-clause-stands : goal.field-requires-clause-stands
 field-requires-clause-stands g c content is =
     let found : next_at (101 - c.args.room) c.fields.left.now ≡ Ok (Some (entry c.in-Some.field, c.in-Some.rest.now)) = search rules in
     let begins : Begins (101 - c.args.room) c.fields.left.now (entry c.in-Some.field) c.in-Some.rest.now = next_takes (101 - c.args.room) c.fields.left.now (entry c.in-Some.field) c.in-Some.rest.now found in
-    rw c.len.ensures.value (place (101 - c.args.room) c.args.text.now c.fields.invariant.taken c.fields.left.now c.in-Some.rest.now (entry c.in-Some.field) c.fields.invariant.parts begins content is)
+    rw c.len.ensures.value (place (101 - c.args.room) c.args.text.now c.fields.invariant.read.taken c.fields.left.now c.in-Some.rest.now (entry c.in-Some.field) c.fields.invariant.read.parts begins content is)
 
 pub fields-preserved : goal.fields-preserved
 fields-preserved g c =
     let found : next_at (101 - c.args.room) c.fields.left.now ≡ Ok (Some (entry c.in-Some.field, c.in-Some.rest.now)) = search rules in
     let begins : Begins (101 - c.args.room) c.fields.left.now (entry c.in-Some.field) c.in-Some.rest.now = next_takes (101 - c.args.room) c.fields.left.now (entry c.in-Some.field) c.in-Some.rest.now found in
     record {
-      kept = goes_on c.fields.invariant.kept found (c.in_ok-value.ensures.exact (c.args.room - 1) _);
-      taken = c.fields.invariant.taken ++ begins.front;
-      parts = c.fields.invariant.parts ∙ ap (λ (t : List ℕ). c.fields.invariant.taken ++ t) begins.parts ∙ sym (append_assoc c.fields.invariant.taken begins.front c.in-Some.rest.now);
+      read = record {
+        kept = goes_on c.fields.invariant.read.kept found (c.in_ok-value.ensures.exact (c.args.room - 1) _);
+        taken = c.fields.invariant.read.taken ++ begins.front;
+        parts = c.fields.invariant.read.parts ∙ ap (λ (t : List ℕ). c.fields.invariant.read.taken ++ t) begins.parts ∙ sym (append_assoc c.fields.invariant.read.taken begins.front c.in-Some.rest.now);
+      };
+      held = let more = c.in_ok-value.ensures.held in let before = c.fields.invariant.held in omega (arith, more, before);
     }
 
-pub returns : goal.returns
-returns g c =
+pub returns-clause-exact : goal.returns-clause-exact
+returns-clause-exact g c =
     let none : next_at (101 - c.args.room) c.fields.left.now ≡ Ok None = search rules in
-    record { exact = ends c.fields.invariant.kept none }
+    ends c.fields.invariant.read.kept none
