@@ -1,18 +1,22 @@
-//! When each member of a shard is ready next, in order, so that a turn's tenant is at the front.
+//! When each member of a shard is ready next, so that a turn's tenant is found at once.
 //!
-//! An agenda holds each member once, by the moment at which it is ready next and, at one moment, by its number.
-//! Room for a member is made when it is admitted: after that, setting its moment and asking who is first take no
-//! memory, so a step that changed a tenant can always say so here. Moments are milliseconds. Setting a moment walks
-//! over the members once.
+//! An agenda holds each member once, with the moment at which it is ready next. Room for a member is made when it is
+//! admitted: after that, setting its moment and asking who is first take no memory, so a step that changed a tenant
+//! can always say so here. Moments are milliseconds. Admitting a member and setting its moment take as many steps as
+//! the logarithm of how many members there are, and asking who is first takes one.
 //!
 //! It stands on no other crate. Whom a turn goes to is this project's own rule.
 #![tactic(auto)]
 
-ghost use Rattle.std.specs.Prelude.{◌≡◌, ◌<◌, ◌||◌, ◌==◌, ℕ, Option, OnOk, OnErr, true, [], ◌∷◌, remove, take, drop, ◌++◌, length};
-ghost use Rattle.shard_agenda.specs.Agenda.{is_before, precedes, ready_of, is_member, rank, place, with_ready};
+ghost use Rattle.std.specs.Prelude.{◌≡◌, ◌||◌, ◌==◌, ℕ, OnOk, OnErr, true, []};
+ghost use Rattle.shard_agenda.specs.Agenda.{ready_of, is_member, with_ready};
 ghost use Rattle.shard_agenda.specs.Pick.{IsPick};
 
+mod firsts;
+
+use crate::firsts::mend;
 use std::alloc::{AllocError, Global};
+use std::collections::BTreeMap;
 use std::marker::Model;
 
 /// A member, and when it is ready next.
@@ -24,58 +28,27 @@ pub struct Entry {
     pub tenant: u32,
 }
 
-/// All members, by (moment, number); those without a moment stand last.
+/// All members, in the order in which they were admitted.
 #[derive(Drop)]
 pub struct Agenda {
     entries: Vec<Entry>,
+    // At each place the first of its own entry and those below it. Straight below place k are 2k + 1 and 2k + 2, so the
+    // first of all is at 0.
+    firsts: Vec<Entry>,
+    // The place of each tenant's entry.
+    places: BTreeMap<u32, usize>,
 }
 
 impl Model for Agenda {
     ghost use Rattle.std.specs.Prelude.{List};
     ghost use Rattle.shard_agenda.specs.declared.Entry.{Entry};
-    ghost use Rattle.shard_agenda.specs.Agenda.{IsInOrder};
+    ghost use Rattle.shard_agenda.specs.Firsts.{IsSound};
 
     ghost Value = { List Entry };
 
     ghost view = { λ a. a.entries.items };
 
-    ghost invariant = { λ a. IsInOrder a.entries.items };
-}
-
-/// Whether one entry stands before another.
-fn precedes(a: &Entry, b: &Entry) -> bool
-    ensures { result ≡ precedes a.now b.now }
-{
-    match (a.ready, b.ready) {
-        (None, None) => a.tenant < b.tenant,
-        (None, Some(_)) => false,
-        (Some(_), None) => true,
-        (Some(x), Some(y)) => x < y || x == y && a.tenant < b.tenant,
-    }
-}
-
-/// How many entries stand before this one.
-fn rank(entries: &[Entry], entry: &Entry) -> usize
-    ensures { result ≡ rank entry.now entries.now }
-{
-    for i in 0..entries.len() {
-        if precedes(entry, &entries[i]) {
-            return i;
-        }
-    }
-    entries.len()
-}
-
-/// Where the tenant stands, or the end.
-fn place(entries: &[Entry], tenant: u32) -> usize
-    ensures { result ≡ place tenant entries.now }
-{
-    for i in 0..entries.len() {
-        if entries[i].tenant == tenant {
-            return i;
-        }
-    }
-    entries.len()
+    ghost invariant = { λ a. IsSound a.entries.items a.firsts.items a.places };
 }
 
 impl Agenda {
@@ -85,6 +58,8 @@ impl Agenda {
     {
         Agenda {
             entries: Vec::new(alloc),
+            firsts: Vec::new(alloc),
+            places: BTreeMap::new(alloc),
         }
     }
 
@@ -95,15 +70,24 @@ impl Agenda {
         ensures ready { ready_of self.new ≡ ready_of self.old }
         ensures err { OnErr result (self.new ≡ self.old) }
     {
-        if place(&self.entries, tenant) < self.entries.len() {
+        if self.places.contains_key(&tenant) {
             return Ok(());
         }
+        let at = self.entries.len();
+        self.entries.reserve(1)?;
+        self.firsts.reserve(1)?;
+        self.places.insert(tenant, at)?;
         let entry = Entry {
             ready: None,
             tenant,
         };
-        let at = rank(&self.entries, &entry);
-        self.entries.insert(at, entry)?;
+        let Ok(()) = self.entries.push(entry) else {
+            unreachable!()
+        };
+        let Ok(()) = self.firsts.push(entry) else {
+            unreachable!()
+        };
+        mend(&self.entries, &mut self.firsts, at);
         Ok(())
     }
 
@@ -113,20 +97,18 @@ impl Agenda {
         ensures ready { ready_of self.new ≡ with_ready tenant ready (ready_of self.old) }
         ensures members { is_member self.new ≡ is_member self.old }
     {
-        let at = place(&self.entries, tenant);
-        self.entries.remove(at);
-        let entry = Entry { ready, tenant };
-        let at = rank(&self.entries, &entry);
-        let Ok(()) = self.entries.insert(at, entry) else {
+        let Some(at) = self.places.get(&tenant).copied() else {
             unreachable!()
         };
+        self.entries[at] = Entry { ready, tenant };
+        mend(&self.entries, &mut self.firsts, at);
     }
 
     /// The member that is ready first, the lower number first at one moment; none where no member is ready by now.
     pub fn first_due(&self, now: u64) -> Option<u32>
         ensures { IsPick (ready_of self.now) now result }
     {
-        let Some(first) = self.entries.first() else {
+        let Some(first) = self.firsts.first() else {
             return None;
         };
         let Some(moment) = first.ready else {

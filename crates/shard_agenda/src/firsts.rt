@@ -1,0 +1,53 @@
+//! The first of the entries below each place, kept right where one entry changed.
+
+ghost use Rattle.std.specs.Prelude.{◌≡◌, ◌<◌, Some, length};
+ghost use Rattle.shard_agenda.specs.Firsts.{precedes, first_of, first_below, IsRight, IsRightBut};
+
+use crate::Entry;
+
+/// Whether one entry stands before another.
+fn precedes(a: &Entry, b: &Entry) -> bool
+    ensures { result ≡ precedes a.now b.now }
+{
+    match (a.ready, b.ready) {
+        (None, None) => a.tenant < b.tenant,
+        (None, Some(_)) => false,
+        (Some(_), None) => true,
+        (Some(x), Some(y)) => x < y || x == y && a.tenant < b.tenant,
+    }
+}
+
+/// The one that stands first.
+fn first_of(a: Entry, b: Option<Entry>) -> Entry
+    ensures { Some result ≡ first_of (Some a) b }
+{
+    match b {
+        Some(b) if precedes(&b, &a) => b,
+        _ => a,
+    }
+}
+
+/// The first of a place's own entry and those below it, as the two places there tell.
+fn first_below(entries: &[Entry], firsts: &[Entry], at: usize) -> Entry
+    requires { at < length entries.now }
+    ensures { Some result ≡ first_below entries.now firsts.now at }
+{
+    let first = first_of(entries[at], firsts.get(2 * at + 1).copied());
+    first_of(first, firsts.get(2 * at + 2).copied())
+}
+
+/// Sets right what was right but for this place and the one above it.
+pub fn mend(entries: &[Entry], firsts: &mut [Entry], mut at: usize)
+    requires within { at < length entries.now }
+    requires even { length firsts.old ≡ length entries.now }
+    requires right { IsRightBut at entries.now firsts.old }
+    ensures { IsRight entries.now firsts.new }
+{
+    loop {
+        firsts[at] = first_below(entries, firsts, at);
+        if at == 0 {
+            return;
+        }
+        at = (at - 1) / 2;
+    }
+}
