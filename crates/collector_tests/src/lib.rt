@@ -6,6 +6,10 @@
 #[cfg(test)]
 mod bodies;
 #[cfg(test)]
+mod checked;
+#[cfg(test)]
+mod commands;
+#[cfg(test)]
 mod piecemeal;
 #[cfg(test)]
 mod replay_definitions;
@@ -15,3 +19,7 @@ mod replays;
 mod script;
 #[cfg(test)]
 mod script_definitions;
+#[cfg(test)]
+mod stories;
+#[cfg(test)]
+mod texts;

@@ -6,6 +6,7 @@ use std::cell::Cell;
 use std::io;
 use std::io::{BufReader, Read, Write};
 use std::test::Fail;
+use std::thread::Threads;
 
 /// Answers so many turns by their moments, and has no memory from then on.
 #[derive(Drop)]
@@ -16,10 +17,11 @@ struct Turns {
 impl Session for Turns {
     ghost answers = { λ old command line new. Unit {0} };
 
-    fn answer(
+    fn answer<T: Threads + Sync>(
         &mut self,
+        _rt: &T,
         alloc: Global,
-        command: &Command<'_>,
+        command: Command<'_>,
         out: &mut Vec<u8>,
     ) -> Result<(), AnswerFault> {
         if self.left == 0 {
@@ -28,7 +30,7 @@ impl Session for Turns {
         self.left -= 1;
         match command {
             Command::Turn { moment, .. } => {
-                put_idle(alloc, out, *moment)?;
+                put_idle(alloc, out, moment)?;
                 Ok(())
             }
             _ => Err(AnswerFault::Unknown),
@@ -95,7 +97,8 @@ fn lines_of_turns(alloc: Global, word: &str) -> Result<String, Fail> {
 }
 
 /// Whether a script is answered so that comes through a buffer of so many bytes.
-fn drips_and_sips(
+fn drips_and_sips<R: Threads + Sync>(
+    rt: &R,
     alloc: Global,
     capacity: usize,
     script: &str,
@@ -111,7 +114,7 @@ fn drips_and_sips(
         is_next: false,
     };
     let mut turns = Turns { left: 10_000 };
-    let told = run_script(alloc, &mut turns, &mut reader, &mut writer);
+    let told = run_script(rt, alloc, &mut turns, &mut reader, &mut writer);
     Ok(told == Ok(()) && writer.taken.as_slice() == answers.as_bytes())
 }
 
@@ -121,7 +124,7 @@ fn a_byte_a_call_and_every_second_call_interrupted(rt: HostRuntime) -> Result<()
     let answers = lines_of_turns(rt.alloc(), "idle")?;
     assert!(rt; answers.len() > 100_000);
     for capacity in [1, 8192] {
-        assert!(rt; drips_and_sips(rt.alloc(), capacity, script.as_str(), answers.as_str())?);
+        assert!(rt; drips_and_sips(&rt, rt.alloc(), capacity, script.as_str(), answers.as_str())?);
     }
     Ok(())
 }
@@ -194,7 +197,7 @@ fn what_was_answered_is_written_before_more_is_read(rt: HostRuntime) -> Result<(
         flushed: &flushed,
     };
     let mut turns = Turns { left: 6 };
-    let told = run_script(alloc, &mut turns, &mut reader, &mut writer);
+    let told = run_script(&rt, alloc, &mut turns, &mut reader, &mut writer);
     assert!(rt; told == Ok(()) && flushed.get() == 42);
     Ok(())
 }
@@ -205,7 +208,7 @@ fn without_memory_the_answers_so_far_are_written(rt: HostRuntime) -> Result<(), 
     let mut reader: &[u8] = b"turn 0 1\nturn 0 2\nturn 0 3\nturn 0 4\n";
     let mut out = Vec::new(alloc);
     let mut turns = Turns { left: 2 };
-    let told = run_script(alloc, &mut turns, &mut reader, &mut out);
+    let told = run_script(&rt, alloc, &mut turns, &mut reader, &mut out);
     assert!(rt; told == Err(ScriptFault::OutOfMemory));
     assert!(rt; out.as_slice() == b"idle 1\nidle 2\n".as_slice());
     assert!(rt; reader.starts_with(b"turn 0 4\n"));

@@ -1,6 +1,6 @@
 //! What the definitions say of shards, lines, scripts and replays, on examples that were worked out by hand.
 
-ghost use Rattle.collector_tests.specs.ReplayExamples.{Members, Lines, Posts, Scripts, OwnParts, AloneParts, Replays};
+ghost use Rattle.collector_tests.specs.ReplayExamples.{Members, Lines, Posts, Asked, Scripts, OwnParts, AloneParts, Replays};
 
 use otlp_read::values_or_faults;
 
@@ -9,6 +9,7 @@ fn definitions_on_small_replays()
     ensures members { Members }
     ensures lines { Lines }
     ensures posts { Posts }
+    ensures asked { Asked }
     ensures scripts { Scripts }
     ensures own_parts { OwnParts }
     ensures alone_parts { AloneParts }

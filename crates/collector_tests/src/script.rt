@@ -9,6 +9,7 @@ use std::alloc::Global;
 use std::io;
 use std::io::{BufReader, Read, Write};
 use std::test::Fail;
+use std::thread::Threads;
 
 /// Answers a turn of shard 0 as idle by its moment, and knows no other shard and no tenant.
 #[derive(Clone, Copy)]
@@ -17,15 +18,16 @@ struct Clock;
 impl Session for Clock {
     ghost answers = { λ old command line new. Unit {0} };
 
-    fn answer(
+    fn answer<T: Threads + Sync>(
         &mut self,
+        _rt: &T,
         alloc: Global,
-        command: &Command<'_>,
+        command: Command<'_>,
         out: &mut Vec<u8>,
     ) -> Result<(), AnswerFault> {
         match command {
             Command::Turn { shard: 0, moment } => {
-                put_idle(alloc, out, *moment)?;
+                put_idle(alloc, out, moment)?;
                 Ok(())
             }
             _ => Err(AnswerFault::Unknown),
@@ -261,7 +263,7 @@ fn answers_are_spelled(rt: HostRuntime) -> Result<(), Fail> {
     put_idle(alloc, &mut out, 63)?;
     put_refused(alloc, &mut out, "e", 22)?;
     put_done(alloc, &mut out, "a")?;
-    put_report(alloc, &mut out, "a", "accepted=1 undecided=1")?;
+    put_report(alloc, &mut out, "a", b"accepted=1 undecided=1")?;
     let text =
         "reply a 200 -\nreply a 400 120c6261642070726f746f627566\njob b 18446744073709551615 0aff\n\
         worked c.d\nidle 63\nrefused e 22\ndone a\nreport a accepted=1 undecided=1\n";
@@ -270,10 +272,16 @@ fn answers_are_spelled(rt: HostRuntime) -> Result<(), Fail> {
 }
 
 /// Whether a script's run ends so, and writes this.
-fn runs(alloc: Global, script: &[u8], end: Result<(), ScriptFault>, text: &[u8]) -> bool {
+fn runs<R: Threads + Sync>(
+    rt: &R,
+    alloc: Global,
+    script: &[u8],
+    end: Result<(), ScriptFault>,
+    text: &[u8],
+) -> bool {
     let mut reader = script;
     let mut out = Vec::new(alloc);
-    run_script(alloc, &mut Clock, &mut reader, &mut out) == end && out.as_slice() == text
+    run_script(rt, alloc, &mut Clock, &mut reader, &mut out) == end && out.as_slice() == text
 }
 
 #[test]
@@ -284,7 +292,7 @@ fn scripts_are_run(rt: HostRuntime) -> Result<(), Fail> {
         (b"turn 0 5\nturn 00 6\n", b"idle 5\nidle 6\n"),
     ];
     for (script, text) in cases {
-        assert!(rt; runs(rt.alloc(), script, Ok(()), text));
+        assert!(rt; runs(&rt, rt.alloc(), script, Ok(()), text));
     }
     Ok(())
 }
@@ -298,45 +306,59 @@ fn scripts_are_run_up_to_a_faulty_line(rt: HostRuntime) -> Result<(), Fail> {
         (b"post a 0 -", 1, b""),
     ];
     for (script, line, text) in cases {
-        assert!(rt; runs(rt.alloc(), script, Err(ScriptFault::Script { line }), text));
+        assert!(rt;
+            runs(
+                &rt,
+                rt.alloc(),
+                script,
+                Err(ScriptFault::Script { line }),
+                text
+            )
+        );
     }
     Ok(())
 }
 
 /// Whether a script that comes so many bytes a call is done, up to its reader's failure in the last line.
-fn runs_in_pieces(alloc: Global, most: usize) -> Result<bool, Fail> {
+fn runs_in_pieces<R: Threads + Sync>(rt: &R, alloc: Global, most: usize) -> Result<bool, Fail> {
     let reader = FailsAtEnd {
         text: b"# six\nturn 0 1\n\nturn 0 2\nturn 0 3",
         most,
     };
     let mut reader = BufReader::with_capacity(alloc, 5, reader)?;
     let mut out = Vec::new(alloc);
-    let told = run_script(alloc, &mut Clock, &mut reader, &mut out);
+    let told = run_script(rt, alloc, &mut Clock, &mut reader, &mut out);
     Ok(told == Err(ScriptFault::Line) && out.as_slice() == b"idle 1\nidle 2\n".as_slice())
 }
 
 #[test]
 fn lines_are_the_same_in_any_pieces(rt: HostRuntime) -> Result<(), Fail> {
     for most in [1, 2, 3, 7] {
-        assert!(rt; runs_in_pieces(rt.alloc(), most)?);
+        assert!(rt; runs_in_pieces(&rt, rt.alloc(), most)?);
     }
     Ok(())
 }
 
 /// Whether a run to a writer that takes so many bytes ends so, with those bytes written.
-fn runs_to(alloc: Global, most: usize, end: Result<(), ScriptFault>, text: &[u8]) -> bool {
+fn runs_to<R: Threads + Sync>(
+    rt: &R,
+    alloc: Global,
+    most: usize,
+    end: Result<(), ScriptFault>,
+    text: &[u8],
+) -> bool {
     let mut reader: &[u8] = b"turn 0 1\nturn 0 2\n";
     let mut writer = TakesFew {
         taken: Vec::new(alloc),
         most,
     };
-    run_script(alloc, &mut Clock, &mut reader, &mut writer) == end
+    run_script(rt, alloc, &mut Clock, &mut reader, &mut writer) == end
         && writer.taken.as_slice() == text
 }
 
 #[test]
 fn a_writer_that_fails_ends_the_run(rt: HostRuntime) -> Result<(), Fail> {
-    assert!(rt; runs_to(rt.alloc(), 9, Err(ScriptFault::Line), b"idle 1\nid"));
-    assert!(rt; runs_to(rt.alloc(), 14, Ok(()), b"idle 1\nidle 2\n"));
+    assert!(rt; runs_to(&rt, rt.alloc(), 9, Err(ScriptFault::Line), b"idle 1\nid"));
+    assert!(rt; runs_to(&rt, rt.alloc(), 14, Ok(()), b"idle 1\nidle 2\n"));
     Ok(())
 }

@@ -79,18 +79,20 @@ pub fn put_done(alloc: Global, out: &mut Vec<u8>, name: &str) -> Result<(), Allo
     out.extend_from_slice(line.as_bytes())
 }
 
-/// Appends the line of a tenant's report, which is given without its line end.
+/// Appends the line of a tenant's report, which is given as its bytes, without its line end.
 pub fn put_report(
     alloc: Global,
     out: &mut Vec<u8>,
     name: &str,
-    report: &str,
+    report: &[u8],
 ) -> Result<(), AllocError>
     ensures ok { OnOk result (out.new.items ≡ out.old.items ++ report_text name.now report.now) }
     ensures err { OnErr result (out.new.items ≡ out.old.items) }
 {
-    let line = format!(in alloc; "report {name} {report}\n")?;
-    out.extend_from_slice(line.as_bytes())
+    let mut line = format!(in alloc; "report {name} ")?.into_bytes();
+    line.extend_from_slice(report)?;
+    line.push(b'\n')?;
+    out.extend_from_slice(line.as_slice())
 }
 
 fn hex(alloc: Global, bytes: &[u8]) -> Result<String, AllocError>

@@ -14,6 +14,7 @@ use crate::output::Output;
 use crate::session::{AnswerFault, Session};
 use std::alloc::Global;
 use std::io::{BufRead, Write};
+use std::thread::Threads;
 
 /// A replay ends after so many calls of its reader or its writer.
 const MAX_CALLS: u64 = 1 << 62;
@@ -22,7 +23,8 @@ const MAX_CALLS: u64 = 1 << 62;
 /// far are written and the writer is flushed. Where a line is faulty, the answers to all lines before it were written;
 /// where memory was refused, the answers to all lines that were read, but to the last at most; where the reader or the
 /// writer failed, a beginning of the answers' text.
-pub fn run_script<S: Session, R: BufRead, W: Write>(
+pub fn run_script<T: Threads + Sync, S: Session, R: BufRead, W: Write>(
+    rt: &T,
     alloc: Global,
     session: &mut S,
     reader: &mut R,
@@ -33,13 +35,14 @@ pub fn run_script<S: Session, R: BufRead, W: Write>(
         × Ends S.answers (lines_of script) session.old (R.remaining reader.new) written result) }
 {
     let mut output = Output::new(alloc, MAX_CALLS);
-    let told = answer_lines(alloc, session, reader, writer, &mut output);
+    let told = answer_lines(rt, alloc, session, reader, writer, &mut output);
     output.send(writer)?;
     told
 }
 
 /// Does the lines that the reader gives. Some of the answers may be left in the output, but little of them.
-fn answer_lines<S: Session, R: BufRead, W: Write>(
+fn answer_lines<T: Threads + Sync, S: Session, R: BufRead, W: Write>(
+    rt: &T,
     alloc: Global,
     session: &mut S,
     reader: &mut R,
@@ -59,7 +62,14 @@ fn answer_lines<S: Session, R: BufRead, W: Write>(
     let mut number = 0u64;
     'lines: while next_line(reader, &mut input, writer, output, &mut line)? {
         number += 1;
-        answer_line(alloc, session, line.as_slice(), number, &mut output.text)?;
+        answer_line(
+            rt,
+            alloc,
+            session,
+            line.as_slice(),
+            number,
+            &mut output.text,
+        )?;
         output.send_much(writer)?;
     }
     Ok(())
@@ -67,7 +77,8 @@ fn answer_lines<S: Session, R: BufRead, W: Write>(
 
 /// Does the line of this number, unless it is to be skipped.
 #[tactic(auto, unfolding(crate::specs::Line::kind_of))]
-fn answer_line<S: Session>(
+fn answer_line<T: Threads + Sync, S: Session>(
+    rt: &T,
     alloc: Global,
     session: &mut S,
     line: &[u8],
@@ -85,7 +96,7 @@ fn answer_line<S: Session>(
     let Some(command) = parse_line(alloc, line)? else {
         return Err(ScriptFault::Script { line: number });
     };
-    match session.answer(alloc, &command, out) {
+    match session.answer(rt, alloc, command, out) {
         Ok(()) => Ok(()),
         Err(AnswerFault::Unknown) => Err(ScriptFault::Script { line: number }),
         Err(AnswerFault::OutOfMemory) => Err(ScriptFault::OutOfMemory),

@@ -1,12 +1,14 @@
 //! What does a script's commands.
 
 ghost use Rattle.std.specs.Prelude.{◌≡◌, ℕ, List, Option, Some, None, ◌++◌, OnOk, OnErr};
+ghost use Rattle.std.specs.Thread.{IsSync};
 ghost use Rattle.replay_script.specs.Command.{CommandData};
 ghost use Rattle.replay_script.specs.Named.{command_view};
 ghost use Rattle.replay_script.specs.declared.session.AnswerFault.TheVariants.{OutOfMemory};
 
 use crate::command::Command;
 use std::alloc::{AllocError, Global};
+use std::thread::Threads;
 use thiserror::Error;
 
 /// What does a script's commands.
@@ -15,16 +17,20 @@ pub trait Session {
     // isn't, or asks for what the session doesn't do, and lead to that state.
     ghost answers: { Self → CommandData → Option (List ℕ) → Self → Type 0 };
 
-    /// Does a command, and appends the line that answers it.
-    fn answer(
+    /// Does a command, whose bytes the session may keep, and appends the line that answers it. It may start threads.
+    fn answer<T: Threads + Sync>(
         &mut self,
+        rt: &T,
         alloc: Global,
-        command: &Command<'_>,
+        command: Command<'_>,
         out: &mut Vec<u8>,
     ) -> Result<(), AnswerFault>
+        // Threads may share what starts them, which the bound says of a function, but not yet of a trait's method.
+        requires { IsSync T.row }
         ensures ok { OnOk result ((line : List ℕ) × (out.new.items ≡ out.old.items ++ line)
-            × answers self.old (command_view command.now) (Some line) self.new) }
-        ensures unknown { result ≡ Err AnswerFault.Unknown → answers self.old (command_view command.now) None self.new }
+            × answers self.old (command_view command.entry) (Some line) self.new) }
+        ensures unknown { result ≡ Err AnswerFault.Unknown
+            → answers self.old (command_view command.entry) None self.new }
         ensures err { OnErr result (out.new.items ≡ out.old.items) };
 }
 

@@ -1,14 +1,29 @@
-mod Traces
-mod Fires
-mod Order
-mod Seats
-mod OneByOne
-mod Advance
-mod Coming
-mod Entries
-mod Run
-mod Bodies
-mod Equals
-mod Numbered
-mod Names
-pub mod OnLiterals
+pub mod Taking
+pub mod Origins
+pub mod Posting
+pub mod Sweeping
+pub mod Spans
+pub mod Grouping
+pub mod Sending
+pub mod Undoing
+pub mod Timing
+pub mod Holding
+pub mod Grouped
+pub mod Deciding
+pub mod Ranges
+pub mod Firsts
+pub mod Settling
+pub mod Stepping
+pub mod Acting
+pub mod Beginning
+pub mod Replies
+pub mod Counting
+pub mod Seating
+pub mod Placing
+pub mod Joins
+pub mod Opens
+pub mod Late
+pub mod Verdicts
+pub mod Draining
+pub mod Closing
+pub mod AfterDrain

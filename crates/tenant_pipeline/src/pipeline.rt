@@ -1,268 +1,323 @@
-//! One tenant's rules.
+//! What is a tenant's own.
 
-ghost use Rattle.std.specs.Prelude.{◌≡◌, ◌^◌, ◌≤◌, ◌<◌, [], length, true, false, max, min, IfOk, OnOk, OnErr, Option};
+ghost use Rattle.std.specs.Prelude.{◌≡◌, ◌≢◌, ◌^◌, ◌≤◌, ℕ, [], max, min, map, IfOk, OnErr, IsTrue, ◌↔◌, ◌==◌, ◌&&◌};
+ghost use Rattle.tail_settings.specs.Policy.{policy_view};
 ghost use Rattle.tail_settings.specs.Section.{section_view};
-ghost use Rattle.tenant_pipeline.specs.Equal.{same_policies};
-ghost use Rattle.tenant_pipeline.specs.Own.{Post, Turn, latest_moment};
-ghost use Rattle.tenant_pipeline.specs.State.{StandsFor, Answers, handed};
-ghost use Rattle.tenant_pipeline.specs.Timers.{next_timer, one_run, is_due, ran, IsFront, effective};
-ghost use Rattle.tenant_pipeline.specs.Machine.{handed_out, GoesOnFrom};
-ghost use Rattle.tenant_pipeline.specs.Ready.{lesser, next_job, ready};
-ghost use Rattle.tenant_pipeline.specs.View.{group_views};
-ghost use Rattle.tenant_pipeline.specs.declared.told.Told.TheVariants as tell;
+ghost use Rattle.tail_policy.specs.declared.note.TraceNote.{TraceNote as Note};
+ghost use Rattle.send_retry.specs.Class.{answer_view};
+ghost use Rattle.tenant_stores.specs.Counts.{no_rows};
+ghost use Rattle.tenant_stores.specs.Part.{Part, part};
+ghost use Rattle.tenant_stores.specs.Sound.{IsSound};
+ghost use Rattle.tenant_rules.specs.Own.{latest_moment};
+ghost use Rattle.tenant_rules.specs.Own as step;
+ghost use Rattle.tenant_rules.specs.Machine.{effective};
+ghost use Rattle.tenant_rules.specs.Ready.{ready};
+ghost use Rattle.tenant_rules.specs.Timers.{IsFront};
+ghost use Rattle.tenant_rules.specs.declared.told.Told.TheVariants as tell;
+ghost use Rattle.tenant_pipeline.specs.Prepared.{post_of};
+ghost use Rattle.tenant_pipeline.specs.StateIn.{policies_of, state_of, state_in};
+ghost use Rattle.tenant_pipeline.specs.Held.{IsHeldBy, IsHeld, IsSwept};
+ghost use Rattle.tenant_pipeline.specs.Steps.{StandsFor, Answers, GoesOnFrom};
 
-use crate::body::Prepared;
-use crate::export::export;
-use crate::place::place_all;
-use crate::rows::{Backlog, Group, decide_at};
-use crate::told::{Reply, Told};
-use indexmap::IndexMap;
-use otlp_trace::Octets;
+use crate::section::copied_section;
+use drop_ledger::Ledger;
+use otlp_prepare::Prepared;
+use send_queue::SendQueue;
+use send_retry::Answer;
+use span_batcher::SpanBatcher;
 use std::alloc::{AllocError, Global};
-use std::collections::VecDeque;
-use std::marker::Model;
-use tail_settings::{PolicySpec, Section, copied_policies};
+use tail_policy::TraceNote;
+use tail_settings::Section;
+use tenant_rules::{Reply, Told};
+use tenant_stores::Stores;
 
 /// A later moment is taken as this one, in milliseconds.
 pub const LATEST_MOMENT: u64 = 1 << 62;
 
-/// No more tickets than these are handed out.
-const LAST_TICKET: u64 = 1 << 62;
-
-/// What is kept of one tenant: the rows that its traces opened, the batches that wait, its clock and its tickets.
-#[derive(Drop)]
-pub struct Pipeline {
-    alloc: Global,
-    // How long a row waits for its decision, in milliseconds.
-    wait: u64,
-    policies: Vec<PolicySpec>,
-    // The moment of the last step or decision, in milliseconds, which no later one is before.
-    clock: u64,
-    backlog: Backlog,
-    // So many rows are decided, which are the first.
-    decided: usize,
-    // The last ticket that was handed out, 0 before the first.
-    tickets: u64,
-    // No number above this one is in use. The next body's are put above it.
-    last_number: u64,
+/// How many of a tenant's rows there are. Rows are numbered from 1, as they open.
+#[derive(Clone, Copy, Debug, PartialEq, Eq)]
+pub struct RowCounts {
+    /// So many have left the table, which are the first.
+    pub swept: u64,
+    /// So many are no longer present, which are the first.
+    pub first: u64,
+    /// So many are decided or no longer present, which are the first.
+    pub decided: u64,
+    /// So many have opened.
+    pub opened: u64,
 }
 
-impl Model for Pipeline {
-    ghost use Rattle.std.specs.Prelude.{map};
-    ghost use Rattle.tail_settings.specs.Policy.{policy_view};
-    ghost use Rattle.tenant_pipeline.specs.State.{State};
-    ghost use Rattle.tenant_pipeline.specs.Bounds.{IsBounded};
-    ghost use Rattle.tenant_pipeline.specs.View.{row_views, group_views};
-    ghost use Rattle.tenant_pipeline.specs.Numbered.{AreAllNumbered};
-
-    ghost Value = { State };
-
-    ghost view = { λ p. record {
-      wait = p.wait;
-      policies = map policy_view p.policies.items;
-      clock = p.clock;
-      rows = row_views p.backlog.rows.entries;
-      decided = p.decided;
-      queue = group_views p.backlog.queue.items;
-      tickets = p.tickets;
-    } };
-
-    ghost invariant = { λ p. IsBounded p.wait p.clock p.tickets × AreAllNumbered p.last_number p.backlog };
+/// What is kept of one tenant beside the stores: its settings, its clock, how many rows it has, the keys of its spans
+/// that wait for a batch, its batches on their way, and its counters.
+#[derive(Drop)]
+pub struct Pipeline {
+    pub(crate) alloc: Global,
+    // Its number, under which the stores know it.
+    pub(crate) tenant: u32,
+    pub(crate) section: Section,
+    // The moment of the last step or timer, in milliseconds, which no later one is before.
+    pub(crate) clock: u64,
+    // Whether it takes no more spans.
+    pub(crate) drained: bool,
+    pub(crate) rows: RowCounts,
+    pub(crate) batcher: SpanBatcher,
+    pub(crate) sender: SendQueue,
+    pub(crate) ledger: Ledger,
 }
 
 impl Pipeline {
-    /// A tenant with no steps so far.
-    pub fn new(alloc: Global, section: &Section) -> Result<Self, AllocError>
-        ensures { IfOk result (StandsFor (section_view section.now) []) }
+    /// A tenant with no steps so far, over any stores that have nothing of it.
+    pub fn new(alloc: Global, tenant: u32, section: &Section) -> Result<Self, AllocError>
+        ensures stands { IfOk result (λ made. (p : Part Note) → IsSound no_rows [] [] p →
+            StandsFor (section_view section.now) [] (state_of made p)) }
+        ensures held { IfOk result (λ made. (p : Part Note) → IsSound no_rows [] [] p → IsHeldBy made p) }
+        ensures swept { IfOk result (λ made. IsSwept made) }
+        ensures tenant { IfOk result (λ made. made.tenant ≡ tenant) }
     {
+        let section = copied_section(alloc, section)?;
+        let sender = SendQueue::new(alloc, &section.sending_queue, &section.retry_on_failure)?;
+        let batcher = SpanBatcher::new(
+            alloc,
+            section.batch.timeout,
+            section.batch.send_batch_size as usize,
+            section.batch.send_batch_max_size as usize,
+        );
         Ok(Pipeline {
             alloc,
-            wait: section.tail_sampling.decision_wait,
-            policies: copied_policies(alloc, section.tail_sampling.policies.as_slice())?,
+            tenant,
+            section,
             clock: 0,
-            backlog: Backlog {
-                rows: IndexMap::new(alloc),
-                queue: VecDeque::new(alloc),
+            drained: false,
+            rows: RowCounts {
+                swept: 0,
+                first: 0,
+                decided: 0,
+                opened: 0,
             },
-            decided: 0,
-            tickets: 0,
-            last_number: 0,
+            batcher,
+            sender,
+            ledger: Ledger::new(),
         })
     }
 
-    /// Whether a body was prepared for this tenant's policies. `post` takes any body, so that its caller asks this
-    /// first.
-    pub fn is_for(&self, prepared: &Prepared) -> bool
-        ensures { result ≡ same_policies prepared.now.policies self.now.policies }
+    /// The tenant's number.
+    pub fn tenant(&self) -> u32
+        ensures { result ≡ self.now.tenant }
     {
-        prepared.has_policies(self.policies.as_slice())
+        self.tenant
     }
 
-    /// A body's spans come, at a moment in milliseconds, with numbers that are higher than those before. Where memory
-    /// is refused, decisions that were due may have been made, and no span has come.
-    pub fn post(&mut self, now: u64, prepared: &Prepared) -> Result<Reply, AllocError>
+    /// Whether a body was made ready for this tenant's policies. `post` asks for that.
+    pub fn is_for(&self, prepared: &Prepared<'_>) -> bool
+        ensures { IsTrue result ↔ (prepared.now.policies ≡ policies_of self.now) }
+    {
+        prepared.has_policies(self.section.tail_sampling.policies.as_slice())
+    }
+
+    /// A body's spans come, at a moment in milliseconds. Where memory is refused, timers that were due may have run,
+    /// and no span has come.
+    pub fn post(
+        &mut self,
+        stores: &mut Stores<TraceNote>,
+        now: u64,
+        prepared: &Prepared<'_>,
+    ) -> Result<Reply, AllocError>
+        requires held { IsHeld self.old stores.old }
+        requires policies { prepared.now.policies ≡ policies_of self.old }
+
         // The reply is what the settings and the own steps say, and the state is what they and this step give. Where no
         // own steps leave the old state, as after refused memory, both follow from that state.
-        ensures ok { IfOk result (λ reply.
-            Answers (Post now prepared.now.arrivals) self.old (tell.Reply reply) self.new) }
-        ensures goes_on { IfOk result (λ reply.
-            GoesOnFrom (Post now prepared.now.arrivals) self.old (tell.Reply reply) self.new) }
+        ensures ok { IfOk result (λ reply. Answers (post_of now prepared.now) (state_in self.old stores.old)
+            (tell.Reply reply) (state_in self.new stores.new)) }
+        ensures goes_on { IfOk result (λ reply. GoesOnFrom (post_of now prepared.now) (state_in self.old stores.old)
+            (tell.Reply reply) (state_in self.new stores.new)) }
 
-        // Some first due decisions have been made, and all else is as before.
-        ensures refused { OnErr result (
-            IsFront (effective (Post now prepared.now.arrivals) self.old) self.old self.new) }
-        ensures policies { self.new.policies ≡ self.old.policies }
+        // Some first due timers have run, and all else is as before.
+        ensures refused { OnErr result (let taken = post_of now prepared.now in
+            let old = state_in self.old stores.old in
+            IsFront (effective taken old) old (state_in self.new stores.new)) }
+
+        // What always holds goes on to hold, and nothing of other tenants changes.
+        ensures held { IsHeld self.new stores.new }
+        ensures swept { IsSwept self.old → IsSwept self.new }
+        ensures others { (other : ℕ) → other ≢ self.old.tenant → part other stores.new ≡ part other stores.old }
+        ensures tenant { self.new.tenant ≡ self.old.tenant }
+        ensures section { self.new.section ≡ self.old.section }
     {
         let moment = self.effective(now);
-        self.run_due(moment)?;
-        let base = self.last_number;
-        let (spans, last_number) = prepared.spans();
-        self.last_number = base.saturating_add(last_number);
-        place_all(
-            self.alloc,
-            &mut self.backlog,
-            self.wait,
-            moment,
-            base,
-            spans,
-        )?;
+        self.run_due(stores, moment)?;
+        let reply = self.take_post(stores, moment, prepared)?;
         self.clock = moment;
-        Ok(Reply {
-            status: 200,
-            body: Octets::new(self.alloc),
-        })
+        Ok(reply)
     }
 
-    /// A worker asks for a job, at a moment in milliseconds. Where memory is refused, decisions that were due may have
-    /// been made, and no ticket is used up.
-    pub fn turn(&mut self, now: u64) -> Result<Told, AllocError>
-        // The answer is what the settings and the own steps say, and the state is what they and this step give. Where
-        // no own steps leave the old state, as after refused memory, both follow from that state.
-        ensures ok { IfOk result (λ told. Answers (Turn now) self.old told self.new) }
-        ensures goes_on { IfOk result (λ told. GoesOnFrom (Turn now) self.old told self.new) }
+    /// A worker asks for a job, at a moment in milliseconds. Where memory is refused, timers that were due may have
+    /// run, and no ticket is used up.
+    pub fn turn(&mut self, stores: &mut Stores<TraceNote>, now: u64) -> Result<Told, AllocError>
+        requires held { IsHeld self.old stores.old }
 
-        // Some first due decisions have been made, and all else is as before.
-        ensures refused { OnErr result (IsFront (effective (Turn now) self.old) self.old self.new) }
-        ensures policies { self.new.policies ≡ self.old.policies }
+        // What is told is what the settings and the own steps say, and the state is what they and this step give. Where
+        // no own steps leave the old state, as after refused memory, both follow from that state.
+        ensures ok { IfOk result (λ told.
+            Answers (step.Turn now) (state_in self.old stores.old) told (state_in self.new stores.new)) }
+        ensures goes_on { IfOk result (λ told.
+            GoesOnFrom (step.Turn now) (state_in self.old stores.old) told (state_in self.new stores.new)) }
+
+        // Some first due timers have run, and all else is as before.
+        ensures refused { OnErr result (let taken = step.Turn now in let old = state_in self.old stores.old in
+            IsFront (effective taken old) old (state_in self.new stores.new)) }
+
+        // What always holds goes on to hold, and nothing of other tenants changes.
+        ensures held { IsHeld self.new stores.new }
+        ensures swept { IsSwept self.old → IsSwept self.new }
+        ensures others { (other : ℕ) → other ≢ self.old.tenant → part other stores.new ≡ part other stores.old }
+        ensures tenant { self.new.tenant ≡ self.old.tenant }
+        ensures section { self.new.section ≡ self.old.section }
     {
         let moment = self.effective(now);
-        self.run_due(moment)?;
-        let told = self.hand_out()?;
+        self.run_due(stores, moment)?;
+        let told = self.hand_out(moment)?;
         self.clock = moment;
         Ok(told)
     }
 
-    /// When there is next something to do, in milliseconds: the moment of the next decision, or that at which the
-    /// oldest batch formed.
-    #[tactic(auto, unfolding(crate::specs::Ready::ready))]
-    pub fn ready(&self) -> Option<u64>
-        ensures { result ≡ ready self.now }
+    /// A back end answers the job of a ticket, at a moment in milliseconds. `word` picks the delay before another
+    /// attempt. Where memory is refused, timers that were due may have run, and the answer hasn't come.
+    pub fn answer(
+        &mut self,
+        stores: &mut Stores<TraceNote>,
+        now: u64,
+        ticket: u64,
+        word: u32,
+        answer: &Answer,
+    ) -> Result<Told, AllocError>
+        requires held { IsHeld self.old stores.old }
+
+        // What is told is what the settings and the own steps say, and the state is what they and this step give. Where
+        // no own steps leave the old state, as after refused memory, both follow from that state.
+        ensures ok { IfOk result (λ told. Answers (step.Answer now ticket word (answer_view answer.now))
+            (state_in self.old stores.old) told (state_in self.new stores.new)) }
+        ensures goes_on { IfOk result (λ told. GoesOnFrom (step.Answer now ticket word (answer_view answer.now))
+            (state_in self.old stores.old) told (state_in self.new stores.new)) }
+
+        // Some first due timers have run, and all else is as before.
+        ensures refused { OnErr result (let taken = step.Answer now ticket word (answer_view answer.now) in
+            let old = state_in self.old stores.old in
+            IsFront (effective taken old) old (state_in self.new stores.new)) }
+
+        // What always holds goes on to hold, and nothing of other tenants changes.
+        ensures held { IsHeld self.new stores.new }
+        ensures swept { IsSwept self.old → IsSwept self.new }
+        ensures others { (other : ℕ) → other ≢ self.old.tenant → part other stores.new ≡ part other stores.old }
+        ensures tenant { self.new.tenant ≡ self.old.tenant }
+        ensures section { self.new.section ≡ self.old.section }
     {
-        lesser(
-            self.next_timer(),
-            next_job(&self.backlog.queue, self.tickets),
-        )
+        let moment = self.effective(now);
+        self.run_due(stores, moment)?;
+        let told = self.settle(moment, ticket, word, answer);
+        self.clock = moment;
+        Ok(told)
+    }
+
+    /// The counters are asked for, at a moment in milliseconds. Where memory is refused, timers that were due may have
+    /// run.
+    pub fn report(&mut self, stores: &mut Stores<TraceNote>, now: u64) -> Result<Told, AllocError>
+        requires held { IsHeld self.old stores.old }
+
+        // What is told is what the settings and the own steps say, and the state is what they and this step give. Where
+        // no own steps leave the old state, as after refused memory, both follow from that state.
+        ensures ok { IfOk result (λ told.
+            Answers (step.Report now) (state_in self.old stores.old) told (state_in self.new stores.new)) }
+        ensures goes_on { IfOk result (λ told.
+            GoesOnFrom (step.Report now) (state_in self.old stores.old) told (state_in self.new stores.new)) }
+
+        // Some first due timers have run, and all else is as before.
+        ensures refused { OnErr result (let taken = step.Report now in let old = state_in self.old stores.old in
+            IsFront (effective taken old) old (state_in self.new stores.new)) }
+
+        // What always holds goes on to hold, and nothing of other tenants changes.
+        ensures held { IsHeld self.new stores.new }
+        ensures swept { IsSwept self.old → IsSwept self.new }
+        ensures others { (other : ℕ) → other ≢ self.old.tenant → part other stores.new ≡ part other stores.old }
+        ensures tenant { self.new.tenant ≡ self.old.tenant }
+        ensures section { self.new.section ≡ self.old.section }
+    {
+        let moment = self.effective(now);
+        self.run_due(stores, moment)?;
+        let told = self.report_told()?;
+        self.clock = moment;
+        Ok(told)
+    }
+
+    /// The tenant takes no more spans, and sends all it holds, at a moment in milliseconds. Where memory is refused,
+    /// timers that were due may have run, and it goes on as before.
+    pub fn drain(&mut self, stores: &mut Stores<TraceNote>, now: u64) -> Result<Told, AllocError>
+        requires held { IsHeld self.old stores.old }
+
+        // What is told is what the settings and the own steps say, and the state is what they and this step give. Where
+        // no own steps leave the old state, as after refused memory, both follow from that state.
+        ensures ok { IfOk result (λ told.
+            Answers (step.Drain now) (state_in self.old stores.old) told (state_in self.new stores.new)) }
+        ensures goes_on { IfOk result (λ told.
+            GoesOnFrom (step.Drain now) (state_in self.old stores.old) told (state_in self.new stores.new)) }
+
+        // Some first due timers have run, and all else is as before.
+        ensures refused { OnErr result (let taken = step.Drain now in let old = state_in self.old stores.old in
+            IsFront (effective taken old) old (state_in self.new stores.new)) }
+
+        // What always holds goes on to hold, and nothing of other tenants changes.
+        ensures held { IsHeld self.new stores.new }
+        ensures swept { IsSwept self.old → IsSwept self.new }
+        ensures others { (other : ℕ) → other ≢ self.old.tenant → part other stores.new ≡ part other stores.old }
+        ensures tenant { self.new.tenant ≡ self.old.tenant }
+        ensures section { self.new.section ≡ self.old.section }
+    {
+        let moment = self.effective(now);
+        self.run_due(stores, moment)?;
+        if !self.drained {
+            self.close(stores, moment)?;
+        }
+        self.clock = moment;
+        Ok(Told::Done)
+    }
+
+    /// When there is next something to do, in milliseconds: the moment of the next timer, or that from which on there
+    /// is a job.
+    pub fn ready(&self, stores: &Stores<TraceNote>) -> Option<u64>
+        requires held { IsHeld self.now stores.now }
+        ensures { result ≡ ready (state_in self.now stores.now) }
+    {
+        lesser(self.next_timer(stores), self.sender.ready())
+    }
+
+    /// Whether none of its spans waits for anything: each that was taken was exported or dropped.
+    pub fn is_empty(&self) -> bool
+        ensures { result ≡ (self.now.ledger.places.undecided == 0 && self.now.ledger.places.pending == 0
+            && self.now.ledger.places.queued == 0 && self.now.ledger.places.active == 0) }
+    {
+        let places = self.ledger.places();
+        places.undecided == 0 && places.pending == 0 && places.queued == 0 && places.active == 0
     }
 
     /// When a step of this moment takes effect.
     fn effective(&self, now: u64) -> u64
         ensures at { result ≡ max self.now.clock (min now latest_moment) }
-        ensures fits { result ≤ 2 ^ 62 }
+        ensures later { self.now.clock ≤ result }
+        ensures fits { self.now.clock ≤ 2 ^ 62 → result ≤ 2 ^ 62 }
     {
         self.clock.max(now.min(LATEST_MOMENT))
     }
-
-    /// When the first undecided row is due.
-    fn next_timer(&self) -> Option<u64>
-        ensures { result ≡ next_timer self.now }
-    {
-        match self.backlog.rows.get_index(self.decided) {
-            Some((_, row)) => Some(row.due),
-            None => None,
-        }
-    }
-
-    /// Whether a timer is due by the moment.
-    fn is_due(&self, moment: u64) -> bool
-        ensures { result ≡ is_due (next_timer self.now) moment }
-    {
-        match self.next_timer() {
-            Some(due) => due <= moment,
-            None => false,
-        }
-    }
-
-    /// The first timer runs.
-    fn run_one(&mut self, moment: u64) -> Result<(), AllocError>
-        requires due { is_due (next_timer self.old) moment ≡ true }
-        requires fits { moment ≤ 2 ^ 62 }
-        ensures ok { OnOk result (self.new ≡ one_run self.old) }
-        ensures refused { OnErr result (self.new ≡ self.old) }
-    {
-        if self.decided < self.backlog.rows.len() {
-            self.clock = decide_at(
-                self.alloc,
-                self.policies.as_slice(),
-                &mut self.backlog,
-                self.decided,
-            )?;
-            self.decided += 1;
-        }
-        Ok(())
-    }
-
-    /// The timers that are due by the moment run. Where one is refused memory, those before it have run.
-    fn run_due(&mut self, moment: u64) -> Result<(), AllocError>
-        requires { moment ≤ 2 ^ 62 }
-        ensures front { IsFront moment self.old self.new }
-        ensures policies { self.new.policies ≡ self.old.policies }
-        ensures ok { OnOk result (self.new ≡ ran (length self.old.rows) moment self.old) }
-    {
-        while self.is_due(moment) {
-            self.run_one(moment)?;
-        }
-        Ok(())
-    }
-
-    /// Hands out the first group, with the next ticket.
-    fn hand_out(&mut self) -> Result<Told, AllocError>
-        ensures told { IfOk result (λ told. told ≡ handed self.old.tickets self.old.queue) }
-        ensures ok { OnOk result (self.new ≡ handed_out self.old) }
-        ensures refused { OnErr result (self.new ≡ self.old) }
-    {
-        if self.tickets >= LAST_TICKET {
-            return Ok(Told::Worked);
-        }
-        let payload = match self.backlog.queue.front() {
-            Some(group) => export(self.alloc, group.spans.as_slice())?,
-            None => return Ok(Told::Worked),
-        };
-        self.backlog.queue.pop_front();
-        self.tickets += 1;
-        Ok(Told::Job {
-            ticket: self.tickets,
-            payload,
-        })
-    }
 }
 
-/// The earlier of two moments, none being later than any.
-fn lesser(a: Option<u64>, b: Option<u64>) -> Option<u64>
-    ensures { result ≡ lesser a b }
-{
-    match (a, b) {
-        (None, b) => b,
-        (Some(a), None) => Some(a),
-        (Some(a), Some(b)) => Some(a.min(b)),
-    }
-}
+ghost use Rattle.tenant_rules.specs.Ready.{lesser};
 
-/// When the oldest group formed, as long as there are tickets.
-fn next_job(queue: &VecDeque<Group>, tickets: u64) -> Option<u64>
-    ensures { result ≡ next_job tickets (group_views queue.now.items) }
+/// The lesser of two moments, of which one or both may be none.
+pub(crate) fn lesser(one: Option<u64>, other: Option<u64>) -> Option<u64>
+    ensures { result ≡ lesser one other }
 {
-    match queue.front() {
-        Some(group) if tickets < LAST_TICKET => Some(group.moment),
-        _ => None,
+    match (one, other) {
+        (None, other) => other,
+        (Some(one), None) => Some(one),
+        (Some(one), Some(other)) => Some(one.min(other)),
     }
 }

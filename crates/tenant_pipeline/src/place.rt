@@ -1,239 +1,318 @@
-//! Spans go to their rows, all of a post or none.
+//! A span of a post goes to its trace's row, leaves late, or opens a row.
 
-ghost use Rattle.std.specs.Prelude.{◌≡◌, ℕ, ◌^◌, ◌≤◌, ◌++◌, ◌==◌, [], ◌∷◌, nat_lt, if◌then◌else◌, length, map, IfOk, OnOk, OnErr};
-ghost use Rattle.std.specs.List.{list_all};
-ghost use Rattle.span_pool.specs.Stored.{stored_facts};
-ghost use Rattle.span_pool.specs.Named.{Names, IsNamed, AreNamed, renumbered};
-ghost use Rattle.tenant_pipeline.specs.Arrivals.{arrival_in, arrivals_in, is_id, is_valid, valid};
-ghost use Rattle.tenant_pipeline.specs.View.{group_views, backlog_view};
-ghost use Rattle.tenant_pipeline.specs.Numbered.{AreGroupsNamed, AreAllNamed};
-ghost use Rattle.tenant_pipeline.specs.Machine.{group_if_late};
-ghost use Rattle.tenant_pipeline.specs.Backlog.{with_span, with_spans};
-ghost use Rattle.tenant_pipeline.specs.Additions.{addition_to, before, without};
+ghost use Rattle.std.specs.Prelude.{◌≡◌, ◌≢◌, ◌<◌, ◌≤◌, ◌+◌, ◌-◌, ◌++◌, ◌∷◌, [], ◌^◌, ℕ, List, Some, IfOk, OnOk, OnErr, if◌then◌else◌, nat_lt, length, vec_len, vec_capacity};
+ghost use Rattle.drop_ledger.specs.Ledger.{IsSound as IsSoundLedger, counted, moved, most_counted};
+ghost use Rattle.drop_ledger.specs.declared.places.Place.TheVariants.{Undecided, TooEarly};
+ghost use Rattle.span_pool.specs.Keyed.{origin_at};
+ghost use Rattle.tail_policy.specs.declared.note.TraceNote.{TraceNote as Note};
+ghost use Rattle.trace_rows.specs.Part.{keys_of};
+ghost use Rattle.tenant_stores.specs.Part.{Part, part};
+ghost use Rattle.tenant_stores.specs.Counts.{Counts, room_made};
+ghost use Rattle.tenant_stores.specs.Sound.{IsSound};
+ghost use Rattle.tenant_stores.specs.View.{view, text_at, text_keys};
+ghost use Rattle.tenant_stores.specs.Trail.{HoldsAll};
+ghost use Rattle.tenant_rules.specs.Machine.{come, joins, opens, evicted, counted_in};
+ghost use Rattle.tenant_rules.specs.Timers.{grouped};
+ghost use Rattle.tenant_pipeline.specs.declared.pipeline.Pipeline.{Pipeline as Own};
+ghost use Rattle.tenant_stores.specs.Shows.{AreAmong, Stay};
+ghost use Rattle.tenant_pipeline.specs.StateIn.{counts_in, part_in, state_in};
+ghost use Rattle.tenant_pipeline.specs.Held.{IsHeldAt};
+ghost use Rattle.tenant_pipeline.specs.Posts.{arrival_at, IsComing, Came, IsWritten, IsSameTenant, IsSeat, IsSeatAt};
 
-use crate::rows::{Backlog, Group, Row};
-use span_pool::StoredSpan;
-use std::alloc::{AllocError, Global};
-use std::collections::VecDeque;
+use crate::journal::Journal;
+use crate::pipeline::Pipeline;
+use drop_ledger::Place;
+use otlp_prepare::NotedSpan;
+use span_pool::{KeyedSpan, TextKeys};
+use std::alloc::AllocError;
+use tail_policy::TraceNote;
+use tenant_stores::{Placed, Stores};
 
-/// What a span's coming added.
-#[derive(Clone, Copy)]
-pub enum Addition {
-    /// A row with this span, behind the others.
-    Opened,
-    /// The span, behind the others of the row at this place.
-    Joined(usize),
-    /// A group with this span alone, behind the others.
-    Late,
-    /// Nothing: the span is late, and its row isn't sampled.
-    NotSampled,
+/// Where a trace has its latest row.
+#[derive(Clone, Copy, Debug, PartialEq, Eq)]
+pub enum Seat {
+    /// It has none that is present.
+    Nowhere,
+    /// Its row was decided, and is sampled or not.
+    Decided(bool),
+    /// Its row waits, and has this number.
+    Waits(u64),
 }
 
-/// Whether all bytes are zero.
-fn is_zero(bytes: &[u8]) -> bool
-    ensures { result ≡ list_all (λ byte. byte == 0) bytes.now }
-{
-    for byte in bytes {
-        if *byte != 0 {
-            return false;
+impl Pipeline {
+    /// Where a trace has its latest row.
+    fn seat(&self, stores: &Stores<TraceNote>, trace: [u8; 16]) -> Seat
+        requires held { (reached : ℕ) × (gone held : List ℕ)
+            × IsHeldAt reached gone held self.now (part_in self.now stores.now) }
+        ensures seat { IsSeat trace result (state_in self.now stores.now) }
+        ensures number { IsSeatAt trace result self.now (part_in self.now stores.now) }
+    {
+        let Some(number) = stores.seat(self.tenant, trace) else {
+            return Seat::Nowhere;
+        };
+        if number <= self.rows.first {
+            return Seat::Nowhere;
+        }
+        if number > self.rows.decided {
+            return Seat::Waits(number);
+        }
+        match stores.row(self.tenant, number) {
+            Some(row) => Seat::Decided(row.sampled),
+            None => unreachable!(),
         }
     }
-    true
-}
 
-/// Whether the bytes are an id of this size.
-fn is_id(bytes: &[u8], size: usize) -> bool
-    ensures { result ≡ is_id size bytes.now }
-{
-    bytes.len() == size && !is_zero(bytes)
-}
-
-/// Whether trace and span id are as they have to be.
-fn is_valid(span: &StoredSpan) -> bool
-    ensures { result ≡ is_valid (arrival_in span.now) }
-{
-    let view = span.view();
-    is_id(view.trace_id(), 16) && is_id(view.span_id(), 8)
-}
-
-/// A row's name.
-fn trace_key(span: &StoredSpan) -> [u8; 16]
-    requires { length (stored_facts span.now).trace_id ≡ 16 }
-    ensures { result ≡ (stored_facts span.now).trace_id }
-{
-    let mut key = [0; 16];
-    key.copy_from_slice(span.view().trace_id());
-    key
-}
-
-/// A list of one span.
-fn one(alloc: Global, span: StoredSpan) -> Result<Vec<StoredSpan>, AllocError>
-    ensures { IfOk result (λ spans. spans.items ≡ span ∷ []) }
-{
-    let mut spans = Vec::new(alloc);
-    spans.reserve_exact(1)?;
-    spans.push(span)?;
-    Ok(spans)
-}
-
-/// The span joins the row, which is at this place. Where it is late, it leaves alone if the row is sampled. Where
-/// memory is refused, nothing changes.
-fn join(
-    alloc: Global,
-    row: &mut Row,
-    place: usize,
-    queue: &mut VecDeque<Group>,
-    moment: u64,
-    span: StoredSpan,
-) -> Result<Addition, AllocError>
-    ensures due { row.new.due ≡ row.old.due }
-    ensures sampled { row.new.sampled ≡ row.old.sampled }
-    ensures addition { IfOk result (λ addition. addition ≡ addition_to place moment row.old.due row.old.sampled) }
-    ensures row { OnOk result (row.new.spans.items ≡
-        (if nat_lt moment row.old.due then row.old.spans.items ++ span ∷ [] else row.old.spans.items)) }
-    ensures queue { OnOk result (group_views queue.new.items ≡ group_views queue.old.items ++
-        group_if_late moment (arrival_in span) row.old.due row.old.sampled) }
-    ensures refused_row { OnErr result (row.new.spans.items ≡ row.old.spans.items) }
-    ensures refused_queue { OnErr result (queue.new.items ≡ queue.old.items) }
-    ensures named { (names : Names) (last : ℕ) → AreNamed names last row.old.spans.items →
-        AreGroupsNamed names last queue.old.items → IsNamed names last span → AreNamed names last row.new.spans.items ×
-        AreGroupsNamed names last queue.new.items }
-{
-    if moment < row.due {
-        row.spans.push(span)?;
-        return Ok(Addition::Joined(place));
+    /// Whether there is room for one more span.
+    fn has_room(&self) -> bool
+        requires sound { IsSoundLedger self.now.ledger }
+        ensures { result ≡ nat_lt (self.now.ledger.places.undecided + self.now.ledger.places.pending)
+            self.now.section.max_spans }
+    {
+        let places = self.ledger.places();
+        places.undecided + places.pending < self.section.max_spans as u64
     }
-    if !row.sampled {
-        return Ok(Addition::NotSampled);
-    }
-    let spans = one(alloc, span)?;
-    queue.push_back(Group { moment, spans })?;
-    Ok(Addition::Late)
-}
 
-/// The span goes to its trace's row, or opens one. Where memory is refused, nothing changes.
-fn place(
-    alloc: Global,
-    backlog: &mut Backlog,
-    wait: u64,
-    moment: u64,
-    span: StoredSpan,
-) -> Result<Addition, AllocError>
-    requires wait { wait ≤ 2 ^ 32 }
-    requires moment { moment ≤ 2 ^ 62 }
-    requires id { length (stored_facts span).trace_id ≡ 16 }
-    ensures ok { OnOk result (backlog_view backlog.new ≡
-        with_span wait moment (arrival_in span) (backlog_view backlog.old)) }
-    ensures back { IfOk result (λ addition. before addition (backlog_view backlog.new) ≡ backlog_view backlog.old) }
-    ensures refused { OnErr result (backlog_view backlog.new ≡ backlog_view backlog.old) }
-    ensures named { (names : Names) (last : ℕ) → AreAllNamed names last backlog.old → IsNamed names last span →
-        AreAllNamed names last backlog.new }
-{
-    let key = trace_key(&span);
-    match backlog.rows.get_index_of(&key) {
-        Some(place) => {
-            let row = &mut backlog.rows[place];
-            join(alloc, row, place, &mut backlog.queue, moment, span)
+    /// A span of a post comes at a moment, in milliseconds, and is taken where there is room. The texts of its origin
+    /// are held at these keys. What it changes is written down, also where memory is refused.
+    pub(crate) fn place(
+        &mut self,
+        stores: &mut Stores<TraceNote>,
+        journal: &mut Journal,
+        moment: u64,
+        keys: TextKeys,
+        span: &NotedSpan,
+    ) -> Result<(), AllocError>
+        requires coming { (held : List ℕ)
+            × IsComing moment journal.old keys span.now held self.old (part_in self.old stores.old) }
+        requires fits { counted self.old.ledger + 1 ≤ most_counted }
+        ensures came { OnOk result (Came (come moment (arrival_at (part_in self.old stores.old) keys span.now.text))
+            moment journal.old journal.new self.old self.new
+            (part_in self.old stores.old) (part_in self.new stores.new)) }
+
+        // It can be taken back, on success and where memory is refused.
+        ensures written { (start : Own) (first : Part Note)
+            → IsWritten journal.old start self.old first (part_in self.old stores.old)
+            → IsWritten journal.new start self.new first (part_in self.new stores.new) }
+        ensures others { (other : ℕ) → other ≢ self.old.tenant → part other stores.new ≡ part other stores.old }
+        ensures same { IsSameTenant self.old self.new }
+    {
+        if !self.has_room() {
+            return Ok(());
         }
-        None => {
-            let spans = one(alloc, span)?;
-            let due = moment + wait;
-            let row = Row {
-                due,
-                spans,
-                sampled: false,
-            };
-            backlog.rows.insert(key, row)?;
-            Ok(Addition::Opened)
+        journal.placed.reserve(1)?;
+        match self.seat(stores, span.trace) {
+            Seat::Waits(number) => self.join(stores, journal, number, moment, keys, span),
+            Seat::Decided(true) => self.come_late(stores, journal, moment, keys, span),
+            Seat::Decided(false) => {
+                self.ledger.take(1);
+                self.ledger
+                    .move_spans(Place::Undecided, Place::NotSampled, 1);
+                Ok(())
+            }
+            Seat::Nowhere => self.open(stores, journal, moment, keys, span),
         }
     }
-}
 
-/// The span goes to its trace's row where it is valid, with numbers that are `base` higher. What it added is noted.
-fn add(
-    alloc: Global,
-    backlog: &mut Backlog,
-    wait: u64,
-    moment: u64,
-    base: u64,
-    span: &StoredSpan,
-    additions: &mut Vec<Addition>,
-) -> Result<(), AllocError>
-    requires wait { wait ≤ 2 ^ 32 }
-    requires moment { moment ≤ 2 ^ 62 }
-    ensures ok { OnOk result (backlog_view backlog.new ≡
-        with_spans wait moment (valid (arrival_in span.now ∷ [])) (backlog_view backlog.old)) }
-    ensures back { without additions.new.items (backlog_view backlog.new) ≡
-        without additions.old.items (backlog_view backlog.old) }
-    ensures named { (names : Names) (last : ℕ) → AreAllNamed names last backlog.old →
-        IsNamed names last (renumbered base span.now) → AreAllNamed names last backlog.new }
-{
-    if !is_valid(span) {
-        return Ok(());
-    }
-    additions.reserve(1)?;
-    let span = span.renumbered(base)?;
-    let addition = place(alloc, backlog, wait, moment, span)?;
-    additions.push_reserved(addition);
-    Ok(())
-}
-
-/// Takes an addition back. It is the last one.
-fn take_back(backlog: &mut Backlog, addition: Addition)
-    ensures back { backlog_view backlog.new ≡ before addition (backlog_view backlog.old) }
-    ensures named { (names : Names) (last : ℕ) → AreAllNamed names last backlog.old →
-        AreAllNamed names last backlog.new }
-{
-    match addition {
-        Addition::Opened => {
-            backlog.rows.pop();
-        }
-        Addition::Joined(place) => {
-            if let Some(row) = backlog.rows.get_index_mut(place) {
-                row.spans.pop();
+    /// A span joins the row of this number, which waits.
+    fn join(
+        &mut self,
+        stores: &mut Stores<TraceNote>,
+        journal: &mut Journal,
+        number: u64,
+        moment: u64,
+        keys: TextKeys,
+        span: &NotedSpan,
+    ) -> Result<(), AllocError>
+        requires coming { (held : List ℕ)
+            × IsComing moment journal.old keys span.now held self.old (part_in self.old stores.old) }
+        requires fits { counted self.old.ledger + 1 ≤ most_counted }
+        requires seat { (part_in self.old stores.old).seats span.now.trace ≡ Some number }
+        requires waits { self.old.rows.decided < number }
+        requires budget { self.old.ledger.places.undecided + self.old.ledger.places.pending
+            < self.old.section.max_spans }
+        requires room { vec_len journal.old.placed < vec_capacity journal.old.placed }
+        ensures came { OnOk result (Came (λ s. joins (arrival_at (part_in self.old stores.old) keys span.now.text)
+            (counted_in s)) moment journal.old journal.new self.old self.new
+            (part_in self.old stores.old) (part_in self.new stores.new)) }
+        ensures written { (start : Own) (first : Part Note)
+            → IsWritten journal.old start self.old first (part_in self.old stores.old)
+            → IsWritten journal.new start self.new first (part_in self.new stores.new) }
+        ensures others { (other : ℕ) → other ≢ self.old.tenant → part other stores.new ≡ part other stores.old }
+        ensures same { IsSameTenant self.old self.new }
+    {
+        let Some(row) = stores.row(self.tenant, number) else {
+            unreachable!()
+        };
+        let note = row.note.joined(span.note);
+        let keyed = self.keyed(stores, keys, span)?;
+        let held = keyed.keys();
+        match stores.join(number, keyed, note) {
+            Ok(joining) => {
+                self.ledger.take(1);
+                journal
+                    .placed
+                    .push_reserved(Placed::Joined(number, joining.key, joining.former));
+                Ok(())
+            }
+            Err(refused) => {
+                stores.release_all(self.tenant, held);
+                Err(refused)
             }
         }
-        Addition::Late => {
-            backlog.queue.pop_back();
-        }
-        Addition::NotSampled => {}
     }
-}
 
-/// Takes all additions back, the last one first.
-fn take_all_back(backlog: &mut Backlog, additions: &mut Vec<Addition>)
-    ensures back { backlog_view backlog.new ≡ without additions.old.items (backlog_view backlog.old) }
-    ensures named { (names : Names) (last : ℕ) → AreAllNamed names last backlog.old →
-        AreAllNamed names last backlog.new }
-{
-    while let Some(addition) = additions.pop() {
-        take_back(backlog, addition);
-    }
-}
-
-/// The valid ones of these spans come one after the other, all of them or none, with numbers that are `base` higher.
-pub fn place_all(
-    alloc: Global,
-    backlog: &mut Backlog,
-    wait: u64,
-    moment: u64,
-    base: u64,
-    spans: &[StoredSpan],
-) -> Result<(), AllocError>
-    requires wait { wait ≤ 2 ^ 32 }
-    requires moment { moment ≤ 2 ^ 62 }
-    ensures ok { OnOk result (backlog_view backlog.new ≡
-        with_spans wait moment (valid (arrivals_in spans.now)) (backlog_view backlog.old)) }
-    ensures refused { OnErr result (backlog_view backlog.new ≡ backlog_view backlog.old) }
-    ensures named { (names : Names) (last : ℕ) → AreAllNamed names last backlog.old →
-        AreNamed names last (map (renumbered base) spans.now) → AreAllNamed names last backlog.new }
-{
-    let mut additions = Vec::new(alloc);
-    for span in spans {
-        if let Err(error) = add(alloc, backlog, wait, moment, base, span, &mut additions) {
-            take_all_back(backlog, &mut additions);
-            return Err(error);
+    /// A span comes after its row was decided and sampled: it waits for a batch alone.
+    fn come_late(
+        &mut self,
+        stores: &mut Stores<TraceNote>,
+        journal: &mut Journal,
+        moment: u64,
+        keys: TextKeys,
+        span: &NotedSpan,
+    ) -> Result<(), AllocError>
+        requires coming { (held : List ℕ)
+            × IsComing moment journal.old keys span.now held self.old (part_in self.old stores.old) }
+        requires fits { counted self.old.ledger + 1 ≤ most_counted }
+        requires budget { self.old.ledger.places.undecided + self.old.ledger.places.pending
+            < self.old.section.max_spans }
+        requires room { vec_len journal.old.placed < vec_capacity journal.old.placed }
+        ensures came { OnOk result (Came (λ s. grouped Undecided moment
+            (arrival_at (part_in self.old stores.old) keys span.now.text ∷ []) (counted_in s))
+            moment journal.old journal.new self.old self.new
+            (part_in self.old stores.old) (part_in self.new stores.new)) }
+        ensures written { (start : Own) (first : Part Note)
+            → IsWritten journal.old start self.old first (part_in self.old stores.old)
+            → IsWritten journal.new start self.new first (part_in self.new stores.new) }
+        ensures others { (other : ℕ) → other ≢ self.old.tenant → part other stores.new ≡ part other stores.old }
+        ensures same { IsSameTenant self.old self.new }
+    {
+        let keyed = self.keyed(stores, keys, span)?;
+        let held = keyed.keys();
+        match stores.keep_late(keyed) {
+            Ok(key) => {
+                journal.placed.push_reserved(Placed::Late(key));
+                self.ledger.take(1);
+                let keys = [key];
+                self.group(stores, &mut journal.undo, moment, keys.as_slice())
+            }
+            Err(refused) => {
+                stores.release_all(self.tenant, held);
+                Err(refused)
+            }
         }
     }
-    Ok(())
+
+    /// A span opens a row, for which room is made.
+    fn open(
+        &mut self,
+        stores: &mut Stores<TraceNote>,
+        journal: &mut Journal,
+        moment: u64,
+        keys: TextKeys,
+        span: &NotedSpan,
+    ) -> Result<(), AllocError>
+        requires coming { (held : List ℕ)
+            × IsComing moment journal.old keys span.now held self.old (part_in self.old stores.old) }
+        requires fits { counted self.old.ledger + 1 ≤ most_counted }
+        requires budget { self.old.ledger.places.undecided + self.old.ledger.places.pending
+            < self.old.section.max_spans }
+        requires room { vec_len journal.old.placed < vec_capacity journal.old.placed }
+        ensures came { OnOk result (Came (λ s. opens moment
+            (arrival_at (part_in self.old stores.old) keys span.now.text) (evicted (counted_in s)))
+            moment journal.old journal.new self.old self.new
+            (part_in self.old stores.old) (part_in self.new stores.new)) }
+        ensures written { (start : Own) (first : Part Note)
+            → IsWritten journal.old start self.old first (part_in self.old stores.old)
+            → IsWritten journal.new start self.new first (part_in self.new stores.new) }
+        ensures others { (other : ℕ) → other ≢ self.old.tenant → part other stores.new ≡ part other stores.old }
+        ensures same { IsSameTenant self.old self.new }
+    {
+        let keyed = self.keyed(stores, keys, span)?;
+        let held = keyed.keys();
+        self.make_room(stores);
+        let number = self.rows.opened + 1;
+        let due = moment + self.section.tail_sampling.decision_wait;
+        match stores.open(number, due, span.trace, keyed, span.note) {
+            Ok(opening) => {
+                self.rows.opened = number;
+                self.ledger.take(1);
+                journal.placed.push_reserved(Placed::Opened(
+                    number,
+                    opening.key,
+                    span.trace,
+                    opening.earlier,
+                ));
+                Ok(())
+            }
+            Err(refused) => {
+                stores.release_all(self.tenant, held);
+                Err(refused)
+            }
+        }
+    }
+
+    /// The first row leaves where as many are present as may be: only numbers change, and its spans are no longer
+    /// undecided.
+    fn make_room(&mut self, stores: &Stores<TraceNote>)
+        requires few { self.old.rows.opened < 2 ^ 63 }
+        requires most { 0 < self.old.section.tail_sampling.num_traces }
+        requires undecided { let first = self.old.rows.opened + 1 - self.old.section.tail_sampling.num_traces in
+            self.old.rows.decided < first
+            → length (keys_of ((part_in self.old stores.now).rows first)) ≤ self.old.ledger.places.undecided }
+        ensures rows { counts_in self.new ≡
+            room_made self.old.section.tail_sampling.num_traces (counts_in self.old) }
+        ensures ledger { let first = self.old.rows.opened + 1 - self.old.section.tail_sampling.num_traces in
+            self.new.ledger ≡ (if nat_lt self.old.rows.decided first
+            then moved Undecided TooEarly (length (keys_of ((part_in self.old stores.now).rows first))) self.old.ledger
+            else self.old.ledger) }
+        ensures same { self.new ≡ record self.old { rows = self.new.rows; ledger = self.new.ledger } }
+    {
+        let most = self.section.tail_sampling.num_traces as u64;
+        let first = (self.rows.opened + 1).saturating_sub(most);
+        if self.rows.decided < first {
+            if let Some(row) = stores.row(self.tenant, first) {
+                let spans = row.keys.as_slice().len() as u64;
+                self.ledger
+                    .move_spans(Place::Undecided, Place::TooEarly, spans);
+            }
+            self.rows.decided = first;
+        }
+        self.rows.first = first;
+    }
+
+    /// A span as it is kept, with one use more of each of its origin's texts.
+    fn keyed(
+        &self,
+        stores: &mut Stores<TraceNote>,
+        keys: TextKeys,
+        span: &NotedSpan,
+    ) -> Result<KeyedSpan, AllocError>
+        ensures owner { IfOk result (λ keyed. keyed.owner ≡ self.now.tenant) }
+        ensures text { IfOk result (λ keyed. keyed.text ≡ span.now.text) }
+        ensures own { IfOk result (λ keyed. (n : Counts) (pending held : List ℕ)
+            → AreAmong (text_keys keys) held → IsSound n pending held (part_in self.now stores.old)
+            → HoldsAll (text_keys keyed.keys) (part_in self.now stores.old) (part_in self.now stores.new)) }
+        ensures sound { IfOk result (λ keyed. (n : Counts) (pending held : List ℕ)
+            → AreAmong (text_keys keys) held → IsSound n pending held (part_in self.now stores.old)
+            → IsSound n pending (text_keys keyed.keys ++ held) (part_in self.now stores.new)) }
+        ensures texts { IfOk result (λ keyed. (n : Counts) (pending held : List ℕ)
+            → AreAmong (text_keys keys) held → IsSound n pending held (part_in self.now stores.old)
+            → origin_at (text_at (part_in self.now stores.new).texts) keyed.keys ≡
+            origin_at (text_at (part_in self.now stores.old).texts) keys) }
+        ensures shows { OnOk result ((n : Counts) (pending held shown : List ℕ)
+            → AreAmong (text_keys keys) held → IsSound n pending held (part_in self.now stores.old)
+            → AreAmong shown pending
+            → view n shown (part_in self.now stores.new) ≡ view n shown (part_in self.now stores.old)) }
+        ensures stay { OnOk result ((n : Counts) (pending held : List ℕ)
+            → AreAmong (text_keys keys) held → IsSound n pending held (part_in self.now stores.old)
+            → Stay held (part_in self.now stores.old).texts (part_in self.now stores.new).texts) }
+        ensures others { (other : ℕ) → other ≢ self.now.tenant → part other stores.new ≡ part other stores.old }
+        ensures refused { OnErr result ((n : Counts) (pending held : List ℕ)
+            → AreAmong (text_keys keys) held → IsSound n pending held (part_in self.now stores.old)
+            → part_in self.now stores.new ≡ part_in self.now stores.old) }
+    {
+        let text = span.text.clone()?;
+        let keys = stores.hold_again(self.tenant, keys)?;
+        Ok(KeyedSpan::of(self.tenant, keys, text))
+    }
 }

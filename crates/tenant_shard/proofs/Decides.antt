@@ -1,24 +1,22 @@
 -- What is kept before a run decides what it tells and what it leaves.
-use Rattle.std.proofs.Common.{◌≡◌, ℕ, List, [], ◌∷◌, refl, sym, ap, ◌∙◌, arith, true, false, Option, Some, None, inl, inr}
+use Rattle.std.proofs.Common.{◌≡◌, ℕ, List, [], ◌∷◌, refl, sym, subst, ap, ◌∙◌, arith, true, false, Option, Some, None, inl, inr}
 use Rattle.std.specs.Prelude.{option_and_then}
 use Rattle.std.specs.Option.{unwrap_or}
-use Rattle.tail_settings.specs.Policy.{PolicyData}
-use Rattle.tenant_pipeline.specs.Own as own
-use Rattle.tenant_pipeline.specs.State.{State}
-use Rattle.tenant_pipeline.specs.Machine.{next, told}
-use Rattle.tenant_pipeline.specs.Ready.{ready}
+use Rattle.tenant_rules.specs.Own.{moment_of}
+use Rattle.tenant_rules.specs.State.{State}
+use Rattle.tenant_rules.specs.Machine.{next, told}
+use Rattle.tenant_rules.specs.Ready.{ready}
 use Rattle.tenant_shard.specs.declared.step.Step.{Step}
-use Rattle.tenant_shard.specs.declared.step.Step.TheVariants.{Post, Turn}
 use Rattle.tenant_shard.specs.declared.step.Outcome.{Outcome}
 use Rattle.tenant_shard.specs.declared.step.Outcome.TheVariants.{Refused}
 use Rattle.tenant_shard.specs.View.{View, kept_of}
-use Rattle.tenant_shard.specs.Outcomes.{own_step, piped, Answered, named}
+use Rattle.tenant_shard.specs.Outcomes.{OwnStep, own_step, named_in, Answered, named}
 use Rattle.tenant_shard.specs.Pick.{ready_in}
 use Rattle.shard_agenda.specs.Pick.{NotAfter, IsPick}
-use Rattle.tenant_shard.specs.Refusal.{Reaches, ReachesNone, IsStepFor, IsNobodys}
-use Rattle.tenant_shard.specs.GoesOn.{refusal_number, told_of_nobodys, MemberGoesOn, ShardGoesOn}
+use Rattle.tenant_shard.specs.Refusal.{Reaches, ReachesNone, IsFor, IsStepFor, IsForNone, IsNobodys}
+use Rattle.tenant_shard.specs.GoesOn.{refusal_number, told_of_none, told_of_nobodys, MemberGoesOn, ShardGoesOn}
 use Rattle.tenant_shard.specs.Chain.{KeepSame, KeptDecides}
-use Rattle.tenant_shard.proofs.Picks.{same_or_other}
+use Rattle.tenant_shard.proofs.Frame.{same_or_other}
 use Rattle.tenant_shard.proofs.Runs.{IsPick-same, not_both}
 
 -- one tenant alone is picked
@@ -35,28 +33,34 @@ one_pick f now t u p q = one_of_both p.0 t q.0 u (p.3 u q.0 q.1) (q.3 t p.0 p.1)
 pick_too : (old old' : List View) (now : ℕ) (picked : Option ℕ) → KeepSame old old' → IsPick (ready_in old') now picked → IsPick (ready_in old) now picked
 pick_too old old' now picked same pick = IsPick-same (ready_in old') (ready_in old) now picked (λ u. ap (option_and_then ready) (sym (same u))) pick
 
--- a body doesn't both reach a pipeline and reach none
-not_reached : (policies : List PolicyData) (kept : Option State) → ReachesNone policies kept → Reaches policies kept → ⊥
-not_reached policies None none some = some
-not_reached policies (Some kept) none some = absurd (let both : false ≡ true = sym none ∙ some in cc)
+-- a step doesn't both reach a pipeline and reach none
+not_reached : (step : OwnStep) (kept : Option State) → ReachesNone step kept → Reaches step kept → ⊥
+not_reached step None none some = some
+not_reached step (Some kept) none some = absurd (let both : false ≡ true = sym none ∙ some in cc)
+
+none_alone : (whom : Option ℕ) (step : OwnStep) (old old' : List View) (t : ℕ) → KeepSame old old' → IsForNone whom step old → IsFor whom t step old' → ⊥
+none_alone (Some u) step old old' t same none some = not_reached step (kept_of u old) none (subst (Reaches step) (same u) (subst (λ (v : ℕ). Reaches step (kept_of v old')) (sym some.0) some.1))
+none_alone None step old old' t same none some =
+    not_both (ready_in old) (moment_of step.step) t (pick_too old old' (moment_of step.step) (Some t) same some) none
 
 nobodys_alone : (step : Step) (old old' : List View) (t : ℕ) → KeepSame old old' → IsNobodys step old → IsStepFor t step old' → ⊥
-nobodys_alone (Post now prepared) old old' t same none some =
-    not_reached prepared.policies (kept_of prepared.tenant old) none (rw (same prepared.tenant) at some.1)
-nobodys_alone (Turn now) old old' t same none some =
-    let moment = own.moment_of (own.Turn now) in
-    not_both (ready_in old) moment t (pick_too old old' moment (Some t) same some) none
+nobodys_alone step old old' t same none some = none_alone (named_in step) (own_step step) old old' t same none some
 
 -- a step is one member's
+one_for : (whom : Option ℕ) (step : OwnStep) (old old' : List View) (t u : ℕ) → KeepSame old old' → IsFor whom t step old → IsFor whom u step old' → u ≡ t
+one_for (Some v) step old old' t u same is is' = sym is'.0 ∙ is.0
+one_for None step old old' t u same is is' =
+    one_pick (ready_in old) (moment_of step.step) t u is (pick_too old old' (moment_of step.step) (Some u) same is')
+
 one_whose : (step : Step) (old old' : List View) (t u : ℕ) → KeepSame old old' → IsStepFor t step old → IsStepFor u step old' → u ≡ t
-one_whose (Post now prepared) old old' t u same is is' = sym is'.0 ∙ is.0
-one_whose (Turn now) old old' t u same is is' =
-    let moment = own.moment_of (own.Turn now) in
-    one_pick (ready_in old) moment t u is (pick_too old old' moment (Some u) same is')
+one_whose step old old' t u same is is' = one_for (named_in step) (own_step step) old old' t u same is is'
+
+none_told : (whom : Option ℕ) (old old' : List View) → KeepSame old old' → told_of_none whom old' ≡ told_of_none whom old
+none_told (Some u) old old' same = ap (λ kept. Refused u (refusal_number kept)) (same u)
+none_told None old old' same = refl
 
 nobodys_told : (step : Step) (old old' : List View) → KeepSame old old' → told_of_nobodys step old' ≡ told_of_nobodys step old
-nobodys_told (Post now prepared) old old' same = ap (λ kept. Refused prepared.tenant (refusal_number kept)) (same prepared.tenant)
-nobodys_told (Turn now) old old' same = refl
+nobodys_told step old old' same = none_told (named_in step) old old' same
 
 some_same : (a b : State) → Some a ≡ Some b → a ≡ b
 some_same a b e = ap (λ o. unwrap_or o a) e
@@ -70,10 +74,10 @@ module _ (step : Step) (old old' : List View) (o o' : Outcome) (new new' : List 
   before = some_same is'.before is.before (sym is'.was ∙ (same u ∙ (ap (λ x. kept_of x old) whom ∙ is.was)))
 
   said : is'.said ≡ is.said
-  said = is'.goes_on.said_is ∙ (ap (told (piped (own_step step))) before ∙ sym is.goes_on.said_is)
+  said = is'.goes_on.said_is ∙ (ap (told (own_step step).step) before ∙ sym is.goes_on.said_is)
 
   left : is'.after ≡ is.after
-  left = is'.goes_on.new_is ∙ (ap (next (piped (own_step step))) before ∙ sym is.goes_on.new_is)
+  left = is'.goes_on.new_is ∙ (ap (next (own_step step).step) before ∙ sym is.goes_on.new_is)
 
   member_decides : (o' ≡ o) × KeepSame new new'
   member_decides = (

@@ -4,15 +4,17 @@ use Rattle.std.specs.List.{list_any, insert}
 use Rattle.std.proofs.lemmas.Bool.Decides.{nat_tests}
 use Rattle.tail_settings.specs.Section.{SectionData}
 use Rattle.tail_settings.specs.Settings.{SettingsData}
-use Rattle.tenant_pipeline.specs.State.{State, StandsFor}
-use Rattle.tenant_shard.specs.declared.member.Member.{Member}
+use Rattle.tail_policy.specs.declared.note.TraceNote.{TraceNote}
+use Rattle.tenant_rules.specs.State.{State}
+use Rattle.tenant_stores.specs.declared.stores.Stores.{Stores}
+use Rattle.tenant_pipeline.specs.declared.pipeline.Pipeline.{Pipeline}
+use Rattle.tenant_pipeline.specs.StateIn.{state_in}
+use Rattle.tenant_pipeline.specs.Steps.{StandsFor}
 use Rattle.tenant_shard.specs.View.{View, kept_of}
 use Rattle.tenant_shard.specs.Lists.{MemberStands, ShardStands}
-use Rattle.tenant_shard.specs.Members.{views}
-use Rattle.tenant_shard.specs.Places.{IsGapFor}
+use Rattle.tenant_shard.specs.Members.{views, IsGapFor}
 use Rattle.tenant_shard.specs.Table.{section_at, section_of, opened}
-use Rattle.tenant_shard.proofs.Places.{kept_of-insert, kept_of-insert_other}
-use Rattle.tenant_shard.proofs.Picks.{same_or_other}
+use Rattle.tenant_shard.proofs.Frame.{same_or_other, kept_insert, kept_insert_other}
 
 any-push_other : (E : List ℕ) (t u : ℕ) → t ≢ u → list_any (λ m. eqb m u) (E ++ t ∷ []) ≡ list_any (λ m. eqb m u) E
 any-push_other [] t u other = grind (arith, nat_tests)
@@ -35,13 +37,13 @@ section_of-is s E u = by_test (list_any (λ m. eqb m u) E)
     by_test true = inr refl
     by_test false = inl refl
 
-pub opened_more : (s : SettingsData) (E : List ℕ) (ms : List Member) (i : ℕ) (m : Member) (section : SectionData) → section_at s m.tenant ≡ Some section → StandsFor section [] m.pipeline → IsGapFor m.tenant ms i →
-    ShardStands (opened s E) (views ms) → ShardStands (opened s (E ++ m.tenant ∷ [])) (views (insert ms i m))
-opened_more s E ms i m section found new gap stands = λ u. elim (same_or_other m.tenant u) [
+pub opened_more : (s : SettingsData) (E : List ℕ) (stores : Stores TraceNote) (ms : List Pipeline) (i : ℕ) (m : Pipeline) (section : SectionData) → section_at s m.tenant ≡ Some section → StandsFor section [] (state_in m stores) → IsGapFor m.tenant ms i →
+    ShardStands (opened s E) (views stores ms) → ShardStands (opened s (E ++ m.tenant ∷ [])) (views stores (insert ms i m))
+opened_more s E stores ms i m section found new gap stands = λ u. elim (same_or_other m.tenant u) [
   | inl same ↦
       let at : section_of s (E ++ m.tenant ∷ []) m.tenant ≡ Some section = section_of-push_same s E m.tenant ∙ found in
-      rw (← same) (rw (at, kept_of-insert ms i m gap) new)
-  | inr other ↦ rw (section_of-push_other s E m.tenant u other, kept_of-insert_other u ms i m gap other) (stands u)
+      rw (← same) (rw (at, kept_insert stores ms i m gap) new)
+  | inr other ↦ rw (section_of-push_other s E m.tenant u other, kept_insert_other u stores ms i m gap other) (stands u)
 ]
 
 pub opened_none : (s : SettingsData) (E : List ℕ) (t : ℕ) (vs : List View) → section_at s t ≡ None → kept_of t vs ≡ None → ShardStands (opened s E) vs → ShardStands (opened s (E ++ t ∷ [])) vs

@@ -4,15 +4,14 @@ use Rattle.std.proofs.lemmas.Bool.Decides.{nat_tests}
 use Rattle.std.specs.Prelude.{if◌then◌else◌}
 use Rattle.std.proofs.lemmas.Option.{slice_get_read}
 use Rattle.tail_settings.specs.Section.{SectionData}
-use Rattle.tenant_pipeline.specs.Own.{Own}
-use Rattle.tenant_pipeline.specs.State.{answer}
+use Rattle.tenant_rules.specs.Own.{Own}
+use Rattle.tenant_rules.specs.Answers.{answer}
 use Rattle.tenant_shard.specs.declared.step.Step.{Step}
-use Rattle.tenant_shard.specs.declared.step.Step.TheVariants.{Post, Turn}
 use Rattle.tenant_shard.specs.declared.step.Outcome.{Outcome}
 use Rattle.tenant_shard.specs.View.{View}
 use Rattle.tenant_shard.specs.Lists.{Lists, ShardStands}
-use Rattle.tenant_shard.specs.Outcomes.{OwnStep, Turned, own_step, piped, is_taken, other_policies, Answer, Answered, NotTaken, named, told_whom, is_tenant, is_own}
-use Rattle.tenant_shard.specs.Run.{IsTakenOrNot, IsAnswered, recorded, IsTurned, IsOutcome, after, after_all}
+use Rattle.tenant_shard.specs.Outcomes.{OwnStep, own_step, named_in, is_taken, other_policies, Answer, Answered, NotTaken, named, told_whom, whose, is_tenant, is_own}
+use Rattle.tenant_shard.specs.Run.{IsTakenOrNot, IsAnswered, IsAnswerTo, recorded, IsTurned, IsOutcomeOf, IsOutcome, after, after_all}
 use Rattle.tenant_shard.specs.Chain.{Chain, ShardRuns, RunsByOwnSteps, StandsAfter}
 use Rattle.tenant_shard.specs.Alone.{alone, own_steps, told_to, EachAlone, OwnStepsDecide}
 use Rattle.tenant_shard.specs.Refusal.{ShardRefuses}
@@ -50,15 +49,18 @@ whom_taken t false section past known step o is = ap told_whom is
 
 whom_answered : (t : ℕ) (section : Option SectionData) (past : List Own) (known : Bool) (step : OwnStep) (o : Outcome) → IsAnswered t section past known step o → told_whom o ≡ Some t
 whom_answered t None past known step o is = ap told_whom is
-whom_answered t (Some section) past known step o is = whom_taken t (is_taken section step) section past known (piped step) o is
+whom_answered t (Some section) past known step o is = whom_taken t (is_taken section step) section past known step.step o is
+
+names_of : (t : ℕ) (whom : Option ℕ) (lists : Lists) (views : List View) (step : OwnStep) (o : Outcome) → IsOutcomeOf whom lists views step o → is_tenant t (told_whom o) ≡ is_tenant t (whose whom o)
+names_of t (Some u) lists views step o is = ap (is_tenant t) (whom_answered u (lists.sections u) (lists.pasts u) (lists.known u) step o is)
+names_of t None lists views step o is = refl
 
 names_own : (t : ℕ) (lists : Lists) (views : List View) (s : Step) (o : Outcome) → IsOutcome lists views s o → is_tenant t (told_whom o) ≡ is_own t s o
-names_own t lists views (Post now p) o is = rw (whom_answered p.tenant (lists.sections p.tenant) (lists.pasts p.tenant) (lists.known p.tenant) (own_step (Post now p)) o is) refl
-names_own t lists views (Turn now) o is = refl
+names_own t lists views s o is = names_of t (named_in s) lists views (own_step s) o is
 
 -- and is what the tenant is told alone
 next_alone : SectionData → List Own → OwnStep → Answer
-next_alone section past step = if is_taken section step then Answered (answer section past (piped step)) else NotTaken other_policies
+next_alone section past step = if is_taken section step then Answered (answer section past step.step) else NotTaken other_policies
 
 taken_known : (t : ℕ) (taken : Bool) (section : SectionData) (past : List Own) (step : Own) (o : Outcome) → IsTakenOrNot taken t section past true step o →
     o ≡ named t (if taken then Answered (answer section past step) else NotTaken other_policies)
@@ -69,34 +71,39 @@ answered_known : (t : ℕ) (section : SectionData) (found : Option SectionData) 
 unfolding next_alone
 answered_known t section found past known step o member sure is =
     let is' : IsAnswered t (Some section) past true step o = rw (member, sure) at is in
-    taken_known t (is_taken section step) section past (piped step) o is'
+    taken_known t (is_taken section step) section past step.step o is'
 
 alone-step : (section : SectionData) (past : List Own) (step : OwnStep) (steps : List OwnStep) → alone section past (step ∷ steps) ≡ next_alone section past step ∷ alone section (recorded (Some section) step past) steps
 unfolding next_alone
 alone-step section past step steps = by_test (is_taken section step)
   where
     by_test : (b : Bool) →
-        ◌≡◌ {A = List Answer} (if b then Answered (answer section past (piped step)) ∷ alone section (piped step ∷ past) steps else NotTaken other_policies ∷ alone section past steps)
-        ((if b then Answered (answer section past (piped step)) else NotTaken other_policies) ∷ alone section (if b then piped step ∷ past else past) steps)
+        ◌≡◌ {A = List Answer} (if b then Answered (answer section past step.step) ∷ alone section (step.step ∷ past) steps else NotTaken other_policies ∷ alone section past steps)
+        ((if b then Answered (answer section past step.step) else NotTaken other_policies) ∷ alone section (if b then step.step ∷ past else past) steps)
     by_test true = refl
     by_test false = refl
 
-turn_tells : (t : ℕ) (section : SectionData) (lists : Lists) (now : ℕ) (picked : Option ℕ) (o : Outcome) → lists.sections t ≡ Some section → lists.known t ≡ true → IsTurned lists now picked o → is_tenant t (told_whom o) ≡ true →
-    o ≡ named t (next_alone section (lists.pasts t) (Turned now))
-turn_tells t section lists now None o member sure is holds = let never : is_tenant t (told_whom o) ≡ false = rw is refl in absurd (cc)
-turn_tells t section lists now (Some u) o member sure is holds =
-    let whom = whom_answered u (lists.sections u) (lists.pasts u) (lists.known u) (Turned now) o is in
-    let test : eqb u t ≡ true = rw whom at holds in
+named_tells : (t u : ℕ) (section : SectionData) (lists : Lists) (step : OwnStep) (o : Outcome) → lists.sections t ≡ Some section → lists.known t ≡ true → IsAnswerTo u lists step o → eqb u t ≡ true → o ≡ named t (next_alone section (lists.pasts t) step)
+named_tells t u section lists step o member sure is test =
     let same : u ≡ t = grind (arith, nat_tests) in
-    answered_known t section (lists.sections t) (lists.pasts t) (lists.known t) (Turned now) o member sure (rw same at is)
+    answered_known t section (lists.sections t) (lists.pasts t) (lists.known t) step o member sure (rw same at is)
+
+turn_tells : (t : ℕ) (section : SectionData) (lists : Lists) (step : OwnStep) (picked : Option ℕ) (o : Outcome) → lists.sections t ≡ Some section → lists.known t ≡ true → IsTurned lists step picked o → is_tenant t (told_whom o) ≡ true →
+    o ≡ named t (next_alone section (lists.pasts t) step)
+turn_tells t section lists step None o member sure is holds = let never : is_tenant t (told_whom o) ≡ false = rw is refl in absurd (cc)
+turn_tells t section lists step (Some u) o member sure is holds =
+    let whom = whom_answered u (lists.sections u) (lists.pasts u) (lists.known u) step o is in
+    let test : eqb u t ≡ true = rw whom at holds in
+    named_tells t u section lists step o member sure is test
+
+tells_of : (t : ℕ) (whom : Option ℕ) (section : SectionData) (lists : Lists) (views : List View) (step : OwnStep) (o : Outcome) → lists.sections t ≡ Some section → lists.known t ≡ true → IsOutcomeOf whom lists views step o → is_tenant t (whose whom o) ≡ true →
+    o ≡ named t (next_alone section (lists.pasts t) step)
+tells_of t (Some u) section lists views step o member sure is holds = named_tells t u section lists step o member sure is holds
+tells_of t None section lists views step o member sure is holds = turn_tells t section lists step is.0 o member sure is.2 holds
 
 tells_own : (t : ℕ) (section : SectionData) (lists : Lists) (views : List View) (s : Step) (o : Outcome) → lists.sections t ≡ Some section → lists.known t ≡ true → IsOutcome lists views s o → is_own t s o ≡ true →
     o ≡ named t (next_alone section (lists.pasts t) (own_step s))
-tells_own t section lists views (Post now p) o member sure is holds =
-    let same : p.tenant ≡ t = grind (arith, nat_tests) in
-    let is' : IsAnswered t (lists.sections t) (lists.pasts t) (lists.known t) (own_step (Post now p)) o = rw same at is in
-    answered_known t section (lists.sections t) (lists.pasts t) (lists.known t) (own_step (Post now p)) o member sure is'
-tells_own t section lists views (Turn now) o member sure is holds = turn_tells t section lists now is.0 o member sure is.2 holds
+tells_own t section lists views s o member sure is holds = tells_of t (named_in s) section lists views (own_step s) o member sure is holds
 
 Run-alone : (ss : List Step) (os : List Outcome) (lists : Lists) (old new : List View) (t : ℕ) (section : SectionData) → ShardRuns ss old os new → ShardStands lists old → lists.sections t ≡ Some section → lists.known t ≡ true →
     told_to t os ≡ map (named t) (alone section (lists.pasts t) (own_steps t ss os))

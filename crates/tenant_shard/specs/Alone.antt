@@ -1,13 +1,13 @@
 -- What each tenant is told in a run, in which no other tenant occurs.
 use Rattle.std.specs.Prelude.{◌≡◌, ℕ, true, List, [], ◌∷◌, Some, filter, map, if◌then◌else◌}
 use Rattle.tail_settings.specs.Section.{SectionData}
-use Rattle.tenant_pipeline.specs.Own.{Own}
-use Rattle.tenant_pipeline.specs.State.{answer}
+use Rattle.tenant_rules.specs.Own.{Own}
+use Rattle.tenant_rules.specs.Answers.{answer}
 use Rattle.tenant_shard.specs.declared.step.Step.{Step}
 use Rattle.tenant_shard.specs.declared.step.Outcome.{Outcome}
 use Rattle.tenant_shard.specs.View.{View}
 use Rattle.tenant_shard.specs.Lists.{Lists, ShardStands}
-use Rattle.tenant_shard.specs.Outcomes.{OwnStep, own_step, piped, is_taken, other_policies, Answer, Answered, NotTaken, named, told_whom, is_tenant, is_own}
+use Rattle.tenant_shard.specs.Outcomes.{OwnStep, own_step, is_taken, other_policies, Answer, Answered, NotTaken, named, told_whom, is_tenant, is_own}
 use Rattle.tenant_shard.specs.Chain.{ShardRuns}
 
 -- what a pipeline alone answers to these steps, after its past. A body that was prepared for other policies is refused,
@@ -15,7 +15,7 @@ use Rattle.tenant_shard.specs.Chain.{ShardRuns}
 abbrev pub alone : SectionData → List Own → List OwnStep → List Answer
 alone section past [] = []
 alone section past (step ∷ steps) =
-    if is_taken section step then Answered (answer section past (piped step)) ∷ alone section (piped step ∷ past) steps
+    if is_taken section step then Answered (answer section past step.step) ∷ alone section (step.step ∷ past) steps
     else NotTaken other_policies ∷ alone section past steps
 
 -- the tenant's own steps in a list

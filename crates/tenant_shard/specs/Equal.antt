@@ -1,11 +1,16 @@
 -- When steps are equal.
-use Rattle.std.specs.Prelude.{◌≡◌, true}
-use Rattle.tenant_pipeline.specs.Equal.{prepared_eq}
+use Rattle.std.specs.Prelude.{◌≡◌}
+use Rattle.send_retry.specs.Class.{answer_view}
 use Rattle.tenant_shard.specs.declared.step.Step.{Step}
-use Rattle.tenant_shard.specs.declared.step.Step.TheVariants.{Post, Turn}
+use Rattle.tenant_shard.specs.declared.step.Step.TheVariants as steps
 
--- two posts at one moment of bodies that are equal, or two turns at one moment
-abbrev pub AreEqualSteps : Step → Step → Type 0
-AreEqualSteps (Post now prepared) (Post now' prepared') = (now ≡ now') × (prepared_eq prepared prepared' ≡ true)
-AreEqualSteps (Turn now) (Turn now') = now ≡ now'
-AreEqualSteps _ _ = ⊥
+-- two steps of one kind, at one moment and of one tenant, with the same body, or the same answer to the job of one
+-- ticket with one word
+abbrev pub AreSame : Step → Step → Type 0
+AreSame (steps.Post now prepared) (steps.Post now' prepared') = (now ≡ now') × (prepared ≡ prepared')
+AreSame (steps.Turn now) (steps.Turn now') = now ≡ now'
+AreSame (steps.Answer tenant now ticket word answer) (steps.Answer tenant' now' ticket' word' answer') =
+    (tenant ≡ tenant') × (now ≡ now') × (ticket ≡ ticket') × (word ≡ word') × (answer_view answer ≡ answer_view answer')
+AreSame (steps.Report tenant now) (steps.Report tenant' now') = (tenant ≡ tenant') × (now ≡ now')
+AreSame (steps.Drain tenant now) (steps.Drain tenant' now') = (tenant ≡ tenant') × (now ≡ now')
+AreSame _ _ = ⊥

@@ -1,27 +1,30 @@
 -- What a step gives, whatever is kept before it: also where no own steps leave that, as after refused memory.
 use Rattle.std.specs.Prelude.{◌≡◌, ◌≢◌, ◌⊎◌, ℕ, List, Option, Some, None}
-use Rattle.tenant_pipeline.specs.declared.told.Told.{Told}
-use Rattle.tenant_pipeline.specs.State.{State}
-use Rattle.tenant_pipeline.specs.Machine.{GoesOnFrom}
+use Rattle.tenant_rules.specs.declared.told.Told.{Told}
+use Rattle.tenant_rules.specs.State.{State}
+use Rattle.tenant_pipeline.specs.Steps.{GoesOnFrom}
 use Rattle.tenant_shard.specs.declared.step.Step.{Step}
-use Rattle.tenant_shard.specs.declared.step.Step.TheVariants.{Post, Turn}
 use Rattle.tenant_shard.specs.declared.step.Outcome.{Outcome}
 use Rattle.tenant_shard.specs.declared.step.Outcome.TheVariants.{Idle, Refused}
 use Rattle.tenant_shard.specs.View.{View, kept_of}
-use Rattle.tenant_shard.specs.Outcomes.{own_step, piped, not_member, other_policies, Answered, named}
+use Rattle.tenant_shard.specs.Outcomes.{own_step, named_in, not_member, other_policies, Answered, named}
 use Rattle.tenant_shard.specs.Refusal.{IsStepFor, IsNobodys}
 
--- the number of the refusal of a body that reaches no pipeline, by what is kept of its tenant
+-- the number of the refusal of a step that reaches no pipeline, by what is kept of its tenant
 abbrev pub refusal_number : Option State → ℕ
 refusal_number None = not_member
 refusal_number (Some kept) = other_policies
 
+-- what is told of a step that names a tenant and reaches no pipeline, or of a turn that goes to nobody
+abbrev pub told_of_none : Option ℕ → List View → Outcome
+told_of_none (Some tenant) views = Refused tenant (refusal_number (kept_of tenant views))
+told_of_none None views = Idle
+
 -- what is told of a step that reaches no member's pipeline
 abbrev pub told_of_nobodys : Step → List View → Outcome
-told_of_nobodys (Post now prepared) views = Refused prepared.tenant (refusal_number (kept_of prepared.tenant views))
-told_of_nobodys (Turn now) views = Idle
+told_of_nobodys step views = told_of_none (named_in step) views
 
--- a step that reaches no member's pipeline was done: the post is refused, or the turn is idle, and nothing changes
+-- a step that reaches no member's pipeline was done: it is refused, or the turn is idle, and nothing changes
 pub record NobodyGoesOn (step : Step) (old : List View) (outcome : Outcome) (new : List View) : Type 0 where
   pub whose : IsNobodys step old
   pub outcome_is : outcome ≡ told_of_nobodys step old
@@ -36,7 +39,7 @@ pub record MemberGoesOn (tenant : ℕ) (step : Step) (old : List View) (outcome 
   pub said : Told
   pub after : State
   pub was : kept_of tenant old ≡ Some before
-  pub goes_on : GoesOnFrom (piped (own_step step)) before said after
+  pub goes_on : GoesOnFrom (own_step step).step before said after
   pub outcome_is : outcome ≡ named tenant (Answered said)
   pub is_now : kept_of tenant new ≡ Some after
   pub others : (other : ℕ) → other ≢ tenant → kept_of other new ≡ kept_of other old

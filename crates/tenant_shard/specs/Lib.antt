@@ -10,7 +10,7 @@ pub mod Alone
 pub mod Stop
 pub mod Table
 pub mod Members
-pub mod Places
+pub mod Whole
+pub mod Empty
 pub mod Steps
-pub mod Least
 pub mod Equal

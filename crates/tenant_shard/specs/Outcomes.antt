@@ -1,37 +1,56 @@
 -- Whose a step is, and whom an outcome names.
 use Rattle.std.specs.Prelude.{ℕ, Bool, true, false, List, Option, Some, None, ◌==◌}
+use Rattle.send_retry.specs.Class.{answer_view}
 use Rattle.tail_settings.specs.Policy.{PolicyData}
 use Rattle.tail_settings.specs.Section.{SectionData}
-use Rattle.tenant_pipeline.specs.Arrivals.{Arrival}
-use Rattle.tenant_pipeline.specs.Equal.{same_policies}
-use Rattle.tenant_pipeline.specs.declared.told.Told.{Told}
-use Rattle.tenant_pipeline.specs.declared.told.Told.TheVariants as told
-use Rattle.tenant_pipeline.specs.Own.{Own}
-use Rattle.tenant_pipeline.specs.Own as own
+use Rattle.tenant_rules.specs.declared.told.Told.{Told}
+use Rattle.tenant_rules.specs.declared.told.Told.TheVariants as told
+use Rattle.tenant_rules.specs.Own.{Own}
+use Rattle.tenant_rules.specs.Own as own
+use Rattle.otlp_prepare.specs.Equal.{same_policies}
+use Rattle.tenant_pipeline.specs.Prepared.{post_of}
 use Rattle.tenant_shard.specs.declared.step.Step.{Step}
-use Rattle.tenant_shard.specs.declared.step.Step.TheVariants.{Post, Turn}
+use Rattle.tenant_shard.specs.declared.step.Step.TheVariants as steps
 use Rattle.tenant_shard.specs.declared.step.Outcome.{Outcome}
-use Rattle.tenant_shard.specs.declared.step.Outcome.TheVariants.{Reply, Job, Worked, Idle, Refused}
+use Rattle.tenant_shard.specs.declared.step.Outcome.TheVariants.{Reply, Job, Worked, Idle, Done, Report, Refused}
 
--- a step as its tenant sees it: a body that was prepared for these policies comes, or a turn goes to the tenant
-pub data OwnStep : Type 0 where
-  Posted : ℕ → List PolicyData → List Arrival → OwnStep
-  Turned : ℕ → OwnStep
+-- a step as its tenant sees it, and of a body's the policies that the body was prepared for
+pub record OwnStep : Type 0 where
+  pub step : Own
+  pub made_for : Option (List PolicyData)
+
+-- a step of no body
+abbrev pub plain : Own → OwnStep
+plain step = record { step = step; made_for = None }
 
 -- a step of a shard as the step of the tenant whose it is
 abbrev pub own_step : Step → OwnStep
-own_step (Post now prepared) = Posted now prepared.policies prepared.arrivals
-own_step (Turn now) = Turned now
+own_step (steps.Post now prepared) = record { step = post_of now prepared; made_for = Some prepared.policies }
+own_step (steps.Turn now) = plain (own.Turn now)
+own_step (steps.Answer tenant now ticket word answer) = plain (own.Answer now ticket word (answer_view answer))
+own_step (steps.Report tenant now) = plain (own.Report now)
+own_step (steps.Drain tenant now) = plain (own.Drain now)
 
--- the same as its pipeline sees it
-abbrev pub piped : OwnStep → Own
-piped (Posted now policies arrivals) = own.Post now arrivals
-piped (Turned now) = own.Turn now
+-- the tenant that a step names; a turn names none
+abbrev pub named_in : Step → Option ℕ
+named_in (steps.Post now prepared) = Some prepared.tenant
+named_in (steps.Turn now) = None
+named_in (steps.Answer tenant now ticket word answer) = Some tenant
+named_in (steps.Report tenant now) = Some tenant
+named_in (steps.Drain tenant now) = Some tenant
+
+-- whether a tenant with this section has the policies that a body was prepared for, where there is one
+abbrev pub are_for : SectionData → Option (List PolicyData) → Bool
+are_for section None = true
+are_for section (Some policies) = same_policies policies section.tail_sampling.policies
 
 -- whether it reaches the pipeline of a tenant with this section: a body that was prepared for other policies doesn't
 abbrev pub is_taken : SectionData → OwnStep → Bool
-is_taken section (Posted now policies arrivals) = same_policies policies section.tail_sampling.policies
-is_taken section (Turned now) = true
+is_taken section step = are_for section step.made_for
+
+-- the number of the refusal of an answer to a job that isn't in flight
+abbrev pub unknown_ticket : ℕ
+unknown_ticket = 21
 
 -- the number of the refusal of a tenant that is no member
 abbrev pub not_member : ℕ
@@ -51,6 +70,9 @@ abbrev pub named : ℕ → Answer → Outcome
 named tenant (Answered (told.Reply reply)) = Reply tenant reply
 named tenant (Answered (told.Job ticket payload)) = Job tenant ticket payload
 named tenant (Answered told.Worked) = Worked tenant
+named tenant (Answered told.Done) = Done tenant
+named tenant (Answered (told.Report text)) = Report tenant text
+named tenant (Answered told.UnknownTicket) = Refused tenant unknown_ticket
 named tenant (NotTaken number) = Refused tenant number
 
 -- the tenant whom an outcome names
@@ -59,6 +81,8 @@ told_whom (Reply tenant reply) = Some tenant
 told_whom (Job tenant ticket payload) = Some tenant
 told_whom (Worked tenant) = Some tenant
 told_whom Idle = None
+told_whom (Done tenant) = Some tenant
+told_whom (Report tenant text) = Some tenant
 told_whom (Refused tenant number) = Some tenant
 
 -- whether it is this tenant
@@ -66,7 +90,11 @@ abbrev pub is_tenant : ℕ → Option ℕ → Bool
 is_tenant tenant None = false
 is_tenant tenant (Some other) = other == tenant
 
+-- whose a step is: the tenant's that it names, and a turn the one's that its outcome names
+abbrev pub whose : Option ℕ → Outcome → Option ℕ
+whose None outcome = told_whom outcome
+whose (Some tenant) outcome = Some tenant
+
 -- a tenant's own steps are those that name it and the turns whose outcome names it
 abbrev pub is_own : ℕ → Step → Outcome → Bool
-is_own tenant (Post now prepared) outcome = prepared.tenant == tenant
-is_own tenant (Turn now) outcome = is_tenant tenant (told_whom outcome)
+is_own tenant step outcome = is_tenant tenant (whose (named_in step) outcome)

@@ -1,9 +1,9 @@
 -- When each tenant of a shard is ready. Whom a turn goes to then is `IsPick` of shard_agenda.
 use Rattle.std.specs.Prelude.{ℕ, Bool, true, false, List, Option, Some, None, option_and_then}
 use Rattle.tail_settings.specs.Section.{SectionData}
-use Rattle.tenant_pipeline.specs.Own.{Own}
-use Rattle.tenant_pipeline.specs.State.{state}
-use Rattle.tenant_pipeline.specs.Ready.{ready}
+use Rattle.tenant_rules.specs.Own.{Own}
+use Rattle.tenant_rules.specs.State.{state}
+use Rattle.tenant_rules.specs.Ready.{ready}
 use Rattle.tenant_shard.specs.View.{View, kept_of}
 use Rattle.tenant_shard.specs.Lists.{Lists}
 

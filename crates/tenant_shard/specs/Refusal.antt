@@ -1,39 +1,44 @@
 -- What a shard is after a step was refused memory, and which steps take none.
 use Rattle.std.specs.Prelude.{◌≡◌, ◌≢◌, ℕ, true, false, List, Option, Some, None, if◌then◌else◌, ◌==◌}
-use Rattle.tail_settings.specs.Policy.{PolicyData}
-use Rattle.tenant_pipeline.specs.Equal.{same_policies}
-use Rattle.tenant_pipeline.specs.Own as own
-use Rattle.tenant_pipeline.specs.State.{State}
-use Rattle.tenant_pipeline.specs.Timers.{IsFront, effective}
+use Rattle.tenant_rules.specs.Own.{moment_of}
+use Rattle.tenant_rules.specs.State.{State}
+use Rattle.tenant_rules.specs.Timers.{IsFront}
+use Rattle.tenant_rules.specs.Machine.{effective}
+use Rattle.shard_agenda.specs.Pick.{IsPick}
 use Rattle.tenant_shard.specs.declared.step.Step.{Step}
-use Rattle.tenant_shard.specs.declared.step.Step.TheVariants.{Post, Turn}
 use Rattle.tenant_shard.specs.View.{View, kept_of}
 use Rattle.tenant_shard.specs.Lists.{Lists, ShardStands}
-use Rattle.tenant_shard.specs.Outcomes.{own_step, piped}
+use Rattle.tenant_shard.specs.Outcomes.{OwnStep, own_step, named_in, is_taken}
 use Rattle.tenant_shard.specs.Pick.{ready_in}
-use Rattle.shard_agenda.specs.Pick.{IsPick}
 
--- a body that was prepared for these policies reaches the tenant's pipeline: the tenant is a member that has them
-abbrev pub Reaches : List PolicyData → Option State → Type 0
-Reaches policies None = ⊥
-Reaches policies (Some kept) = same_policies policies kept.policies ≡ true
+-- a step reaches a tenant's pipeline: the tenant is a member, and has the policies that a body was prepared for
+abbrev pub Reaches : OwnStep → Option State → Type 0
+Reaches step None = ⊥
+Reaches step (Some kept) = is_taken kept.section step ≡ true
+
+-- whose step it is, where it names a tenant and reaches that one's pipeline, or is a turn, by whom that goes to
+abbrev pub IsFor : Option ℕ → ℕ → OwnStep → List View → Type 0
+IsFor (Some named) tenant step views = (named ≡ tenant) × Reaches step (kept_of tenant views)
+IsFor None tenant step views = IsPick (ready_in views) (moment_of step.step) (Some tenant)
 
 -- whose step it is, where it reaches a member's pipeline: the tenant's that it names, for a turn the one's whom it goes
 -- to
 abbrev pub IsStepFor : ℕ → Step → List View → Type 0
-IsStepFor tenant (Post now prepared) views =
-    (prepared.tenant ≡ tenant) × Reaches prepared.policies (kept_of prepared.tenant views)
-IsStepFor tenant (Turn now) views = IsPick (ready_in views) (own.moment_of (own.Turn now)) (Some tenant)
+IsStepFor tenant step views = IsFor (named_in step) tenant (own_step step) views
 
--- a body that was prepared for these policies reaches no pipeline: its tenant is no member, or has other policies
-abbrev pub ReachesNone : List PolicyData → Option State → Type 0
-ReachesNone policies None = Unit
-ReachesNone policies (Some kept) = same_policies policies kept.policies ≡ false
+-- a step reaches no pipeline: its tenant is no member, or has other policies than a body was prepared for
+abbrev pub ReachesNone : OwnStep → Option State → Type 0
+ReachesNone step None = Unit
+ReachesNone step (Some kept) = is_taken kept.section step ≡ false
 
--- a step that reaches no member's pipeline: such a body, or a turn where no member is ready
+-- such a step that names a tenant, or a turn where no member is ready
+abbrev pub IsForNone : Option ℕ → OwnStep → List View → Type 0
+IsForNone (Some tenant) step views = ReachesNone step (kept_of tenant views)
+IsForNone None step views = IsPick (ready_in views) (moment_of step.step) None
+
+-- a step that reaches no member's pipeline
 abbrev pub IsNobodys : Step → List View → Type 0
-IsNobodys (Post now prepared) views = ReachesNone prepared.policies (kept_of prepared.tenant views)
-IsNobodys (Turn now) views = IsPick (ready_in views) (own.moment_of (own.Turn now)) None
+IsNobodys step views = IsForNone (named_in step) (own_step step) views
 
 -- the lists without what is known of a tenant
 abbrev pub without : ℕ → Lists → Lists
@@ -47,7 +52,7 @@ pub record IsRefused (tenant : ℕ) (step : Step) (old new : List View) : Type 0
   pub after : State
   pub was : kept_of tenant old ≡ Some before
   pub is_now : kept_of tenant new ≡ Some after
-  pub front : IsFront (effective (piped (own_step step)) before) before after
+  pub front : IsFront (effective (own_step step).step before) before after
   pub others : (other : ℕ) → other ≢ tenant → kept_of other new ≡ kept_of other old
   pub stands : (lists : Lists) → ShardStands lists old → ShardStands (without tenant lists) new
 

@@ -1,17 +1,15 @@
 -- What a shard answers to its steps.
 use Rattle.std.specs.Prelude.{◌≡◌, ◌≢◌, ℕ, Bool, true, false, List, [], ◌∷◌, Option, Some, None, if◌then◌else◌}
 use Rattle.tail_settings.specs.Section.{SectionData}
-use Rattle.tenant_pipeline.specs.declared.told.Told.{Told}
-use Rattle.tenant_pipeline.specs.Own.{Own}
-use Rattle.tenant_pipeline.specs.Own as own
-use Rattle.tenant_pipeline.specs.State.{answer}
+use Rattle.tenant_rules.specs.declared.told.Told.{Told}
+use Rattle.tenant_rules.specs.Own.{Own, moment_of}
+use Rattle.tenant_rules.specs.Answers.{answer}
 use Rattle.tenant_shard.specs.declared.step.Step.{Step}
-use Rattle.tenant_shard.specs.declared.step.Step.TheVariants.{Post, Turn}
 use Rattle.tenant_shard.specs.declared.step.Outcome.{Outcome}
 use Rattle.tenant_shard.specs.declared.step.Outcome.TheVariants.{Idle, Refused}
 use Rattle.tenant_shard.specs.View.{View, kept_of}
 use Rattle.tenant_shard.specs.Lists.{Lists, ShardStands}
-use Rattle.tenant_shard.specs.Outcomes.{OwnStep, Turned, own_step, piped, is_taken, not_member, other_policies, Answered, named, told_whom, is_own}
+use Rattle.tenant_shard.specs.Outcomes.{OwnStep, own_step, named_in, is_taken, not_member, other_policies, Answered, named, told_whom, is_own}
 use Rattle.tenant_shard.specs.Pick.{ready_at}
 use Rattle.shard_agenda.specs.Pick.{IsPick}
 
@@ -30,7 +28,7 @@ IsTakenOrNot false tenant section past known step outcome = outcome ≡ Refused 
 abbrev pub IsAnswered : ℕ → Option SectionData → List Own → Bool → OwnStep → Outcome → Type 0
 IsAnswered tenant None past known step outcome = outcome ≡ Refused tenant not_member
 IsAnswered tenant (Some section) past known step outcome =
-    IsTakenOrNot (is_taken section step) tenant section past known (piped step) outcome
+    IsTakenOrNot (is_taken section step) tenant section past known step.step outcome
 
 -- the same by the tenant's section and own steps in the lists
 abbrev pub IsAnswerTo : ℕ → Lists → OwnStep → Outcome → Type 0
@@ -38,23 +36,26 @@ IsAnswerTo tenant lists step outcome =
     IsAnswered tenant (lists.sections tenant) (lists.pasts tenant) (lists.known tenant) step outcome
 
 -- the outcome of a turn, by whom it goes to
-abbrev pub IsTurned : Lists → ℕ → Option ℕ → Outcome → Type 0
-IsTurned lists now None outcome = outcome ≡ Idle
-IsTurned lists now (Some tenant) outcome = IsAnswerTo tenant lists (Turned now) outcome
+abbrev pub IsTurned : Lists → OwnStep → Option ℕ → Outcome → Type 0
+IsTurned lists step None outcome = outcome ≡ Idle
+IsTurned lists step (Some tenant) outcome = IsAnswerTo tenant lists step outcome
+
+-- the outcome of a step that names a tenant, or of a turn, which goes to the tenant that is ready first
+abbrev pub IsOutcomeOf : Option ℕ → Lists → List View → OwnStep → Outcome → Type 0
+IsOutcomeOf (Some tenant) lists views step outcome = IsAnswerTo tenant lists step outcome
+IsOutcomeOf None lists views step outcome =
+    (picked : Option ℕ) × IsPick (ready_at lists views) (moment_of step.step) picked
+    × IsTurned lists step picked outcome
 
 -- the outcome of a step, by the own steps before it. Of members whose own steps are not known, what is kept tells when
 -- they are ready
 abbrev pub IsOutcome : Lists → List View → Step → Outcome → Type 0
-IsOutcome lists views (Post now prepared) outcome =
-    IsAnswerTo prepared.tenant lists (own_step (Post now prepared)) outcome
-IsOutcome lists views (Turn now) outcome =
-    (picked : Option ℕ) × IsPick (ready_at lists views) (own.moment_of (own.Turn now)) picked
-    × IsTurned lists now picked outcome
+IsOutcome lists views step outcome = IsOutcomeOf (named_in step) lists views (own_step step) outcome
 
 -- a step joins the past of a member's pipeline where it reaches it
 abbrev pub recorded : Option SectionData → OwnStep → List Own → List Own
 recorded None step past = past
-recorded (Some section) step past = if is_taken section step then piped step ∷ past else past
+recorded (Some section) step past = if is_taken section step then step.step ∷ past else past
 
 -- a step is recorded for the member whose own it is, and for nobody where it is no member's
 abbrev pub past_after : Step → Outcome → Lists → ℕ → List Own

@@ -1,30 +1,34 @@
-//! A shard: the pipelines of several tenants behind one call.
+//! A shard: the pipelines of several tenants behind one call, over stores that they share.
 //!
-//! A step is a tenant's post, or a worker's turn, which goes to the member that is ready first, the
-//! lower number first where several are ready at one moment. `Shard::run` promises what the whole
-//! collector is for: whatever the other tenants' settings and steps, each member is told exactly
-//! what a pipeline of its own answers to the steps that were its own. `Shard::step` promises it one
-//! step at a time. Both say what is left where memory was refused, and what follows from that.
+//! A step is a tenant's post, answer, report or drain, or a worker's turn, which goes to the member that is ready
+//! first, the lower number first where several are ready at one moment. `Shard::run` promises what the whole collector
+//! is for: whatever the other tenants' settings and steps, each member is told exactly what a pipeline of its own
+//! answers to the steps that were its own. `Shard::step` promises it one step at a time. Both say what is left where
+//! memory was refused, and what follows from that.
+//!
+//! All members' spans lie in one pool, their rows in one table, and when each is ready next in one agenda. Contracts
+//! see the members one by one, each as its rules see it; what always holds of stores, agenda and members together is
+//! in `specs/Whole`.
 //!
 //! A body is prepared before it is posted, for the policies that its tenant has then. One that was prepared for other
-//! policies than the member's is refused with the number 23, and a post of a tenant that is no member with 22: neither
-//! changes anything, and what the tenant is told afterwards is as if it had not come.
+//! policies than the member's is refused with the number 23, and a step of a tenant that is no member with 22: neither
+//! changes anything, and what the tenant is told afterwards is as if it had not come. An answer to a job that isn't in
+//! flight is refused with 21, and nothing but due timers has happened then.
 //!
-//! It stands on `tenant_pipeline` and on `tail_settings`. Its own rules come from no public text.
+//! It stands on `tenant_pipeline`, `tenant_stores`, `shard_agenda`, `tenant_rules` and `tail_settings`. Its own rules
+//! come from no public text.
 #![tactic(auto)]
 
 ghost use Rattle.std.specs.Prelude.{◌≡◌, ◌↔◌, true};
 ghost use Rattle.tenant_shard.specs.Alone.{OwnStepsDecide};
 ghost use Rattle.tenant_shard.specs.Chain.{KeptDecides};
-ghost use Rattle.tenant_shard.specs.Equal.{AreEqualSteps};
 
 mod member;
-mod pick;
 mod shard;
 mod step;
 
 pub use shard::{Shard, Stopped};
-pub use step::{Outcome, Step};
+pub use step::{Outcome, Step, equal_steps_are_the_same};
 
 /// What a tenant is told follows from its section and its own steps alone: a law over runs, also
 /// over those of different shards.
@@ -38,9 +42,7 @@ pub fn what_is_kept_decides()
     ensures { KeptDecides }
 {}
 
-/// Outcomes are equal exactly where contracts see the same, and steps where their moments are the same and their bodies
-/// equal: laws over `==`.
-pub fn equal_outcomes_and_steps()
-    ensures outcomes { (a b : Outcome) → (⟦<Outcome as PartialEq>⟧.eq a b ≡ true) ↔ (a ≡ b) }
-    ensures steps { (a b : Step) → (⟦<Step as PartialEq>⟧.eq a b ≡ true) ↔ AreEqualSteps a b }
+/// Outcomes are equal exactly where contracts see the same: a law over `==`.
+pub fn equal_outcomes()
+    ensures { (a b : Outcome) → (⟦<Outcome as PartialEq>⟧.eq a b ≡ true) ↔ (a ≡ b) }
 {}

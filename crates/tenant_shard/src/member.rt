@@ -1,91 +1,93 @@
 //! The members, which stand by number, and what a step of one of them does.
 
-ghost use Rattle.std.specs.Prelude.{◌≡◌, ◌≢◌, ℕ, List, [], ◌∷◌, ◌<◌, ◌≤◌, IfOk, IfErr, OnErr, Option, Some, None, length};
-ghost use Rattle.tenant_pipeline.specs.Own as own;
-ghost use Rattle.tenant_shard.specs.View.{AreInOrder, kept_of};
-ghost use Rattle.tenant_shard.specs.Outcomes.{Answered, named};
-ghost use Rattle.tenant_shard.specs.Members.{views};
-ghost use Rattle.tenant_shard.specs.Places.{IsPlaceOf, IsGapFor};
-ghost use Rattle.tenant_shard.specs.Steps.{AreFor, IsStepOf, IsLossOf};
+ghost use Rattle.std.specs.Prelude.{◌≡◌, ◌≢◌, ℕ, true, ◌<◌, ◌≤◌, IfOk, IfErr, OnErr, length};
+ghost use Rattle.tail_settings.specs.Section.{section_view};
+ghost use Rattle.tenant_rules.specs.Machine.{effective};
+ghost use Rattle.tenant_rules.specs.Timers.{IsFront};
+ghost use Rattle.tenant_stores.specs.Part.{part};
+ghost use Rattle.tenant_pipeline.specs.StateIn.{state_in};
+ghost use Rattle.tenant_pipeline.specs.Held.{IsHeld, IsSwept};
+ghost use Rattle.tenant_pipeline.specs.Steps.{Answers, GoesOnFrom};
+ghost use Rattle.tenant_shard.specs.Members.{AreInOrder, IsPlaceOf, IsGapFor};
+ghost use Rattle.tenant_shard.specs.Outcomes.{Answered, is_taken, named, own_step};
 
-use crate::step::Outcome;
+use crate::step::{Outcome, Step};
 use std::alloc::AllocError;
-use tenant_pipeline::{Pipeline, Prepared, Told};
+use tail_policy::TraceNote;
+use tenant_pipeline::Pipeline;
+use tenant_rules::Told;
+use tenant_stores::Stores;
 
-/// A member of the shard.
-#[derive(Drop)]
-pub struct Member {
-    /// Its number.
-    pub tenant: u32,
-    /// What it would have alone.
-    pub pipeline: Pipeline,
-}
+/// The number of the refusal of an answer to a job that isn't in flight.
+const UNKNOWN_TICKET: u8 = 21;
 
 /// What a pipeline told, with the number of the tenant whose it is.
-fn named(tenant: u32, told: Told) -> Outcome
+pub fn named(tenant: u32, told: Told) -> Outcome
     ensures { result ≡ named tenant (Answered told) }
 {
     match told {
         Told::Reply(reply) => Outcome::Reply(tenant, reply),
         Told::Job { ticket, payload } => Outcome::Job(tenant, ticket, payload),
         Told::Worked => Outcome::Worked(tenant),
+        Told::Done => Outcome::Done(tenant),
+        Told::Report(text) => Outcome::Report(tenant, text),
+        Told::UnknownTicket => Outcome::Refused(tenant, UNKNOWN_TICKET),
     }
 }
 
 /// Where the member stands, or would.
-pub fn place_of(members: &[Member], tenant: u32) -> Result<usize, usize>
-    requires { AreInOrder (views members.now) }
+pub fn place_of(members: &[Pipeline], tenant: u32) -> Result<usize, usize>
+    requires { AreInOrder members.now }
     ensures found { IfOk result (λ i. (i < length members.now) × IsPlaceOf tenant members.now i) }
     ensures absent { IfErr result (λ i. (i ≤ length members.now) × IsGapFor tenant members.now i) }
 {
-    members.binary_search_by_key(&tenant, |member| member.tenant)
+    members.binary_search_by_key(&tenant, |member| member.tenant())
 }
 
-/// Whether the body was prepared for the member's policies.
-pub fn is_for_at(members: &[Member], i: usize, prepared: &Prepared) -> bool
-    requires within { i < length members.now }
-    requires place { IsPlaceOf prepared.now.tenant members.now i }
-    ensures { AreFor prepared.now.policies (kept_of prepared.now.tenant (views members.now)) result }
+/// Whether a step reaches the member's pipeline: a body does that was prepared for its policies, and any other step.
+pub fn takes(own: &Pipeline, step: &Step<'_>) -> bool
+    ensures { result ≡ is_taken (section_view own.now.section) (own_step step.now) }
 {
-    members[i].pipeline.is_for(prepared)
+    match step {
+        Step::Post { prepared, .. } => own.is_for(prepared),
+        _ => true,
+    }
 }
 
-/// The member's body comes.
-pub fn post_at(
-    members: &mut Vec<Member>,
-    i: usize,
-    now: u64,
-    prepared: &Prepared,
-) -> Result<Outcome, AllocError>
-    requires within { i < length members.old.items }
-    requires place { IsPlaceOf prepared.now.tenant members.old.items i }
-    ensures ok { IfOk result (λ outcome. IsStepOf prepared.now.tenant (own.Post now prepared.now.arrivals)
-        (views members.old.items) outcome (views members.new.items)) }
-    ensures refused { OnErr result (IsLossOf prepared.now.tenant (own.Post now prepared.now.arrivals)
-        (views members.old.items) (views members.new.items)) }
-    ensures order { AreInOrder (views members.old.items) → AreInOrder (views members.new.items) }
+/// The member's pipeline does a step that reaches it. A step that names a tenant is taken as this member's.
+pub fn act(
+    own: &mut Pipeline,
+    stores: &mut Stores<TraceNote>,
+    step: &Step<'_>,
+) -> Result<Told, AllocError>
+    requires held { IsHeld own.old stores.old }
+    requires taken { is_taken (section_view own.old.section) (own_step step.now) ≡ true }
+    ensures ok { IfOk result (λ told.
+        Answers (own_step step.now).step (state_in own.old stores.old) told (state_in own.new stores.new)) }
+    ensures goes_on { IfOk result (λ told.
+        GoesOnFrom (own_step step.now).step (state_in own.old stores.old) told (state_in own.new stores.new)) }
+    ensures refused { OnErr result (let taken = (own_step step.now).step in let old = state_in own.old stores.old in
+        IsFront (effective taken old) old (state_in own.new stores.new)) }
+    ensures held { IsHeld own.new stores.new }
+    ensures swept { IsSwept own.old → IsSwept own.new }
+    ensures others { (other : ℕ) → other ≢ own.old.tenant → part other stores.new ≡ part other stores.old }
+    ensures tenant { own.new.tenant ≡ own.old.tenant }
+    ensures section { own.new.section ≡ own.old.section }
 {
-    let member = &mut members[i];
-    let reply = member.pipeline.post(now, prepared)?;
-    Ok(Outcome::Reply(prepared.tenant(), reply))
-}
-
-/// The turn goes to the member.
-pub fn turn_at(
-    members: &mut Vec<Member>,
-    i: usize,
-    now: u64,
-    tenant: u32,
-) -> Result<Outcome, AllocError>
-    requires within { i < length members.old.items }
-    requires place { IsPlaceOf tenant members.old.items i }
-    ensures ok { IfOk result (λ outcome. IsStepOf tenant (own.Turn now)
-        (views members.old.items) outcome (views members.new.items)) }
-    ensures refused { OnErr result (IsLossOf tenant (own.Turn now)
-        (views members.old.items) (views members.new.items)) }
-    ensures order { AreInOrder (views members.old.items) → AreInOrder (views members.new.items) }
-{
-    let member = &mut members[i];
-    let told = member.pipeline.turn(now)?;
-    Ok(named(tenant, told))
+    match step {
+        Step::Post { now, prepared } => {
+            let reply = own.post(stores, *now, prepared)?;
+            Ok(Told::Reply(reply))
+        }
+        Step::Turn { now } => own.turn(stores, *now),
+        Step::Answer {
+            now,
+            ticket,
+            word,
+            answer,
+            ..
+        } => own.answer(stores, *now, *ticket, *word, answer),
+        Step::Report { now, .. } => own.report(stores, *now),
+        Step::Drain { now, .. } => own.drain(stores, *now),
+    }
 }

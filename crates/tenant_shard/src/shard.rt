@@ -1,23 +1,30 @@
 //! The shard.
 
-ghost use Rattle.std.specs.Prelude.{◌≡◌, ◌≢◌, ℕ, List, [], ◌∷◌, ◌++◌, ◌<◌, IfOk, OnOk, OnErr, IsOk, IfErr, Option, Some, None, min, length, take};
+ghost use Rattle.std.specs.Prelude.{◌≡◌, ◌≢◌, ℕ, List, [], ◌∷◌, ◌++◌, ◌<◌, IfOk, OnOk, OnErr, IsOk, IfErr};
+ghost use Rattle.std.specs.Prelude.{Option, Some, None, min, length};
 ghost use Rattle.tail_settings.specs.Settings.{settings_view};
-ghost use Rattle.tenant_shard.specs.View.{View, AreInOrder};
+ghost use Rattle.tenant_rules.specs.Own.{moment_of};
+ghost use Rattle.shard_agenda.specs.Pick.{IsPick};
+ghost use Rattle.tenant_shard.specs.View.{View, kept_of};
 ghost use Rattle.tenant_shard.specs.Lists.{ShardStands};
-ghost use Rattle.tenant_shard.specs.Members.{views};
+ghost use Rattle.tenant_shard.specs.Members.{IsPlaceOf, views};
+ghost use Rattle.tenant_shard.specs.Outcomes.{named_in, own_step};
 ghost use Rattle.tenant_shard.specs.Run.{ShardSteps};
-ghost use Rattle.tenant_shard.specs.Refusal.{ShardRefuses, IsNobodys};
+ghost use Rattle.tenant_shard.specs.Refusal.{Reaches, ShardRefuses, IsNobodys};
 ghost use Rattle.tenant_shard.specs.GoesOn.{ShardGoesOn};
+ghost use Rattle.tenant_shard.specs.Steps.{IsStepOf, IsLossOf};
 ghost use Rattle.tenant_shard.specs.Table.{opened};
-ghost use Rattle.tenant_shard.specs.declared.step.Step.TheVariants.{Post, Turn};
+ghost use Rattle.tenant_shard.specs.Whole.{IsWhole};
 
-use crate::member::{Member, is_for_at, place_of, post_at, turn_at};
-use crate::pick::least;
+use crate::member::{act, named, place_of, takes};
 use crate::step::{Outcome, Step};
+use shard_agenda::Agenda;
 use std::alloc::{AllocError, Global};
 use std::marker::Model;
+use tail_policy::TraceNote;
 use tail_settings::Settings;
-use tenant_pipeline::{LATEST_MOMENT, Pipeline, Prepared};
+use tenant_pipeline::{LATEST_MOMENT, Pipeline};
+use tenant_stores::Stores;
 use thiserror::Error;
 
 /// The number of the refusal of a tenant that is no member.
@@ -26,11 +33,15 @@ const NOT_MEMBER: u8 = 22;
 /// The number of the refusal of a body that was prepared for other policies than the tenant's.
 const OTHER_POLICIES: u8 = 23;
 
-/// The pipelines of several tenants, by number. Of each member it keeps what its pipeline keeps.
+/// The pipelines of several tenants, by number, over one pool of spans, one of texts, and one table of rows. Of each
+/// member it keeps what its rules see.
 #[derive(Drop)]
 pub struct Shard {
     alloc: Global,
-    members: Vec<Member>,
+    stores: Stores<TraceNote>,
+    // When each member is ready next.
+    agenda: Agenda,
+    members: Vec<Pipeline>,
 }
 
 /// Memory was refused: for the outcomes' room before the first step, or at a step, after the
@@ -44,32 +55,40 @@ pub struct Stopped {
 
 impl Model for Shard {
     ghost use Rattle.std.specs.Prelude.{List};
-    ghost use Rattle.tenant_shard.specs.View.{View, AreInOrder};
+    ghost use Rattle.tenant_shard.specs.View.{View};
     ghost use Rattle.tenant_shard.specs.Members.{views};
+    ghost use Rattle.tenant_shard.specs.Whole.{IsWhole};
 
     ghost Value = { List View };
 
-    ghost view = { λ s. views s.members.items };
+    ghost view = { λ s. views s.stores s.members.items };
 
-    ghost invariant = { λ s. AreInOrder (views s.members.items) };
+    ghost invariant = { λ s. IsWhole s.stores s.agenda s.members.items };
 }
 
 impl Shard {
     ghost use Rattle.tenant_shard.specs.Alone.{EachAlone};
     ghost use Rattle.tenant_shard.specs.Chain.{ShardRuns, RunsByOwnSteps, StandsAfter};
+    ghost use Rattle.tenant_shard.specs.Empty.{is_empty};
     ghost use Rattle.tenant_shard.specs.Stop.{IsStopped};
+    ghost use Rattle.tenant_shard.specs.Whole.{AllCounted};
 
     /// Opens a shard of the tenants of the settings whose numbers stand in `members`, with no steps
     /// so far. Other numbers count for nothing, and one that stands there twice counts once.
     pub fn open(alloc: Global, settings: &Settings, members: &[u32]) -> Result<Self, AllocError>
-        ensures { IfOk result (ShardStands (opened (settings_view settings.now) members.now)) }
+        ensures stands { IfOk result (ShardStands (opened (settings_view settings.now) members.now)) }
+        ensures counted { IfOk result AllCounted }
     {
+        let stores = Stores::new(alloc);
+        let mut agenda = Agenda::new(alloc);
         let mut opened = Vec::new(alloc);
         for tenant in members {
-            open_member(alloc, settings, &mut opened, *tenant)?;
+            open_member(alloc, settings, &stores, &mut agenda, &mut opened, *tenant)?;
         }
         Ok(Shard {
             alloc,
+            stores,
+            agenda,
             members: opened,
         })
     }
@@ -77,7 +96,7 @@ impl Shard {
     /// Does one step. Where memory is refused, of the step's own tenant some first due timers may
     /// have run, and all else is as before. A step that reaches no member's pipeline takes no memory
     /// and changes nothing: no timer runs, and no clock goes on.
-    pub fn step(&mut self, step: &Step) -> Result<Outcome, AllocError>
+    pub fn step(&mut self, step: &Step<'_>) -> Result<Outcome, AllocError>
         // The outcome is what the members' own steps say. Where no own steps leave what is kept of the step's tenant,
         // as after refused memory, it follows from that.
         ensures ok { IfOk result (λ outcome. ShardSteps step.now self.old outcome self.new) }
@@ -86,16 +105,16 @@ impl Shard {
         // What is left where memory is refused. A step of nobody takes none, and changes nothing.
         ensures refused { OnErr result (ShardRefuses step.now self.old self.new) }
         ensures nobodys { IsNobodys step.now self.old → (IsOk result) × (self.new ≡ self.old) }
+
+        // In every state each span that was taken is counted once.
+        ensures counted { AllCounted self.new }
     {
-        match step {
-            Step::Post { now, prepared } => post_to(&mut self.members, *now, prepared),
-            Step::Turn { now } => turn(&mut self.members, *now),
-        }
+        step_in(&mut self.stores, &mut self.agenda, &mut self.members, step)
     }
 
     /// Does the steps one after the other: each member is told exactly what a pipeline of its own
     /// answers to the steps that were its own. An error carries the outcomes so far.
-    pub fn run(&mut self, steps: &[Step]) -> Result<Vec<Outcome>, Stopped>
+    pub fn run(&mut self, steps: &[Step<'_>]) -> Result<Vec<Outcome>, Stopped>
         // Each step goes on from what the one before it left, in one chain.
         ensures ok { IfOk result (λ outcomes. ShardRuns steps.now self.old outcomes.items self.new) }
 
@@ -107,6 +126,9 @@ impl Shard {
         // What was done where memory is refused.
         ensures stopped { IfErr result (λ stopped.
             IsStopped steps.now self.old stopped.outcomes.items self.new) }
+
+        // In every state each span that was taken is counted once.
+        ensures counted { AllCounted self.new }
     {
         let alloc = self.alloc;
         let Ok(mut outcomes) = Vec::with_capacity(alloc, steps.len()) else {
@@ -124,67 +146,143 @@ impl Shard {
         }
         Ok(outcomes)
     }
+
+    /// Whether the tenant is a member that holds no spans: none waits for its trace's decision, for a batch or in the
+    /// queue, and no batch is on its way.
+    pub fn is_empty(&self, tenant: u32) -> bool
+        ensures { result ≡ is_empty (kept_of tenant self.now) }
+    {
+        match place_of(&self.members, tenant) {
+            Ok(i) => self.members[i].is_empty(),
+            Err(_) => false,
+        }
+    }
 }
 
-/// The body goes to its tenant, where that is a member with the policies that the body was prepared for.
-fn post_to(members: &mut Vec<Member>, now: u64, prepared: &Prepared) -> Result<Outcome, AllocError>
-    requires { AreInOrder (views members.old.items) }
-    ensures ok { IfOk result (λ outcome. ShardSteps (Post now prepared.now)
-        (views members.old.items) outcome (views members.new.items)) }
-    ensures goes_on { IfOk result (λ outcome. ShardGoesOn (Post now prepared.now)
-        (views members.old.items) outcome (views members.new.items)) }
-    ensures refused { OnErr result (ShardRefuses (Post now prepared.now)
-        (views members.old.items) (views members.new.items)) }
-    ensures nobodys { IsNobodys (Post now prepared.now) (views members.old.items) →
-        (IsOk result) × (views members.new.items ≡ views members.old.items) }
-    ensures order { AreInOrder (views members.new.items) }
+/// A step goes to the tenant that it names, or a turn to the member that is ready first.
+fn step_in(
+    stores: &mut Stores<TraceNote>,
+    agenda: &mut Agenda,
+    members: &mut Vec<Pipeline>,
+    step: &Step<'_>,
+) -> Result<Outcome, AllocError>
+    requires { IsWhole stores.old agenda.old members.old.items }
+    ensures ok { IfOk result (λ outcome. ShardSteps step.now
+        (views stores.old members.old.items) outcome (views stores.new members.new.items)) }
+    ensures goes_on { IfOk result (λ outcome. ShardGoesOn step.now
+        (views stores.old members.old.items) outcome (views stores.new members.new.items)) }
+    ensures refused { OnErr result (ShardRefuses step.now
+        (views stores.old members.old.items) (views stores.new members.new.items)) }
+    ensures nobodys { IsNobodys step.now (views stores.old members.old.items) →
+        (IsOk result) × (views stores.new members.new.items ≡ views stores.old members.old.items) }
+    ensures whole { IsWhole stores.new agenda.new members.new.items }
 {
-    let tenant = prepared.tenant();
+    match step.tenant() {
+        Some(tenant) => step_of(stores, agenda, members, tenant, step),
+        None => turn(stores, agenda, members, step),
+    }
+}
+
+/// The step of the tenant that it names, where that is a member with the policies that a body was prepared for.
+fn step_of(
+    stores: &mut Stores<TraceNote>,
+    agenda: &mut Agenda,
+    members: &mut Vec<Pipeline>,
+    tenant: u32,
+    step: &Step<'_>,
+) -> Result<Outcome, AllocError>
+    requires whole { IsWhole stores.old agenda.old members.old.items }
+    requires whose { named_in step.now ≡ Some tenant }
+    ensures ok { IfOk result (λ outcome. ShardSteps step.now
+        (views stores.old members.old.items) outcome (views stores.new members.new.items)) }
+    ensures goes_on { IfOk result (λ outcome. ShardGoesOn step.now
+        (views stores.old members.old.items) outcome (views stores.new members.new.items)) }
+    ensures refused { OnErr result (ShardRefuses step.now
+        (views stores.old members.old.items) (views stores.new members.new.items)) }
+    ensures nobodys { IsNobodys step.now (views stores.old members.old.items) →
+        (IsOk result) × (views stores.new members.new.items ≡ views stores.old members.old.items) }
+    ensures whole { IsWhole stores.new agenda.new members.new.items }
+{
     let Ok(i) = place_of(members, tenant) else {
         return Ok(Outcome::Refused(tenant, NOT_MEMBER));
     };
-    if !is_for_at(members, i, prepared) {
+    if !takes(&members[i], step) {
         return Ok(Outcome::Refused(tenant, OTHER_POLICIES));
     }
-    let outcome = post_at(members, i, now, prepared)?;
+    let outcome = step_at(stores, agenda, members, i, tenant, step)?;
     Ok(outcome)
 }
 
 /// The turn goes to the member that is ready first.
-fn turn(members: &mut Vec<Member>, now: u64) -> Result<Outcome, AllocError>
-    requires { AreInOrder (views members.old.items) }
-    ensures ok { IfOk result (λ outcome. ShardSteps (Turn now)
-        (views members.old.items) outcome (views members.new.items)) }
-    ensures goes_on { IfOk result (λ outcome. ShardGoesOn (Turn now)
-        (views members.old.items) outcome (views members.new.items)) }
-    ensures refused { OnErr result (ShardRefuses (Turn now)
-        (views members.old.items) (views members.new.items)) }
-    ensures nobodys { IsNobodys (Turn now) (views members.old.items) →
-        (IsOk result) × (views members.new.items ≡ views members.old.items) }
-    ensures order { AreInOrder (views members.new.items) }
+fn turn(
+    stores: &mut Stores<TraceNote>,
+    agenda: &mut Agenda,
+    members: &mut Vec<Pipeline>,
+    step: &Step<'_>,
+) -> Result<Outcome, AllocError>
+    requires whole { IsWhole stores.old agenda.old members.old.items }
+    requires whose { named_in step.now ≡ None }
+    ensures ok { IfOk result (λ outcome. ShardSteps step.now
+        (views stores.old members.old.items) outcome (views stores.new members.new.items)) }
+    ensures goes_on { IfOk result (λ outcome. ShardGoesOn step.now
+        (views stores.old members.old.items) outcome (views stores.new members.new.items)) }
+    ensures refused { OnErr result (ShardRefuses step.now
+        (views stores.old members.old.items) (views stores.new members.new.items)) }
+    ensures nobodys { IsNobodys step.now (views stores.old members.old.items) →
+        (IsOk result) × (views stores.new members.new.items ≡ views stores.old members.old.items) }
+    ensures whole { IsWhole stores.new agenda.new members.new.items }
 {
-    let Some((_, tenant)) = least(members, now.min(LATEST_MOMENT)) else {
+    let Some(tenant) = agenda.first_due(step.now().min(LATEST_MOMENT)) else {
         return Ok(Outcome::Idle);
     };
     let Ok(i) = place_of(members, tenant) else {
         unreachable!()
     };
-    let outcome = turn_at(members, i, now, tenant)?;
+    let outcome = step_at(stores, agenda, members, i, tenant, step)?;
     Ok(outcome)
+}
+
+/// The member does a step that reaches it, and the agenda follows.
+fn step_at(
+    stores: &mut Stores<TraceNote>,
+    agenda: &mut Agenda,
+    members: &mut Vec<Pipeline>,
+    i: usize,
+    tenant: u32,
+    step: &Step<'_>,
+) -> Result<Outcome, AllocError>
+    requires whole { IsWhole stores.old agenda.old members.old.items }
+    requires within { i < length members.old.items }
+    requires place { IsPlaceOf tenant members.old.items i }
+    requires taken { Reaches (own_step step.now) (kept_of tenant (views stores.old members.old.items)) }
+    ensures ok { IfOk result (λ outcome. IsStepOf tenant (own_step step.now).step
+        (views stores.old members.old.items) outcome (views stores.new members.new.items)) }
+    ensures refused { OnErr result (IsLossOf tenant (own_step step.now).step
+        (views stores.old members.old.items) (views stores.new members.new.items)) }
+    ensures whole { IsWhole stores.new agenda.new members.new.items }
+{
+    let own = &mut members[i];
+    let result = act(own, stores, step);
+    let ready = own.ready(stores);
+    agenda.set(tenant, ready);
+    let told = result?;
+    Ok(named(tenant, told))
 }
 
 /// One more member, unless it is there or is no number of the table.
 fn open_member(
     alloc: Global,
     settings: &Settings,
-    members: &mut Vec<Member>,
+    stores: &Stores<TraceNote>,
+    agenda: &mut Agenda,
+    members: &mut Vec<Pipeline>,
     tenant: u32,
 ) -> Result<(), AllocError>
-    requires { AreInOrder (views members.old.items) }
-    ensures order { OnOk result (AreInOrder (views members.new.items)) }
-    ensures stands { OnOk result ((earlier : List ℕ) →
-        ShardStands (opened (settings_view settings.now) earlier) (views members.old.items) →
-        ShardStands (opened (settings_view settings.now) (earlier ++ tenant ∷ [])) (views members.new.items)) }
+    requires { IsWhole stores.now agenda.old members.old.items }
+    ensures whole { OnOk result (IsWhole stores.now agenda.new members.new.items) }
+    ensures stands { OnOk result ((earlier : List ℕ) → let table = settings_view settings.now in
+        ShardStands (opened table earlier) (views stores.now members.old.items) →
+        ShardStands (opened table (earlier ++ tenant ∷ [])) (views stores.now members.new.items)) }
 {
     let Err(at) = place_of(members, tenant) else {
         return Ok(());
@@ -192,7 +290,10 @@ fn open_member(
     let Some(section) = settings.section(tenant) else {
         return Ok(());
     };
-    let pipeline = Pipeline::new(alloc, section)?;
-    members.insert(at, Member { tenant, pipeline })?;
+    let pipeline = Pipeline::new(alloc, tenant, section)?;
+    agenda.admit(tenant)?;
+    let ready = pipeline.ready(stores);
+    agenda.set(tenant, ready);
+    members.insert(at, pipeline)?;
     Ok(())
 }

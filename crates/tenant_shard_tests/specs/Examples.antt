@@ -4,18 +4,20 @@ use Rattle.tail_settings.specs.Policy.{PolicyData, always_sample, latency, leaf}
 use Rattle.tail_settings.specs.Section.{SectionData}
 use Rattle.tail_settings.specs.Global.{GlobalData}
 use Rattle.tail_settings.specs.Settings.{SettingsData}
-use Rattle.tenant_pipeline.specs.declared.told.Told.TheVariants as tell
-use Rattle.tenant_pipeline_tests.specs.Examples.{one_second, span, body}
-use Rattle.tenant_pipeline.specs.Prepared.{PreparedData}
-use Rattle.tenant_pipeline.specs.State.{State, accepted}
+use Rattle.send_retry.specs.Class.{Failed}
+use Rattle.tenant_rules.specs.declared.told.Told.TheVariants as tell
+use Rattle.tenant_rules.specs.Own as own
+use Rattle.tenant_rules.specs.State.{State, state}
+use Rattle.tenant_rules_tests.specs.Parts.{plain as one_second, span, body}
+use Rattle.otlp_prepare.specs.Prepared.{PreparedData}
 use Rattle.tenant_shard.specs.declared.step.Step.{Step}
-use Rattle.tenant_shard.specs.declared.step.Step.TheVariants.{Post, Turn}
+use Rattle.tenant_shard.specs.declared.step.Step.TheVariants.{Post, Turn, Report, Drain}
 use Rattle.tenant_shard.specs.declared.step.Outcome.{Outcome}
-use Rattle.tenant_shard.specs.declared.step.Outcome.TheVariants.{Reply, Job, Worked, Idle, Refused}
-use Rattle.tenant_shard.specs.View.{View, kept_of, AreInOrder}
+use Rattle.tenant_shard.specs.declared.step.Outcome.TheVariants as outcome
+use Rattle.tenant_shard.specs.View.{View, kept_of}
 use Rattle.tenant_shard.specs.Lists.{Lists, ShardStands}
 use Rattle.tenant_shard.specs.Table.{opened}
-use Rattle.tenant_shard.specs.Outcomes.{Posted, Turned, is_taken, Answered, NotTaken, named, is_own}
+use Rattle.tenant_shard.specs.Outcomes.{OwnStep, plain, own_step, is_taken, Answer, Answered, NotTaken, named, is_own}
 use Rattle.shard_agenda.specs.Pick.{IsPick}
 use Rattle.tenant_shard.specs.Run.{after, IsNext, Run}
 use Rattle.tenant_shard.specs.Alone.{alone, own_steps, told_to}
@@ -25,20 +27,17 @@ use Rattle.tenant_shard.specs.Alone.{alone, own_steps, told_to}
 abbrev pub view : ℕ → State → View
 view tenant kept = record { tenant = tenant; kept = kept }
 
--- a pipeline that has had no steps, by its policies
 abbrev pub keep_all : List PolicyData
 keep_all = leaf always_sample ∷ []
 
+-- a pipeline that has had no steps
 abbrev pub fresh : State
-fresh = record { wait = 1000; policies = keep_all; clock = 0; rows = []; decided = 0; queue = []; tickets = 0 }
+fresh = state one_second []
 
 -- whatever is kept of the members
 pub record Kept : Type 0 where
   pub of_a_member : (s t : State) → kept_of 4 (view 2 s ∷ view 4 t ∷ []) ≡ Some t
   pub of_no_member : (s t : State) → kept_of 3 (view 2 s ∷ view 4 t ∷ []) ≡ None
-  pub in_order : (s t : State) → AreInOrder (view 2 s ∷ view 4 t ∷ [])
-  pub greater_first : (s t : State) → AreInOrder (view 4 s ∷ view 2 t ∷ []) → ⊥
-  pub twice : (s t : State) → AreInOrder (view 2 s ∷ view 2 t ∷ []) → ⊥
 
 -- a table of tenants 0 and 1: the first waits two seconds, the second one
 abbrev pub two_seconds : SectionData
@@ -67,7 +66,8 @@ pub record Opened (global : GlobalData) : Type 0 where
 
 -- a body of one span, prepared with those policies
 abbrev pub prepared_for : List PolicyData → ℕ → ℕ → ℕ → PreparedData
-prepared_for policies tenant trace id = record { tenant = tenant; policies = policies; arrivals = span trace id ∷ [] }
+prepared_for policies tenant trace id =
+    record { tenant = tenant; policies = policies; arrivals = span trace id ∷ []; invalid = 0 }
 
 abbrev pub prepared : ℕ → ℕ → ℕ → PreparedData
 prepared = prepared_for keep_all
@@ -75,24 +75,36 @@ prepared = prepared_for keep_all
 abbrev pub others : List PolicyData
 others = leaf (latency 0) ∷ []
 
--- a post of this body is taken by a tenant with the same policies alone; a turn always is
+-- a post of a body without spans that was prepared with those policies
+abbrev pub posted_with : List PolicyData → OwnStep
+posted_with policies =
+    own_step (Post 0 (record { tenant = 1; policies = policies; arrivals = []; invalid = 0 }))
+
+-- a post is taken by a tenant with the same policies alone; any other step always is
 pub record Taken : Type 0 where
-  pub same : is_taken one_second (Posted 0 keep_all []) ≡ true
-  pub other_kind : is_taken one_second (Posted 0 others []) ≡ false
-  pub one_more : is_taken one_second (Posted 0 (leaf always_sample ∷ leaf always_sample ∷ []) []) ≡ false
-  pub none : is_taken one_second (Posted 0 [] []) ≡ false
-  pub turn : is_taken one_second (Turned 0) ≡ true
+  pub same : is_taken one_second (posted_with keep_all) ≡ true
+  pub other_kind : is_taken one_second (posted_with others) ≡ false
+  pub one_more : is_taken one_second (posted_with (leaf always_sample ∷ leaf always_sample ∷ [])) ≡ false
+  pub none : is_taken one_second (posted_with []) ≡ false
+  pub turn : is_taken one_second (plain (own.Turn 0)) ≡ true
+  pub answer : is_taken one_second (plain (own.Answer 0 1 0 Failed)) ≡ true
+
+-- what a tenant is told of a body that was taken whole
+abbrev pub accepted : Answer
+accepted = Answered (tell.Reply (record { status = 200; body = [] }))
 
 abbrev pub taken : ℕ → Outcome
-taken tenant = Reply tenant (record { status = 200; body = [] })
+taken tenant = outcome.Reply tenant (record { status = 200; body = [] })
 
--- a post is its tenant's whatever the outcome, a turn the tenant's that its outcome names
+-- a step that names a tenant is that one's whatever the outcome, a turn the tenant's that its outcome names
 pub record Whose : Type 0 where
-  pub own_post : is_own 1 (Post 0 (prepared 1 17 33)) (Refused 1 23) ≡ true
+  pub own_post : is_own 1 (Post 0 (prepared 1 17 33)) (outcome.Refused 1 23) ≡ true
   pub other_post : is_own 1 (Post 0 (prepared 0 17 33)) (taken 0) ≡ false
-  pub own_turn : is_own 1 (Turn 0) (Worked 1) ≡ true
-  pub other_turn : is_own 1 (Turn 0) (Job 0 1 []) ≡ false
-  pub nobodys_turn : is_own 1 (Turn 0) Idle ≡ false
+  pub own_report : is_own 1 (Report 1 0) (outcome.Refused 1 22) ≡ true
+  pub other_drain : is_own 1 (Drain 0 0) (outcome.Done 0) ≡ false
+  pub own_turn : is_own 1 (Turn 0) (outcome.Worked 1) ≡ true
+  pub other_turn : is_own 1 (Turn 0) (outcome.Job 0 1 []) ≡ false
+  pub nobodys_turn : is_own 1 (Turn 0) outcome.Idle ≡ false
 
 -- ---- whom a turn goes to
 
@@ -135,47 +147,52 @@ posted = after (Post 500 (prepared 1 18 34)) (taken 1) (after (Post 0 (prepared 
 -- posts that reach no pipeline, and one that does; a turn before 1 is ready and one at that moment; at 2000 both are
 -- ready, 1 first
 pub record Nexts : Type 0 where
-  pub no_member : IsNext posted (Post 0 (prepared 2 19 35)) (Refused 2 22)
-  pub other_policies : IsNext posted (Post 0 (prepared_for others 0 19 35)) (Refused 0 23)
+  pub no_member : IsNext posted (Post 0 (prepared 2 19 35)) (outcome.Refused 2 22)
+  pub other_policies : IsNext posted (Post 0 (prepared_for others 0 19 35)) (outcome.Refused 0 23)
   pub reply : IsNext posted (Post 0 (prepared 0 19 35)) (taken 0)
-  pub own_refused : IsNext posted (Post 0 (prepared 0 19 35)) (Refused 0 23) → ⊥
-  pub idle : IsNext posted (Turn 1499) Idle
-  pub job : IsNext posted (Turn 1500) (Job 1 1 (body 18 34))
-  pub idle_though_ready : IsNext posted (Turn 1500) Idle → ⊥
-  pub later_one_first : IsNext posted (Turn 2000) (Job 0 1 (body 17 33)) → ⊥
+  pub own_refused : IsNext posted (Post 0 (prepared 0 19 35)) (outcome.Refused 0 23) → ⊥
+  pub idle : IsNext posted (Turn 1499) outcome.Idle
+  pub job : IsNext posted (Turn 1500) (outcome.Job 1 1 (body 18 34))
+  pub idle_though_ready : IsNext posted (Turn 1500) outcome.Idle → ⊥
+  pub later_one_first : IsNext posted (Turn 2000) (outcome.Job 0 1 (body 17 33)) → ⊥
 
 abbrev pub four_steps : List Step
 four_steps = Post 0 (prepared 0 17 33) ∷ Post 500 (prepared 1 18 34) ∷ Turn 2000 ∷ Turn 2000 ∷ []
 
 abbrev pub four_outcomes : List Outcome
-four_outcomes = taken 0 ∷ taken 1 ∷ Job 1 1 (body 18 34) ∷ Job 0 1 (body 17 33) ∷ []
+four_outcomes = taken 0 ∷ taken 1 ∷ outcome.Job 1 1 (body 18 34) ∷ outcome.Job 0 1 (body 17 33) ∷ []
 
 -- those outcomes are a run, and with the jobs the other way round they aren't
 pub record FourSteps : Type 0 where
   pub run : Run two four_steps four_outcomes
-  pub other_order : Run two four_steps (taken 0 ∷ taken 1 ∷ Job 0 1 (body 17 33) ∷ Job 1 1 (body 18 34) ∷ []) → ⊥
-  pub one_less : Run two four_steps (taken 0 ∷ taken 1 ∷ Job 1 1 (body 18 34) ∷ []) → ⊥
+  pub other_order : Run two four_steps
+      (taken 0 ∷ taken 1 ∷ outcome.Job 0 1 (body 17 33) ∷ outcome.Job 1 1 (body 18 34) ∷ []) → ⊥
+  pub one_less : Run two four_steps (taken 0 ∷ taken 1 ∷ outcome.Job 1 1 (body 18 34) ∷ []) → ⊥
 
 -- the promise, of each of the two: what it is told in the run is what its pipeline alone answers to its own steps
 pub record EachIsTold : Type 0 where
-  pub steps_of_0 : own_steps 0 four_steps four_outcomes ≡ Posted 0 keep_all (span 17 33 ∷ []) ∷ Turned 2000 ∷ []
-  pub alone_0 : alone two_seconds [] (Posted 0 keep_all (span 17 33 ∷ []) ∷ Turned 2000 ∷ [])
-      ≡ Answered accepted ∷ Answered (tell.Job 1 (body 17 33)) ∷ []
-  pub told_to_0 : told_to 0 four_outcomes ≡ taken 0 ∷ Job 0 1 (body 17 33) ∷ []
-  pub named_0 : map (named 0) (Answered accepted ∷ Answered (tell.Job 1 (body 17 33)) ∷ [])
-      ≡ taken 0 ∷ Job 0 1 (body 17 33) ∷ []
-  pub steps_of_1 : own_steps 1 four_steps four_outcomes ≡ Posted 500 keep_all (span 18 34 ∷ []) ∷ Turned 2000 ∷ []
-  pub alone_1 : alone one_second [] (Posted 500 keep_all (span 18 34 ∷ []) ∷ Turned 2000 ∷ [])
-      ≡ Answered accepted ∷ Answered (tell.Job 1 (body 18 34)) ∷ []
-  pub told_to_1 : told_to 1 four_outcomes ≡ taken 1 ∷ Job 1 1 (body 18 34) ∷ []
-  pub named_1 : map (named 1) (Answered accepted ∷ Answered (tell.Job 1 (body 18 34)) ∷ [])
-      ≡ taken 1 ∷ Job 1 1 (body 18 34) ∷ []
+  pub steps_of_0 : own_steps 0 four_steps four_outcomes
+      ≡ own_step (Post 0 (prepared 0 17 33)) ∷ plain (own.Turn 2000) ∷ []
+  pub alone_0 : alone two_seconds [] (own_step (Post 0 (prepared 0 17 33)) ∷ plain (own.Turn 2000) ∷ [])
+      ≡ accepted ∷ Answered (tell.Job 1 (body 17 33)) ∷ []
+  pub told_to_0 : told_to 0 four_outcomes ≡ taken 0 ∷ outcome.Job 0 1 (body 17 33) ∷ []
+  pub named_0 : map (named 0) (accepted ∷ Answered (tell.Job 1 (body 17 33)) ∷ [])
+      ≡ taken 0 ∷ outcome.Job 0 1 (body 17 33) ∷ []
+  pub steps_of_1 : own_steps 1 four_steps four_outcomes
+      ≡ own_step (Post 500 (prepared 1 18 34)) ∷ plain (own.Turn 2000) ∷ []
+  pub alone_1 : alone one_second [] (own_step (Post 500 (prepared 1 18 34)) ∷ plain (own.Turn 2000) ∷ [])
+      ≡ accepted ∷ Answered (tell.Job 1 (body 18 34)) ∷ []
+  pub told_to_1 : told_to 1 four_outcomes ≡ taken 1 ∷ outcome.Job 1 1 (body 18 34) ∷ []
+  pub named_1 : map (named 1) (accepted ∷ Answered (tell.Job 1 (body 18 34)) ∷ [])
+      ≡ taken 1 ∷ outcome.Job 1 1 (body 18 34) ∷ []
 
 -- a body for other policies is told 23, and leaves no span behind and no clock moved
 pub record Skipped : Type 0 where
   pub alone_skips : alone one_second []
-      (Posted 0 keep_all (span 17 33 ∷ []) ∷ Posted 9000 others (span 17 34 ∷ []) ∷ Turned 1000 ∷ [])
-      ≡ Answered accepted ∷ NotTaken 23 ∷ Answered (tell.Job 1 (body 17 33)) ∷ []
+      (own_step (Post 0 (prepared 0 17 33)) ∷ own_step (Post 9000 (prepared_for others 0 17 34))
+      ∷ plain (own.Turn 1000) ∷ [])
+      ≡ accepted ∷ NotTaken 23 ∷ Answered (tell.Job 1 (body 17 33)) ∷ []
   pub not_due : alone one_second []
-      (Posted 0 keep_all (span 17 33 ∷ []) ∷ Posted 9000 others (span 17 34 ∷ []) ∷ Turned 999 ∷ [])
-      ≡ Answered accepted ∷ NotTaken 23 ∷ Answered tell.Worked ∷ []
+      (own_step (Post 0 (prepared 0 17 33)) ∷ own_step (Post 9000 (prepared_for others 0 17 34))
+      ∷ plain (own.Turn 999) ∷ [])
+      ≡ accepted ∷ NotTaken 23 ∷ Answered tell.Worked ∷ []

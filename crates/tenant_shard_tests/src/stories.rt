@@ -1,292 +1,268 @@
-//! Stories of several tenants' posts and turns, a line for each.
+//! Stories: each line is a step, ` = `, and what it gives.
 
-use bytes::Bytes;
-use otlp_trace::Octets;
-use std::alloc::{AllocError, Global};
+use crate::lines::{outcome_of, step_of};
+use std::alloc::Global;
 use std::process::Abort;
 use std::test::Fail;
+use std::thread::Threads;
 use tail_settings::{Settings, load};
-use tenant_pipeline::{Prepared, Reply, prepare};
 use tenant_shard::{Outcome, Shard, Step};
 
-/// Tenant 0 waits for two seconds, the others for one. Tenant 3 has other policies, and those from 4 on are as tenant
-/// 1.
-const SETTINGS: &str = "tenant = [
-  { name = \"slow\", tail_sampling = { decision_wait_ms = 2000, policy = [{ type = \"always_sample\" }] } },
-  { name = \"b\", tail_sampling = { decision_wait_ms = 1000, policy = [{ type = \"always_sample\" }] } },
-  { name = \"c\", tail_sampling = { decision_wait_ms = 1000, policy = [{ type = \"always_sample\" }] } },
-  { name = \"d\", tail_sampling = { decision_wait_ms = 1000, policy = [{ type = \"latency\", threshold_ms = 0 }] } },
-  { name = \"e\", tail_sampling = { decision_wait_ms = 1000, policy = [{ type = \"always_sample\" }] } },
-  { name = \"f\", tail_sampling = { decision_wait_ms = 1000, policy = [{ type = \"always_sample\" }] } },
-  { name = \"g\", tail_sampling = { decision_wait_ms = 1000, policy = [{ type = \"always_sample\" }] } },
-  { name = \"h\", tail_sampling = { decision_wait_ms = 1000, policy = [{ type = \"always_sample\" }] } },
-  { name = \"i\", tail_sampling = { decision_wait_ms = 1000, policy = [{ type = \"always_sample\" }] } },
-  { name = \"j\", tail_sampling = { decision_wait_ms = 1000, policy = [{ type = \"always_sample\" }] } },
-  { name = \"k\", tail_sampling = { decision_wait_ms = 1000, policy = [{ type = \"always_sample\" }] } },
-  { name = \"l\", tail_sampling = { decision_wait_ms = 1000, policy = [{ type = \"always_sample\" }] } },
-]";
+/// Every trace is sampled a second after it opened, each group of spans is a batch, and one batch at a time is on its
+/// way.
+const BASE: &str = "tail_sampling = { decision_wait_ms = 1000, num_traces = 10, \
+policy = [{ type = \"always_sample\" }] }, batch = { timeout_ms = 0 }, sending_queue = { num_consumers = 1 }";
 
-/// Bodies of one resource and one scope, in hexadecimal digits. A body's name is the byte of its spans' trace id, which
-/// stands there sixteen times, and the byte of each span's id, which stands there eight times.
-const BODIES: &str = "11.21 0a20121e121c0a101111111111111111111111111111111112082121212121212121
-11.22 0a20121e121c0a101111111111111111111111111111111112082222222222222222
-11.31 0a20121e121c0a101111111111111111111111111111111112083131313131313131
-12.22 0a20121e121c0a101212121212121212121212121212121212082222222222222222
-11.21.22 0a3e123c121c0a101111111111111111111111111111111112082121212121212121\
-121c0a101111111111111111111111111111111112082222222222222222";
+/// The same with two present traces.
+const TWO_TRACES: &str = "tail_sampling = { decision_wait_ms = 1000, num_traces = 2, \
+policy = [{ type = \"always_sample\" }] }, batch = { timeout_ms = 0 }, sending_queue = { num_consumers = 1 }";
 
-/// The text of one span within its scope, in hexadecimal digits.
-const SPAN: &str = "121c0a101111111111111111111111111111111112082121212121212121";
+/// The same with a budget of two spans.
+const TWO_SPANS: &str =
+    "max_spans = 2, tail_sampling = { decision_wait_ms = 1000, num_traces = 10, \
+policy = [{ type = \"always_sample\" }] }, batch = { timeout_ms = 0 }, sending_queue = { num_consumers = 1 }";
 
-/// A body of one resource and one scope with 2,000 spans of 28 bytes, each with its field's number and length: 60,000
-/// bytes of a scope, and 60,004 of a resource with it.
-fn two_thousand_spans(alloc: Global) -> Result<Vec<u8>, Fail> {
-    let mut body = hex::decode(alloc, "0ae4d40312e0d403")?;
-    let span = hex::decode(alloc, SPAN)?;
-    for _ in 0..2000 {
-        body.extend_from_slice(span.as_slice())?;
-    }
-    Ok(body)
+/// The same where one batch waits, and none is sent again later than 50 seconds after it was sent first.
+const ONE_BATCH: &str = "tail_sampling = { decision_wait_ms = 1000, num_traces = 10, \
+policy = [{ type = \"always_sample\" }] }, batch = { timeout_ms = 0 }, \
+sending_queue = { queue_size = 1, num_consumers = 1 }, retry_on_failure = { max_elapsed_time_ms = 50000 }";
+
+/// The same where spans wait a second for a batch.
+const LATER: &str = "tail_sampling = { decision_wait_ms = 1000, num_traces = 10, \
+policy = [{ type = \"always_sample\" }] }, batch = { timeout_ms = 1000 }, sending_queue = { num_consumers = 1 }";
+
+/// The same where only errors are sampled.
+const ERRORS: &str = "tail_sampling = { decision_wait_ms = 1000, num_traces = 10, \
+policy = [{ type = \"status_code\", status_codes = [\"ERROR\"] }] }, batch = { timeout_ms = 0 }, \
+sending_queue = { num_consumers = 1 }";
+
+/// Settings of two tenants, of which the first has these tables and the second the first ones above.
+fn settings_of(alloc: Global, tables: &str) -> Result<Settings, Fail> {
+    let mut text = String::new(alloc);
+    text.push_str("tenant = [{ name = \"a\", ")?;
+    text.push_str(tables)?;
+    text.push_str(" }, { name = \"b\", ")?;
+    text.push_str(BASE)?;
+    text.push_str(" }]")?;
+    Ok(load(alloc, text.as_str())?)
 }
 
-/// The first word of a line, and the rest.
-fn parts(line: &str) -> Result<(&str, &str), Fail> {
-    Ok(line.split_once(' ').ok_or("a word is missing")?)
-}
-
-/// The body with this name, of which `large` is that of 2,000 spans.
-fn body_of(alloc: Global, name: &str) -> Result<Vec<u8>, Fail> {
-    if name == "large" {
-        return two_thousand_spans(alloc);
-    }
-    for line in BODIES.lines() {
-        let (first, digits) = parts(line)?;
-        if first == name {
-            return Ok(hex::decode(alloc, digits)?);
-        }
-    }
-    Ok(Vec::new(alloc))
-}
-
-/// A body is prepared for this tenant with that one's section.
-fn prepared_of(
+/// The steps and the outcomes of a story.
+fn read<'a, R: Threads + Sync>(
+    rt: &R,
     alloc: Global,
-    settings: &Settings,
-    tenant: u32,
-    section: u32,
-    body: &[u8],
-) -> Result<Prepared, Fail> {
-    let section = settings.section(section).ok_or("no such tenant")?;
-    Ok(prepare(alloc, tenant, section, body)?)
-}
-
-/// A tenant posts, with a tenant's section, at a moment the body with this name.
-fn post_of(alloc: Global, settings: &Settings, rest: &str) -> Result<Step, Fail> {
-    let (to, rest) = parts(rest)?;
-    let (section, rest) = parts(rest)?;
-    let (now, name) = parts(rest)?;
-    let body = body_of(alloc, name)?;
-    let prepared = prepared_of(
-        alloc,
-        settings,
-        to.parse()?,
-        section.parse()?,
-        body.as_slice(),
-    )?;
-    let now = now.parse()?;
-    Ok(Step::Post { now, prepared })
-}
-
-/// The step of a line.
-fn step_of(alloc: Global, settings: &Settings, line: &str) -> Result<Step, Fail> {
-    let (word, rest) = parts(line)?;
-    match word {
-        "idle" => Ok(Step::Turn { now: rest.parse()? }),
-        "job" => Ok(Step::Turn {
-            now: parts(rest)?.0.parse()?,
-        }),
-        _ => post_of(alloc, settings, rest),
-    }
-}
-
-/// The reply to a body that was taken.
-fn accepted(alloc: Global, tenant: u32) -> Outcome {
-    let body = Octets::new(alloc);
-    Outcome::Reply(tenant, Reply { status: 200, body })
-}
-
-/// A batch of this tenant, ticket and text.
-fn job_of(alloc: Global, rest: &str) -> Result<Outcome, Fail> {
-    let (to, rest) = parts(rest)?;
-    let (ticket, name) = parts(rest)?;
-    let payload = Bytes::from_vec(body_of(alloc, name)?)?;
-    Ok(Outcome::Job(to.parse()?, ticket.parse()?, payload))
-}
-
-/// What a line says that its step gives.
-fn outcome_of(alloc: Global, line: &str) -> Result<Outcome, Fail> {
-    let (word, rest) = parts(line)?;
-    match word {
-        "taken" => Ok(accepted(alloc, parts(rest)?.0.parse()?)),
-        "stranger" => Ok(Outcome::Refused(parts(rest)?.0.parse()?, 22)),
-        "other_policies" => Ok(Outcome::Refused(parts(rest)?.0.parse()?, 23)),
-        "job" => job_of(alloc, parts(rest)?.1),
-        _ => Ok(Outcome::Idle),
-    }
-}
-
-/// Whether a line of a story comes true. It begins with what its step gives. `taken`, `stranger` and `other_policies`
-/// are posts, with the tenant, the tenant whose section the body was prepared with, the moment and the body's name.
-/// `idle` and `job` are turns, with the moment, and `job` with the tenant, the ticket and the name of the batch's text.
-fn comes_true(
-    alloc: Global,
-    settings: &Settings,
-    shard: &mut Shard,
-    line: &str,
-) -> Result<bool, Fail> {
-    let step = step_of(alloc, settings, line)?;
-    let outcome = shard.step(&step)?;
-    Ok(outcome == outcome_of(alloc, line)?)
-}
-
-fn shard_of(alloc: Global, members: &[u32]) -> Result<Shard, Fail> {
-    let settings = load(alloc, SETTINGS)?;
-    Ok(Shard::open(alloc, &settings, members)?)
-}
-
-/// A story of a new shard with these members comes true. The settings with which bodies are prepared are read anew.
-fn check(rt: &impl Abort, alloc: Global, members: &[u32], story: &str) -> Result<(), Fail> {
-    let mut shard = shard_of(alloc, members)?;
-    let settings = load(alloc, SETTINGS)?;
-    for line in story.lines() {
-        let is_true = comes_true(alloc, &settings, &mut shard, line)?;
-        assert!(rt; is_true, "{line}");
-    }
-    Ok(())
-}
-
-/// At one moment the turns go by number, however the posts came.
-#[test]
-fn turns_of_one_moment_go_by_number(rt: HostRuntime) -> Result<(), Fail> {
-    check(
-        &rt,
-        rt.alloc(),
-        &[2, 1],
-        "taken 2 2 0 11.31
-taken 1 1 0 11.21
-idle 999
-job 1000 1 1 11.21
-job 1000 2 1 11.31
-idle 1000",
-    )
-}
-
-fn steps_of(alloc: Global, story: &str) -> Result<Vec<Step>, Fail> {
-    let settings = load(alloc, SETTINGS)?;
+    settings: &'a Settings,
+    story: &str,
+) -> Result<(Vec<Step<'a>>, Vec<Outcome>), Fail> {
     let mut steps = Vec::new(alloc);
-    for line in story.lines() {
-        steps.push(step_of(alloc, &settings, line)?)?;
-    }
-    Ok(steps)
-}
-
-fn outcomes_of(alloc: Global, story: &str) -> Result<Vec<Outcome>, Fail> {
     let mut outcomes = Vec::new(alloc);
     for line in story.lines() {
-        outcomes.push(outcome_of(alloc, line)?)?;
+        let (step, outcome) = line.split_once(" = ").ok_or("no outcome")?;
+        steps.push(step_of(rt, alloc, settings, step)?)?;
+        outcomes.push(outcome_of(alloc, outcome)?)?;
     }
-    Ok(outcomes)
+    Ok((steps, outcomes))
 }
 
-/// What the steps of a story give in one run of a new shard with these members.
-fn run_of(alloc: Global, members: &[u32], story: &str) -> Result<Vec<Outcome>, Fail> {
-    let steps = steps_of(alloc, story)?;
-    let mut shard = shard_of(alloc, members)?;
-    Ok(shard.run(&steps)?)
+/// How many of a story's first outcomes come true of a new shard with these members, and how many there are.
+fn true_of<R: Threads + Sync>(
+    rt: &R,
+    alloc: Global,
+    tables: &str,
+    members: &[u32],
+    story: &str,
+) -> Result<(usize, usize), Fail> {
+    let settings = settings_of(alloc, tables)?;
+    let (steps, wanted) = read(rt, alloc, &settings, story)?;
+    let mut shard = Shard::open(alloc, &settings, members)?;
+    let outcomes = shard.run(steps.as_slice())?;
+    for i in 0..outcomes.len() {
+        if i >= wanted.len() || outcomes[i] != wanted[i] {
+            return Ok((i, wanted.len()));
+        }
+    }
+    Ok((outcomes.len(), wanted.len()))
 }
 
-/// A tenant that is ready earlier goes first, also where its number is greater.
-const EARLIER_FIRST: &str = "taken 0 0 0 11.21
-taken 1 1 500 12.22
-job 3000 1 1 12.22
-job 3000 0 1 11.21
-idle 3000";
-
-#[test]
-fn the_tenant_that_is_ready_first_goes_first(rt: HostRuntime) -> Result<(), Fail> {
-    let outcomes = run_of(rt.alloc(), &[0, 1], EARLIER_FIRST)?;
-    let wanted = outcomes_of(rt.alloc(), EARLIER_FIRST)?;
-    assert!(rt; outcomes.len() == 5 && outcomes == wanted);
+/// The story comes true of both tenants in one shard.
+fn check<R: Threads + Sync + Abort>(
+    rt: &R,
+    alloc: Global,
+    tables: &str,
+    story: &str,
+) -> Result<(), Fail> {
+    let (first, all) = true_of(rt, alloc, tables, &[1, 0, 7, 0], story)?;
+    assert!(rt; first == all, "{first} of {all} outcomes come true");
     Ok(())
 }
 
-/// Numbers that the table lacks, and tenants that aren't listed, are no members.
+/// A body is posted, a turn comes too early, one hands the batch out, and its answer is heard once.
 #[test]
-fn others_are_no_members(rt: HostRuntime) -> Result<(), Fail> {
+fn a_batch_is_sent_and_answered_once(rt: HostRuntime) -> Result<(), Fail> {
     check(
         &rt,
         rt.alloc(),
-        &[7, 2, 2],
-        "stranger 1 1 0 11.21
-idle 5000
-taken 2 2 0 11.21
-job 1000 2 1 11.21",
+        BASE,
+        "post 0 0 0 - = reply 0 200 -
+report 0 0 = report 0 -
+turn 999999 = idle
+post 0 0 0 11.21 = reply 0 200 -
+turn 1000999 = job 0 1 11.21
+answer 0 1000999 1 0 200 - - = done 0
+report 0 1000999 = report 0 accepted=1 exported=1
+answer 0 1000999 1 0 200 - - = refused 0 21
+report 1 0 = report 1 -",
     )
 }
 
-/// Tickets are counted for each tenant, and a tenant of a shard of its own is told the same.
+/// What comes before a trace's decision leaves with it, what comes later alone, and one batch at a time is on its way.
 #[test]
-fn each_is_told_what_it_is_told_alone(rt: HostRuntime) -> Result<(), Fail> {
+fn late_spans_leave_alone(rt: HostRuntime) -> Result<(), Fail> {
     check(
         &rt,
         rt.alloc(),
-        &[1, 2],
-        "taken 1 1 0 11.21
-taken 2 2 0 12.22
-taken 1 1 5000 11.21
-taken 2 2 5000 12.22
-job 9000 1 1 11.21
-job 9000 2 1 12.22
-job 9000 1 2 11.21
-job 9000 2 2 12.22",
-    )?;
-    check(
-        &rt,
-        rt.alloc(),
-        &[2],
-        "taken 2 2 0 12.22
-taken 2 2 5000 12.22
-job 9000 2 1 12.22
-job 9000 2 2 12.22",
+        BASE,
+        "post 0 0 0 11.21 = reply 0 200 -
+post 0 0 999 11.22 = reply 0 200 -
+post 0 0 1000 11.23 = reply 0 200 -
+turn 1000 = job 0 1 11.21+11.22
+turn 1000 = idle
+answer 0 1000 1 0 200 - - = done 0
+turn 1000 = job 0 2 11.23",
     )
 }
 
-/// A moment above 2^62 is taken as 2^62: what is due after that isn't due then.
+/// The other tenant does the same between: rows and tickets are each one's own, and freed places change owners.
 #[test]
-fn moments_end(rt: HostRuntime) -> Result<(), Fail> {
+fn rows_leave_for_others_of_their_tenant_alone(rt: HostRuntime) -> Result<(), Fail> {
     check(
         &rt,
         rt.alloc(),
-        &[1],
-        "taken 1 1 18446744073709551615 11.21
-idle 18446744073709551615",
+        TWO_TRACES,
+        "post 0 0 0 11.21 = reply 0 200 -
+post 1 1 0 11.31 = reply 1 200 -
+post 0 0 0 12.22 = reply 0 200 -
+post 1 1 0 12.32 = reply 1 200 -
+post 0 0 0 13.23 = reply 0 200 -
+post 1 1 0 13.33 = reply 1 200 -
+report 0 0 = report 0 accepted=3 undecided=2 too_early=1
+report 1 0 = report 1 accepted=3 undecided=3
+post 0 0 0 11.24 = reply 0 200 -
+report 0 0 = report 0 accepted=4 undecided=2 too_early=2
+turn 1000 = job 0 1 13.23
+turn 1000 = job 1 1 11.31
+answer 0 1000 1 0 200 - - = done 0
+answer 1 1000 1 0 200 - - = done 1
+turn 1000 = job 0 2 11.24
+turn 1000 = job 1 2 12.32",
     )
 }
 
-/// A body for other policies than the tenant's is refused, and the tenant's clock stays: a span that comes at an
-/// earlier moment afterwards isn't late.
+/// A tenant's budget is its own: the other's post is taken whole.
 #[test]
-fn a_body_for_other_policies_changes_nothing(rt: HostRuntime) -> Result<(), Fail> {
+fn a_budget_is_its_tenants_own(rt: HostRuntime) -> Result<(), Fail> {
     check(
         &rt,
         rt.alloc(),
-        &[1],
-        "taken 1 1 0 11.21
-other_policies 1 3 5000 11.31
-taken 1 1 999 11.22
-idle 999
-job 1000 1 1 11.21.22
-idle 9000",
+        TWO_SPANS,
+        "post 0 0 0 11.21+11.22+11.23 = reply 0 200 0a260801122272656a65637465643a2030\
+20696e76616c69642c2031206f76657220627564676574
+post 0 0 0 12.24 = reply 0 429 12157370616e2062756467657420657868617573746564
+post 1 1 0 11.21+11.22+11.23 = reply 1 200 -
+report 0 0 = report 0 accepted=2 undecided=2 over_budget=1
+report 1 0 = report 1 accepted=3 undecided=3",
+    )
+}
+
+/// A batch that is to be sent again waits as long as its back end says, and is given up where that takes too long; one
+/// that finds the queue full is dropped.
+#[test]
+fn batches_are_sent_again_or_given_up(rt: HostRuntime) -> Result<(), Fail> {
+    check(
+        &rt,
+        rt.alloc(),
+        ONE_BATCH,
+        "post 0 0 0 11.21 = reply 0 200 -
+post 0 0 0 12.22 = reply 0 200 -
+post 0 0 0 13.23 = reply 0 200 -
+turn 1000 = job 0 1 11.21
+report 0 1000 = report 0 accepted=3 active=1 queue_full=2
+answer 0 1000 1 0 503 40 - = done 0
+turn 40999 = idle
+turn 41000 = job 0 2 11.21
+answer 0 41000 2 4294967295 503 - - = done 0
+report 0 41000 = report 0 accepted=3 queue_full=2 retry_exhausted=1",
+    )
+}
+
+/// The clock is each tenant's own, and never falls.
+#[test]
+fn clocks_are_apart(rt: HostRuntime) -> Result<(), Fail> {
+    check(
+        &rt,
+        rt.alloc(),
+        BASE,
+        "post 0 0 5000 14.24 = reply 0 200 -
+post 0 0 100 15.25 = reply 0 200 -
+post 1 1 100 11.21 = reply 1 200 -
+turn 1100 = job 1 1 11.21
+turn 5999 = idle
+turn 6000 = job 0 1 14.24
+report 0 6000 = report 0 accepted=2 queued=1 active=1",
+    )
+}
+
+/// The batch timer runs before the decision of its moment.
+#[test]
+fn the_batch_timer_goes_first(rt: HostRuntime) -> Result<(), Fail> {
+    check(
+        &rt,
+        rt.alloc(),
+        LATER,
+        "post 0 0 0 11.21 = reply 0 200 -
+post 0 0 1000 12.22 = reply 0 200 -
+turn 2000 = job 0 1 11.21
+report 0 2000 = report 0 accepted=2 pending=1 active=1",
+    )
+}
+
+/// A drained tenant sends what it holds, takes nothing more, and the other one goes on.
+#[test]
+fn a_drained_tenant_takes_no_more(rt: HostRuntime) -> Result<(), Fail> {
+    check(
+        &rt,
+        rt.alloc(),
+        BASE,
+        "post 0 0 0 11.21 = reply 0 200 -
+drain 0 500 = done 0
+drain 0 500 = done 0
+report 0 500 = report 0 accepted=1 queued=1
+post 0 0 600 12.22 = reply 0 503 120d7368757474696e6720646f776e
+post 1 1 600 12.22 = reply 1 200 -
+turn 600 = job 0 1 11.21
+turn 600 = idle
+turn 1600 = job 1 1 12.22",
+    )
+}
+
+/// A turn that finds no job says so once, and then nothing is due. Spans of no error are dropped. A body for other
+/// policies, and any step of a stranger, change nothing.
+#[test]
+fn refused_steps_change_nothing(rt: HostRuntime) -> Result<(), Fail> {
+    check(
+        &rt,
+        rt.alloc(),
+        ERRORS,
+        "post 0 0 0 11.21 = reply 0 200 -
+post 0 1 5000 11.22 = refused 0 23
+post 7 1 5000 11.22 = refused 7 22
+answer 7 5000 1 0 200 - - = refused 7 22
+report 7 5000 = refused 7 22
+drain 7 5000 = refused 7 22
+report 0 999 = report 0 accepted=1 undecided=1
+turn 1000 = worked 0
+turn 1000 = idle
+report 0 1000 = report 0 accepted=1 not_sampled=1",
     )
 }
 
@@ -296,58 +272,48 @@ fn a_body_for_equal_policies_is_taken(rt: HostRuntime) -> Result<(), Fail> {
     check(
         &rt,
         rt.alloc(),
-        &[1, 3],
-        "taken 1 0 0 11.21
-taken 3 3 0 12.22
-job 1000 1 1 11.21
-job 1000 3 1 12.22",
+        BASE,
+        "post 0 1 0 11.21 = reply 0 200 -
+turn 1000 = job 0 1 11.21",
     )
 }
 
-/// Each member has its turn, however many there are: those that are ready at 1000 in order of their numbers, and tenant
-/// 0, which waits longer, at the end.
+/// A tenant alone is told the same as with another one, whatever its number is.
 #[test]
-fn each_of_twelve_members_has_its_turn(rt: HostRuntime) -> Result<(), Fail> {
-    check(
-        &rt,
-        rt.alloc(),
-        &[0, 1, 2, 3, 4, 5, 6, 7, 8, 9, 10, 11],
-        "taken 0 0 0 11.21
-taken 1 1 0 11.21
-taken 2 2 0 11.21
-taken 3 3 0 11.21
-taken 4 4 0 11.21
-taken 5 5 0 11.21
-taken 6 6 0 11.21
-taken 7 7 0 11.21
-taken 8 8 0 11.21
-taken 9 9 0 11.21
-taken 10 10 0 11.21
-taken 11 11 0 11.21
-job 2000 1 1 11.21
-job 2000 2 1 11.21
-job 2000 3 1 11.21
-job 2000 4 1 11.21
-job 2000 5 1 11.21
-job 2000 6 1 11.21
-job 2000 7 1 11.21
-job 2000 8 1 11.21
-job 2000 9 1 11.21
-job 2000 10 1 11.21
-job 2000 11 1 11.21
-job 2000 0 1 11.21
-idle 2000",
-    )
+fn a_tenant_alone_is_told_the_same(rt: HostRuntime) -> Result<(), Fail> {
+    let story = "post 1 1 0 11.21 = reply 1 200 -
+turn 1000 = job 1 1 11.21
+report 1 1000 = report 1 accepted=1 active=1";
+    let alloc = rt.alloc();
+    let (first, all) = true_of(&rt, alloc, BASE, &[1], story)?;
+    assert!(rt; first == all, "{first} of {all} outcomes come true");
+    check(&rt, alloc, BASE, story)
 }
 
-/// A large body is taken whole, and its batch is handed out whole.
+/// Which tenants are empty before, while and after a batch is on its way.
+fn emptiness<R: Threads + Sync>(rt: &R, alloc: Global, story: &str) -> Result<Vec<bool>, Fail> {
+    let settings = settings_of(alloc, BASE)?;
+    let (steps, _) = read(rt, alloc, &settings, story)?;
+    let mut shard = Shard::open(alloc, &settings, &[0])?;
+    let mut found = Vec::new(alloc);
+    for step in steps.as_slice() {
+        found.push(shard.is_empty(0))?;
+        let _outcome = shard.step(step)?;
+    }
+    found.push(shard.is_empty(0))?;
+    found.push(shard.is_empty(1))?;
+    Ok(found)
+}
+
 #[test]
-fn a_post_of_two_thousand_spans_is_one_batch(rt: HostRuntime) -> Result<(), Fail> {
-    check(
+fn a_member_is_empty_once_its_batches_are_answered(rt: HostRuntime) -> Result<(), Fail> {
+    let found = emptiness(
         &rt,
         rt.alloc(),
-        &[1],
-        "taken 1 1 0 large
-job 1000 1 1 large",
-    )
+        "post 0 0 0 11.21 = reply 0 200 -
+turn 1000 = job 0 1 11.21
+answer 0 1000 1 0 200 - - = done 0",
+    )?;
+    assert!(rt; found.as_slice() == [true, false, false, true, false].as_slice());
+    Ok(())
 }

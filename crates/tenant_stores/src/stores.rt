@@ -422,6 +422,7 @@ impl<N: Drop> Stores<N> {
     pub fn take_all_back(&mut self, tenant: u32, journal: &mut Vec<Placed<N>>)
         ensures back { (start : Part N) → Trail start journal.old.items (part tenant self.old)
             → part tenant self.new ≡ start }
+        ensures emptied { journal.new.items ≡ [] }
         ensures others { (other : ℕ) → other ≢ tenant → part other self.new ≡ part other self.old }
     {
         while let Some(placed) = journal.pop() {

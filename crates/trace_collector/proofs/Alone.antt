@@ -1,7 +1,7 @@
 -- Each tenant's lines are what it alone is answered to its own commands.
 use Rattle.std.proofs.Common.{◌≡◌, ◌≢◌, ◌+◌, ◌%◌, ◌==◌, ◌⊎◌, ℕ, Bool, true, false, cond, nat_lt, List, [], ◌∷◌, ◌++◌, codes, Option, Some, None, refl, ap, sym, subst, ◌∙◌, inl, inr}
 use Rattle.std.specs.Bool.{MatchBool}
-use Rattle.std.specs.List.{slice_get, filter, position}
+use Rattle.std.specs.List.{slice_get, filter}
 use Rattle.std.specs.Option.{option_map}
 use Rattle.std.specs.Str.{bytes_eq}
 use Rattle.std.proofs.lemmas.Bool.{ne_eqb, eq-eqb}
@@ -11,37 +11,38 @@ use Rattle.std.proofs.lemmas.Option.{same_Some}
 use Rattle.std.proofs.lemmas.Slice.Eq.{bytes_eq-Decides}
 use Rattle.tail_settings.specs.Section.{SectionData}
 use Rattle.tail_settings.specs.Settings.{SettingsData, TenantData}
-use Rattle.tenant_pipeline.specs.declared.told.Told.{Told as What}
-use Rattle.tenant_pipeline.specs.declared.told.Told.TheVariants as says
-use Rattle.tenant_pipeline.specs.Own.{Own}
-use Rattle.tenant_pipeline.specs.Own as own
-use Rattle.tenant_pipeline.specs.Ready.{ready}
-use Rattle.tenant_pipeline.specs.State.{state, answer}
+use Rattle.tenant_rules.specs.declared.told.Told.{Told as What}
+use Rattle.tenant_rules.specs.declared.told.Told.TheVariants as says
+use Rattle.tenant_rules.specs.Own.{Own}
+use Rattle.tenant_rules.specs.Own as own
+use Rattle.tenant_rules.specs.Ready.{ready}
+use Rattle.tenant_rules.specs.State.{state}
+use Rattle.tenant_rules.specs.Answers.{answer}
 use Rattle.tenant_shard.specs.declared.step.Outcome.{Outcome}
 use Rattle.tenant_shard.specs.declared.step.Outcome.TheVariants.{Idle}
-use Rattle.tenant_shard.specs.declared.step.Step.TheVariants as steps
-use Rattle.tenant_shard.specs.Outcomes.{Turned, Answered, named, is_tenant, told_whom}
+use Rattle.tenant_shard.specs.Outcomes.{OwnStep, plain, Answered, named, is_taken, is_tenant, told_whom}
 use Rattle.tenant_shard.specs.Pick.{ready_after, ready_at}
 use Rattle.shard_agenda.specs.Pick.{IsPick}
-use Rattle.tenant_shard.specs.Run.{IsAnswered, IsTurned, recorded, after}
+use Rattle.tenant_shard.specs.Run.{IsTurned, recorded}
 use Rattle.tenant_shard.specs.Table.{section_at}
-use Rattle.replay_script.specs.Command.{CommandData, Post, Turn}
+use Rattle.replay_script.specs.Command.{CommandData, Post, Turn, Answer, Report, Drain}
 use Rattle.replay_script.specs.Line.{Kind, Skipped, Says, Faulty, kind_of, lines_of}
 use Rattle.replay_script.specs.Answer.{reply_text}
 use Rattle.replay_script.specs.Told.{Goes, Told}
 use Rattle.replay_script.specs.Told as script
 use Rattle.replay_script.proofs.Lines.{line_ended}
 use Rattle.replay_script.proofs.Plain.{IsPlain}
-use Rattle.trace_collector.specs.Outcomes.{name_at, outcome_text, told_text, bad_protobuf}
-use Rattle.trace_collector.specs.Answered.{section_in, lists_of, IsStepped, HasNoValue, IsPosted, IsPostedTo}
+use Rattle.trace_collector.specs.Outcomes.{outcome_text, told_text, bad_protobuf}
+use Rattle.trace_collector.specs.Answered.{section_in, lists_of, joined, posted, IsStepped, IsSteppedFor, IsPosted, IsPostedTo, IsAskedOf, number_of}
 use Rattle.trace_collector.specs.Answered as collector
 use Rattle.trace_collector.specs.Own.{names, named_by, is_own, of_any_shard, commands_from, commands_of, own_among}
-use Rattle.trace_collector.specs.Alone.{IsPostAlone, IsReadyBy, IsAnsweredAlone, AnswersAlone, EachAlone}
+use Rattle.trace_collector.specs.Alone.{IsStepAlone, IsPostAlone, IsReadyBy, IsAnsweredAlone, AnswersAlone, EachAlone}
 use Rattle.trace_collector.specs.Script.{ScriptText, BeginsScriptText, ScriptToldSoFar, no_steps}
 use Rattle.trace_collector.proofs.OneLine.{IsWord, IsLineOf, reply_line, told_line, idle_line}
+use Rattle.trace_collector.proofs.ToldPlain.{answer_plain}
 use Rattle.trace_collector.proofs.Named.{AreNamed, found_named, name_of_number}
 use Rattle.trace_collector.proofs.Places.{some_same}
-use Rattle.trace_collector.proofs.Taken.{values_are_taken}
+use Rattle.trace_collector.proofs.Taken.{own_policies, piped_told, joins, named_text, stepped_told, stepped_others}
 
 -- what a tenant has of a command that was answered: its own answer, or nothing
 record Sees (tenant : TenantData) (command : CommandData) (line : List ℕ) (past later : List Own) : Type 0 where
@@ -85,34 +86,47 @@ one_tenant settings pasts later command line number tenant are at is owns alone 
       }
 ]
 
--- a body of one tenant leaves the others' pasts
-posted_others : (settings : SettingsData) (pasts later : ℕ → List Own) (tenant : ℕ) (name : List ℕ) (moment : ℕ) (body : List ℕ) (line : Option (List ℕ)) (other : ℕ) → other ≢ tenant
-    → IsPosted settings pasts tenant name moment body line later → later other ≡ pasts other
-posted_others settings pasts later tenant name moment body line other apart (inl h) =
-    let is_not : (tenant == other) ≡ false = ne_eqb tenant other (λ e. apart (sym e)) in
-    ap (λ f. f other) h.4.3 ∙ rw is_not refl
-posted_others settings pasts later tenant name moment body line other apart (inr h) = ap (λ f. f other) h.2
-
 some_line : (a b : List ℕ) → ◌≡◌ {A = Option (List ℕ)} (Some a) (Some b) → a ≡ b
 some_line a b e = same_Some a b e
+
+section_is : (settings : SettingsData) (number : ℕ) (tenant : TenantData) → slice_get settings.tenants number ≡ Some tenant → section_at settings number ≡ Some tenant.section
+section_is settings number tenant at = ap (option_map (λ t. t.section)) at
+
+-- what a step that names a tenant is answered is what the tenant alone is answered
+stepped_alone : (settings : SettingsData) (pasts later : ℕ → List Own) (number : ℕ) (tenant : TenantData) (step : OwnStep) (line : List ℕ) → slice_get settings.tenants number ≡ Some tenant
+    → IsWord tenant.name → is_taken tenant.section step ≡ true → IsSteppedFor settings pasts number step (Some line) later
+    → IsLineOf tenant.name line × IsStepAlone tenant.name tenant.section (pasts number) step.step line (later number)
+stepped_alone settings pasts later number tenant step line at word taken stepped =
+    let told = stepped_told settings pasts later number tenant.section step (Some line) (section_is settings number tenant at) taken stepped in
+    let said = answer tenant.section (pasts number) step.step in
+    let is : line ≡ told_text tenant.name (answer tenant.section (pasts number) step.step) =
+    some_line _ _ told.0 ∙ ap (λ n. told_text n (answer tenant.section (pasts number) step.step)) (name_of_number settings number tenant at) in (
+      subst (λ l. IsLineOf tenant.name l) (sym is) (told_line tenant.name said word (answer_plain tenant.section (pasts number) step.step)),
+      (is, told.1),
+    )
 
 -- what a body is answered is what its tenant alone is answered
 posted_alone : (settings : SettingsData) (pasts later : ℕ → List Own) (number : ℕ) (tenant : TenantData) (name : List ℕ) (moment : ℕ) (body line : List ℕ)
     → slice_get settings.tenants number ≡ Some tenant → name ≡ tenant.name → IsWord tenant.name → IsPosted settings pasts number name moment body (Some line) later
     → IsLineOf tenant.name line × IsPostAlone tenant.name tenant.section (pasts number) moment body line (later number)
-unfolding answer
-posted_alone settings pasts later number tenant name moment body line at same word posted =
-    elim (values_are_taken settings pasts later number name moment body (Some line) posted) [
-      | inl taken ↦
-          let is : line ≡ reply_text tenant.name 200 [] = some_line _ _ taken.2 ∙ ap (λ n. reply_text n 200 []) (name_of_number settings number tenant at) in
-          (subst (λ l. IsLineOf tenant.name l) (sym is) (reply_line tenant.name 200 [] word), inl (taken.0, taken.1, (is, taken.3)))
-      | inr none ↦
-          let is : line ≡ reply_text tenant.name 400 bad_protobuf = some_line _ _ none.1 ∙ ap (λ n. reply_text n 400 bad_protobuf) same in
-          (subst (λ l. IsLineOf tenant.name l) (sym is) (reply_line tenant.name 400 bad_protobuf word), inr (none.0, is, ap (λ f. f number) none.2))
-    ]
+posted_alone settings pasts later number tenant name moment body line at same word (inl h) =
+    let section : h.0 ≡ tenant.section = some_same (section_at settings number) h.0 tenant.section h.2 (section_is settings number tenant at) in
+    let stepped = subst (λ s. IsSteppedFor settings pasts number (posted moment number s h.1) (Some line) later) section h.4 in
+    let alone = stepped_alone settings pasts later number tenant (posted moment number tenant.section h.1) line at word (own_policies tenant.section.tail_sampling.policies) stepped in
+    (alone.0, inl (h.1, h.3, alone.1))
+posted_alone settings pasts later number tenant name moment body line at same word (inr h) =
+    let is : line ≡ reply_text tenant.name 400 bad_protobuf = some_line _ _ h.1 ∙ ap (λ n. reply_text n 400 bad_protobuf) same in
+    (subst (λ l. IsLineOf tenant.name l) (sym is) (reply_line tenant.name 400 bad_protobuf word), inr (h.0, is, ap (λ f. f number) h.2))
+
+-- a body of one tenant leaves the others' pasts
+posted_others : (settings : SettingsData) (pasts later : ℕ → List Own) (tenant : ℕ) (name : List ℕ) (moment : ℕ) (body : List ℕ) (line : Option (List ℕ)) (other : ℕ) → other ≢ tenant
+    → IsPosted settings pasts tenant name moment body line later → later other ≡ pasts other
+posted_others settings pasts later tenant name moment body line other apart (inl h) =
+    stepped_others settings pasts later tenant (posted moment tenant h.0 h.1) line other apart h.4
+posted_others settings pasts later tenant name moment body line other apart (inr h) = ap (λ f. f other) h.2
 
 post_sees : (settings : SettingsData) (pasts later : ℕ → List Own) (found : Option ℕ) (name : List ℕ) (moment : ℕ) (body line : List ℕ) → AreNamed settings
-    → position (λ t. bytes_eq name t.name) settings.tenants ≡ found → IsPostedTo settings pasts found name moment body (Some line) later
+    → number_of settings name ≡ found → IsPostedTo settings pasts found name moment body (Some line) later
     → (other : ℕ) (seer : TenantData) → slice_get settings.tenants other ≡ Some seer → Sees seer (Post name moment body) line (pasts other) (later other)
 post_sees settings pasts later None name moment body line are is posted other seer at_other = absurd (let never = posted.0 in cc)
 post_sees settings pasts later (Some number) name moment body line are is posted other seer at_other =
@@ -121,16 +135,27 @@ post_sees settings pasts later (Some number) name moment body line are is posted
     one_tenant settings pasts later (Post name moment body) line number found.0 are found.1 alone.0 (λ reader. ap (λ n. bytes_eq n reader) found.2) alone.1
     (λ reader apart. posted_others settings pasts later number name moment body (Some line) reader apart posted) other seer at_other
 
--- a turn's outcome, as a line
-turned_text : (settings : SettingsData) (shard number : ℕ) (said : What) → outcome_text settings shard (named number (Answered said)) ≡ told_text (name_at settings number) said
-turned_text settings shard number (says.Reply reply) = refl
-turned_text settings shard number (says.Job ticket payload) = refl
-turned_text settings shard number says.Worked = refl
+-- an answer, a report or a drain
+ask_sees : (settings : SettingsData) (pasts later : ℕ → List Own) (found : Option ℕ) (name : List ℕ) (command : CommandData) (step : Own) (line : List ℕ) → AreNamed settings
+    → number_of settings name ≡ found → IsAskedOf settings pasts found step (Some line) later
+    → ((reader content : List ℕ) → is_own reader (named_by command) content ≡ bytes_eq name reader)
+    → ((n : List ℕ) (s : SectionData) (past behind : List Own) (l : List ℕ) → IsStepAlone n s past step l behind → IsAnsweredAlone n s past (of_any_shard command) l behind)
+    → (other : ℕ) (seer : TenantData) → slice_get settings.tenants other ≡ Some seer → Sees seer command line (pasts other) (later other)
+ask_sees settings pasts later None name command step line are is asked owns alone_is other seer at_other = absurd (let never = asked.0 in cc)
+ask_sees settings pasts later (Some number) name command step line are is asked owns alone_is other seer at_other =
+    let found = found_named settings.tenants name number is in
+    let alone = stepped_alone settings pasts later number found.0 (plain step) line found.1 (are.words number found.0 found.1) refl asked in
+    one_tenant settings pasts later command line number found.0 are found.1 alone.0 (λ reader. owns reader alone.0.content ∙ ap (λ n. bytes_eq n reader) found.2)
+    (alone_is found.0.name found.0.section (pasts number) (later number) line alone.1)
+    (λ reader apart. stepped_others settings pasts later number (plain step) (Some line) reader apart asked) other seer at_other
 
 pub turned_whom : (number : ℕ) (said : What) → told_whom (named number (Answered said)) ≡ Some number
 turned_whom number (says.Reply reply) = refl
 turned_whom number (says.Job ticket payload) = refl
 turned_whom number says.Worked = refl
+turned_whom number says.Done = refl
+turned_whom number (says.Report report) = refl
+turned_whom number says.UnknownTicket = refl
 
 -- who is ready has a section
 has_section : (found : Option SectionData) (past : List Own) (seen : Option ℕ) (least : ℕ) → ready_after found past true seen ≡ Some least
@@ -146,21 +171,14 @@ tenant_of : (found : Option TenantData) (section : SectionData) → option_map (
 tenant_of None section is = absurd (cc)
 tenant_of (Some tenant) section is = (tenant, refl, same_Some tenant.section section is)
 
-turn_answered : (number : ℕ) (found : Option SectionData) (section : SectionData) (past : List Own) (now : ℕ) (outcome : Outcome) → found ≡ Some section
-    → IsAnswered number found past true (Turned now) outcome → outcome ≡ named number (Answered (answer section past (own.Turn now)))
-turn_answered number found section past now outcome is answered = subst (λ f. IsAnswered number f past true (Turned now) outcome) is answered
-
-turn_joins : (found : Option SectionData) (section : SectionData) (past : List Own) (now : ℕ) → found ≡ Some section → recorded found (Turned now) past ≡ own.Turn now ∷ past
-turn_joins found section past now is = ap (λ f. recorded f (Turned now) past) is
-
 -- the past after a turn whose outcome names this tenant, or none
 pub turn_past : (settings : SettingsData) (pasts : ℕ → List Own) (shard moment : ℕ) (outcome : Outcome) (whom : Option ℕ) (other : ℕ) → told_whom outcome ≡ whom
-    → (after (steps.Turn moment) outcome (lists_of settings pasts shard)).pasts other ≡ cond (is_tenant other whom) (recorded (section_in settings shard other) (Turned moment) (pasts other)) (pasts other)
+    → joined None (plain (own.Turn moment)) outcome (lists_of settings pasts shard) other ≡ cond (is_tenant other whom) (recorded (section_in settings shard other) (plain (own.Turn moment)) (pasts other)) (pasts other)
 turn_past settings pasts shard moment outcome whom other is =
-    ap (λ w. cond (is_tenant other w) (recorded (section_in settings shard other) (Turned moment) (pasts other)) (pasts other)) is
+    ap (λ w. cond (is_tenant other w) (recorded (section_in settings shard other) (plain (own.Turn moment)) (pasts other)) (pasts other)) is
 
 idle_sees : (settings : SettingsData) (pasts later : ℕ → List Own) (shard moment : ℕ) (outcome : Outcome) (line : List ℕ) → outcome ≡ Idle
-    → line ≡ outcome_text settings shard outcome → later ≡ (after (steps.Turn moment) outcome (lists_of settings pasts shard)).pasts
+    → line ≡ outcome_text settings shard outcome → later ≡ joined None (plain (own.Turn moment)) outcome (lists_of settings pasts shard)
     → (other : ℕ) (seer : TenantData) → Sees seer (Turn shard moment) line (pasts other) (later other)
 idle_sees settings pasts later shard moment outcome line idle is left other seer =
     let none = idle_line shard in
@@ -174,20 +192,20 @@ idle_sees settings pasts later shard moment outcome line idle is left other seer
 worked_sees : (settings : SettingsData) (pasts later : ℕ → List Own) (shard moment number : ℕ) (section : SectionData) (tenant : TenantData) (outcome : Outcome) (line : List ℕ) → AreNamed settings
     → section_in settings shard number ≡ Some section → IsReadyBy section (pasts number) moment → slice_get settings.tenants number ≡ Some tenant → tenant.section ≡ section
     → outcome ≡ named number (Answered (answer section (pasts number) (own.Turn moment)))
-    → line ≡ outcome_text settings shard outcome → later ≡ (after (steps.Turn moment) outcome (lists_of settings pasts shard)).pasts
+    → line ≡ outcome_text settings shard outcome → later ≡ joined None (plain (own.Turn moment)) outcome (lists_of settings pasts shard)
     → (other : ℕ) (seer : TenantData) → slice_get settings.tenants other ≡ Some seer → Sees seer (Turn shard moment) line (pasts other) (later other)
 worked_sees settings pasts later shard moment number section tenant outcome line are found ready_by at same_section told is left other seer at_other =
     let said = answer tenant.section (pasts number) (own.Turn moment) in
     let outcome_is : outcome ≡ named number (Answered (answer tenant.section (pasts number) (own.Turn moment))) =
     told ∙ ap (λ s. named number (Answered (answer s (pasts number) (own.Turn moment)))) (sym same_section) in
     let line_is : line ≡ told_text tenant.name (answer tenant.section (pasts number) (own.Turn moment)) =
-    is ∙ ap (outcome_text settings shard) outcome_is ∙ turned_text settings shard number said ∙ ap (λ n. told_text n (answer tenant.section (pasts number) (own.Turn moment))) (name_of_number settings number tenant at) in
-    let line_of = subst (λ l. IsLineOf tenant.name l) (sym line_is) (told_line tenant.name said (are.words number tenant at)) in
+    is ∙ ap (outcome_text settings shard) outcome_is ∙ named_text settings shard number said ∙ ap (λ n. told_text n (answer tenant.section (pasts number) (own.Turn moment))) (name_of_number settings number tenant at) in
+    let line_of = subst (λ l. IsLineOf tenant.name l) (sym line_is) (told_line tenant.name said (are.words number tenant at) (answer_plain tenant.section (pasts number) (own.Turn moment))) in
     let whom = ap told_whom outcome_is ∙ turned_whom number said in
     let yes : (number == number) ≡ true = eq-eqb number number refl in
     one_tenant settings pasts later (Turn shard moment) line number tenant are at line_of line_of.named (
       subst (λ s. IsReadyBy s (pasts number) moment) (sym same_section) ready_by,
-      (line_is, ap (λ f. f number) left ∙ turn_past settings pasts shard moment outcome (Some number) number whom ∙ rw yes (turn_joins (section_in settings shard number) section (pasts number) moment found)),
+      (line_is, ap (λ f. f number) left ∙ turn_past settings pasts shard moment outcome (Some number) number whom ∙ rw yes (joins section (section_in settings shard number) (pasts number) (plain (own.Turn moment)) found refl)),
     )
     (λ reader apart.
     let is_not : (number == reader) ≡ false = ne_eqb number reader (λ e. apart (sym e)) in
@@ -195,8 +213,8 @@ worked_sees settings pasts later shard moment number section tenant outcome line
     other seer at_other
 
 turned_sees : (settings : SettingsData) (pasts later : ℕ → List Own) (shard moment : ℕ) (picked : Option ℕ) (outcome : Outcome) (line : List ℕ) → AreNamed settings
-    → IsPick (ready_at (lists_of settings pasts shard) []) (own.moment_of (own.Turn moment)) picked → IsTurned (lists_of settings pasts shard) moment picked outcome
-    → line ≡ outcome_text settings shard outcome → later ≡ (after (steps.Turn moment) outcome (lists_of settings pasts shard)).pasts
+    → IsPick (ready_at (lists_of settings pasts shard) []) (own.moment_of (own.Turn moment)) picked → IsTurned (lists_of settings pasts shard) (plain (own.Turn moment)) picked outcome
+    → line ≡ outcome_text settings shard outcome → later ≡ joined None (plain (own.Turn moment)) outcome (lists_of settings pasts shard)
     → (other : ℕ) (seer : TenantData) → slice_get settings.tenants other ≡ Some seer → Sees seer (Turn shard moment) line (pasts other) (later other)
 turned_sees settings pasts later shard moment None outcome line are pick turned is left other seer at_other =
     idle_sees settings pasts later shard moment outcome line turned is left other seer
@@ -204,10 +222,10 @@ turned_sees settings pasts later shard moment (Some number) outcome line are pic
     let section = has_section (section_in settings shard number) (pasts number) None pick.0 pick.1 in
     let tenant = tenant_of (slice_get settings.tenants number) section.0 (within_shard (number % settings.global.shards == shard) (section_at settings number) section.0 section.1) in
     worked_sees settings pasts later shard moment number section.0 tenant.0 outcome line are section.1 (pick.0, section.2, pick.2) tenant.1 tenant.2
-    (turn_answered number (section_in settings shard number) section.0 (pasts number) moment outcome section.1 turned) is left other seer at_other
+    (piped_told number section.0 (section_in settings shard number) (pasts number) (plain (own.Turn moment)) outcome section.1 refl turned) is left other seer at_other
 
 turn_sees : (settings : SettingsData) (pasts later : ℕ → List Own) (shard moment : ℕ) (below : Bool) (line : List ℕ) → AreNamed settings
-    → MatchBool below (IsStepped settings pasts shard (steps.Turn moment) (Some line) later) ((◌≡◌ {A = Option (List ℕ)} (Some line) None) × (later ≡ pasts))
+    → MatchBool below (IsStepped settings pasts shard None (plain (own.Turn moment)) (Some line) later) ((◌≡◌ {A = Option (List ℕ)} (Some line) None) × (later ≡ pasts))
     → (other : ℕ) (seer : TenantData) → slice_get settings.tenants other ≡ Some seer → Sees seer (Turn shard moment) line (pasts other) (later other)
 turn_sees settings pasts later shard moment true line are stepped other seer at_other =
     turned_sees settings pasts later shard moment stepped.1.0 stepped.0 line are stepped.1.1 stepped.1.2 (some_line _ _ stepped.2) stepped.3 other seer at_other
@@ -216,10 +234,18 @@ turn_sees settings pasts later shard moment false line are none other seer at_ot
 sees : (settings : SettingsData) (pasts later : ℕ → List Own) (command : CommandData) (line : List ℕ) → AreNamed settings → collector.IsAnswered settings pasts command (Some line) later
     → (other : ℕ) (seer : TenantData) → slice_get settings.tenants other ≡ Some seer → Sees seer command line (pasts other) (later other)
 sees settings pasts later (Post name moment body) line are answered =
-    post_sees settings pasts later (position (λ t. bytes_eq name t.name) settings.tenants) name moment body line are refl answered
+    post_sees settings pasts later (number_of settings name) name moment body line are refl answered
 sees settings pasts later (Turn shard moment) line are answered =
     turn_sees settings pasts later shard moment (nat_lt shard settings.global.shards) line are answered
-sees settings pasts later command line are answered = λ other seer at_other. absurd (let never = answered.0 in cc)
+sees settings pasts later (Answer name moment ticket word given) line are answered =
+    ask_sees settings pasts later (number_of settings name) name (Answer name moment ticket word given) (own.Answer moment ticket word given) line are refl answered
+    (λ reader content. refl) (λ n s past behind l alone. alone)
+sees settings pasts later (Report name moment) line are answered =
+    ask_sees settings pasts later (number_of settings name) name (Report name moment) (own.Report moment) line are refl answered
+    (λ reader content. refl) (λ n s past behind l alone. alone)
+sees settings pasts later (Drain name moment) line are answered =
+    ask_sees settings pasts later (number_of settings name) name (Drain name moment) (own.Drain moment) line are refl answered
+    (λ reader content. refl) (λ n s past behind l alone. alone)
 
 module _ (settings : SettingsData) (are : AreNamed settings) (number : ℕ) (tenant : TenantData) (at : slice_get settings.tenants number ≡ Some tenant) where
   abbrev LinesAlone : List Own → List CommandData → List (List ℕ) → Type 0

@@ -1,28 +1,23 @@
 -- A tenant's own commands in a collector of its own.
 use Rattle.std.proofs.Common.{◌≡◌, ◌%◌, ◌==◌, ℕ, zero, suc, Bool, true, false, cond, List, [], ◌∷◌, ◌++◌, codes, Option, Some, None, refl, ap, sym, subst, ◌∙◌, arith, inl, inr}
-use Rattle.std.specs.List.{position}
 use Rattle.std.specs.Str.{bytes_eq}
 use Rattle.std.proofs.lemmas.Option.{same_Some}
 use Rattle.std.proofs.lemmas.Slice.Eq.{bytes_eq-Decides}
-use Rattle.otlp_trace.specs.Data.{RequestData}
 use Rattle.tail_settings.specs.Settings.{SettingsData, TenantData}
-use Rattle.tenant_pipeline.specs.declared.told.Told.{Told}
-use Rattle.tenant_pipeline.specs.declared.told.Told.TheVariants as says
-use Rattle.tenant_pipeline.specs.Arrivals.{arrivals_of}
-use Rattle.tenant_pipeline.specs.Own.{Own}
-use Rattle.tenant_pipeline.specs.Own as own
-use Rattle.tenant_pipeline.specs.Prepared.{prepared_of}
-use Rattle.tenant_pipeline.specs.Ready.{ready}
-use Rattle.tenant_pipeline.specs.State.{state, answer}
-use Rattle.tenant_shard.specs.declared.step.Step.TheVariants as steps
-use Rattle.tenant_shard.specs.Outcomes.{Posted, Answered, named}
+use Rattle.tenant_rules.specs.declared.told.Told.{Told}
+use Rattle.tenant_rules.specs.Own.{Own}
+use Rattle.tenant_rules.specs.Own as own
+use Rattle.tenant_rules.specs.Ready.{ready}
+use Rattle.tenant_rules.specs.State.{state}
+use Rattle.tenant_rules.specs.Answers.{answer}
+use Rattle.tenant_shard.specs.Outcomes.{OwnStep, plain, is_taken, Answered, named}
 use Rattle.tenant_shard.specs.Pick.{ready_at, ready_after}
 use Rattle.shard_agenda.specs.Pick.{NotAfter}
-use Rattle.tenant_shard.specs.Run.{IsAnswered, IsTakenOrNot, recorded, after}
-use Rattle.replay_script.specs.Command.{CommandData, Post, Turn}
+use Rattle.tenant_shard.specs.Run.{IsAnswered, IsTakenOrNot}
+use Rattle.replay_script.specs.Command.{CommandData, Post, Turn, Answer, Report, Drain}
 use Rattle.replay_script.specs.Line.{lines_of}
 use Rattle.trace_collector.specs.Outcomes.{outcome_text, told_text}
-use Rattle.trace_collector.specs.Answered.{lists_of, IsStepped, HasNoValue, IsPosted, IsPostedTo}
+use Rattle.trace_collector.specs.Answered.{lists_of, joined, posted, IsStepped, IsSteppedFor, IsPosted, IsPostedTo, IsAskedOf, number_of}
 use Rattle.trace_collector.specs.Answered as collector
 use Rattle.trace_collector.specs.Own.{named_by, is_own, of_any_shard, commands_of, own_among, own_commands, lines_for}
 use Rattle.trace_collector.specs.Alone.{IsReadyBy, IsStepAlone, IsPostAlone, IsAnsweredAlone, AnswersAlone}
@@ -30,13 +25,15 @@ use Rattle.trace_collector.specs.Apart.{only, AnswersEach, ReplaysApart}
 use Rattle.trace_collector.specs.Script.{no_steps}
 use Rattle.trace_collector.proofs.Alone.{whole_alone, turn_past, turned_whom}
 use Rattle.trace_collector.proofs.Named.{are_named}
-use Rattle.trace_collector.proofs.Taken.{own_policies}
+use Rattle.trace_collector.proofs.Taken.{own_policies, joins, named_text}
 
--- an own command is a post of that name, or a turn of any shard
+-- an own command names the tenant, or is a turn of any shard
 abbrev pub IsOwn : List ℕ → CommandData → Type 0
 IsOwn name (Post other moment body) = other ≡ name
 IsOwn name (Turn shard moment) = shard ≡ 0
-IsOwn name command = Unit
+IsOwn name (Answer other moment ticket word given) = other ≡ name
+IsOwn name (Report other moment) = other ≡ name
+IsOwn name (Drain other moment) = other ≡ name
 
 abbrev pub AllOwn : List ℕ → List CommandData → Type 0
 AllOwn name [] = Unit
@@ -45,7 +42,9 @@ AllOwn name (command ∷ commands) = IsOwn name command × AllOwn name commands
 own_is : (name line : List ℕ) (command : CommandData) → is_own name (named_by command) line ≡ true → IsOwn name (of_any_shard command)
 own_is name line (Post other moment body) is = (bytes_eq-Decides other name).0 is
 own_is name line (Turn shard moment) is = refl
-own_is name line command is = tt
+own_is name line (Answer other moment ticket word given) is = (bytes_eq-Decides other name).0 is
+own_is name line (Report other moment) is = (bytes_eq-Decides other name).0 is
+own_is name line (Drain other moment) is = (bytes_eq-Decides other name).0 is
 
 all_own : (name : List ℕ) (commands : List CommandData) (lines : List (List ℕ)) → AllOwn name (own_among name commands lines)
 all_own name [] lines = tt
@@ -59,38 +58,37 @@ all_own name (command ∷ commands) (line ∷ lines) = by_test (is_own name (nam
 
 module _ (settings : SettingsData) (tenant : TenantData) where
   -- the one tenant is found by its name
-  found : (name : List ℕ) → name ≡ tenant.name → position (λ t. bytes_eq name t.name) (tenant ∷ []) ≡ Some 0
+  found : (name : List ℕ) → name ≡ tenant.name → number_of (only settings tenant) name ≡ Some 0
   found name is =
       let yes : bytes_eq name tenant.name ≡ true = (bytes_eq-Decides name tenant.name).1 is in
       rw yes refl
 
   outcome_line : (said : Told) → outcome_text (only settings tenant) 0 (named 0 (Answered said)) ≡ told_text tenant.name said
-  outcome_line (says.Reply reply) = refl
-  outcome_line (says.Job ticket payload) = refl
-  outcome_line says.Worked = refl
+  outcome_line said = named_text (only settings tenant) 0 0 said
 
-  taken : (past : List Own) (moment : ℕ) (v : RequestData)
-      → IsAnswered 0 (Some tenant.section) past true (Posted moment tenant.section.tail_sampling.policies (arrivals_of v))
-      (named 0 (Answered (answer tenant.section past (own.Post moment (arrivals_of v)))))
-  taken past moment v =
-      let told : IsTakenOrNot true 0 tenant.section past true (own.Post moment (arrivals_of v)) (named 0 (Answered (answer tenant.section past (own.Post moment (arrivals_of v))))) = refl in
-      rw (own_policies tenant.section.tail_sampling.policies) told
+  -- a step that reaches the pipeline of the one tenant
+  reached : (past : List Own) (step : OwnStep) → is_taken tenant.section step ≡ true
+      → IsAnswered 0 (Some tenant.section) past true step (named 0 (Answered (answer tenant.section past step.step)))
+  reached past step taken =
+      let told : IsTakenOrNot true 0 tenant.section past true step.step (named 0 (Answered (answer tenant.section past step.step))) = refl in
+      rw taken told
 
-  joined : (past : List Own) (moment : ℕ) (v : RequestData)
-      → recorded (Some tenant.section) (Posted moment tenant.section.tail_sampling.policies (arrivals_of v)) past ≡ own.Post moment (arrivals_of v) ∷ past
-  joined past moment v = rw (own_policies tenant.section.tail_sampling.policies) refl
+  step_apart : (pasts : ℕ → List Own) (later : List Own) (step : OwnStep) (line : List ℕ) → is_taken tenant.section step ≡ true
+      → IsStepAlone tenant.name tenant.section (pasts 0) step.step line later
+      → (after : ℕ → List Own) × IsSteppedFor (only settings tenant) pasts 0 step (Some line) after × (after 0 ≡ later)
+  step_apart pasts later step line taken alone =
+      let said = answer tenant.section (pasts 0) step.step in (
+        joined (Some 0) step (named 0 (Answered said)) (lists_of (only settings tenant) pasts 0),
+        (named 0 (Answered said), reached (pasts 0) step taken, ap (λ l. Some l) (alone.0 ∙ sym (outcome_line said)), refl),
+        joins tenant.section (Some tenant.section) (pasts 0) step refl taken ∙ sym alone.1,
+      )
 
   post_apart : (pasts : ℕ → List Own) (later : List Own) (moment : ℕ) (body line : List ℕ) → IsPostAlone tenant.name tenant.section (pasts 0) moment body line later
       → (after : ℕ → List Own) × IsPosted (only settings tenant) pasts 0 tenant.name moment body (Some line) after × (after 0 ≡ later)
   post_apart pasts later moment body line (inl alone) =
-      let said = answer tenant.section (pasts 0) (own.Post moment (arrivals_of alone.0)) in
-      let step = steps.Post moment (prepared_of 0 tenant.section alone.0) in
-      let left = (after step (named 0 (Answered said)) (lists_of (only settings tenant) pasts 0)).pasts in (
-        left,
-        inl (tenant.section, alone.0, refl, alone.1, (named 0 (Answered said), taken (pasts 0) moment alone.0, ap Some (alone.2.0 ∙ sym (outcome_line said)), refl)),
-        joined (pasts 0) moment alone.0 ∙ sym alone.2.1,
-      )
-  post_apart pasts later moment body line (inr none) = (pasts, inr (none.0, ap Some none.1, refl), sym none.2)
+      let done = step_apart pasts later (posted moment 0 tenant.section alone.0) line (own_policies tenant.section.tail_sampling.policies) alone.2 in
+      (done.0, inl (tenant.section, alone.0, refl, alone.1, done.1), done.2)
+  post_apart pasts later moment body line (inr none) = (pasts, inr (none.0, ap (λ l. Some l) none.1, refl), sym none.2)
 
   none_either : (b : Bool) (past : List Own) (seen : Option ℕ) → ready_after (cond b None None) past true seen ≡ None
   none_either true past seen = refl
@@ -108,19 +106,25 @@ module _ (settings : SettingsData) (tenant : TenantData) where
 
   turn_apart : (pasts : ℕ → List Own) (later : List Own) (moment : ℕ) (line : List ℕ) → IsReadyBy tenant.section (pasts 0) moment
       → IsStepAlone tenant.name tenant.section (pasts 0) (own.Turn moment) line later
-      → (after : ℕ → List Own) × IsStepped (only settings tenant) pasts 0 (steps.Turn moment) (Some line) after × (after 0 ≡ later)
+      → (after : ℕ → List Own) × IsStepped (only settings tenant) pasts 0 None (plain (own.Turn moment)) (Some line) after × (after 0 ≡ later)
   turn_apart pasts later moment line ready_by alone =
-      let said = answer tenant.section (pasts 0) (own.Turn moment) in
-      let left = (after (steps.Turn moment) (named 0 (Answered said)) (lists_of (only settings tenant) pasts 0)).pasts in (
-        left,
+      let said = answer tenant.section (pasts 0) (own.Turn moment) in (
+        joined None (plain (own.Turn moment)) (named 0 (Answered said)) (lists_of (only settings tenant) pasts 0),
         (
           named 0 (Answered said),
           (Some 0, (ready_by.0, ready_by.1, ready_by.2, first_of_one pasts ready_by.0 ready_by.1), refl),
-          ap Some (alone.0 ∙ sym (outcome_line said)),
+          ap (λ l. Some l) (alone.0 ∙ sym (outcome_line said)),
           refl,
         ),
         turn_past (only settings tenant) pasts 0 moment (named 0 (Answered said)) (Some 0) 0 (turned_whom 0 said) ∙ sym alone.1,
       )
+
+  ask_apart : (pasts : ℕ → List Own) (later : List Own) (name : List ℕ) (step : Own) (line : List ℕ) → name ≡ tenant.name
+      → IsStepAlone tenant.name tenant.section (pasts 0) step line later
+      → (after : ℕ → List Own) × IsAskedOf (only settings tenant) pasts (number_of (only settings tenant) name) step (Some line) after × (after 0 ≡ later)
+  ask_apart pasts later name step line same alone =
+      let done = step_apart pasts later (plain step) line refl alone in
+      (done.0, subst (λ f. IsAskedOf (only settings tenant) pasts f step (Some line) done.0) (sym (found name same)) done.1, done.2)
 
   answered_apart : (command : CommandData) (line : List ℕ) (pasts : ℕ → List Own) (later : List Own) → IsOwn tenant.name command
       → IsAnsweredAlone tenant.name tenant.section (pasts 0) command line later
@@ -132,7 +136,10 @@ module _ (settings : SettingsData) (tenant : TenantData) where
   answered_apart (Turn shard moment) line pasts later same alone =
       let turned = turn_apart pasts later moment line alone.0 alone.1 in
       (turned.0, subst (λ n. collector.IsAnswered (only settings tenant) pasts (Turn n moment) (Some line) turned.0) (sym same) turned.1, turned.2)
-  answered_apart command line pasts later same alone = absurd alone
+  answered_apart (Answer name moment ticket word given) line pasts later same alone =
+      ask_apart pasts later name (own.Answer moment ticket word given) line same alone
+  answered_apart (Report name moment) line pasts later same alone = ask_apart pasts later name (own.Report moment) line same alone
+  answered_apart (Drain name moment) line pasts later same alone = ask_apart pasts later name (own.Drain moment) line same alone
 
   pub each_apart : (commands : List CommandData) (lines : List (List ℕ)) (past : List Own) (pasts : ℕ → List Own) → pasts 0 ≡ past → AllOwn tenant.name commands
       → AnswersAlone tenant.name tenant.section past commands lines → AnswersEach (collector.IsAnswered (only settings tenant)) pasts commands lines

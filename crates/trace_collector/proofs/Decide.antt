@@ -4,11 +4,10 @@ use Rattle.std.proofs.lemmas.List.{append_cancel_right}
 use Rattle.otlp_trace.specs.Data.{RequestData}
 use Rattle.otlp_read.specs.Value.{IsValue}
 use Rattle.tail_settings.specs.Section.{SectionData}
-use Rattle.tenant_pipeline.specs.Arrivals.{arrivals_of}
-use Rattle.tenant_pipeline.specs.Own.{Own}
-use Rattle.tenant_pipeline.specs.Own as own
-use Rattle.replay_script.specs.Command.{CommandData, Post, Turn}
-use Rattle.trace_collector.specs.Alone.{IsStepAlone, IsPostAlone, IsAnsweredAlone, AnswersAlone, IsToldIn, OwnCommandsDecide}
+use Rattle.tenant_rules.specs.Own.{Own}
+use Rattle.tenant_rules.specs.Own as own
+use Rattle.replay_script.specs.Command.{CommandData, Post, Turn, Answer, Report, Drain}
+use Rattle.trace_collector.specs.Alone.{post_alone, IsStepAlone, IsPostAlone, IsAnsweredAlone, AnswersAlone, IsToldIn, OwnCommandsDecide}
 use Rattle.trace_collector.specs.Own.{own_commands, lines_for}
 use Rattle.trace_collector.proofs.Named.{are_named}
 use Rattle.trace_collector.proofs.Alone.{whole_alone}
@@ -22,8 +21,8 @@ module _ (one_value : (body : List ℕ) (v v' : RequestData) → IsValue body v 
       → IsPostAlone name section past moment body line later → IsPostAlone name section past moment body line' later' → (line ≡ line') × (later ≡ later')
   post_one name section past later later' moment body line line' (inl h) (inl k) =
       let value = one_value body h.0 k.0 h.1 k.1 in
-      step_one name section past later later' (own.Post moment (arrivals_of k.0)) line line'
-      (subst (λ v. IsStepAlone name section past (own.Post moment (arrivals_of v)) line later) value h.2) k.2
+      step_one name section past later later' (post_alone moment k.0) line line'
+      (subst (λ v. IsStepAlone name section past (post_alone moment v) line later) value h.2) k.2
   post_one name section past later later' moment body line line' (inl h) (inr k) = absurd (k.0 h.0 h.1)
   post_one name section past later later' moment body line line' (inr h) (inl k) = absurd (h.0 k.0 k.1)
   post_one name section past later later' moment body line line' (inr h) (inr k) = (h.1 ∙ sym k.1, h.2 ∙ sym k.2)
@@ -32,7 +31,10 @@ module _ (one_value : (body : List ℕ) (v v' : RequestData) → IsValue body v 
       → IsAnsweredAlone name section past command line later → IsAnsweredAlone name section past command line' later' → (line ≡ line') × (later ≡ later')
   answered_one name section past later later' (Post named moment body) line line' h k = post_one name section past later later' moment body line line' h k
   answered_one name section past later later' (Turn shard moment) line line' h k = step_one name section past later later' (own.Turn moment) line line' h.1 k.1
-  answered_one name section past later later' command line line' h k = absurd h
+  answered_one name section past later later' (Answer named moment ticket word given) line line' h k =
+      step_one name section past later later' (own.Answer moment ticket word given) line line' h k
+  answered_one name section past later later' (Report named moment) line line' h k = step_one name section past later later' (own.Report moment) line line' h k
+  answered_one name section past later later' (Drain named moment) line line' h k = step_one name section past later later' (own.Drain moment) line line' h k
 
   alone_one : (name : List ℕ) (section : SectionData) (past : List Own) (commands : List CommandData) (lines lines' : List (List ℕ))
       → AnswersAlone name section past commands lines → AnswersAlone name section past commands lines' → lines' ≡ lines

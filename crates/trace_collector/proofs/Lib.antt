@@ -7,6 +7,7 @@ pub mod Replayed
 pub mod One
 pub mod Taken
 pub mod OneLine
+pub mod ToldPlain
 pub mod Named
 pub mod Alone
 pub mod Decide

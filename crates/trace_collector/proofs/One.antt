@@ -3,27 +3,23 @@ use Rattle.std.proofs.Common.{◌≡◌, ◌+◌, ◌%◌, ℕ, Bool, true, fals
 use Rattle.std.proofs.lemmas.List.{append_assoc}
 use Rattle.std.specs.Prelude.{◌↔◌}
 use Rattle.std.specs.Bool.{MatchBool}
-use Rattle.std.specs.List.{position}
-use Rattle.std.specs.Str.{bytes_eq}
 use Rattle.otlp_trace.specs.Data.{RequestData}
 use Rattle.otlp_read.specs.Value.{IsValue, value_of}
 use Rattle.otlp_read.specs.declared.fault.ReadFault.{ReadFault}
 use Rattle.tail_settings.specs.Section.{SectionData}
 use Rattle.tail_settings.specs.Settings.{SettingsData}
-use Rattle.tenant_pipeline.specs.Own.{Own}
-use Rattle.tenant_pipeline.specs.Prepared.{prepared_of}
-use Rattle.tenant_shard.specs.declared.step.Step.{Step}
-use Rattle.tenant_shard.specs.declared.step.Step.TheVariants as steps
+use Rattle.tenant_rules.specs.Own.{Own}
+use Rattle.tenant_rules.specs.Own as own
 use Rattle.tenant_shard.specs.declared.step.Outcome.{Outcome}
 use Rattle.shard_agenda.specs.Pick.{IsPick, NotAfter}
-use Rattle.tenant_shard.specs.Outcomes.{OwnStep, Turned, own_step, piped, is_taken}
-use Rattle.tenant_shard.specs.Run.{IsTakenOrNot, IsAnswered, IsTurned, IsNext, after}
+use Rattle.tenant_shard.specs.Outcomes.{OwnStep, plain, is_taken}
+use Rattle.tenant_shard.specs.Run.{IsTakenOrNot, IsAnswered, IsTurned, IsOutcomeOf}
 use Rattle.tenant_shard.specs.Table.{section_at}
-use Rattle.replay_script.specs.Command.{CommandData, Post, Turn}
+use Rattle.replay_script.specs.Command.{CommandData, Post, Turn, Answer, Report, Drain}
 use Rattle.replay_script.specs.Line.{Kind, Skipped, Says, Faulty, kind_of}
 use Rattle.replay_script.specs.Told.{Answered, Goes, Told, BeginsTold}
 use Rattle.trace_collector.specs.Outcomes.{outcome_text}
-use Rattle.trace_collector.specs.Answered.{section_in, lists_of, IsStepped, IsPosted, IsPostedTo}
+use Rattle.trace_collector.specs.Answered.{section_in, lists_of, joined, posted, IsStepped, IsSteppedFor, IsPosted, IsPostedTo, IsAskedOf, number_of}
 use Rattle.trace_collector.specs.Answered as of_script
 
 module _ {H : Type 0} (answers : H → CommandData → Option (List ℕ) → H → Type 0)
@@ -104,27 +100,26 @@ taken_one tenant false section past step o o' h k = h ∙ sym k
 answered_one : (tenant : ℕ) (section : Option SectionData) (past : List Own) (step : OwnStep) (o o' : Outcome)
     → IsAnswered tenant section past true step o → IsAnswered tenant section past true step o' → o ≡ o'
 answered_one tenant None past step o o' h k = h ∙ sym k
-answered_one tenant (Some section) past step o o' h k = taken_one tenant (is_taken section step) section past (piped step) o o' h k
+answered_one tenant (Some section) past step o o' h k = taken_one tenant (is_taken section step) section past step.step o o' h k
 
-turned_one : (settings : SettingsData) (pasts : ℕ → List Own) (shard now : ℕ) (picked : Option ℕ) (o o' : Outcome)
-    → IsTurned (lists_of settings pasts shard) now picked o → IsTurned (lists_of settings pasts shard) now picked o' → o ≡ o'
-turned_one settings pasts shard now None o o' h k = h ∙ sym k
-turned_one settings pasts shard now (Some tenant) o o' h k = answered_one tenant (section_in settings shard tenant) (pasts tenant) (Turned now) o o' h k
+turned_one : (settings : SettingsData) (pasts : ℕ → List Own) (shard : ℕ) (step : OwnStep) (picked : Option ℕ) (o o' : Outcome)
+    → IsTurned (lists_of settings pasts shard) step picked o → IsTurned (lists_of settings pasts shard) step picked o' → o ≡ o'
+turned_one settings pasts shard step None o o' h k = h ∙ sym k
+turned_one settings pasts shard step (Some tenant) o o' h k = answered_one tenant (section_in settings shard tenant) (pasts tenant) step o o' h k
 
-next_one : (settings : SettingsData) (pasts : ℕ → List Own) (shard : ℕ) (step : Step) (o o' : Outcome)
-    → IsNext (lists_of settings pasts shard) step o → IsNext (lists_of settings pasts shard) step o' → o ≡ o'
-next_one settings pasts shard (steps.Post now prepared) o o' h k =
-    answered_one prepared.tenant (section_in settings shard prepared.tenant) (pasts prepared.tenant) (own_step (steps.Post now prepared)) o o' h k
-next_one settings pasts shard (steps.Turn now) o o' h k =
+outcome_one : (settings : SettingsData) (pasts : ℕ → List Own) (shard : ℕ) (named : Option ℕ) (step : OwnStep) (o o' : Outcome)
+    → IsOutcomeOf named (lists_of settings pasts shard) [] step o → IsOutcomeOf named (lists_of settings pasts shard) [] step o' → o ≡ o'
+outcome_one settings pasts shard (Some tenant) step o o' h k = answered_one tenant (section_in settings shard tenant) (pasts tenant) step o o' h k
+outcome_one settings pasts shard None step o o' h k =
     let same = pick_one _ _ h.0 k.0 h.1 k.1 in
-    turned_one settings pasts shard now k.0 o o' (subst (λ p. IsTurned (lists_of settings pasts shard) now p o) same h.2) k.2
+    turned_one settings pasts shard step k.0 o o' (subst (λ p. IsTurned (lists_of settings pasts shard) step p o) same h.2) k.2
 
-stepped_one : (settings : SettingsData) (pasts later later' : ℕ → List Own) (shard : ℕ) (step : Step) (line line' : Option (List ℕ))
-    → IsStepped settings pasts shard step line later → IsStepped settings pasts shard step line' later' → (line ≡ line') × (later ≡ later')
-stepped_one settings pasts later later' shard step line line' h k =
-    let same = next_one settings pasts shard step h.0 k.0 h.1 k.1 in (
+stepped_one : (settings : SettingsData) (pasts later later' : ℕ → List Own) (shard : ℕ) (named : Option ℕ) (step : OwnStep) (line line' : Option (List ℕ))
+    → IsStepped settings pasts shard named step line later → IsStepped settings pasts shard named step line' later' → (line ≡ line') × (later ≡ later')
+stepped_one settings pasts later later' shard named step line line' h k =
+    let same = outcome_one settings pasts shard named step h.0 k.0 h.1 k.1 in (
       h.2 ∙ ap (λ o. Some (outcome_text settings shard o)) same ∙ sym k.2,
-      h.3 ∙ ap (λ o. (after step o (lists_of settings pasts shard)).pasts) same ∙ sym k.3,
+      h.3 ∙ ap (λ o. joined named step o (lists_of settings pasts shard)) same ∙ sym k.3,
     )
 
 one_section : (found : Option SectionData) (s t : SectionData) → found ≡ Some s → found ≡ Some t → s ≡ t
@@ -136,9 +131,9 @@ module _ (one_value : (body : List ℕ) (v v' : RequestData) → IsValue body v 
   posted_one settings pasts later later' tenant name moment body line line' (inl h) (inl k) =
       let kept = one_section (section_at settings tenant) h.0 k.0 h.2 k.2 in
       let value = one_value body h.1 k.1 h.3 k.3 in
-      let same : prepared_of tenant h.0 h.1 ≡ prepared_of tenant k.0 k.1 = λ i. prepared_of tenant (kept i) (value i) in
-      stepped_one settings pasts later later' (tenant % settings.global.shards) (steps.Post moment (prepared_of tenant k.0 k.1)) line line'
-      (subst (λ p. IsStepped settings pasts (tenant % settings.global.shards) (steps.Post moment p) line later) same h.4) k.4
+      let same : posted moment tenant h.0 h.1 ≡ posted moment tenant k.0 k.1 = λ i. posted moment tenant (kept i) (value i) in
+      stepped_one settings pasts later later' (tenant % settings.global.shards) (Some tenant) (posted moment tenant k.0 k.1) line line'
+      (subst (λ p. IsSteppedFor settings pasts tenant p line later) same h.4) k.4
   posted_one settings pasts later later' tenant name moment body line line' (inl h) (inr k) = absurd (k.0 h.1 h.3)
   posted_one settings pasts later later' tenant name moment body line line' (inr h) (inl k) = absurd (h.0 k.1 k.3)
   posted_one settings pasts later later' tenant name moment body line line' (inr h) (inr k) = (h.1 ∙ sym k.1, h.2 ∙ sym k.2)
@@ -148,19 +143,30 @@ module _ (one_value : (body : List ℕ) (v v' : RequestData) → IsValue body v 
   posted_to_one settings pasts later later' None name moment body line line' h k = (h.0 ∙ sym k.0, h.1 ∙ sym k.1)
   posted_to_one settings pasts later later' (Some tenant) name moment body line line' h k = posted_one settings pasts later later' tenant name moment body line line' h k
 
+  asked_one : (settings : SettingsData) (pasts later later' : ℕ → List Own) (found : Option ℕ) (step : Own) (line line' : Option (List ℕ))
+      → IsAskedOf settings pasts found step line later → IsAskedOf settings pasts found step line' later' → (line ≡ line') × (later ≡ later')
+  asked_one settings pasts later later' None step line line' h k = (h.0 ∙ sym k.0, h.1 ∙ sym k.1)
+  asked_one settings pasts later later' (Some tenant) step line line' h k =
+      stepped_one settings pasts later later' (tenant % settings.global.shards) (Some tenant) (plain step) line line' h k
+
   turn_one : (settings : SettingsData) (pasts later later' : ℕ → List Own) (shard moment : ℕ) (b : Bool) (line line' : Option (List ℕ))
-      → MatchBool b (IsStepped settings pasts shard (steps.Turn moment) line later) ((line ≡ None) × (later ≡ pasts))
-      → MatchBool b (IsStepped settings pasts shard (steps.Turn moment) line' later') ((line' ≡ None) × (later' ≡ pasts)) → (line ≡ line') × (later ≡ later')
-  turn_one settings pasts later later' shard moment true line line' h k = stepped_one settings pasts later later' shard (steps.Turn moment) line line' h k
+      → MatchBool b (IsStepped settings pasts shard None (plain (own.Turn moment)) line later) ((line ≡ None) × (later ≡ pasts))
+      → MatchBool b (IsStepped settings pasts shard None (plain (own.Turn moment)) line' later') ((line' ≡ None) × (later' ≡ pasts)) → (line ≡ line') × (later ≡ later')
+  turn_one settings pasts later later' shard moment true line line' h k = stepped_one settings pasts later later' shard None (plain (own.Turn moment)) line line' h k
   turn_one settings pasts later later' shard moment false line line' h k = (h.0 ∙ sym k.0, h.1 ∙ sym k.1)
 
   pub script_answered_one : (settings : SettingsData) (pasts later later' : ℕ → List Own) (command : CommandData) (line line' : Option (List ℕ))
       → of_script.IsAnswered settings pasts command line later → of_script.IsAnswered settings pasts command line' later' → (line ≡ line') × (later ≡ later')
   script_answered_one settings pasts later later' (Post name moment body) line line' h k =
-      posted_to_one settings pasts later later' (position (λ t. bytes_eq name t.name) settings.tenants) name moment body line line' h k
+      posted_to_one settings pasts later later' (number_of settings name) name moment body line line' h k
   script_answered_one settings pasts later later' (Turn shard moment) line line' h k =
       turn_one settings pasts later later' shard moment (nat_lt shard settings.global.shards) line line' h k
-  script_answered_one settings pasts later later' command line line' h k = (h.0 ∙ sym k.0, h.1 ∙ sym k.1)
+  script_answered_one settings pasts later later' (Answer name moment ticket word answer) line line' h k =
+      asked_one settings pasts later later' (number_of settings name) (own.Answer moment ticket word answer) line line' h k
+  script_answered_one settings pasts later later' (Report name moment) line line' h k =
+      asked_one settings pasts later later' (number_of settings name) (own.Report moment) line line' h k
+  script_answered_one settings pasts later later' (Drain name moment) line line' h k =
+      asked_one settings pasts later later' (number_of settings name) (own.Drain moment) line line' h k
 
 pub same_value : ((body : List ℕ) (v : RequestData) → (value_of body ≡ Ok v) ↔ IsValue body v) → (body : List ℕ) (v v' : RequestData) → IsValue body v → IsValue body v' → v ≡ v'
 same_value exact body v v' h k =

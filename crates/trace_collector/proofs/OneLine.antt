@@ -5,10 +5,11 @@ use Rattle.std.specs.Fmt.{decimal}
 use Rattle.std.proofs.lemmas.List.{append-nil, append_assoc}
 use Rattle.std.proofs.lemmas.List.Elements.{All-nil, All-append}
 use Rattle.std.proofs.lemmas.List.Splits.{slice_split_at, slice_split_none}
-use Rattle.tenant_pipeline.specs.declared.told.Told.{Told}
-use Rattle.tenant_pipeline.specs.declared.told.Told.TheVariants as told
+use Rattle.tenant_rules.specs.declared.told.Told.{Told}
+use Rattle.tenant_rules.specs.declared.told.Told.TheVariants as told
+use Rattle.tenant_shard.specs.Outcomes.{unknown_ticket}
 use Rattle.replay_script.specs.Word.{words_of}
-use Rattle.replay_script.specs.Answer.{hex_text, reply_text, job_text, worked_text, idle_text}
+use Rattle.replay_script.specs.Answer.{hex_text, reply_text, job_text, worked_text, idle_text, done_text, report_text, refused_text}
 use Rattle.replay_script.proofs.Plain.{IsPlain, plain_of, decimal_plain, hex_plain}
 use Rattle.trace_collector.specs.Outcomes.{told_text}
 use Rattle.trace_collector.specs.Own.{is_named_in, names}
@@ -87,10 +88,42 @@ worked_line name is =
     line_of (codes "worked ") (codes "worked") name [] (worked_text name) [] (λ text. refl) refl (plain_of (codes "worked ") refl) is.plain (All-nil (λ byte. byte ≢ 10))
     (at_end name is) refl
 
-pub told_line : (name : List ℕ) (what : Told) → IsWord name → IsLineOf name (told_text name what)
-told_line name (told.Reply reply) is = reply_line name reply.status reply.body is
-told_line name (told.Job ticket payload) is = job_line name ticket payload is
-told_line name told.Worked is = worked_line name is
+pub done_line : (name : List ℕ) → IsWord name → IsLineOf name (done_text name)
+done_line name is =
+    line_of (codes "done ") (codes "done") name [] (done_text name) [] (λ text. refl) refl (plain_of (codes "done ") refl) is.plain (All-nil (λ byte. byte ≢ 10))
+    (at_end name is) refl
+
+one_joined : (verb name a : List ℕ) → verb ++ name ++ codes " " ++ a ++ codes "\n" ≡ verb ++ (name ++ ((codes " " ++ a) ++ codes "\n"))
+one_joined verb name a = simp append_assoc
+
+pub report_line : (name report : List ℕ) → IsWord name → IsPlain report → IsLineOf name (report_text name report)
+report_line name report is plain =
+    line_of (codes "report ") (codes "report") name (codes " " ++ report) (report_text name report) (words_of report) (λ text. refl) refl (plain_of (codes "report ") refl) is.plain
+    (All-append (λ byte. byte ≢ 10) (codes " ") report (plain_of (codes " ") refl) plain) (then_more name report is)
+    (one_joined (codes "report ") name report)
+
+pub refused_line : (name : List ℕ) (number : ℕ) → IsWord name → IsLineOf name (refused_text name number)
+refused_line name number is =
+    line_of (codes "refused ") (codes "refused") name (codes " " ++ decimal number) (refused_text name number) (words_of (decimal number)) (λ text. refl) refl
+    (plain_of (codes "refused ") refl) is.plain (All-append (λ byte. byte ≢ 10) (codes " ") (decimal number) (plain_of (codes " ") refl) (decimal_plain number))
+    (then_more name (decimal number) is) (one_joined (codes "refused ") name (decimal number))
+
+-- within what a tenant is told there is no line feed
+abbrev pub IsPlainTold : Told → Type 0
+IsPlainTold (told.Report report) = IsPlain report
+IsPlainTold (told.Reply reply) = Unit
+IsPlainTold (told.Job ticket payload) = Unit
+IsPlainTold told.Worked = Unit
+IsPlainTold told.Done = Unit
+IsPlainTold told.UnknownTicket = Unit
+
+pub told_line : (name : List ℕ) (what : Told) → IsWord name → IsPlainTold what → IsLineOf name (told_text name what)
+told_line name (told.Reply reply) is plain = reply_line name reply.status reply.body is
+told_line name (told.Job ticket payload) is plain = job_line name ticket payload is
+told_line name told.Worked is plain = worked_line name is
+told_line name told.Done is plain = done_line name is
+told_line name (told.Report report) is plain = report_line name report is plain
+told_line name told.UnknownTicket is plain = refused_line name unknown_ticket is
 
 none_named : (other : List ℕ) (words : List (List ℕ)) → is_named_in other (codes "idle" ∷ words) ≡ false
 none_named other [] = refl

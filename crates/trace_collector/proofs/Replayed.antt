@@ -7,7 +7,7 @@ use Rattle.tail_settings.specs.declared.fault.SettingsFault.{SettingsFault}
 use Rattle.tail_settings.specs.declared.fault.SettingsFault.TheVariants as settings
 use Rattle.tail_settings.specs.Fault.{TellsFault, not_toml, missing_key, wrong_kind, out_of_range, double_tenant, too_many}
 use Rattle.tail_settings.specs.Settings.{SettingsData, settings_view, settings_of}
-use Rattle.tenant_pipeline.specs.Own.{Own}
+use Rattle.tenant_rules.specs.Own.{Own}
 use Rattle.replay_script.specs.declared.fault.ScriptFault.{ScriptFault}
 use Rattle.replay_script.specs.declared.fault.ScriptFault.TheVariants.{Script, Line, OutOfMemory}
 use Rattle.replay_script.specs.Command.{CommandData}
@@ -24,7 +24,7 @@ use Rattle.trace_collector.specs.Replay.{IsReplay, WritesSoFar}
 use Rattle.trace_collector.proofs.Through.{told_through, begins_through, so_far_through}
 
 pub record Along (settings : SettingsData) (shards : Shards) (pasts : ℕ → List Own) : Type 0 where
-  pub same : settings_view shards.settings ≡ settings
+  pub same : settings_view shards.settings.now ≡ settings
   pub stand : AllStand settings shards.shards.items pasts
 
 pub goes_along : (settings : SettingsData) (old new : Shards) (pasts : ℕ → List Own) (command : CommandData) (line : Option (List ℕ)) → Along settings old pasts → Answers old command line new

@@ -7,13 +7,13 @@ use Rattle.std.proofs.lemmas.List.{length-set}
 use Rattle.std.proofs.lemmas.Option.{slice_get_within}
 use Rattle.tail_settings.specs.Section.{SectionData}
 use Rattle.tail_settings.specs.Settings.{SettingsData}
-use Rattle.tenant_pipeline.specs.Own.{Own}
-use Rattle.tenant_pipeline.specs.State.{State}
+use Rattle.tenant_rules.specs.Own.{Own}
+use Rattle.tenant_rules.specs.State.{State}
 use Rattle.tenant_shard.specs.declared.step.Step.{Step}
 use Rattle.tenant_shard.specs.declared.step.Outcome.{Outcome}
 use Rattle.tenant_shard.specs.View.{View, kept_of}
 use Rattle.tenant_shard.specs.Lists.{MemberStands, ShardStands}
-use Rattle.tenant_shard.specs.Outcomes.{OwnStep, own_step, is_own}
+use Rattle.tenant_shard.specs.Outcomes.{OwnStep, own_step, named_in, is_own}
 use Rattle.tenant_shard.specs.Table.{section_at}
 use Rattle.tenant_shard.specs.Run.{ShardSteps, recorded, after}
 use Rattle.trace_collector.specs.Outcomes.{outcome_text}
@@ -76,7 +76,7 @@ each_stands settings pasts old shard step outcome kept left all was steps other 
 -- the step is the shard's next, and all shards stand for the own steps with it
 pub stands_after : (settings : SettingsData) (pasts : ℕ → List Own) (old new : List (List View)) (shard : ℕ) (step : Step) (before behind : List ℕ)
     → AllStand settings old pasts → (done : IsDone settings shard step old new before behind)
-    → (later : ℕ → List Own) × IsStepped settings pasts shard step (Some (outcome_text settings shard done.outcome)) later × AllStand settings new later
+    → (later : ℕ → List Own) × IsStepped settings pasts shard (named_in step) (own_step step) (Some (outcome_text settings shard done.outcome)) later × AllStand settings new later
 stands_after settings pasts old new shard step before behind all done =
     let lists = lists_of settings pasts shard in (
       λ tenant. (after step done.outcome (lists_of settings pasts shard)).pasts tenant,

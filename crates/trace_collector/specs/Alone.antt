@@ -1,15 +1,18 @@
 -- What each tenant is told in a replay, in which no other tenant occurs.
-use Rattle.std.specs.Prelude.{◌≡◌, ◌⊎◌, ◌≤◌, ℕ, List, [], ◌∷◌, ◌++◌, Option, Some, Result, Ok, Err, slice_get, codes}
+use Rattle.std.specs.Prelude.{◌≡◌, ◌⊎◌, ◌≤◌, ℕ, List, [], ◌∷◌, ◌++◌, Option, Some, Result, Ok, Err, slice_get, codes, replicate}
 use Rattle.otlp_trace.specs.Data.{RequestData}
 use Rattle.otlp_read.specs.Value.{IsValue}
 use Rattle.tail_settings.specs.Section.{SectionData}
 use Rattle.tail_settings.specs.Settings.{SettingsData, TenantData, settings_of}
-use Rattle.tenant_pipeline.specs.Arrivals.{arrivals_of}
-use Rattle.tenant_pipeline.specs.Own.{Own}
-use Rattle.tenant_pipeline.specs.Own as own
-use Rattle.tenant_pipeline.specs.Ready.{ready}
-use Rattle.tenant_pipeline.specs.State.{state, answer}
-use Rattle.replay_script.specs.Command.{CommandData, Post, Turn}
+use Rattle.otlp_parts.specs.Texts.{invalid_in}
+use Rattle.tenant_rules.specs.Own.{Own}
+use Rattle.tenant_rules.specs.Own as own
+use Rattle.tenant_rules.specs.State.{state}
+use Rattle.tenant_rules.specs.Ready.{ready}
+use Rattle.tenant_rules.specs.Answers.{answer}
+use Rattle.otlp_prepare.specs.Arrivals.{arrivals_of}
+use Rattle.tenant_pipeline.specs.Prepared.{invalid_arrival}
+use Rattle.replay_script.specs.Command.{CommandData, Post, Turn, Answer, Report, Drain}
 use Rattle.replay_script.specs.Answer.{reply_text}
 use Rattle.trace_collector.specs.declared.engine.ReplayFault.{ReplayFault}
 use Rattle.trace_collector.specs.declared.engine.ReplayFault.TheVariants.{Line}
@@ -23,10 +26,14 @@ abbrev pub IsStepAlone : List ℕ → SectionData → List Own → Own → List 
 IsStepAlone name section past step line later =
     (line ≡ told_text name (answer section past step)) × (later ≡ step ∷ past)
 
+-- a body's value as its tenant's rules see it: its valid spans, and of each other one only that it is one
+abbrev pub post_alone : ℕ → RequestData → Own
+post_alone moment v = own.Post moment (arrivals_of v ++ replicate (invalid_in v) invalid_arrival)
+
 -- a body's value is a step; a body without a value is answered 400 and is none
 abbrev pub IsPostAlone : List ℕ → SectionData → List Own → ℕ → List ℕ → List ℕ → List Own → Type 0
 IsPostAlone name section past moment body line later =
-    ((v : RequestData) × IsValue body v × IsStepAlone name section past (own.Post moment (arrivals_of v)) line later)
+    ((v : RequestData) × IsValue body v × IsStepAlone name section past (post_alone moment v) line later)
     ⊎ (HasNoValue body × (line ≡ reply_text name 400 bad_protobuf) × (later ≡ past))
 
 -- the tenant has something to do by this moment: else no turn goes to it
@@ -34,14 +41,18 @@ abbrev pub IsReadyBy : SectionData → List Own → ℕ → Type 0
 IsReadyBy section past moment =
     (least : ℕ) × (ready (state section past) ≡ Some least) × (least ≤ own.moment_of (own.Turn moment))
 
--- the line that a tenant alone is answered to its command, and its past afterwards. No line answers the commands that
--- the shards don't do yet
+-- the line that a tenant alone is answered to its command, and its past afterwards
 abbrev pub IsAnsweredAlone : List ℕ → SectionData → List Own → CommandData → List ℕ → List Own → Type 0
 IsAnsweredAlone name section past (Post named moment body) line later =
     IsPostAlone name section past moment body line later
 IsAnsweredAlone name section past (Turn shard moment) line later =
     IsReadyBy section past moment × IsStepAlone name section past (own.Turn moment) line later
-IsAnsweredAlone name section past command line later = ⊥
+IsAnsweredAlone name section past (Answer named moment ticket word answer) line later =
+    IsStepAlone name section past (own.Answer moment ticket word answer) line later
+IsAnsweredAlone name section past (Report named moment) line later =
+    IsStepAlone name section past (own.Report moment) line later
+IsAnsweredAlone name section past (Drain named moment) line later =
+    IsStepAlone name section past (own.Drain moment) line later
 
 -- the lines, without their line feeds, that a tenant alone is answered to its commands, one each
 abbrev pub AnswersAlone : List ℕ → SectionData → List Own → List CommandData → List (List ℕ) → Type 0

@@ -1,14 +1,18 @@
 -- The text that a script is told is one, what was written before a failure is a beginning of it, and each body that
 -- has a value is taken.
-use Rattle.std.specs.Prelude.{◌≡◌, ◌⊎◌, ℕ, List, [], ◌∷◌, ◌++◌, Option, Some}
+use Rattle.std.specs.Prelude.{◌≡◌, ◌⊎◌, ℕ, List, ◌∷◌, ◌++◌, Option, Some}
 use Rattle.otlp_trace.specs.Data.{RequestData}
 use Rattle.otlp_read.specs.Value.{IsValue}
 use Rattle.tail_settings.specs.Settings.{SettingsData}
-use Rattle.tenant_pipeline.specs.Arrivals.{arrivals_of}
-use Rattle.tenant_pipeline.specs.Own.{Own}
-use Rattle.tenant_pipeline.specs.Own as own
+use Rattle.tail_settings.specs.Section.{SectionData}
+use Rattle.tenant_rules.specs.declared.told.Reply.{Reply}
+use Rattle.tenant_rules.specs.declared.told.Told.TheVariants as told
+use Rattle.tenant_rules.specs.Own.{Own}
+use Rattle.tenant_rules.specs.Answers.{answer}
+use Rattle.tenant_shard.specs.Table.{section_at}
 use Rattle.replay_script.specs.Answer.{reply_text}
 use Rattle.trace_collector.specs.Outcomes.{name_at, bad_protobuf}
+use Rattle.trace_collector.specs.Alone.{post_alone}
 use Rattle.trace_collector.specs.Answered.{HasNoValue, IsPosted}
 use Rattle.trace_collector.specs.Script.{ScriptText, BeginsScriptText}
 
@@ -24,12 +28,15 @@ BeginningsBegin = (settings : SettingsData) (script begun text : List ℕ) (faul
     → BeginsScriptText settings script begun → ScriptText settings script text fault
     → (rest : List ℕ) × (text ≡ begun ++ rest)
 
--- a body that has a value is answered 200, and its spans are its tenant's next own step; one that has none is answered
--- 400. No body is refused: each is prepared for its own tenant's policies, and posted to its tenant's shard
+-- a body that has a value is its tenant's next own step, and is answered what the tenant's pipeline alone replies to
+-- it; one that has none is answered 400. No body is refused: each is prepared for its own tenant's policies, and posted
+-- to its tenant's shard
 abbrev pub ValuesAreTaken : Type 0
 ValuesAreTaken = (settings : SettingsData) (pasts later : ℕ → List Own) (tenant : ℕ) (name : List ℕ)
     (moment : ℕ) (body : List ℕ) (line : Option (List ℕ))
     → IsPosted settings pasts tenant name moment body line later
-    → ((v : RequestData) × IsValue body v × (line ≡ Some (reply_text (name_at settings tenant) 200 []))
-    × (later tenant ≡ own.Post moment (arrivals_of v) ∷ pasts tenant))
+    → ((section : SectionData) × (v : RequestData) × (section_at settings tenant ≡ Some section) × IsValue body v
+    × (reply : Reply) × (answer section (pasts tenant) (post_alone moment v) ≡ told.Reply reply)
+    × (line ≡ Some (reply_text (name_at settings tenant) reply.status reply.body))
+    × (later tenant ≡ post_alone moment v ∷ pasts tenant))
     ⊎ (HasNoValue body × (line ≡ Some (reply_text name 400 bad_protobuf)) × (later ≡ pasts))

@@ -3,11 +3,12 @@ use Rattle.std.specs.Prelude.{ℕ, List, [], codes, option_map, slice_get}
 use Rattle.std.specs.Option.{unwrap_or}
 use Rattle.otlp_trace.specs.Text.{refusal_text}
 use Rattle.tail_settings.specs.Settings.{SettingsData}
-use Rattle.tenant_pipeline.specs.declared.told.Told.{Told}
-use Rattle.tenant_pipeline.specs.declared.told.Told.TheVariants as told
+use Rattle.tenant_rules.specs.declared.told.Told.{Told}
+use Rattle.tenant_rules.specs.declared.told.Told.TheVariants as told
 use Rattle.tenant_shard.specs.declared.step.Outcome.{Outcome}
-use Rattle.tenant_shard.specs.declared.step.Outcome.TheVariants.{Reply, Job, Worked, Idle, Refused}
-use Rattle.replay_script.specs.Answer.{reply_text, job_text, worked_text, idle_text, refused_text}
+use Rattle.tenant_shard.specs.declared.step.Outcome.TheVariants.{Reply, Job, Worked, Idle, Done, Report, Refused}
+use Rattle.tenant_shard.specs.Outcomes.{unknown_ticket}
+use Rattle.replay_script.specs.Answer.{reply_text, job_text, worked_text, idle_text, done_text, report_text, refused_text}
 
 -- the name of a tenant number
 abbrev pub name_at : SettingsData → ℕ → List ℕ
@@ -19,6 +20,8 @@ outcome_text settings shard (Reply tenant reply) = reply_text (name_at settings 
 outcome_text settings shard (Job tenant ticket payload) = job_text (name_at settings tenant) ticket payload
 outcome_text settings shard (Worked tenant) = worked_text (name_at settings tenant)
 outcome_text settings shard Idle = idle_text shard
+outcome_text settings shard (Done tenant) = done_text (name_at settings tenant)
+outcome_text settings shard (Report tenant report) = report_text (name_at settings tenant) report
 outcome_text settings shard (Refused tenant number) = refused_text (name_at settings tenant) number
 
 -- the line of what a tenant of this name is told
@@ -26,6 +29,9 @@ abbrev pub told_text : List ℕ → Told → List ℕ
 told_text name (told.Reply reply) = reply_text name reply.status reply.body
 told_text name (told.Job ticket payload) = job_text name ticket payload
 told_text name told.Worked = worked_text name
+told_text name told.Done = done_text name
+told_text name (told.Report report) = report_text name report
+told_text name told.UnknownTicket = refused_text name unknown_ticket
 
 -- what a body without a value is answered: the text of a refusal with this message
 abbrev pub bad_protobuf : List ℕ

@@ -1,7 +1,7 @@
 -- The text that a script is told.
 use Rattle.std.specs.Prelude.{ℕ, List, [], Option}
 use Rattle.tail_settings.specs.Settings.{SettingsData}
-use Rattle.tenant_pipeline.specs.Own.{Own}
+use Rattle.tenant_rules.specs.Own.{Own}
 use Rattle.replay_script.specs.Line.{lines_of}
 use Rattle.replay_script.specs.Told.{Told, BeginsTold, ToldSoFar}
 use Rattle.trace_collector.specs.Answered.{IsAnswered}

@@ -1,7 +1,7 @@
 -- The own steps that a session's shards stand for.
 use Rattle.std.specs.Prelude.{◌≡◌, ℕ, List, ◌++◌, Option, Some, length, slice_get, slice_set}
 use Rattle.tail_settings.specs.Settings.{SettingsData, settings_view}
-use Rattle.tenant_pipeline.specs.Own.{Own}
+use Rattle.tenant_rules.specs.Own.{Own}
 use Rattle.tenant_shard.specs.View.{View}
 use Rattle.tenant_shard.specs.declared.step.Step.{Step}
 use Rattle.tenant_shard.specs.declared.step.Outcome.{Outcome}
@@ -20,10 +20,10 @@ pub record AllStand (settings : SettingsData) (shards : List (List View)) (pasts
 
 -- whatever own steps the shards stand for, the command is answered by them, and the shards stand for those afterwards
 pub record Answers (old : Shards) (command : CommandData) (line : Option (List ℕ)) (new : Shards) : Type 0 where
-  pub same : settings_view new.settings ≡ settings_view old.settings
-  pub answers : (pasts : ℕ → List Own) → AllStand (settings_view old.settings) old.shards.items pasts
-      → (later : ℕ → List Own) × IsAnswered (settings_view old.settings) pasts command line later
-      × AllStand (settings_view old.settings) new.shards.items later
+  pub same : settings_view new.settings.now ≡ settings_view old.settings.now
+  pub answers : (pasts : ℕ → List Own) → AllStand (settings_view old.settings.now) old.shards.items pasts
+      → (later : ℕ → List Own) × IsAnswered (settings_view old.settings.now) pasts command line later
+      × AllStand (settings_view old.settings.now) new.shards.items later
 
 -- a step of a shard was done, and its line appended
 pub record IsDone (settings : SettingsData) (shard : ℕ) (step : Step) (old new : List (List View))

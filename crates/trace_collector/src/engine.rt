@@ -11,6 +11,7 @@ use crate::shards::Shards;
 use replay_script::{ScriptFault, run_script};
 use std::alloc::{AllocError, Global};
 use std::io::{BufRead, Write};
+use std::thread::Threads;
 use tail_settings::{SettingsFault, load};
 use thiserror::Error;
 
@@ -20,8 +21,8 @@ pub enum ReplayFault {
     /// The settings' text means no settings.
     #[error("{0}")]
     Settings(SettingsFault),
-    /// That line says no command, one for a tenant or a shard that there isn't, or, as yet, one that is neither a post
-    /// nor a turn. Lines count from 1, those that are skipped among them.
+    /// That line says no command, or one for a tenant or a shard that there isn't. Lines count from 1, those that are
+    /// skipped among them.
     #[error("script fault at line {line}")]
     Script { line: u64 },
     /// The reader or the writer failed, or was called 2^62 times.
@@ -33,8 +34,10 @@ pub enum ReplayFault {
 }
 
 /// Does the commands of a script, one after another, under these settings, and writes what they are answered, each
-/// answer before it waits for more of the script.
-pub fn replay<R: BufRead, W: Write>(
+/// answer before it waits for more of the script. Back ends' answers, with the words that spread the next attempts, are
+/// the script's. A body's spans are noted in as many threads as the settings have `parts`, the caller's among them.
+pub fn replay<T: Threads + Sync, R: BufRead, W: Write>(
+    rt: &T,
     alloc: Global,
     settings: &str,
     reader: &mut R,
@@ -52,8 +55,8 @@ pub fn replay<R: BufRead, W: Write>(
         WritesSoFar settings.now script (R.remaining reader.new) (W.contents writer.old) (W.contents writer.new)) }
 {
     let settings = load(alloc, settings)?;
-    let mut shards = Shards::open(alloc, settings)?;
-    run_script(alloc, &mut shards, reader, writer)?;
+    let mut shards = Shards::open(alloc, &settings)?;
+    run_script(rt, alloc, &mut shards, reader, writer)?;
     Ok(())
 }
 

@@ -14,8 +14,8 @@ pub fn text_is_one()
     values_or_faults();
 }
 
-/// In a replay no body is refused: each is prepared for its own tenant's policies, so one that has a value is answered
-/// 200, and its spans are the tenant's next own step.
+/// In a replay no body is refused: each is prepared for its own tenant's policies, so one that has a value is the
+/// tenant's next own step, and the tenant's pipeline replies to it.
 pub fn values_are_taken()
     ensures { ValuesAreTaken }
 {}

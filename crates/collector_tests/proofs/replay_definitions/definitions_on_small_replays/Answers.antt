@@ -6,25 +6,23 @@ use Rattle.otlp_read.specs.Value.{value_of, IsValue}
 use Rattle.tail_settings.specs.Fault.{FaultData, not_toml, too_many}
 use Rattle.tail_settings.specs.Settings.{SettingsData, settings_of}
 use Rattle.tail_settings.proofs.OnLiterals.{texts_on_literals}
-use Rattle.tenant_pipeline_tests.specs.Examples.{body, value}
-use Rattle.tenant_pipeline.specs.Own.{Own}
-use Rattle.tenant_pipeline.specs.Own as own
-use Rattle.tenant_pipeline.specs.Prepared.{prepared_of}
+use Rattle.send_retry.specs.Class.{Http, Failed}
+use Rattle.tenant_rules.specs.Own.{Own}
+use Rattle.tenant_rules.specs.Own as own
+use Rattle.tenant_rules_tests.specs.Parts.{body}
 use Rattle.tenant_shard.specs.declared.step.Outcome.{Outcome}
-use Rattle.tenant_shard.specs.declared.step.Outcome.TheVariants.{Reply, Job, Idle}
-use Rattle.tenant_shard.specs.declared.step.Step.{Step}
-use Rattle.tenant_shard.specs.declared.step.Step.TheVariants as steps
+use Rattle.tenant_shard.specs.declared.step.Outcome.TheVariants as outcome
+use Rattle.tenant_shard.specs.Outcomes.{OwnStep, plain}
 use Rattle.tenant_shard.specs.Pick.{ready_after, ready_at}
 use Rattle.shard_agenda.specs.Pick.{NotAfter}
-use Rattle.tenant_shard.specs.Run.{after}
-use Rattle.tenant_pipeline.proofs.OnLiterals.{values_on_literals, pipelines_on_literals}
+use Rattle.tenant_rules_tests.proofs.OnLiterals.{values_on_literals, pipelines_on_literals}
 use Rattle.replay_script.proofs.OnLiterals.{script_on_literals, answers_on_literals}
-use Rattle.replay_script.specs.Command.{Post, Turn}
+use Rattle.replay_script.specs.Command.{Post, Turn, Answer, Report, Drain}
 use Rattle.replay_script.specs.Line.{lines_of}
-use Rattle.trace_collector.specs.Answered.{lists_of, HasNoValue, IsAnswered}
+use Rattle.trace_collector.specs.Answered.{lists_of, joined, posted, HasNoValue, IsAnswered}
 use Rattle.trace_collector.specs.Alone.{AnswersAlone}
 use Rattle.trace_collector.specs.Script.{no_steps, ScriptText, BeginsScriptText}
-use Rattle.collector_tests.specs.ReplayExamples.{at_default, one_tenant, hex, script, told, begun, faulty_script, document, no_document}
+use Rattle.collector_tests.specs.ReplayExamples.{value, at_default, one_tenant, counters, hex, script, told, begun, faulty_script, document, no_document}
 use Rattle.trace_collector.proofs.One.{told_one, script_answered_one, same_value}
 use Rattle.collector_tests.proofs.replay_definitions.definitions_on_small_replays.Goals as goal
 
@@ -47,6 +45,8 @@ returns-clause-lines c = record {
   job = refl;
   worked = refl;
   idle = refl;
+  done = refl;
+  report = refl;
   refused = refl;
   bad = refl;
 }
@@ -67,23 +67,23 @@ has_none exact v is = let same : false ≡ true = ap is_ok ((exact (0 ∷ 0 ∷ 
 
 -- ---- the steps
 
-abbrev the_post : Step
-the_post = steps.Post 0 (prepared_of 0 at_default (value 17 33))
+abbrev the_post : OwnStep
+the_post = posted 0 0 at_default (value 17 33)
 
 abbrev accepted : Outcome
-accepted = Reply 0 (record { status = 200; body = [] })
+accepted = outcome.Reply 0 (record { status = 200; body = [] })
 
-abbrev posted : ℕ → List Own
-posted = (after the_post accepted (lists_of one_tenant no_steps 0)).pasts
+abbrev after_post : ℕ → List Own
+after_post = joined (Some 0) the_post accepted (lists_of one_tenant no_steps 0)
 
 abbrev idled : ℕ → List Own
-idled = (after (steps.Turn 999) Idle (lists_of one_tenant posted 0)).pasts
+idled = joined None (plain (own.Turn 999)) outcome.Idle (lists_of one_tenant after_post 0)
 
 abbrev the_job : Outcome
-the_job = Job 0 1 (body 17 33)
+the_job = outcome.Job 0 1 (body 17 33)
 
 abbrev handed : ℕ → List Own
-handed = (after (steps.Turn 1000) the_job (lists_of one_tenant idled 0)).pasts
+handed = joined None (plain (own.Turn 1000)) the_job (lists_of one_tenant idled 0)
 
 some_same : (a b : ℕ) → Some a ≡ Some b → a ≡ b
 some_same a b e = ap (λ o. unwrap_or o a) e
@@ -99,18 +99,18 @@ none_either false past seen = refl
 no_other : (pasts : ℕ → List Own) (n : ℕ) → ready_at (lists_of one_tenant pasts 0) [] (suc n) ≡ None
 no_other pasts n = none_either (suc n % 1 == 0) (pasts (suc n)) None
 
-post_is_answered : Exact → IsAnswered one_tenant no_steps (Post (codes "a") 0 (body 17 33)) (Some (codes "reply a 200 -\n")) posted
+post_is_answered : Exact → IsAnswered one_tenant no_steps (Post (codes "a") 0 (body 17 33)) (Some (codes "reply a 200 -\n")) after_post
 unfolding pipelines_on_literals answers_on_literals
 post_is_answered exact = inl (at_default, value 17 33, refl, has_this_value exact, (accepted, refl, refl, refl))
 
-idle_before : (tenant moment : ℕ) → ready_at (lists_of one_tenant posted 0) [] tenant ≡ Some moment → 999 < moment
+idle_before : (tenant moment : ℕ) → ready_at (lists_of one_tenant after_post 0) [] tenant ≡ Some moment → 999 < moment
 unfolding pipelines_on_literals
 idle_before zero moment h = omega (arith, some_same 1000 moment h)
-idle_before (suc n) moment h = absurd (never moment (sym (no_other posted n) ∙ h))
+idle_before (suc n) moment h = absurd (never moment (sym (no_other after_post n) ∙ h))
 
-turn_is_idle : IsAnswered one_tenant posted (Turn 0 999) (Some (codes "idle 0\n")) idled
+turn_is_idle : IsAnswered one_tenant after_post (Turn 0 999) (Some (codes "idle 0\n")) idled
 unfolding answers_on_literals pipelines_on_literals
-turn_is_idle = (Idle, (None, idle_before, refl), refl, refl)
+turn_is_idle = (outcome.Idle, (None, idle_before, refl), refl, refl)
 
 first_ready : (tenant moment : ℕ) → ready_at (lists_of one_tenant idled 0) [] tenant ≡ Some moment → NotAfter 1000 0 moment tenant
 unfolding pipelines_on_literals
@@ -135,11 +135,27 @@ returns-clause-posts c =
     record {
       has_this_value = has_this_value exact;
       has_none = has_none exact;
-      taken = (posted, post_is_answered exact, refl);
+      taken = (after_post, post_is_answered exact, refl);
       not_taken = not_taken exact;
       no_tenant = (refl, refl);
       no_shard = (refl, refl);
     }
+
+-- ---- answers, reports and drains
+
+abbrev asked : Own → Outcome → ℕ → List Own
+asked step told = joined (Some 0) (plain step) told (lists_of one_tenant no_steps 0)
+
+pub returns-clause-asked : goal.returns-clause-asked
+unfolding pipelines_on_literals answers_on_literals
+returns-clause-asked c = record {
+  unknown_ticket = (asked (own.Answer 5 1 0 (Http 200 None [])) (outcome.Refused 0 21), (outcome.Refused 0 21, refl, refl, refl), refl);
+  counted = (asked (own.Report 5) (outcome.Report 0 counters), (outcome.Report 0 counters, refl, refl, refl), refl);
+  drained = (asked (own.Drain 5) (outcome.Done 0), (outcome.Done 0, refl, refl, refl), refl);
+  no_tenant_answers = (refl, refl);
+  no_tenant_reports = (refl, refl);
+  no_tenant_drains = (refl, refl);
+}
 
 -- ---- scripts
 
@@ -147,7 +163,7 @@ whole_text : Exact → ScriptText one_tenant script told None
 unfolding script_on_literals
 whole_text exact = (
   Some (codes "reply a 200 -\n"),
-  posted,
+  after_post,
   post_is_answered exact,
   (
     codes "idle 0\n" ++ job_line,
@@ -166,7 +182,7 @@ begins exact = (
   refl,
   (
     Some (codes "reply a 200 -\n"),
-    posted,
+    after_post,
     post_is_answered exact,
     (codes "idle 0\n", refl, (Some (codes "idle 0\n"), idled, turn_is_idle, ([], refl, (refl, refl)))),
   ),
@@ -182,9 +198,9 @@ second_faulty : ScriptText one_tenant faulty_script (codes "idle 0\n") (Some 2)
 unfolding script_on_literals answers_on_literals
 second_faulty = (
   Some (codes "idle 0\n"),
-  (after (steps.Turn 0) Idle (lists_of one_tenant no_steps 0)).pasts,
-  (Idle, (None, none_ready, refl), refl, refl),
-  ([], refl, (None, (after (steps.Turn 0) Idle (lists_of one_tenant no_steps 0)).pasts, (refl, refl), (refl, refl))),
+  joined None (plain (own.Turn 0)) outcome.Idle (lists_of one_tenant no_steps 0),
+  (outcome.Idle, (None, none_ready, refl), refl, refl),
+  ([], refl, (None, joined None (plain (own.Turn 0)) outcome.Idle (lists_of one_tenant no_steps 0), (refl, refl), (refl, refl))),
 )
 
 pub returns-clause-scripts : goal.returns-clause-scripts
@@ -209,17 +225,30 @@ returns-clause-own_parts c = record {
 
 alone : Exact → AnswersAlone (codes "a") at_default [] (Post (codes "a") 0 (body 17 33) ∷ Turn 0 1000 ∷ []) (codes "reply a 200 -" ∷ (codes "job a 1 " ++ hex) ∷ [])
 unfolding pipelines_on_literals answers_on_literals
-alone exact = (posted 0, inl (value 17 33, has_this_value exact, (refl, refl)), (own.Turn 1000 ∷ posted 0, ((1000, refl, omega arith), (refl, refl)), tt))
+alone exact = (after_post 0, inl (value 17 33, has_this_value exact, (refl, refl)), (own.Turn 1000 ∷ after_post 0, ((1000, refl, omega arith), (refl, refl)), tt))
 
 no_value : Exact → AnswersAlone (codes "a") at_default [] (Post (codes "a") 0 (0 ∷ 0 ∷ []) ∷ []) (codes "reply a 400 120c6261642070726f746f627566" ∷ [])
 unfolding pipelines_on_literals answers_on_literals
 no_value exact = ([], inr (has_none exact, refl, refl), tt)
 
+all_asked : AnswersAlone (codes "a") at_default [] (Answer (codes "a") 5 1 0 Failed ∷ Drain (codes "a") 6 ∷ Report (codes "a") 7 ∷ [])
+    (codes "refused a 21" ∷ codes "done a" ∷ (codes "report a " ++ counters) ∷ [])
+unfolding pipelines_on_literals answers_on_literals
+all_asked = (
+  own.Answer 5 1 0 Failed ∷ [],
+  (refl, refl),
+  (
+    own.Drain 6 ∷ own.Answer 5 1 0 Failed ∷ [],
+    (refl, refl),
+    (own.Report 7 ∷ own.Drain 6 ∷ own.Answer 5 1 0 Failed ∷ [], (refl, refl), tt),
+  ),
+)
+
 pub returns-clause-alone_parts : goal.returns-clause-alone_parts
 unfolding Exact script_on_literals
 returns-clause-alone_parts c =
     let exact = c.values_or_faults.ensures.exact in
-    record { commands = refl; lines = refl; alone = alone exact; no_value = no_value exact; a_line_less = λ h. h }
+    record { commands = refl; lines = refl; alone = alone exact; no_value = no_value exact; asked = all_asked; a_line_less = λ h. h }
 
 -- ---- replays
 

@@ -1,16 +1,17 @@
 use Rattle.std.proofs.Common.{◌≡◌, ℕ, zero, suc, ◌<◌, ◌≤◌, true, false, List, [], ◌∷◌, Option, Some, None, refl, sym, ap, arith, inl, inr}
 use Rattle.tail_settings.specs.Global.{GlobalData}
-use Rattle.tenant_pipeline_tests.specs.Examples.{body}
-use Rattle.tenant_pipeline.proofs.OnLiterals.{pipelines_on_literals}
+use Rattle.tenant_rules.specs.Own as own
+use Rattle.tenant_rules_tests.specs.Parts.{body}
 use Rattle.tenant_shard.specs.declared.step.Outcome.TheVariants.{Job, Idle}
 use Rattle.tenant_shard.specs.declared.step.Step.TheVariants.{Turn}
 use Rattle.tenant_shard.specs.Lists.{Lists, ShardStands}
 use Rattle.tenant_shard.specs.Table.{opened}
-use Rattle.tenant_shard.specs.Outcomes.{told_whom}
+use Rattle.tenant_shard.specs.Outcomes.{plain, told_whom}
 use Rattle.tenant_shard.specs.Pick.{ready_at}
 use Rattle.shard_agenda.specs.Pick.{NotAfter, IsPick}
 use Rattle.tenant_shard.specs.Run.{IsTurned, IsNext, after}
 use Rattle.tenant_shard_tests.specs.Examples.{view, fresh, table, both_at_1000, second_first, posted}
+use Rattle.tenant_rules_tests.proofs.OnLiterals.{pipelines_on_literals}
 use Rattle.tenant_shard_tests.proofs.Small.{some_same, never, above_1, not_before, later, is_refusal}
 use Rattle.tenant_shard_tests.proofs.definitions.definitions_of_runs.Goals as goal
 
@@ -20,9 +21,6 @@ pub returns-clause-kept : goal.returns-clause-kept
 returns-clause-kept c = record {
   of_a_member = λ s t. refl;
   of_no_member = λ s t. refl;
-  in_order = λ s t. ((omega arith, tt), (tt, tt));
-  greater_first = λ s t h. let less : 4 < 2 = h.0.0 in omega (arith, less);
-  twice = λ s t h. let less : 2 < 2 = h.0.0 in omega (arith, less);
 }
 
 opened_stands : (global : GlobalData) → ShardStands (opened (table global) (1 ∷ [])) (view 1 fresh ∷ [])
@@ -45,10 +43,10 @@ returns-clause-opened c = λ global. record {
 -- ---- whose a step is
 
 pub returns-clause-taken : goal.returns-clause-taken
-returns-clause-taken c = record { same = refl; other_kind = refl; one_more = refl; none = refl; turn = refl }
+returns-clause-taken c = record { same = refl; other_kind = refl; one_more = refl; none = refl; turn = refl; answer = refl }
 
 pub returns-clause-whose : goal.returns-clause-whose
-returns-clause-whose c = record { own_post = refl; other_post = refl; own_turn = refl; other_turn = refl; nobodys_turn = refl }
+returns-clause-whose c = record { own_post = refl; other_post = refl; own_report = refl; other_drain = refl; own_turn = refl; other_turn = refl; nobodys_turn = refl }
 
 -- ---- picks
 
@@ -101,14 +99,14 @@ job_at_2000 : IsNext posted (Turn 2000) (Job 1 1 (body 18 34))
 unfolding pipelines_on_literals
 job_at_2000 = (Some 1, (1500, refl, omega arith, posted_1_first), refl)
 
-not_idle : (picked : Option ℕ) → IsPick (ready_at posted []) 1500 picked → IsTurned posted 1500 picked Idle → ⊥
+not_idle : (picked : Option ℕ) → IsPick (ready_at posted []) 1500 picked → IsTurned posted (plain (own.Turn 1500)) picked Idle → ⊥
 unfolding pipelines_on_literals
 not_idle None pick turned = let less : 1500 < 1500 = pick 1 1500 refl in omega (arith, less)
 not_idle (Some zero) pick turned = never 0 (ap told_whom turned)
 not_idle (Some (suc zero)) pick turned = never 1 (ap told_whom turned)
 not_idle (Some (suc (suc n))) pick turned = never (suc (suc n)) (ap told_whom turned)
 
-not_0_first : (picked : Option ℕ) → IsPick (ready_at posted []) 2000 picked → IsTurned posted 2000 picked (Job 0 1 (body 17 33)) → ⊥
+not_0_first : (picked : Option ℕ) → IsPick (ready_at posted []) 2000 picked → IsTurned posted (plain (own.Turn 2000)) picked (Job 0 1 (body 17 33)) → ⊥
 unfolding pipelines_on_literals
 not_0_first None pick turned = never 0 (sym (ap told_whom turned))
 not_0_first (Some zero) pick turned = later pick.0 0 1500 1 (omega (arith, some_same 2000 pick.0 pick.1)) (pick.3 1 1500 refl)

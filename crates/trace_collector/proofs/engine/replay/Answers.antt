@@ -1,4 +1,4 @@
-use Rattle.std.proofs.Common.{ℕ, List, None, Ok, Err, ap}
+use Rattle.std.proofs.Common.{ℕ, List, None, Ok, Err, refl, ap}
 use Rattle.std.proofs.lemmas.Result.{err_from_is_err_and}
 use Rattle.tail_settings.specs.Settings.{settings_view}
 use Rattle.replay_script.specs.Line.{lines_of}
@@ -6,10 +6,11 @@ use Rattle.replay_script.specs.Told.{Ends}
 use Rattle.trace_collector.specs.Fault.{script_fault, settings_fault}
 use Rattle.trace_collector.specs.Script.{no_steps}
 use Rattle.trace_collector.specs.Standing.{Answers}
+use Rattle.trace_collector.specs.declared.engine.ReplayFault.TheVariants as faults
 use Rattle.trace_collector.specs.Replay.{IsReplay}
 use Rattle.trace_collector.specs.Alone.{TellsEachAlone}
 use Rattle.trace_collector.proofs.EachTold.{nothing_tells, ran_tells, fault_tells}
-use Rattle.trace_collector.proofs.Replayed.{Along, ran_replays, fault_replays, was_memory, memory_so_far, some_told, unread_replays, nothing_told, nothing_so_far}
+use Rattle.trace_collector.proofs.Replayed.{Along, ran_replays, fault_replays, was_memory, memory_so_far, some_told, unread_replays, nothing_begins, nothing_told, nothing_so_far}
 use Rattle.trace_collector.proofs.engine.replay.Goals as goal
 
 pub returns-in_err-settings-clause-told : goal.returns-in_err-settings-clause-told
@@ -20,6 +21,13 @@ returns-in_err-settings-clause-told g c =
     rw (p.1, p.2) (nothing_told _
     (λ (script written : List ℕ). IsReplay text script written (Err (settings_fault fault))) _
     (λ script. unread_replays text script fault c.in_err-settings.ensures.fault))
+
+pub returns-in_err-shards-clause-told : goal.returns-in_err-shards-clause-told
+returns-in_err-shards-clause-told g c =
+    let p = err_from_is_err_and c.from_residual-in_err-shards.result c.from_residual-in_err-shards.ensures.1 in
+    let text = c.args.settings.now in
+    rw (p.1, p.2) (nothing_told _ (λ (script written : List ℕ). IsReplay text script written (Err faults.OutOfMemory)) _
+    (λ script. (λ s means. nothing_begins s script, λ f fails. refl)))
 
 pub returns-in_err-settings-clause-so_far : goal.returns-in_err-settings-clause-so_far
 returns-in_err-settings-clause-so_far g c = λ memory. nothing_so_far _ _ c.args.settings.now

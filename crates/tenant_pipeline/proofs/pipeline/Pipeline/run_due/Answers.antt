@@ -1,27 +1,46 @@
-use Rattle.std.proofs.Common.{◌≡◌, ℕ, length, sym, ap, ◌∙◌, true}
-use Rattle.tenant_pipeline.specs.Timers.{IsFront, is_due, next_timer, one_run, ran}
-use Rattle.tenant_pipeline.specs.State.{State}
-use Rattle.tenant_pipeline.proofs.OneByOne.{IsFront-push, one_run_is, ran_next, ran-policies}
+use Rattle.std.proofs.Common.{arith, ◌≡◌, ◌≢◌, ℕ, ◌<◌, ◌≤◌, sym, ap, ◌∙◌, true, false, Option}
+use Rattle.span_batcher.specs.Timers.{is_due}
+use Rattle.tenant_rules.specs.State.{State}
+use Rattle.tenant_rules.specs.Timers.{IsFront, next_timer, one_run}
+use Rattle.tenant_rules.proofs.Fronts.{to_run, one_run_less, IsFront-push}
+use Rattle.tenant_pipeline.specs.StateIn.{part_in, state_in}
+use Rattle.tenant_pipeline.proofs.Timing.{all_ran}
+use Rattle.tenant_pipeline.proofs.Holding.{held_later}
 use Rattle.tenant_pipeline.proofs.pipeline.Pipeline.run_due.Goals as goal
-
-policies_stay : (moment : ℕ) (old new : State) → IsFront moment old new → new.policies ≡ old.policies
-policies_stay moment old new front = ap (λ (s : State). s.policies) front.1 ∙ ran-policies front.0 moment old
-
-pub returns-clause-policies : goal.returns-clause-policies
-returns-clause-policies c = policies_stay c.args.moment c.args.self.now c.loop-self.self c.loop-self.invariant.front
-
-pub returns-in_err-run_one-clause-policies : goal.returns-in_err-run_one-clause-policies
-returns-in_err-run_one-clause-policies c =
-    ap (λ (s : State). s.policies) c.in_err-run_one.ensures.refused ∙ policies_stay c.args.moment c.args.self.now c.loop-self.self c.loop-self.invariant.front
 
 pub loop-self-preserved : goal.loop-self-preserved
 loop-self-preserved c =
-    let s = c.loop-self.self in
-    let due : is_due (next_timer s) c.args.moment ≡ true = sym c.is_due.ensures ∙ c.loop-self-test.true in
-    let new : c.run_one.new.self ≡ one_run s = c.in_ok-run_one.ensures.ok in
-    let same : length (one_run s).rows ≡ length s.rows = (one_run_is s c.args.moment due).1 in
+    let s = state_in c.loop-self.self c.loop-self.stores in
+    let due : is_due (next_timer s) c.args.moment ≡ true = sym (c.is_due.ensures ∙ ap (λ (t : Option ℕ). is_due t c.args.moment) c.next_timer.ensures) ∙ c.loop-self-test.true in
     record {
-      front = IsFront-push c.args.moment c.args.self.now s c.run_one.new.self c.loop-self.invariant.front due new;
-      same_rows = ap (λ (t : State). length t.rows) new ∙ (same ∙ c.loop-self.invariant.same_rows);
-      rest = ap (ran (length c.args.self.now.rows) c.args.moment) new ∙ (ap (λ n. ran n c.args.moment (one_run s)) (sym c.loop-self.invariant.same_rows) ∙ (ran_next c.args.moment s due ∙ (ap (λ n. ran n c.args.moment s) c.loop-self.invariant.same_rows ∙ c.loop-self.invariant.rest)));
+      front = IsFront-push c.args.moment (state_in c.args.self.now c.args.stores.now) s (state_in c.run_one.new.self c.run_one.new.stores) c.loop-self.invariant.front due c.in_ok-run_one.ensures.ok;
+      held = c.in_ok-run_one.ensures.held;
+      clock = c.in_ok-run_one.ensures.clock c.loop-self.invariant.clock;
+      others = λ other ne. c.in_ok-run_one.ensures.others other (λ e. ne (e ∙ c.loop-self.invariant.tenant)) ∙ c.loop-self.invariant.others other ne;
+      tenant = c.in_ok-run_one.ensures.tenant ∙ c.loop-self.invariant.tenant;
+      section = c.in_ok-run_one.ensures.section ∙ c.loop-self.invariant.section;
+      swept = λ is. c.in_ok-run_one.ensures.swept (c.loop-self.invariant.swept is);
     }
+
+pub loop-self-smaller : goal.loop-self-smaller
+loop-self-smaller c =
+    let s = state_in c.loop-self.self c.loop-self.stores in
+    let due : is_due (next_timer s) c.args.moment ≡ true = sym (c.is_due.ensures ∙ ap (λ (t : Option ℕ). is_due t c.args.moment) c.next_timer.ensures) ∙ c.loop-self-test.true in
+    let less = one_run_less s c.args.moment due in
+    let same = ap to_run c.in_ok-run_one.ensures.ok in
+    omega (arith, less, same)
+
+pub returns-in_err-run_one-clause-others : goal.returns-in_err-run_one-clause-others
+returns-in_err-run_one-clause-others c = λ other ne. c.in_err-run_one.ensures.others other (λ e. ne (e ∙ c.loop-self.invariant.tenant)) ∙ c.loop-self.invariant.others other ne
+
+pub returns-clause-ok : goal.returns-clause-ok
+returns-clause-ok c =
+    let s = state_in c.loop-self.self c.loop-self.stores in
+    let quiet : is_due (next_timer s) c.args.moment ≡ false = sym (c.is_due.ensures ∙ ap (λ (t : Option ℕ). is_due t c.args.moment) c.next_timer.ensures) ∙ c.loop-self-test.false in
+    all_ran c.args.moment c.loop-self.invariant.front.0 (state_in c.args.self.now c.args.stores.now) s c.loop-self.invariant.front.1 quiet
+
+pub returns-clause-reached : goal.returns-clause-reached
+returns-clause-reached c =
+    let s = state_in c.loop-self.self c.loop-self.stores in
+    let quiet : is_due (next_timer s) c.args.moment ≡ false = sym (c.is_due.ensures ∙ ap (λ (t : Option ℕ). is_due t c.args.moment) c.next_timer.ensures) ∙ c.loop-self-test.false in
+    held_later c.loop-self.self (part_in c.loop-self.self c.loop-self.stores) c.args.moment c.loop-self.invariant.held c.loop-self.invariant.clock c.requires.fits quiet

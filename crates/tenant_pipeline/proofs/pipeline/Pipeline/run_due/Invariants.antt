@@ -1,14 +1,22 @@
-use Rattle.std.proofs.Common.{◌≡◌, ◌-◌, length}
-use Rattle.tenant_pipeline.specs.Timers.{IsFront, ran}
+use Rattle.std.proofs.Common.{◌≡◌, ◌≢◌, ◌≤◌, ℕ}
+use Rattle.tenant_stores.specs.Part.{part}
+use Rattle.tenant_rules.specs.Timers.{IsFront}
+use Rattle.tenant_rules.proofs.Fronts.{to_run}
+use Rattle.tenant_pipeline.specs.StateIn.{state_in}
+use Rattle.tenant_pipeline.specs.Held.{IsHeld, IsSwept}
 use Rattle.tenant_pipeline.proofs.pipeline.Pipeline.run_due.Given as goal
 
--- some first due timers have run, and those that are left give the whole
+-- some first due timers have run
 abbrev pub invariant-loop-self : goal.invariant-loop-self
 invariant-loop-self l = record {
-  front : IsFront l.moment l.fn.self l.self;
-  same_rows : length l.self.rows ≡ length l.fn.self.rows;
-  rest : ran (length l.fn.self.rows) l.moment l.self ≡ ran (length l.fn.self.rows) l.moment l.fn.self;
+  front : IsFront l.moment (state_in l.fn.self l.fn.stores) (state_in l.self l.stores);
+  held : IsHeld l.self l.stores;
+  clock : l.self.clock ≤ l.moment;
+  others : (other : ℕ) → other ≢ l.fn.self.tenant → part other l.stores ≡ part other l.fn.stores;
+  tenant : l.self.tenant ≡ l.fn.self.tenant;
+  section : l.self.section ≡ l.fn.self.section;
+  swept : IsSwept l.fn.self → IsSwept l.self;
 }
 
 abbrev pub decreases-loop-self : goal.decreases-loop-self
-decreases-loop-self l = length l.self.rows - l.self.decided
+decreases-loop-self l = to_run (state_in l.self l.stores)

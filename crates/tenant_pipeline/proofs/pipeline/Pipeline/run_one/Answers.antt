@@ -1,25 +1,58 @@
-use Rattle.std.proofs.Common.{rules, ◌<◌, length, sym, subst, arith}
+use Rattle.std.proofs.Common.{◌≡◌, ◌∙◌, ◌<◌, ◌≤◌, ◌-◌, ◌^◌, ℕ, [], length, map, sym, ap, refl, arith, Option, Some, true, false, Bool}
 use Rattle.std.proofs.lemmas.List.{length-map}
-use Rattle.tenant_pipeline.specs.State.{State}
-use Rattle.tenant_pipeline.specs.View.{row_view, row_views}
-use Rattle.tenant_pipeline.specs.Numbered.{AreAllNumbered}
-use Rattle.tenant_pipeline.proofs.OneByOne.{due_within}
+use Rattle.span_batcher.specs.State.{next_due}
+use Rattle.span_batcher.specs.Timers.{is_due}
+use Rattle.tail_policy.specs.declared.note.TraceNote.{TraceNote}
+use Rattle.tenant_stores.proofs.Rooms.{lengths_are}
+use Rattle.tenant_rules.specs.State.{State}
+use Rattle.tenant_rules.specs.Timers.{first_due, next_timer, is_batch, one_run, flushed, decide}
+use Rattle.tenant_pipeline.specs.StateIn.{counts_in, part_in, state_in, view_in, waiting_of}
+use Rattle.tenant_pipeline.proofs.Timing.{timer_by, decision_by, decision_there}
 use Rattle.tenant_pipeline.proofs.pipeline.Pipeline.run_one.Goals as goal
 
-pub invariant_of-self : goal.invariant_of-self
-invariant_of-self c =
-    let are : AreAllNumbered c.self.inside.last_number c.self.inside.backlog = c.self.invariant.1 in
-    (c.self.invariant.0, record { names = are.names; named = c.decide_at.ensures.named are.names c.self.inside.last_number are.named })
+pub flush-requires-clause-first : goal.flush-requires-clause-first
+flush-requires-clause-first c =
+    let s = state_in c.args.self.now c.args.stores.now in
+    sym (c.is_batch.ensures ∙ (ap (λ (o : Option ℕ). is_batch o c.first_due.result) c.next_due.ensures ∙ ap (λ (o : Option ℕ). is_batch (next_due s.pending) o) c.first_due.ensures)) ∙ c.if-is_batch.true
 
-pub invariant_of-self-then-self-len : goal.invariant_of-self-then-self-len
-invariant_of-self-then-self-len c =
-    let are : AreAllNumbered c.self.inside.last_number c.self.inside.backlog = c.self.invariant.1 in
-    (search rules, record { names = are.names; named = c.decide_at.ensures.named are.names c.self.inside.last_number are.named })
+pub flush-requires-clause-fits : goal.flush-requires-clause-fits
+flush-requires-clause-fits c = λ due is.
+    let s = state_in c.args.self.now c.args.stores.now in
+    let first = flush-requires-clause-first c in
+    let le = timer_by (next_due s.pending) (first_due s.waiting) c.args.moment due is first c.requires.due in
+    let fits = c.requires.fits in
+    omega (arith, le, fits)
 
--- a timer that is due has a row
-pub returns-else-self-len-clause-ok : goal.returns-else-self-len-clause-ok
-returns-else-self-len-clause-ok c =
-    let entries = c.self.inside.backlog.rows.entries in
-    let within : c.args.self.now.decided < length c.args.self.now.rows = due_within c.args.self.now c.args.moment c.requires.due in
-    let there : c.self.inside.decided < length (row_views entries) = subst (λ (s : State). s.decided < length s.rows) (sym c.self.view_is) within in
-    absurd (omega (arith, there, length-map entries row_view, c.len.ensures.len, c.if-self-len.false))
+pub decide-requires-clause-first : goal.decide-requires-clause-first
+decide-requires-clause-first c =
+    let s = state_in c.args.self.now c.args.stores.now in
+    sym (c.is_batch.ensures ∙ (ap (λ (o : Option ℕ). is_batch o c.first_due.result) c.next_due.ensures ∙ ap (λ (o : Option ℕ). is_batch (next_due s.pending) o) c.first_due.ensures)) ∙ c.if-is_batch.false
+
+pub decide-requires-clause-some : goal.decide-requires-clause-some
+decide-requires-clause-some c =
+    let own = c.args.self.now in
+    let s = state_in own c.args.stores.now in
+    let p = part_in own c.args.stores.now in
+    let some = decision_there (next_due s.pending) c.args.moment s.waiting (decide-requires-clause-first c) c.requires.due in
+    let size = length-map (view_in own p).waiting waiting_of in
+    let many = (lengths_are TraceNote (counts_in own) own.batcher.spans [] p c.requires.held.sound).0 in
+    omega (arith, some, size, many)
+
+pub decide-requires-clause-fits : goal.decide-requires-clause-fits
+decide-requires-clause-fits c = λ due is.
+    let s = state_in c.args.self.now c.args.stores.now in
+    let le = decision_by (next_due s.pending) (first_due s.waiting) c.args.moment due is (decide-requires-clause-first c) c.requires.due in
+    let fits = c.requires.fits in
+    omega (arith, le, fits)
+
+pub returns-then-is_batch-clause-clock : goal.returns-then-is_batch-clause-clock
+returns-then-is_batch-clause-clock c = λ le.
+    let s = state_in c.args.self.now c.args.stores.now in
+    let first = sym (c.is_batch.ensures ∙ (ap (λ (o : Option ℕ). is_batch o c.first_due.result) c.next_due.ensures ∙ ap (λ (o : Option ℕ). is_batch (next_due s.pending) o) c.first_due.ensures)) ∙ c.if-is_batch.true in
+    c.flush.ensures.clock c.args.moment le (λ due is. timer_by (next_due s.pending) (first_due s.waiting) c.args.moment due is first c.requires.due)
+
+pub returns-else-is_batch-clause-clock : goal.returns-else-is_batch-clause-clock
+returns-else-is_batch-clause-clock c = λ le.
+    let s = state_in c.args.self.now c.args.stores.now in
+    let first = sym (c.is_batch.ensures ∙ (ap (λ (o : Option ℕ). is_batch o c.first_due.result) c.next_due.ensures ∙ ap (λ (o : Option ℕ). is_batch (next_due s.pending) o) c.first_due.ensures)) ∙ c.if-is_batch.false in
+    c.decide.ensures.clock c.args.moment le (λ due is. decision_by (next_due s.pending) (first_due s.waiting) c.args.moment due is first c.requires.due)

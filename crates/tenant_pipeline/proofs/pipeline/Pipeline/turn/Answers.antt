@@ -1,34 +1,52 @@
-use Rattle.std.proofs.Common.{◌≡◌, ◌<◌, max, min, length, arith, ap, ◌∙◌}
-use Rattle.tenant_pipeline.specs.Own.{Turn, latest_moment}
-use Rattle.tenant_pipeline.specs.State.{State, handed}
-use Rattle.tenant_pipeline.specs.Timers.{ran}
-use Rattle.tenant_pipeline.specs.Machine.{set_to, handed_out, next, told}
-use Rattle.tenant_pipeline.specs.contracts.pipeline.Pipeline.{the_view}
-use Rattle.tenant_pipeline.proofs.OneByOne.{ran-wait}
-use Rattle.tenant_pipeline.proofs.Run.{answers_by}
+use Rattle.std.proofs.Common.{◌≡◌, ℕ, List, sym, subst, ap}
+use Rattle.tail_policy.specs.declared.note.TraceNote.{TraceNote as Note}
+use Rattle.tenant_stores.specs.Part.{part}
+use Rattle.tenant_stores.proofs.Held.{on_err}
+use Rattle.tenant_rules.specs.Own as step
+use Rattle.tenant_rules.specs.Own.{Own}
+use Rattle.tenant_rules.specs.Machine.{effective}
+use Rattle.tenant_rules.specs.Timers.{IsFront}
+use Rattle.tenant_pipeline.specs.declared.pipeline.Pipeline.{Pipeline}
+use Rattle.tenant_pipeline.specs.StateIn.{state_in}
+use Rattle.tenant_pipeline.specs.Steps.{GoesOnFrom}
+use Rattle.tenant_pipeline.proofs.Stepping.{Done, Finds, answers_of, ranges, turn_done}
+use Rattle.tenant_pipeline.proofs.Sweeping.{swept_same, swept_back}
 use Rattle.tenant_pipeline.proofs.pipeline.Pipeline.turn.Goals as goal
 
-pub returns-clause-goes_on : goal.returns-clause-goes_on
-unfolding next told
-returns-clause-goes_on c =
-    let old = c.args.self.now in
-    let e = max old.clock (min c.args.now latest_moment) in
-    let at : c.effective-moment.result ≡ e = c.effective-moment.ensures.at in
-    let run : c.run_due.new.self ≡ ran (length old.rows) e old = c.in_ok-run_due.ensures.ok ∙ ap (λ m. ran (length old.rows) m old) at in
-    let out : c.hand_out.new.self ≡ handed_out c.run_due.new.self = c.in_ok-told.ensures.ok in
-    let now = c.self.view_is ∙ (out ∙ ap handed_out run) in
-    let new = ap (λ m. set_to m (the_view c.self.inside)) at ∙ ap (set_to e) now in
-    let said = c.in_ok-told.ensures.told ∙ ap (λ (s : State). handed s.tickets s.queue) run in
-    record { said_is = said; new_is = new }
+pub returns-in_err-told-clause-refused : goal.returns-in_err-told-clause-refused
+returns-in_err-told-clause-refused c =
+    let old = state_in c.args.self.now c.args.stores.now in
+    let front = subst (λ (m : ℕ). IsFront m old (state_in c.run_due.new.self c.run_due.new.stores)) c.effective-moment.ensures.at c.run_due.ensures.front in
+    let kept = subst (λ (o : Pipeline). IsFront (effective (step.Turn c.args.now) old) old (state_in o c.run_due.new.stores)) (sym c.in_err-told.ensures.refused) front in
+    on_err c.from_residual-in_err-told.result kept
+
+done : (c : goal.After-self-1) → Done (step.Turn c.args.now) (state_in c.args.self.now c.args.stores.now) c.in_ok-told.told
+    (record c.hand_out.new.self { clock = c.effective-moment.result }) c.run_due.new.stores
+done c =
+    let s = state_in c.args.self.now c.args.stores.now in
+    let mid = c.run_due.new.self in
+    let finds : Finds (step.Turn c.args.now) c.effective-moment.result s mid c.run_due.new.stores = record {
+      at = c.effective-moment.ensures.at;
+      rows = (ranges c.args.self.now c.args.stores.now).rows;
+      counted = c.requires.held.counted;
+      within = c.requires.held.within;
+      ok = c.in_ok-run_due.ensures.ok;
+      reached = c.in_ok-run_due.ensures.reached;
+    } in
+    subst (λ told. Done (step.Turn c.args.now) s told (record c.hand_out.new.self { clock = c.effective-moment.result }) c.run_due.new.stores) (sym c.in_ok-told.ensures.told)
+    (turn_done c.args.now c.effective-moment.result s mid c.hand_out.new.self c.run_due.new.stores finds c.in_ok-told.ensures.ok)
 
 pub returns-clause-ok : goal.returns-clause-ok
-returns-clause-ok c =
-    let old = c.args.self.now in
-    let e = max old.clock (min c.args.now latest_moment) in
-    let at : c.effective-moment.result ≡ e = c.effective-moment.ensures.at in
-    let run : c.run_due.new.self ≡ ran (length old.rows) e old = c.in_ok-run_due.ensures.ok ∙ ap (λ m. ran (length old.rows) m old) at in
-    let out : c.hand_out.new.self ≡ handed_out c.run_due.new.self = c.in_ok-told.ensures.ok in
-    let wait : c.self.inside.wait ≡ old.wait = ap (λ (s : State). s.wait) (c.self.view_is ∙ (out ∙ ap handed_out run)) ∙ ran-wait (length old.rows) e old in
-    let some : 0 < old.wait = omega (arith, c.self.invariant.0.some_wait) in
-    let on = returns-clause-goes_on c in
-    answers_by (Turn c.args.now) old _ _ some on.said_is on.new_is
+returns-clause-ok c = answers_of (step.Turn c.args.now) (state_in c.args.self.now c.args.stores.now) _ c.in_ok-told.told (ranges c.args.self.now c.args.stores.now) (done c).goes_on
+
+pub returns-clause-goes_on : goal.returns-clause-goes_on
+returns-clause-goes_on c = (done c).goes_on
+
+pub returns-clause-held : goal.returns-clause-held
+returns-clause-held c = (done c).held
+
+pub returns-in_err-told-clause-swept : goal.returns-in_err-told-clause-swept
+returns-in_err-told-clause-swept c = λ is. swept_back c.run_due.new.self c.hand_out.new.self c.in_err-told.ensures.refused (c.in_ok-run_due.ensures.swept is)
+
+pub returns-clause-swept : goal.returns-clause-swept
+returns-clause-swept c = λ is. swept_same c.run_due.new.self c.hand_out.new.self (ap (λ (o : Pipeline). o.rows) c.in_ok-told.ensures.ok.same) (c.in_ok-run_due.ensures.swept is)

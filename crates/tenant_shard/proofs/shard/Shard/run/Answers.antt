@@ -1,11 +1,26 @@
-use Rattle.std.proofs.Common.{◌≡◌, ◌≤◌, length, take, arith}
+use Rattle.std.proofs.Common.{◌≡◌, ◌≤◌, length, take, refl, arith}
 use Rattle.std.proofs.lemmas.List.{take_more, take_all}
 use Rattle.tenant_shard.specs.Chain.{ShardDoes, ShardRuns}
+use Rattle.tenant_shard.proofs.Frame.{all_counted}
 use Rattle.tenant_shard.proofs.Wholes.{Chain-push, by_own_steps, stands_after, each_alone, stopped_at_start, stopped_at}
 use Rattle.tenant_shard.proofs.shard.Shard.run.Goals as goal
 
 pub returns-in_default-clause-stopped : goal.returns-in_default-clause-stopped
 returns-in_default-clause-stopped c = rw c.new.ensures.items (stopped_at_start c.args.steps.now c.args.self.now)
+
+pub returns-in_default-clause-counted : goal.returns-in_default-clause-counted
+returns-in_default-clause-counted c = rw (← c.self.view_is) (all_counted c.self.inside.stores c.self.inside.agenda c.self.inside.members.items c.self.invariant)
+
+pub loop-step-init : goal.loop-step-init
+loop-step-init c = record {
+  runs = rw c.in-Ok.ensures.items refl;
+  count = c.in-Ok.ensures.len;
+  room = omega (arith, c.in-Ok.ensures.capacity);
+  counted = rw (← c.self.view_is) (all_counted c.self.inside.stores c.self.inside.agenda c.self.inside.members.items c.self.invariant);
+}
+
+pub returns-clause-counted : goal.returns-clause-counted
+returns-clause-counted c = c.loop-step.invariant.counted
 
 pub returns-in_default-step-clause-stopped : goal.returns-in_default-step-clause-stopped
 returns-in_default-step-clause-stopped c =
@@ -21,6 +36,7 @@ loop-step-preserved c =
       runs = rw (take_more c.args.steps.now i c.step-item.result c.loop-step-test.true, ← c.step-item.is, c.in-Ok-push.ensures.items) runs;
       count = omega (arith, c.in-Ok-push.ensures.len, c.loop-step.invariant.count);
       room = omega (arith, c.in-Ok-push.ensures.capacity, c.loop-step.invariant.room);
+      counted = c.step.ensures.counted;
     }
 
 pub returns-clause-ok : goal.returns-clause-ok

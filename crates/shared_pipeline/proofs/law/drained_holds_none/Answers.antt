@@ -1,5 +1,0 @@
-use Rattle.shared_pipeline.proofs.AfterDrain.{drained_holds_none}
-use Rattle.shared_pipeline.proofs.law.drained_holds_none.Goals as goal
-
-pub returns : goal.returns
-returns c = drained_holds_none

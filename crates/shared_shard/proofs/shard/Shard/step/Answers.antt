@@ -1,5 +1,0 @@
-use Rattle.shared_shard.proofs.Frame.{all_counted}
-use Rattle.shared_shard.proofs.shard.Shard.step.Goals as goal
-
-pub returns-clause-counted : goal.returns-clause-counted
-returns-clause-counted c = all_counted c.step_in.new.stores c.step_in.new.agenda c.step_in.new.members.items c.step_in.ensures.whole

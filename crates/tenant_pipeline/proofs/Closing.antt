@@ -1,0 +1,302 @@
+-- The end of a tenant over the stores: its state afterwards, and what always holds of it.
+use Rattle.std.proofs.Common.{◌≡◌, ◌+◌, ◌++◌, ◌∙◌, ℕ, List, [], ◌∷◌, length, map, refl, sym, ap, subst, arith, length-append, Bool, true, false, cond, None}
+use Rattle.std.specs.Prelude.{option_to_list}
+use Rattle.std.specs.List.{AllByRecursion}
+use Rattle.std.proofs.lemmas.List.{map-append}
+use Rattle.drop_ledger.specs.declared.places.Place.TheVariants.{Undecided, Pending, Queued, QueueFull}
+use Rattle.send_queue.specs.Sender.{BatchData, ActiveData, is_full}
+use Rattle.tail_settings.specs.SendingQueue.{SendingQueueData}
+use Rattle.span_batcher.specs.State as batcher
+use Rattle.span_batcher.specs.Machine.{cuts, added, fired, drained}
+use Rattle.tail_policy.specs.declared.note.TraceNote.{TraceNote}
+use Rattle.tail_settings.specs.Policy.{PolicyData}
+use Rattle.tenant_stores.specs.declared.stores.Stores.{Stores}
+use Rattle.tenant_stores.specs.Part.{Part, part}
+use Rattle.tenant_stores.specs.Counts.{Counts, count, waiting_numbers}
+use Rattle.tenant_stores.specs.Sound.{IsSound}
+use Rattle.tenant_stores.specs.Shows.{AreAmong}
+use Rattle.tenant_stores.specs.View.{WaitingRow, View, view}
+use Rattle.tenant_stores.proofs.Lists.{count-append}
+use Rattle.tenant_rules.specs.Batching.{all_sent}
+use Rattle.tenant_rules.specs.Fate.{SettledData, WaitingData, are_sampled}
+use Rattle.tenant_rules.specs.Fronts.{decided_rows, AreInOrder, AllDueBy}
+use Rattle.tenant_rules.specs.Limits.{IsWithinLimits}
+use Rattle.tenant_rules.specs.Machine.{all_decided, closed, drain}
+use Rattle.tenant_rules.specs.State.{State}
+use Rattle.tenant_rules.specs.Sum.{IsCounted}
+use Rattle.tenant_rules.specs.Timers.{recount, queued, all_queued, settle, sample, decide_row}
+use Rattle.tenant_rules.proofs.Sums.{Kept, fixed_of, kept_of, counted_of, drain_kept}
+use Rattle.tenant_pipeline.specs.declared.pipeline.Pipeline.{Pipeline}
+use Rattle.tenant_pipeline.specs.Acts.{at, ActsAt}
+use Rattle.tenant_pipeline.specs.Drains.{SendsAll, all_settled, sampled_keys, closed_state}
+use Rattle.tenant_pipeline.specs.Held.{IsNoted, IsHeldAt}
+use Rattle.tenant_pipeline.specs.StateIn.{arrivals_of, counts_in, policies_of, settled_of, waiting_of, part_in, state_by, view_in, state_of}
+use Rattle.tenant_pipeline.proofs.Timing.{verdict_is}
+
+-- ---- batches that are sent change neither settings nor what is active
+
+pub record SendsAlike (s t : State) : Type 0 where
+  pub sending : t.sender.sending ≡ s.sender.sending
+  pub active : t.sender.active ≡ s.sender.active
+
+alike_same : (s : State) → SendsAlike s s
+alike_same s = record { sending = refl; active = refl }
+
+alike_next : (s t u : State) → SendsAlike s t → SendsAlike t u → SendsAlike s u
+alike_next s t u first then = record { sending = then.sending ∙ first.sending; active = then.active ∙ first.active }
+
+queued_alike : (b : BatchData) (s : State) → SendsAlike s (queued b s)
+queued_alike b s = by_test (is_full s.sender)
+  where
+    by_test : (full : Bool) → SendsAlike s (cond full (recount Pending QueueFull b.spans s) (recount Pending Queued b.spans (record s { sender = cond full s.sender (record s.sender { queue = s.sender.queue ++ b ∷ [] }) })))
+    by_test true = record { sending = refl; active = refl }
+    by_test false = record { sending = refl; active = refl }
+
+all_queued_alike : (bs : List BatchData) (s : State) → SendsAlike s (all_queued bs s)
+all_queued_alike [] s = alike_same s
+all_queued_alike (b ∷ bs) s = alike_next s (queued b s) (all_queued bs (queued b s)) (queued_alike b s) (all_queued_alike bs (queued b s))
+
+sample_alike : (moment : ℕ) (row : WaitingData) (b : Bool) (s : State) → SendsAlike s (sample moment row b s)
+sample_alike moment row true s =
+    let t : State = recount Undecided Pending (length row.spans) (record s { pending = added moment row.spans s.pending }) in
+    let a = all_queued_alike (all_sent (cuts s.pending.rules moment (s.pending.spans ++ row.spans))) t in
+    record { sending = a.sending; active = a.active }
+sample_alike moment row false s = record { sending = refl; active = refl }
+
+all_decided_alike : (moment : ℕ) (rows : List WaitingData) (s : State) → SendsAlike s (all_decided moment rows s)
+all_decided_alike moment [] s = alike_same s
+all_decided_alike moment (row ∷ rows) s =
+    let b = are_sampled s.section.tail_sampling.policies row.spans in
+    let one = sample_alike moment row b (settle moment row rows b s) in
+    let rest = all_decided_alike moment rows (decide_row moment row rows s) in
+    record { sending = rest.sending ∙ one.sending; active = rest.active ∙ one.active }
+
+closed_alike : (moment : ℕ) (s : State) → SendsAlike s (closed moment s)
+closed_alike moment s =
+    let t : State = record s { drained = true; pending = fired s.pending } in
+    let a = all_queued_alike (all_sent (option_to_list (drained moment s.pending.spans))) t in
+    record { sending = a.sending; active = a.active }
+
+-- ---- verdicts
+
+-- notes say what the spans say
+settled_are : (policies : List PolicyData) (rows : List (WaitingRow TraceNote)) → AllByRecursion (IsNoted policies) rows →
+    map settled_of (all_settled policies rows) ≡ decided_rows policies (map waiting_of rows)
+settled_are policies [] noted = refl
+settled_are policies (row ∷ rows) noted =
+    let verdict = verdict_is policies row.note (arrivals_of row.spans) noted.0 in
+    let rest = settled_are policies rows noted.1 in
+    λ i. record { trace = row.trace; sampled = verdict i } ∷ rest i
+
+decided_many : (policies : List PolicyData) (rows : List WaitingData) → length (decided_rows policies rows) ≡ length rows
+decided_many policies [] = refl
+decided_many policies (row ∷ rows) = let rest = decided_many policies rows in omega (arith, rest)
+
+-- ---- the end
+
+-- what is known of a state is known of it at another moment
+counted_at : (moment : ℕ) (s : State) → IsCounted (at moment s) → IsCounted s
+counted_at moment s c = record {
+  sound = c.sound;
+  undecided_is = c.undecided_is;
+  pending_is = c.pending_is;
+  queued_is = c.queued_is;
+  active_is = c.active_is;
+  within_budget = c.within_budget;
+}
+
+at_counted : (moment : ℕ) (s : State) → IsCounted s → IsCounted (at moment s)
+at_counted moment s c = record {
+  sound = c.sound;
+  undecided_is = c.undecided_is;
+  pending_is = c.pending_is;
+  queued_is = c.queued_is;
+  active_is = c.active_is;
+  within_budget = c.within_budget;
+}
+
+-- the state, what holds
+pub record Closed (moment : ℕ) (own new : Pipeline) (p q : Part TraceNote) : Type 0 where
+  pub state : ActsAt moment (drain moment) (state_of own p) (state_of new q)
+  pub held : IsHeldAt moment [] [] new q
+
+module _ (own mid : Pipeline) (p q : Part TraceNote) (moment : ℕ) (held : IsHeldAt moment [] [] own p) (first : own.drained ≡ false) (sends : SendsAll moment p own mid)
+    (shows : view (record (counts_in own) { decided = own.rows.opened }) [] q ≡ record {
+      settled = (view_in own p).settled ++ all_settled (policies_of own) (view_in own p).waiting;
+      waiting = [];
+      pending = [];
+    })
+    (sound : IsSound (record (counts_in own) { decided = own.rows.opened }) [] [] q) where
+  abbrev s : State
+  s = state_of own p
+
+  abbrev new : Pipeline
+  new = record own {
+    drained = true;
+    rows = record own.rows { decided = own.rows.opened };
+    batcher = fired mid.batcher;
+    sender = mid.sender;
+    ledger = mid.ledger;
+  }
+
+  settled_all : map settled_of ((view_in own p).settled ++ all_settled (policies_of own) (view_in own p).waiting) ≡ s.settled ++ decided_rows (policies_of own) s.waiting
+  settled_all =
+      map-append settled_of (view_in own p).settled (all_settled (policies_of own) (view_in own p).waiting)
+      ∙ ap (λ (rs : List SettledData). s.settled ++ rs) (settled_are (policies_of own) (view_in own p).waiting held.noted)
+
+  state_is : at moment (state_of new q) ≡ closed_state moment s mid
+  state_is =
+      ap (λ (v : View TraceNote). at moment (state_by new v)) shows
+      ∙ (λ i. record (at moment s) {
+        drained = true;
+        settled = settled_all i;
+        waiting = [];
+        pending = record { rules = sends.rules_are i; start = None; spans = [] };
+        sender = mid.sender;
+        ledger = mid.ledger;
+      })
+
+  drain_is : drain moment (at moment s) ≡ closed_state moment s mid
+  drain_is = ap (λ (b : Bool). cond b (at moment s) (closed moment (all_decided moment s.waiting (at moment s)))) first ∙ sends.rules
+
+  kept : Kept (fixed_of s) 0 0 (closed_state moment s mid)
+  kept = subst (λ (t : State). Kept (fixed_of s) 0 0 t) drain_is (drain_kept (fixed_of s) moment (at moment s) (kept_of (at moment s) (at_counted moment s held.counted)))
+
+  counted : IsCounted (state_of new q)
+  counted = counted_at moment (state_of new q)
+      (subst (λ (t : State). IsCounted t) (sym state_is) (counted_of (fixed_of s) (closed_state moment s mid) kept held.counted.sound.few))
+
+  within : IsWithinLimits (state_of new q)
+  within =
+      let alike : SendsAlike (at moment s) (closed_state moment s mid) = subst (λ (t : State). SendsAlike (at moment s) t) sends.rules
+      (alike_next (at moment s) (all_decided moment s.waiting (at moment s)) (closed moment (all_decided moment s.waiting (at moment s)))
+      (all_decided_alike moment s.waiting (at moment s)) (closed_alike moment (all_decided moment s.waiting (at moment s)))) in
+      let sending : mid.sender.sending ≡ own.sender.sending = alike.sending in
+      let active : mid.sender.active ≡ own.sender.active = alike.active in
+      let size = ap (λ (x : SendingQueueData). x.queue_size) sending in
+      let consumers = ap (λ (x : SendingQueueData). x.num_consumers) sending in
+      let fit = ap (λ (xs : List ActiveData). length xs) active in
+      let was = held.within in
+      let rows = was.rows_are in
+      let queue_size = was.queue_size_is in
+      let num_consumers = was.num_consumers_is in
+      let active_fit = was.active_fit in
+      let settled : (state_of new q).settled ≡ s.settled ++ decided_rows (policies_of own) s.waiting = ap (λ (t : State). t.settled) state_is in
+      let waiting : (state_of new q).waiting ≡ [] = ap (λ (t : State). t.waiting) state_is in
+      let n = ap length settled in
+      let m = ap length waiting in
+      let both = length-append s.settled (decided_rows (policies_of own) s.waiting) in
+      let many = decided_many (policies_of own) s.waiting in
+      record {
+        rows_are = omega (arith, n, m, both, many, rows);
+        queue_size_is = size ∙ queue_size;
+        num_consumers_is = consumers ∙ num_consumers;
+        queue_fits = let section = ap (λ (x : Pipeline). x.section.sending_queue.queue_size) sends.same in let room = sends.room in let fits = room.fits in omega (arith, section, fits);
+        active_fit = omega (arith, fit, active_fit);
+      }
+
+  pub closed_by : Closed moment own new p q
+  closed_by =
+      let waiting : (state_of new q).waiting ≡ [] = ap (λ (t : State). t.waiting) state_is in
+      let left : (view_in new q).waiting ≡ [] = ap (λ (v : View TraceNote). v.waiting) shows in
+      record {
+        state = state_is ∙ sym drain_is;
+        held = record {
+          sound = sound;
+          first_is = held.first_is;
+          noted = subst (λ (rs : List (WaitingRow TraceNote)). AllByRecursion (IsNoted (policies_of own)) rs) (sym left) tt;
+          rules_are = sends.rules_are ∙ held.rules_are;
+          order = subst (λ (rs : List WaitingData). AreInOrder moment rs) (sym waiting) tt;
+          due_by = subst (λ (rs : List WaitingData). AllDueBy (moment + own.section.tail_sampling.decision_wait) rs) (sym waiting) tt;
+          timer = tt;
+          counted = counted;
+          within = within;
+          few = let a = kept.accepted_is in let few = held.few in omega (arith, a, few);
+          clock_by = held.clock_by;
+          reached_fits = held.reached_fits;
+        };
+      }
+
+-- the rows have their verdicts in the stores, and all spans that were sent leave them
+module _ (own mid end : Pipeline) (b : batcher.State ℕ) (stores decided last : Stores TraceNote) (gone : List ℕ) (moment : ℕ)
+    (held : IsHeldAt moment [] [] own (part_in own stores)) (first : own.drained ≡ false) (sends : SendsAll moment (part_in own stores) own mid) (b_is : b ≡ fired mid.batcher)
+    (end_is : end ≡ record mid { batcher = b; rows = record mid.rows { decided = mid.rows.opened } })
+    (keys : (key : ℕ) → count key gone ≡ count key own.batcher.spans + count key (sampled_keys (policies_of own) (part_in own stores).rows (waiting_numbers (counts_in own))))
+    (settles : (pending : List ℕ) → IsSound (counts_in mid) pending [] (part_in mid stores)
+    → IsSound (counts_in end) (pending ++ sampled_keys (policies_of mid) (part_in mid stores).rows (waiting_numbers (counts_in mid))) [] (part_in end decided))
+    (shows : view (counts_in end) [] (part_in end decided) ≡ record {
+      settled = (view (counts_in mid) [] (part_in mid stores)).settled ++ all_settled (policies_of mid) (view (counts_in mid) [] (part_in mid stores)).waiting;
+      waiting = [];
+      pending = [];
+    })
+    (leaves : (n : Counts) (pending left held : List ℕ) → ((key : ℕ) → count key gone + count key left ≡ count key pending)
+    → IsSound n pending held (part end.tenant decided) → IsSound n left held (part end.tenant last))
+    (leaves_shown : (n : Counts) (pending left held shown : List ℕ) → ((key : ℕ) → count key gone + count key left ≡ count key pending)
+    → IsSound n pending held (part end.tenant decided) → AreAmong shown left → view n shown (part end.tenant last) ≡ view n shown (part end.tenant decided)) where
+  abbrev p : Part TraceNote
+  p = part_in own stores
+
+  abbrev whole : List ℕ
+  whole = own.batcher.spans ++ sampled_keys (policies_of own) p.rows (waiting_numbers (counts_in own))
+
+  abbrev counts : Counts
+  counts = record (counts_in own) { decided = own.rows.opened }
+
+  abbrev ended : Pipeline
+  ended = record own {
+    rows = record own.rows { decided = own.rows.opened };
+    batcher = fired mid.batcher;
+    sender = mid.sender;
+    ledger = mid.ledger;
+  }
+
+  ended_is : end ≡ ended
+  ended_is =
+      end_is
+      ∙ (ap (λ (s : batcher.State ℕ). let y : Pipeline = record mid { batcher = s; rows = record mid.rows { decided = mid.rows.opened } } in y) b_is
+      ∙ ap (λ (x : Pipeline). let y : Pipeline = record x { batcher = fired x.batcher; rows = record x.rows { decided = x.rows.opened } } in y) sends.same)
+
+  all_gone : (key : ℕ) → count key gone + count key [] ≡ count key whole
+  all_gone key =
+      let is = keys key in
+      let both = count-append key own.batcher.spans (sampled_keys (policies_of own) p.rows (waiting_numbers (counts_in own))) in
+      omega (arith, is, both)
+
+  decided_sound : IsSound counts whole [] (part own.tenant decided)
+  decided_sound =
+      let settles' : IsSound (counts_in own) own.batcher.spans [] p → IsSound (counts_in end) whole [] (part_in end decided) =
+      subst (λ (x : Pipeline). IsSound (counts_in x) own.batcher.spans [] (part_in x stores)
+      → IsSound (counts_in end) (own.batcher.spans ++ sampled_keys (policies_of x) (part_in x stores).rows (waiting_numbers (counts_in x))) [] (part_in end decided)) sends.same (settles own.batcher.spans) in
+      subst (λ (x : Pipeline). IsSound (counts_in x) whole [] (part_in x decided)) ended_is (settles' held.sound)
+
+  decided_shows : view counts [] (part own.tenant decided) ≡ record {
+    settled = (view_in own p).settled ++ all_settled (policies_of own) (view_in own p).waiting;
+    waiting = [];
+    pending = [];
+  }
+  decided_shows =
+      let shows' : view (counts_in end) [] (part_in end decided) ≡ record {
+        settled = (view_in own p).settled ++ all_settled (policies_of own) (view_in own p).waiting;
+        waiting = [];
+        pending = [];
+      } = subst (λ (x : Pipeline). view (counts_in end) [] (part_in end decided) ≡ record {
+        settled = (view (counts_in x) [] (part_in x stores)).settled ++ all_settled (policies_of x) (view (counts_in x) [] (part_in x stores)).waiting;
+        waiting = [];
+        pending = [];
+      }) sends.same shows in
+      subst (λ (x : Pipeline). view (counts_in x) [] (part_in x decided) ≡ record {
+        settled = (view_in own p).settled ++ all_settled (policies_of own) (view_in own p).waiting;
+        waiting = [];
+        pending = [];
+      }) ended_is shows'
+
+  pub ends : Closed moment own (record end { drained = true }) p (part_in end last)
+  ends =
+      let tenant : end.tenant ≡ own.tenant = ap (λ (x : Pipeline). x.tenant) ended_is in
+      let left : IsSound counts [] [] (part own.tenant last) =
+      subst (λ (t : ℕ). IsSound counts whole [] (part t decided) → IsSound counts [] [] (part t last)) tenant (leaves counts whole [] [] all_gone) decided_sound in
+      let same : view counts [] (part own.tenant last) ≡ view counts [] (part own.tenant decided) =
+      subst (λ (t : ℕ). IsSound counts whole [] (part t decided) → view counts [] (part t last) ≡ view counts [] (part t decided)) tenant
+      (λ sound. leaves_shown counts whole [] [] [] all_gone sound (λ key. omega arith)) decided_sound in
+      let closed = closed_by own mid p (part own.tenant last) moment held first sends (same ∙ decided_shows) left in
+      subst (λ (x : Pipeline). Closed moment own (record x { drained = true }) p (part_in x last)) (sym ended_is) closed

@@ -1,0 +1,185 @@
+-- Texts of origins that are held for the spans of a body.
+use Rattle.std.proofs.Common.{◌≡◌, ℕ, zero, suc, ◌+◌, ◌<◌, List, [], ◌∷◌, ◌++◌, length, map, drop, get_or, refl, sym, ap, subst, ◌∙◌, arith, append_assoc, append-nil, Option, Some, None}
+use Rattle.std.proofs.lemmas.List.{map-append, drop_more}
+use Rattle.std.specs.Prelude.{option_to_list}
+use Rattle.span_pool.specs.Stored.{Origin as OriginData, bytes_of}
+use Rattle.span_pool.specs.Keyed as keyed
+use Rattle.span_pool.specs.Keyed.{origin_at}
+use Rattle.span_pool.specs.declared.keys.TextKeys.{TextKeys}
+use Rattle.tail_policy.specs.declared.note.TraceNote.{TraceNote}
+use Rattle.tenant_stores.specs.Changes.{all_released, ReleasesAll}
+use Rattle.tenant_stores.specs.Counts.{Counts, count}
+use Rattle.tenant_stores.specs.Part.{Part}
+use Rattle.tenant_stores.specs.Shows.{AreAmong}
+use Rattle.tenant_stores.specs.Sound.{IsSound}
+use Rattle.tenant_stores.specs.Trail.{HoldsAll}
+use Rattle.tenant_stores.specs.View.{text_at, text_keys, view}
+use Rattle.tenant_stores.proofs.Held.{four_parts}
+use Rattle.tenant_stores.proofs.Lists.{count-append, count-self}
+use Rattle.tenant_stores.proofs.Parts.{all_released-append, part_by}
+use Rattle.otlp_prepare.specs.Arrivals.{origin_view}
+use Rattle.otlp_prepare.specs.Arrivals as prepared
+use Rattle.otlp_prepare.specs.declared.noted.Origin.{Origin}
+use Rattle.tenant_pipeline.specs.Posts.{all_text_keys, keys_at}
+
+-- ---- keys
+
+pub keys-push : (all : List TextKeys) (keys : TextKeys) → all_text_keys (all ++ keys ∷ []) ≡ text_keys keys ++ all_text_keys all
+keys-push [] keys = sym (append-nil (text_keys keys))
+keys-push (k ∷ all) keys =
+    ap (λ (ks : List ℕ). ks ++ text_keys k) (keys-push all keys) ∙ append_assoc (text_keys keys) (all_text_keys all) (text_keys k)
+
+-- with others behind them
+pub keys-push_held : (all : List TextKeys) (keys : TextKeys) (held : List ℕ) → all_text_keys (all ++ keys ∷ []) ++ held ≡ text_keys keys ++ (all_text_keys all ++ held)
+keys-push_held all keys held = ap (λ (ks : List ℕ). ks ++ held) (keys-push all keys) ∙ append_assoc (text_keys keys) (all_text_keys all) held
+
+-- an origin's keys are among those of all
+pub among_at : (all : List TextKeys) (index : ℕ) → index < length all → AreAmong (text_keys (keys_at all index)) (all_text_keys all)
+among_at [] index within = absurd (omega arith)
+among_at (keys ∷ all) zero within = λ key. let both = count-append key (all_text_keys all) (text_keys keys) in omega (arith, both)
+among_at (keys ∷ all) (suc index) within = λ key.
+    let both = count-append key (all_text_keys all) (text_keys keys) in
+    let rest = among_at all index (omega (arith, within)) key in
+    omega (arith, both, rest)
+
+-- ---- texts that stay
+
+one_stays : (f g : ℕ → Option (List ℕ)) (key : Option ℕ) → ((t : ℕ) → 0 < count t (option_to_list key) → g t ≡ f t) → keyed.text_at g key ≡ keyed.text_at f key
+one_stays f g None same = refl
+one_stays f g (Some key) same = same key (let self = count-self key [] in omega (arith, self))
+
+pub origin_stays : (f g : ℕ → Option (List ℕ)) (keys : TextKeys) → ((t : ℕ) → 0 < count t (text_keys keys) → g t ≡ f t) → origin_at g keys ≡ origin_at f keys
+origin_stays f g keys same =
+    let resource = one_stays f g keys.resource (λ t some. same t (let e = four_parts keys t in omega (arith, e, some))) in
+    let resource_url = one_stays f g keys.resource_schema_url (λ t some. same t (let e = four_parts keys t in omega (arith, e, some))) in
+    let scope = one_stays f g keys.scope (λ t some. same t (let e = four_parts keys t in omega (arith, e, some))) in
+    let scope_url = one_stays f g keys.scope_schema_url (λ t some. same t (let e = four_parts keys t in omega (arith, e, some))) in
+    λ i. record { resource = resource i; resource_schema_url = bytes_of (resource_url i); scope = scope i; scope_schema_url = bytes_of (scope_url i) }
+
+pub origins_stay : (f g : ℕ → Option (List ℕ)) (all : List TextKeys) → ((t : ℕ) → 0 < count t (all_text_keys all) → g t ≡ f t) → map (origin_at g) all ≡ map (origin_at f) all
+origins_stay f g [] same = refl
+origins_stay f g (keys ∷ all) same =
+    let one = origin_stays f g keys (λ t some. same t (let both = count-append t (all_text_keys all) (text_keys keys) in omega (arith, both, some))) in
+    let rest = origins_stay f g all (λ t some. same t (let both = count-append t (all_text_keys all) (text_keys keys) in omega (arith, both, some))) in
+    λ i. one i ∷ rest i
+
+-- ---- all origins are held, one after the other
+
+-- those of the first origins are held, at these keys
+pub record AreHeld (origins : List Origin) (index : ℕ) (all : List TextKeys) (start p : Part TraceNote) : Type 0 where
+  pub own : (n : Counts) (pending held : List ℕ) → IsSound n pending held start → HoldsAll (all_text_keys all) start p
+  pub sound : (n : Counts) (pending held : List ℕ) → IsSound n pending held start → IsSound n pending (all_text_keys all ++ held) p
+  pub texts : (n : Counts) (pending held : List ℕ) → IsSound n pending held start → map (origin_at (text_at p.texts)) all ++ map origin_view (drop index origins) ≡ map origin_view origins
+  pub shows : (n : Counts) (pending held shown : List ℕ) → IsSound n pending held start → AreAmong shown pending → view n shown p ≡ view n shown start
+
+module _ (origins : List Origin) (index : ℕ) (all : List TextKeys) (keys : TextKeys) (start p q : Part TraceNote) (front : AreHeld origins index all start p)
+    (own : (n : Counts) (pending held : List ℕ) → IsSound n pending held p → HoldsAll (text_keys keys) p q)
+    (is_sound : (n : Counts) (pending held : List ℕ) → IsSound n pending held p → IsSound n pending (text_keys keys ++ held) q)
+    (shows : (n : Counts) (pending held shown : List ℕ) → IsSound n pending held p → AreAmong shown pending → view n shown q ≡ view n shown p)
+    (stay : (n : Counts) (pending held : List ℕ) → IsSound n pending held p → (key : ℕ) → 0 < count key held → text_at q.texts key ≡ text_at p.texts key)
+  where
+    more_own : (n : Counts) (pending held : List ℕ) → IsSound n pending held start → HoldsAll (all_text_keys (all ++ keys ∷ [])) start q
+    more_own n pending held sound =
+        let first = front.own n pending held sound in
+        let last = own n pending (all_text_keys all ++ held) (front.sound n pending held sound) in
+        subst (λ (ks : List ℕ). HoldsAll ks start q) (sym (keys-push all keys)) (record {
+          spans = last.spans ∙ first.spans;
+          texts = all_released-append (text_keys keys) (all_text_keys all) q.texts ∙ (ap (all_released (all_text_keys all)) last.texts ∙ first.texts);
+          rows = last.rows ∙ first.rows;
+          seats = last.seats ∙ first.seats;
+        })
+
+    more_sound : (n : Counts) (pending held : List ℕ) → IsSound n pending held start → IsSound n pending (all_text_keys (all ++ keys ∷ []) ++ held) q
+    more_sound n pending held sound =
+        subst (λ (ks : List ℕ). IsSound n pending ks q) (sym (keys-push_held all keys held)) (is_sound n pending (all_text_keys all ++ held) (front.sound n pending held sound))
+
+    more_texts : (origin : Origin) → origin ≡ get_or origins index origin → index < length origins →
+        ((n : Counts) (pending held : List ℕ) → IsSound n pending held p → origin_at (text_at q.texts) keys ≡ origin_view origin) →
+        (n : Counts) (pending held : List ℕ) → IsSound n pending held start → map (origin_at (text_at q.texts)) (all ++ keys ∷ []) ++ map origin_view (drop (index + 1) origins) ≡ map origin_view origins
+    more_texts origin item within text n pending held sound =
+        let behind = all_text_keys all ++ held in
+        let reached = front.sound n pending held sound in
+        let stays = origins_stay (text_at p.texts) (text_at q.texts) all (λ t some. stay n pending behind reached t (let both = count-append t (all_text_keys all) held in omega (arith, both, some))) in
+        let here = text n pending behind reached in
+        let rest = map origin_view (drop (index + 1) origins) in
+        let next : drop index origins ≡ origin ∷ drop (index + 1) origins = drop_more origins index origin within ∙ ap (λ (x : Origin). x ∷ drop (index + 1) origins) (sym item) in
+        ap (λ (xs : List OriginData). xs ++ rest) (map-append (origin_at (text_at q.texts)) all (keys ∷ []))
+        ∙ (append_assoc (map (origin_at (text_at q.texts)) all) (origin_at (text_at q.texts) keys ∷ []) rest
+        ∙ (ap (λ (xs : List OriginData). xs ++ (origin_at (text_at q.texts) keys ∷ rest)) stays
+        ∙ (ap (λ (x : OriginData). map (origin_at (text_at p.texts)) all ++ (x ∷ rest)) here
+        ∙ (ap (λ (xs : List Origin). map (origin_at (text_at p.texts)) all ++ map origin_view xs) (sym next)
+        ∙ front.texts n pending held sound))))
+
+    pub one_more_held : (origin : Origin) (all' : List TextKeys) → origin ≡ get_or origins index origin → all' ≡ all ++ keys ∷ [] → index < length origins →
+        ((n : Counts) (pending held : List ℕ) → IsSound n pending held p → origin_at (text_at q.texts) keys ≡ origin_view origin) →
+        AreHeld origins (index + 1) all' start q
+    one_more_held origin all' item pushed within text = subst (λ (ks : List TextKeys). AreHeld origins (index + 1) ks start q) (sym pushed) (record {
+      own = more_own;
+      sound = more_sound;
+      texts = more_texts origin item within text;
+      shows = λ n pending held shown sound among.
+          shows n pending (all_text_keys all ++ held) shown (front.sound n pending held sound) among ∙ front.shows n pending held shown sound among;
+    })
+
+-- ---- and given back, the last first
+
+-- what these keys' texts were held for holds of the rest of them
+pub record AreLeft (all left : List TextKeys) (old p : Part TraceNote) : Type 0 where
+  pub own : (start : Part TraceNote) → HoldsAll (all_text_keys all) start old → HoldsAll (all_text_keys left) start p
+  pub sound : (n : Counts) (pending held : List ℕ) → IsSound n pending (all_text_keys all ++ held) old → IsSound n pending (all_text_keys left ++ held) p
+  pub shows : (n : Counts) (pending held shown : List ℕ) → IsSound n pending (all_text_keys all ++ held) old → AreAmong shown pending → view n shown p ≡ view n shown old
+
+pub all_left : (all : List TextKeys) (p : Part TraceNote) → AreLeft all all p p
+all_left all p = record { own = λ start holds. holds; sound = λ n pending held sound. sound; shows = λ n pending held shown sound among. refl }
+
+pub one_less_held : (all left front : List TextKeys) (keys : TextKeys) (old p q : Part TraceNote) → left ≡ front ++ keys ∷ [] → AreLeft all left old p →
+    ReleasesAll (text_keys keys) p q →
+    ((n : Counts) (pending held : List ℕ) → IsSound n pending (text_keys keys ++ held) p → IsSound n pending held q) →
+    ((n : Counts) (pending held shown : List ℕ) → IsSound n pending (text_keys keys ++ held) p → AreAmong shown pending → view n shown q ≡ view n shown p) →
+    AreLeft all front old q
+one_less_held all left front keys old p q popped was own is_sound shows =
+    let split : (held : List ℕ) → all_text_keys left ++ held ≡ text_keys keys ++ (all_text_keys front ++ held) = λ held.
+    ap (λ (ks : List TextKeys). all_text_keys ks ++ held) popped ∙ keys-push_held front keys held in
+    let reached : (n : Counts) (pending held : List ℕ) → IsSound n pending (all_text_keys all ++ held) old → IsSound n pending (text_keys keys ++ (all_text_keys front ++ held)) p = λ n pending held sound.
+    subst (λ (ks : List ℕ). IsSound n pending ks p) (split held) (was.sound n pending held sound) in
+    record {
+      own = λ start holds.
+          let before : HoldsAll (all_text_keys left) start p = was.own start holds in
+          let keys_are : all_text_keys left ≡ text_keys keys ++ all_text_keys front = ap all_text_keys popped ∙ keys-push front keys in
+          record {
+            spans = own.spans ∙ before.spans;
+            texts = ap (all_released (all_text_keys front)) own.texts
+                ∙ (sym (all_released-append (text_keys keys) (all_text_keys front) p.texts)
+                ∙ (ap (λ (ks : List ℕ). all_released ks p.texts) (sym keys_are) ∙ before.texts));
+            rows = own.rows ∙ before.rows;
+            seats = own.seats ∙ before.seats;
+          };
+      sound = λ n pending held sound. is_sound n pending (all_text_keys front ++ held) (reached n pending held sound);
+      shows = λ n pending held shown sound among. shows n pending (all_text_keys front ++ held) shown (reached n pending held sound) among ∙ was.shows n pending held shown sound among;
+    }
+
+-- nothing is held any more
+pub given_back : (p start : Part TraceNote) → HoldsAll [] start p → p ≡ start
+given_back p start holds =
+    part_by p.spans start.spans p.texts start.texts p.rows start.rows p.seats start.seats holds.spans holds.texts holds.rows holds.seats
+
+-- ---- the origin of a span
+
+-- texts at keys, where they are those of origins, at an index
+pub origin_is : (f : ℕ → Option (List ℕ)) (all : List TextKeys) (origins : List Origin) (index : ℕ) → map (origin_at f) all ≡ map origin_view origins → index < length origins →
+    origin_at f (keys_at all index) ≡ prepared.origin_at origins index
+origin_is f all [] index same within = absurd (omega arith)
+origin_is f [] (origin ∷ origins) index same within = cc
+origin_is f (keys ∷ all) (origin ∷ origins) zero same within = cc
+origin_is f (keys ∷ all) (origin ∷ origins) (suc index) same within =
+    let rest : map (origin_at f) all ≡ map origin_view origins = cc in
+    origin_is f all origins index rest (omega (arith, within))
+
+-- as many keys as origins
+pub as_many : (f : ℕ → Option (List ℕ)) (all : List TextKeys) (origins : List Origin) → map (origin_at f) all ≡ map origin_view origins → length all ≡ length origins
+as_many f [] [] same = refl
+as_many f [] (origin ∷ origins) same = cc
+as_many f (keys ∷ all) [] same = cc
+as_many f (keys ∷ all) (origin ∷ origins) same =
+    let rest : map (origin_at f) all ≡ map origin_view origins = cc in
+    ap suc (as_many f all origins rest)

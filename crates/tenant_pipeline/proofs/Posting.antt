@@ -1,0 +1,422 @@
+-- The spans of a post come over the stores, one after the other, and what holds of the tenant on the way.
+use Rattle.std.proofs.Common.{◌≡◌, ◌<◌, ◌≤◌, ◌+◌, ◌-◌, ◌++◌, ◌∙◌, ℕ, zero, suc, List, [], ◌∷◌, length, map, drop, get_or, refl, sym, ap, subst, arith, append-nil, Bool, true, false, cond}
+use Rattle.std.specs.List.{AllByRecursion}
+use Rattle.std.specs.Prelude.{nat_lt, ◌==◌, Result, Ok, Err, OnOk, OnErr}
+use Rattle.std.proofs.lemmas.List.{length-map, drop_more, drop_all}
+use Rattle.drop_ledger.specs.Ledger.{LedgerData, counted, left_out, most_counted}
+use Rattle.drop_ledger.specs.Ledger as ledger
+use Rattle.span_pool.specs.Keyed.{origin_at}
+use Rattle.span_pool.specs.Stored.{Origin as OriginData}
+use Rattle.span_pool.specs.declared.keys.TextKeys.{TextKeys}
+use Rattle.tail_policy.specs.declared.note.TraceNote.{TraceNote}
+use Rattle.tail_policy.specs.Note.{note_of}
+use Rattle.tail_settings.specs.Policy.{PolicyData}
+use Rattle.tail_settings.specs.Section.{section_view}
+use Rattle.tail_settings.specs.declared.section.Section.{Section}
+use Rattle.tenant_stores.specs.Counts.{Counts, count}
+use Rattle.tenant_stores.specs.Part.{Part}
+use Rattle.tenant_stores.specs.Shows.{AreAmong}
+use Rattle.tenant_stores.specs.Sound.{IsSound}
+use Rattle.tenant_stores.specs.Trail.{HoldsAll}
+use Rattle.tenant_stores.specs.View.{View, text_at, text_keys, view}
+use Rattle.tenant_stores.proofs.Lists.{count-append}
+use Rattle.tenant_rules.specs.Arrivals.{Arrival, is_valid, trace_of}
+use Rattle.tenant_rules.specs.Fronts.{AreInOrder, AllDueBy}
+use Rattle.tenant_rules.specs.Intake.{Verdict, exhausted, accepted, verdict_of}
+use Rattle.tenant_rules.specs.Limits.{IsWithinLimits}
+use Rattle.tenant_rules.specs.Machine.{come, all_come, posted}
+use Rattle.tenant_rules.specs.State.{State}
+use Rattle.tenant_rules.specs.Sum.{IsCounted}
+use Rattle.otlp_prepare.specs.Arrivals.{arrival_with, arrivals_in, origin_view}
+use Rattle.otlp_prepare.specs.Arrivals as prepared
+use Rattle.otlp_prepare.specs.Prepared.{IsReady, AreReady}
+use Rattle.otlp_prepare.specs.declared.noted.NotedSpan.{NotedSpan}
+use Rattle.otlp_prepare.specs.declared.noted.Origin.{Origin}
+use Rattle.tenant_pipeline.specs.declared.journal.Journal.{Journal}
+use Rattle.tenant_pipeline.specs.declared.pipeline.Pipeline.{Pipeline}
+use Rattle.tenant_pipeline.specs.Acts.{IsPosted}
+use Rattle.tenant_pipeline.specs.Held.{IsNoted, IsHeldAt}
+use Rattle.tenant_pipeline.specs.Posts.{all_text_keys, arrival_at, IsPosting, IsWritten, IsComing, Came, IsSameTenant, keys_at, arrivals_at, IsReadyAt, AreComing, IsTaken, verdict_after}
+use Rattle.tenant_pipeline.specs.StateIn.{arrival_of, counts_in, policies_of, state_by, state_of, view_in}
+use Rattle.tenant_pipeline.proofs.Origins.{among_at, origin_is, as_many}
+use Rattle.tenant_pipeline.proofs.Taking.{all_take, verdict_shifts, none_taken}
+
+-- ---- what always holds, where a part shows the same
+
+-- so many rows have left the table
+abbrev pub swept_to : ℕ → Pipeline → Pipeline
+swept_to k own = record own { rows = record own.rows { swept = k } }
+
+pub held_over : (moment k : ℕ) (gone gone' held held' : List ℕ) (own : Pipeline) (p q : Part TraceNote) → IsHeldAt moment gone held own p →
+    IsSound (counts_in (swept_to k own)) (gone' ++ own.batcher.spans) held' q → view_in (swept_to k own) q ≡ view_in own p → IsHeldAt moment gone' held' (swept_to k own) q
+held_over moment k gone gone' held held' own p q holds sound shows =
+    let state : state_of (swept_to k own) q ≡ state_of own p = ap (state_by own) shows in
+    record {
+      sound = sound;
+      first_is = holds.first_is;
+      noted = subst (λ (v : View TraceNote). AllByRecursion (IsNoted (policies_of own)) v.waiting) (sym shows) holds.noted;
+      rules_are = holds.rules_are;
+      order = subst (λ (s : State). AreInOrder moment s.waiting) (sym state) holds.order;
+      due_by = subst (λ (s : State). AllDueBy (moment + own.section.tail_sampling.decision_wait) s.waiting) (sym state) holds.due_by;
+      timer = holds.timer;
+      counted = subst (λ (s : State). IsCounted s) (sym state) holds.counted;
+      within = subst (λ (s : State). IsWithinLimits s) (sym state) holds.within;
+      few = holds.few;
+      clock_by = holds.clock_by;
+      reached_fits = holds.reached_fits;
+    }
+
+-- ---- what is left out is counted
+
+pub left_out_holds : (moment invalid over : ℕ) (gone held : List ℕ) (own : Pipeline) (p : Part TraceNote) → IsHeldAt moment gone held own p → counted own.ledger + (invalid + over) ≤ most_counted →
+    IsHeldAt moment gone held (record own { ledger = left_out invalid over own.ledger }) p
+left_out_holds moment invalid over gone held own p holds fits =
+    let c = holds.counted in
+    let w = holds.within in
+    record {
+      sound = holds.sound;
+      first_is = holds.first_is;
+      noted = holds.noted;
+      rules_are = holds.rules_are;
+      order = holds.order;
+      due_by = holds.due_by;
+      timer = holds.timer;
+      counted = record {
+        sound = record { each_once = c.sound.each_once; few = omega (arith, fits) };
+        undecided_is = c.undecided_is;
+        pending_is = c.pending_is;
+        queued_is = c.queued_is;
+        active_is = c.active_is;
+        within_budget = c.within_budget;
+      };
+      within = record { rows_are = w.rows_are; queue_size_is = w.queue_size_is; num_consumers_is = w.num_consumers_is; queue_fits = w.queue_fits; active_fit = w.active_fit };
+      few = holds.few;
+      clock_by = holds.clock_by;
+      reached_fits = holds.reached_fits;
+    }
+
+left_out_posting : (moment invalid over : ℕ) (journal : Journal) (held : List ℕ) (own : Pipeline) (p : Part TraceNote) → IsPosting moment journal held own p → counted own.ledger + (invalid + over) ≤ most_counted →
+    IsPosting moment journal held (record own { ledger = left_out invalid over own.ledger }) p
+left_out_posting moment invalid over journal held own p posting fits = record {
+  holds = left_out_holds moment invalid over journal.undo.gone.items held own p posting.holds fits;
+  quiet = posting.quiet;
+  offers = posting.offers;
+}
+
+left_out_written : (invalid over : ℕ) (journal : Journal) (start own : Pipeline) (first p : Part TraceNote) → IsWritten journal start own first p → IsWritten journal start (record own { ledger = left_out invalid over own.ledger }) first p
+left_out_written invalid over journal start own first p written =
+    let undo = written.undo in
+    record {
+      trail = written.trail;
+      undo = record { rows = undo.rows; ledger = undo.ledger; batcher = undo.batcher; sender = undo.sender; offers = undo.offers; same = undo.same };
+    }
+
+-- a post of so many spans, of which some were valid and some of these taken, with what it leaves out
+pub record Posted (moment all some taken : ℕ) (journal : Journal) (held : List ℕ) (own own' : Pipeline) (p : Part TraceNote) (s : State) : Type 0 where
+  pub state : state_of own' p ≡ posted (verdict_of all some 0 taken) s (state_of own p)
+  pub posting : IsPosting moment journal held own' p
+  pub written : (start : Pipeline) (first : Part TraceNote) → IsWritten journal start own first p → IsWritten journal start own' first p
+  pub same : IsSameTenant own own'
+
+module _ (moment all some taken : ℕ) (journal : Journal) (held : List ℕ) (own own' : Pipeline) (p : Part TraceNote) (s : State)
+    (posting : IsPosting moment journal held own p) (none : taken ≡ 0 → state_of own p ≡ s) (most : some ≤ all) (few : taken ≤ some)
+    (fits : counted own.ledger + ((all - some) + (some - taken)) ≤ most_counted)
+  where
+    left : (invalid over : ℕ) → invalid + over ≤ (all - some) + (some - taken) → own' ≡ record own { ledger = left_out invalid over own.ledger } →
+        (state_of own' p ≡ record (state_of own p) { ledger = left_out invalid over own.ledger }) × IsPosting moment journal held own' p
+        × ((start : Pipeline) (first : Part TraceNote) → IsWritten journal start own first p → IsWritten journal start own' first p) × IsSameTenant own own'
+    left invalid over less is = (
+      ap (λ (o : Pipeline). state_of o p) is,
+      subst (λ (o : Pipeline). IsPosting moment journal held o p) (sym is) (left_out_posting moment invalid over journal held own p posting (omega (arith, fits, less))),
+      λ start first written. subst (λ (o : Pipeline). IsWritten journal start o first p) (sym is) (left_out_written invalid over journal start own first p written),
+      record {
+        tenant = ap (λ (o : Pipeline). o.tenant) is;
+        section = ap (λ (o : Pipeline). o.section) is;
+        clock = ap (λ (o : Pipeline). o.clock) is;
+        drained = ap (λ (o : Pipeline). o.drained) is;
+      },
+    )
+
+    abbrev Whole : Verdict → Type 0
+    Whole v = (state_of own' p ≡ posted v s (state_of own p)) × IsPosting moment journal held own' p
+        × ((start : Pipeline) (first : Part TraceNote) → IsWritten journal start own first p → IsWritten journal start own' first p) × IsSameTenant own own'
+
+    by_tests : (a b : Bool) → nat_lt 0 taken ≡ a → IsPosted (cond a (accepted (all - some) (0 + some - taken)) (cond b (accepted (all - some) 0) exhausted)) own own' →
+        Whole (cond a (accepted (all - some) (0 + some - taken)) (cond b (accepted (all - some) 0) exhausted))
+    by_tests true b is post = left (all - some) (0 + some - taken) (omega arith) post
+    by_tests false true is post = left (all - some) 0 (omega arith) post
+    by_tests false false is post = (
+      ap (λ (o : Pipeline). state_of o p) post ∙ none (none_taken taken is),
+      subst (λ (o : Pipeline). IsPosting moment journal held o p) (sym post) posting,
+      λ start first written. subst (λ (o : Pipeline). IsWritten journal start o first p) (sym post) written,
+      record {
+        tenant = ap (λ (o : Pipeline). o.tenant) post;
+        section = ap (λ (o : Pipeline). o.section) post;
+        clock = ap (λ (o : Pipeline). o.clock) post;
+        drained = ap (λ (o : Pipeline). o.drained) post;
+      },
+    )
+
+    pub post_is : IsPosted (verdict_of all some 0 taken) own own' → Posted moment all some taken journal held own own' p s
+    post_is post =
+        let whole = by_tests (nat_lt 0 taken) (some == 0) refl post in
+        record { state = whole.0; posting = whole.1; written = whole.2; same = whole.3 }
+
+-- ---- one span after the other
+
+pub same_tenant : (one two three : Pipeline) → IsSameTenant one two → IsSameTenant two three → IsSameTenant one three
+same_tenant one two three first last = record {
+  tenant = last.tenant ∙ first.tenant;
+  section = last.section ∙ first.section;
+  clock = last.clock ∙ first.clock;
+  drained = last.drained ∙ first.drained;
+}
+
+pub itself : (own : Pipeline) → IsSameTenant own own
+itself own = record { tenant = refl; section = refl; clock = refl; drained = refl }
+
+-- so many of the spans have come
+pub record Placing (moment : ℕ) (keys : List TextKeys) (spans : List NotedSpan) (index : ℕ) (journal0 journal : Journal) (own0 own : Pipeline) (p0 p : Part TraceNote) : Type 0 where
+  pub rules : all_come moment (arrivals_at p0 keys (drop index spans)) (state_of own p) ≡ all_come moment (arrivals_at p0 keys spans) (state_of own0 p0)
+  pub posting : IsPosting moment journal (all_text_keys keys) own p
+  pub texts : (ks : TextKeys) → AreAmong (text_keys ks) (all_text_keys keys) → origin_at (text_at p.texts) ks ≡ origin_at (text_at p0.texts) ks
+  pub counted_by : counted own.ledger ≤ counted own0.ledger + index
+  pub written : (start : Pipeline) (first : Part TraceNote) → IsWritten journal0 start own0 first p0 → IsWritten journal start own first p
+  pub same : IsSameTenant own0 own
+
+pub none_placed : (moment : ℕ) (keys : List TextKeys) (spans : List NotedSpan) (journal : Journal) (own : Pipeline) (p : Part TraceNote) → IsPosting moment journal (all_text_keys keys) own p →
+    Placing moment keys spans 0 journal journal own own p p
+none_placed moment keys spans journal own p posting = record {
+  rules = refl;
+  posting = posting;
+  texts = λ ks among. refl;
+  counted_by = omega arith;
+  written = λ start first written. written;
+  same = itself own;
+}
+
+nth_of : (P : NotedSpan → Type 0) (xs : List NotedSpan) (i : ℕ) (d : NotedSpan) → AllByRecursion P xs → i < length xs → P (get_or xs i d)
+nth_of P [] i d all within = absurd (omega arith)
+nth_of P (x ∷ xs) zero d all within = all.0
+nth_of P (x ∷ xs) (suc i) d all within = nth_of P xs i d all.1 (omega (arith, within))
+
+-- where each span is ready, one of them is
+pub ready_at : (keys : List TextKeys) (own : Pipeline) (p : Part TraceNote) (spans : List NotedSpan) (index : ℕ) (d : NotedSpan) → AreComing keys spans own p → index < length spans → IsReadyAt keys own p (get_or spans index d)
+ready_at keys own p spans index d ready within = nth_of (IsReadyAt keys own p) spans index d ready within
+
+module _ (moment : ℕ) (keys : List TextKeys) (spans : List NotedSpan) (index : ℕ) (journal0 journal : Journal) (own0 own : Pipeline) (p0 p : Part TraceNote)
+    (now : Placing moment keys spans index journal0 journal own0 own p0 p) (ready : AreComing keys spans own0 p0) (within : index < length spans) (span : NotedSpan) (item : span ≡ get_or spans index span)
+  where
+    abbrev ks : TextKeys
+    ks = keys_at keys span.origin
+
+    is_ready : IsReadyAt keys own0 p0 span
+    is_ready = subst (λ (x : NotedSpan). IsReadyAt keys own0 p0 x) (sym item) (ready_at keys own0 p0 spans index span ready within)
+
+    arrival_same : arrival_at p ks span.text ≡ arrival_at p0 ks span.text
+    arrival_same = ap (λ (o : OriginData). arrival_of (record { origin = o; text = span.text })) (now.texts ks (among_at keys span.origin is_ready.within))
+
+    pub is_coming : IsComing moment journal ks span (all_text_keys keys) own p
+    is_coming =
+        let policies : policies_of own ≡ policies_of own0 = ap (λ (x : Section). (section_view x).tail_sampling.policies) now.same.section in
+        record {
+          posting = now.posting;
+          among = among_at keys span.origin is_ready.within;
+          note = is_ready.note ∙ (ap (λ (ps : List PolicyData). note_of ps (arrival_at p0 ks span.text).facts) (sym policies) ∙ ap (λ (a : Arrival). note_of (policies_of own) a.facts) (sym arrival_same));
+          trace = is_ready.trace ∙ ap trace_of (sym arrival_same);
+        }
+
+    pub one_placed : (journal' : Journal) (own' : Pipeline) (p' : Part TraceNote) → Came (come moment (arrival_at p ks span.text)) moment journal journal' own own' p p' →
+        ((start : Pipeline) (first : Part TraceNote) → IsWritten journal start own first p → IsWritten journal' start own' first p') → IsSameTenant own own' →
+        Placing moment keys spans (index + 1) journal0 journal' own0 own' p0 p'
+    one_placed journal' own' p' came written same =
+        let rest = drop (index + 1) spans in
+        let next : drop index spans ≡ span ∷ rest = drop_more spans index span within ∙ ap (λ (x : NotedSpan). x ∷ rest) (sym item) in
+        let made : state_of own' p' ≡ come moment (arrival_at p0 ks span.text) (state_of own p) = came.rules ∙ ap (λ (a : Arrival). come moment a (state_of own p)) arrival_same in
+        record {
+          rules = ap (all_come moment (arrivals_at p0 keys rest)) made
+              ∙ (ap (λ (xs : List NotedSpan). all_come moment (arrivals_at p0 keys xs) (state_of own p)) (sym next) ∙ now.rules);
+          posting = came.posting (all_text_keys keys) now.posting;
+          texts = λ k among. came.texts (all_text_keys keys) now.posting k among ∙ now.texts k among;
+          counted_by = let c = came.counted_by in let n = now.counted_by in omega (arith, c, n);
+          written = λ start first before. written start first (now.written start first before);
+          same = same_tenant own0 own own' now.same same;
+        }
+
+-- all have come
+pub all_placed : (moment : ℕ) (keys : List TextKeys) (spans : List NotedSpan) (index : ℕ) (journal0 journal : Journal) (own0 own : Pipeline) (p0 p : Part TraceNote) → Placing moment keys spans index journal0 journal own0 own p0 p →
+    length spans ≤ index → state_of own p ≡ all_come moment (arrivals_at p0 keys spans) (state_of own0 p0)
+all_placed moment keys spans index journal0 journal own0 own p0 p now done =
+    ap (λ (xs : List NotedSpan). all_come moment (arrivals_at p0 keys xs) (state_of own p)) (sym (drop_all index spans done)) ∙ now.rules
+
+-- how many of them were taken
+pub record Count (spans : List NotedSpan) (own0 own : Pipeline) (s t : State) : Type 0 where
+  pub taken : ℕ
+  pub few : taken ≤ length spans
+  pub accepted_is : own.ledger.accepted ≡ own0.ledger.accepted + taken
+  pub counted_is : counted own.ledger ≡ counted own0.ledger + taken
+  pub none : taken ≡ 0 → t ≡ s
+
+pub count_of : (moment : ℕ) (keys : List TextKeys) (spans : List NotedSpan) (own0 own : Pipeline) (p0 p : Part TraceNote) → state_of own p ≡ all_come moment (arrivals_at p0 keys spans) (state_of own0 p0) →
+    Count spans own0 own (state_of own0 p0) (state_of own p)
+count_of moment keys spans own0 own p0 p is =
+    let xs = arrivals_at p0 keys spans in
+    let takes = all_take moment xs (state_of own0 p0) in
+    let size : length xs ≡ length spans = length-map spans (λ span. arrival_at p0 (keys_at keys span.origin) span.text) in
+    let l : own.ledger ≡ (all_come moment xs (state_of own0 p0)).ledger = ap (λ (s : State). s.ledger) is in
+    let few = takes.few in
+    record {
+      taken = takes.count;
+      few = omega (arith, few, size);
+      accepted_is = ap (λ (k : LedgerData). k.accepted) l ∙ takes.accepted_is;
+      counted_is = ap (λ (k : LedgerData). counted k) l ∙ takes.counted_is;
+      none = λ e. is ∙ takes.none e;
+    }
+
+-- ---- a body's spans, with their origins held
+
+module _ (own : Pipeline) (p : Part TraceNote) (keys : List TextKeys) (origins : List Origin) (texts : map (origin_at (text_at p.texts)) keys ≡ map origin_view origins)
+  where
+    arrival_is : (span : NotedSpan) → span.origin < length origins → arrival_at p (keys_at keys span.origin) span.text ≡ prepared.arrival_in origins span
+    arrival_is span within = ap (λ (o : OriginData). arrival_with o span.text) (origin_is (text_at p.texts) keys origins span.origin texts within)
+
+    one_ready : (span : NotedSpan) → IsReady (policies_of own) origins span → IsReadyAt keys own p span
+    one_ready span ready =
+        let same = arrival_is span ready.within in
+        let many = as_many (text_at p.texts) keys origins texts in
+        let within = ready.within in
+        record {
+          within = omega (arith, many, within);
+          note = ready.note ∙ ap (λ (a : Arrival). note_of (policies_of own) a.facts) (sym same);
+          trace = ready.trace ∙ ap trace_of (sym same);
+        }
+
+    pub all_ready : (spans : List NotedSpan) → AreReady (policies_of own) origins spans → AreComing keys spans own p
+    all_ready [] ready = tt
+    all_ready (span ∷ spans) ready = (one_ready span ready.0, all_ready spans ready.1)
+
+    pub arrivals_are : (spans : List NotedSpan) → AreReady (policies_of own) origins spans → arrivals_at p keys spans ≡ arrivals_in origins spans
+    arrivals_are [] ready = refl
+    arrivals_are (span ∷ spans) ready =
+        let one = arrival_is span ready.0.within in
+        let rest = arrivals_are spans ready.1 in
+        λ i. one i ∷ rest i
+
+pub all_valid : (policies : List PolicyData) (origins : List Origin) (spans : List NotedSpan) → AreReady policies origins spans → AllByRecursion (λ a. is_valid a ≡ true) (arrivals_in origins spans)
+all_valid policies origins [] ready = tt
+all_valid policies origins (span ∷ spans) ready = (ready.0.valid, all_valid policies origins spans ready.1)
+
+-- ---- a body has come
+
+-- the spans that left in batches are no longer stored
+pub left_spans : (moment : ℕ) (journal : Journal) (gone held : List ℕ) (own : Pipeline) (p q : Part TraceNote) → gone ≡ journal.undo.gone.items → IsPosting moment journal held own p →
+    ((n : Counts) (pending left kept : List ℕ) → ((key : ℕ) → count key gone + count key left ≡ count key pending) → IsSound n pending kept p → IsSound n left kept q) →
+    ((n : Counts) (pending left kept shown : List ℕ) → ((key : ℕ) → count key gone + count key left ≡ count key pending) → IsSound n pending kept p → AreAmong shown left → view n shown q ≡ view n shown p) →
+    (state_of own q ≡ state_of own p) × IsHeldAt moment [] held own q
+left_spans moment journal gone held own p q gone_is posting is_sound is_shown =
+    let holds = posting.holds in
+    let pending = journal.undo.gone.items ++ own.batcher.spans in
+    let all : (key : ℕ) → count key gone + count key own.batcher.spans ≡ count key pending = λ key.
+    let same = ap (count key) gone_is in
+    let both = count-append key journal.undo.gone.items own.batcher.spans in
+    omega (arith, same, both) in
+    let sound = is_sound (counts_in own) pending own.batcher.spans held all holds.sound in
+    let shows : view_in own q ≡ view_in own p = is_shown (counts_in own) pending own.batcher.spans held own.batcher.spans all holds.sound (λ key. omega arith) in
+    (ap (state_by own) shows, held_over moment own.rows.swept journal.undo.gone.items [] held held own p q holds sound shows)
+
+-- the verdict of what came is that of what was counted
+pub verdict_is : (moment invalid valid taken : ℕ) (keys : List TextKeys) (spans : List NotedSpan) (own0 own : Pipeline) (p0 p : Part TraceNote) →
+    state_of own p ≡ all_come moment (arrivals_at p0 keys spans) (state_of own0 p0) → valid ≡ length spans → own.ledger.accepted ≡ own0.ledger.accepted + taken →
+    verdict_of (valid + invalid) valid own0.ledger.accepted (own0.ledger.accepted + taken) ≡ verdict_after (arrivals_at p0 keys spans) invalid moment (state_of own0 p0)
+verdict_is moment invalid valid taken keys spans own0 own p0 p is many more =
+    let xs = arrivals_at p0 keys spans in
+    let before = own0.ledger.accepted in
+    let size : valid ≡ length xs = many ∙ sym (length-map spans (λ span. arrival_at p0 (keys_at keys span.origin) span.text)) in
+    let after : before + taken ≡ (all_come moment xs (state_of own0 p0)).ledger.accepted = sym more ∙ ap (λ (s : State). s.ledger.accepted) is in
+    ap (λ (k : ℕ). verdict_of (k + invalid) k before (before + taken)) size ∙ ap (λ (k : ℕ). verdict_of (length xs + invalid) (length xs) before k) after
+
+-- the post of which all spans came
+pub record Ended (moment invalid valid taken : ℕ) (keys : List TextKeys) (spans : List NotedSpan) (journal : Journal) (own0 own own' : Pipeline) (p0 p : Part TraceNote) : Type 0 where
+  pub taken_is : IsTaken (arrivals_at p0 keys spans) invalid moment (state_of own0 p0) (state_of own' p)
+  pub posted_is : Posted moment (valid + invalid) valid taken journal (all_text_keys keys) own own' p (state_of own0 p0)
+
+pub ended : (moment invalid valid taken : ℕ) (keys : List TextKeys) (spans : List NotedSpan) (index : ℕ) (journal0 journal : Journal) (own0 own own' : Pipeline) (p0 p : Part TraceNote) →
+    Placing moment keys spans index journal0 journal own0 own p0 p → length spans ≤ index → valid ≡ length spans → taken ≡ own.ledger.accepted - own0.ledger.accepted →
+    counted own0.ledger + (length spans + invalid) ≤ most_counted → IsPosted (verdict_of (valid + invalid) valid 0 taken) own own' → Ended moment invalid valid taken keys spans journal own0 own own' p0 p
+ended moment invalid valid taken keys spans index journal0 journal own0 own own' p0 p now done many less fits post =
+    let s = state_of own0 p0 in
+    let is = all_placed moment keys spans index journal0 journal own0 own p0 p now done in
+    let count = count_of moment keys spans own0 own p0 p is in
+    let more = count.accepted_is in
+    let few = count.few in
+    let all = count.counted_is in
+    let same : taken ≡ count.taken = omega (arith, less, more) in
+    let none : taken ≡ 0 → state_of own p ≡ s = λ zero'. count.none (sym same ∙ zero') in
+    let posted_ = post_is moment (valid + invalid) valid taken journal (all_text_keys keys) own own' p s now.posting none (omega arith) (omega (arith, same, few, many)) (omega (arith, same, few, many, all, fits)) post in
+    let verdict : verdict_of (valid + invalid) valid 0 taken ≡ verdict_after (arrivals_at p0 keys spans) invalid moment s =
+    sym (verdict_shifts (valid + invalid) valid own0.ledger.accepted taken) ∙ verdict_is moment invalid valid taken keys spans own0 own p0 p is many (omega (arith, more, same)) in
+    record {
+      taken_is = posted_.state ∙ (ap (λ (v : Verdict). posted v s (state_of own p)) verdict ∙ ap (posted (verdict_after (arrivals_at p0 keys spans) invalid moment s) s) is);
+      posted_is = posted_;
+    }
+
+-- ---- answers that may be refused
+
+pub on_err : {T E : Type 0} {P : Type 0} (r : Result T E) → P → OnErr r P
+on_err (Ok x) p = tt
+on_err (Err e) p = p
+
+pub on_ok_both : {T E : Type 0} {P Q R : Type 0} (r : Result T E) → (P → Q → R) → OnOk r P → OnOk r Q → OnOk r R
+on_ok_both (Ok x) f p q = f p q
+on_ok_both (Err e) f p q = tt
+
+pub on_err_then : {T E : Type 0} {P Q : Type 0} (r : Result T E) → (P → Q) → OnErr r P → OnErr r Q
+on_err_then (Ok x) f p = tt
+on_err_then (Err e) f p = f p
+
+-- ---- a body whose origins are held
+
+pub record Body (moment : ℕ) (own : Pipeline) (p q : Part TraceNote) (keys : List TextKeys) (spans : List NotedSpan) (xs : List Arrival) : Type 0 where
+  pub holds : IsHeldAt moment [] (all_text_keys keys) own q
+  pub ready : AreComing keys spans own q
+  pub arrivals : arrivals_at q keys spans ≡ xs
+  pub valid : AllByRecursion (λ a. is_valid a ≡ true) xs
+  pub size : length xs ≡ length spans
+  pub back : HoldsAll (all_text_keys keys) p q
+  pub state : state_of own q ≡ state_of own p
+
+pub body_is : (moment : ℕ) (own : Pipeline) (p q : Part TraceNote) (keys all : List TextKeys) (origins : List Origin) (spans : List NotedSpan) (policies : List PolicyData) (xs : List Arrival) →
+    IsHeldAt moment [] [] own p → keys ≡ all → policies ≡ policies_of own → AreReady policies origins spans → arrivals_in origins spans ≡ xs →
+    ((n : Counts) (pending held : List ℕ) → IsSound n pending held p → HoldsAll (all_text_keys all) p q) →
+    ((n : Counts) (pending held : List ℕ) → IsSound n pending held p → IsSound n pending (all_text_keys all ++ held) q) →
+    ((n : Counts) (pending held : List ℕ) → IsSound n pending held p → map (origin_at (text_at q.texts)) all ≡ map origin_view origins) →
+    ((n : Counts) (pending held shown : List ℕ) → IsSound n pending held p → AreAmong shown pending → view n shown q ≡ view n shown p) →
+    Body moment own p q keys spans xs
+body_is moment own p q keys all origins spans policies xs holds keys_are policies_are ready arrivals own' is_sound texts shows =
+    let n = counts_in own in
+    let pending = own.batcher.spans in
+    let mine : AreReady (policies_of own) origins spans = subst (λ (ps : List PolicyData). AreReady ps origins spans) policies_are ready in
+    let sound : IsSound n pending (all_text_keys all) q = subst (λ (ks : List ℕ). IsSound n pending ks q) (append-nil (all_text_keys all)) (is_sound n pending [] holds.sound) in
+    let same : view_in own q ≡ view_in own p = shows n pending [] pending holds.sound (λ key. omega arith) in
+    let text = texts n pending [] holds.sound in
+    subst (λ (ks : List TextKeys). Body moment own p q ks spans xs) (sym keys_are) (record {
+      holds = held_over moment own.rows.swept [] [] [] (all_text_keys all) own p q holds sound same;
+      ready = all_ready own q all origins text spans mine;
+      arrivals = arrivals_are own q all origins text spans mine ∙ arrivals;
+      valid = subst (λ (ys : List Arrival). AllByRecursion (λ a. is_valid a ≡ true) ys) arrivals (all_valid policies origins spans ready);
+      size = ap length (sym arrivals) ∙ length-map spans (prepared.arrival_in origins);
+      back = own' n pending [] holds.sound;
+      state = ap (state_by own) same;
+    })
+
+-- its origins were given back
+pub body_left : (moment : ℕ) (own : Pipeline) (keys : List ℕ) (p q : Part TraceNote) → IsHeldAt moment [] keys own p →
+    ((n : Counts) (pending held : List ℕ) → IsSound n pending (keys ++ held) p → IsSound n pending held q) →
+    ((n : Counts) (pending held shown : List ℕ) → IsSound n pending (keys ++ held) p → AreAmong shown pending → view n shown q ≡ view n shown p) →
+    (state_of own q ≡ state_of own p) × IsHeldAt moment [] [] own q
+body_left moment own keys p q holds is_sound shows =
+    let n = counts_in own in
+    let pending = own.batcher.spans in
+    let held : IsSound n pending (keys ++ []) p = subst (λ (ks : List ℕ). IsSound n pending ks p) (sym (append-nil keys)) holds.sound in
+    let same : view_in own q ≡ view_in own p = shows n pending [] pending held (λ key. omega arith) in
+    (ap (state_by own) same, held_over moment own.rows.swept [] [] keys [] own p q holds (is_sound n pending [] held) same)

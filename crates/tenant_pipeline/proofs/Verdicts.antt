@@ -1,0 +1,114 @@
+-- Rows that wait have their verdicts: what a part has and shows then.
+use Rattle.std.proofs.Common.{◌≡◌, ◌<◌, ◌≤◌, ◌+◌, ◌-◌, ◌++◌, ◌∙◌, ℕ, zero, suc, List, [], refl, sym, ap, arith, Bool, true, false, cond, Option, Some, None}
+use Rattle.span_pool.specs.Keyed.{KeyedData}
+use Rattle.text_pool.specs.declared.pool.Kept.{Kept}
+use Rattle.tail_policy.specs.declared.note.TraceNote.{TraceNote}
+use Rattle.tail_policy.specs.Note.{verdict_of}
+use Rattle.tail_settings.specs.Policy.{PolicyData}
+use Rattle.trace_rows.specs.declared.table.Row.{Row}
+use Rattle.trace_rows.specs.Part.{with_at, keys_of}
+use Rattle.tenant_stores.specs.Part.{Part}
+use Rattle.tenant_stores.specs.Counts.{Counts, AreInOrder, range, settled_numbers, waiting_numbers}
+use Rattle.tenant_stores.specs.View.{SettledRow, as_waiting, as_settled, waiting_rows, settled_rows, view}
+use Rattle.tenant_stores.specs.Shows.{settled_in, waiting_in}
+use Rattle.tenant_stores.proofs.Lists.{range-append, front_of}
+use Rattle.tenant_stores.proofs.Rows.{row_other, row_either}
+use Rattle.tenant_stores.proofs.Shown.{settled-append, view_by}
+use Rattle.tenant_pipeline.specs.Drains.{keys_if, sampled_keys, all_settled, verdict_given}
+
+-- the rows after a number and up to another one have their verdicts, and all others are as they were
+pub record Given (policies : List PolicyData) (a d : ℕ) (old new : ℕ → Option (Row TraceNote)) : Type 0 where
+  pub before : (k : ℕ) → k ≤ a → new k ≡ old k
+  pub given : (k : ℕ) → a < k → k ≤ d → new k ≡ verdict_given policies (old k)
+  pub after : (k : ℕ) → d < k → new k ≡ old k
+
+module _ (policies : List PolicyData) where
+  pub given_none : (a : ℕ) (rows : ℕ → Option (Row TraceNote)) → Given policies a a rows rows
+  given_none a rows = record {
+    before = λ k le. refl;
+    given = λ k lt le. absurd (omega (arith, lt, le));
+    after = λ k lt. refl;
+  }
+
+  -- one more
+  pub given_one : (a d number : ℕ) (old mid new : ℕ → Option (Row TraceNote)) → a ≤ d → number ≡ d + 1 → new ≡ with_at number (verdict_given policies (mid number)) mid →
+      Given policies a d old mid → Given policies a number old new
+  given_one a d number old mid new from next is g =
+      let w : Option (Row TraceNote) = verdict_given policies (mid number) in
+      let at : (k : ℕ) → new k ≡ with_at number w mid k = λ k. ap (λ (f : ℕ → Option (Row TraceNote)). f k) is in
+      record {
+        before = λ k le. at k ∙ (row_other number w mid k (λ e. absurd (omega (arith, e, le, from, next))) ∙ g.before k le);
+        given = λ k lt le. at k ∙ row_either number w mid (λ o. o ≡ verdict_given policies (old k)) k
+            (λ e. ap (λ (j : ℕ). verdict_given policies (mid j)) (sym e) ∙ ap (verdict_given policies) (g.after k (omega (arith, e, next))))
+            (λ ne. g.given k lt (omega (arith, ne, le, next)));
+        after = λ k lt. at k ∙ (row_other number w mid k (λ e. absurd (omega (arith, e, lt))) ∙ g.after k (omega (arith, lt, next)));
+      }
+
+  -- ---- what is shown
+
+  settled_same : (old new : ℕ → Option (Row TraceNote)) (m a : ℕ) → ((k : ℕ) → k ≤ a + m → new k ≡ old k) → settled_rows new (range a m) ≡ settled_rows old (range a m)
+  settled_same old new zero a same = refl
+  settled_same old new (suc m) a same =
+      ap (λ (o : Option (Row TraceNote)). as_settled o ++ settled_rows new (range (suc a) m)) (same (suc a) (omega arith))
+      ∙ ap (λ (rs : List SettledRow). as_settled (old (suc a)) ++ rs) (settled_same old new m (suc a) (λ k le. same k (omega (arith, le))))
+
+  settled_given : (s : ℕ → Option KeyedData) (t : ℕ → Option Kept) (old new : ℕ → Option (Row TraceNote)) (m a : ℕ) → ((k : ℕ) → a < k → k ≤ a + m → new k ≡ verdict_given policies (old k)) →
+      settled_rows new (range a m) ≡ all_settled policies (waiting_rows s t old (range a m))
+  settled_given s t old new zero a given = refl
+  settled_given s t old new (suc m) a given =
+      let rest : settled_rows new (range (suc a) m) ≡ all_settled policies (waiting_rows s t old (range (suc a) m)) = settled_given s t old new m (suc a) (λ k lt le. given k (omega (arith, lt)) (omega (arith, le))) in
+      ap (λ (o : Option (Row TraceNote)). as_settled o ++ settled_rows new (range (suc a) m)) (given (suc a) (omega arith) (omega arith))
+      ∙ (ap (λ (rs : List SettledRow). as_settled (verdict_given policies (old (suc a))) ++ rs) rest ∙ by_row (old (suc a)))
+    where
+      by_row : (o : Option (Row TraceNote)) → as_settled (verdict_given policies o) ++ all_settled policies (waiting_rows s t old (range (suc a) m))
+          ≡ all_settled policies (as_waiting s t o ++ waiting_rows s t old (range (suc a) m))
+      by_row None = refl
+      by_row (Some row) = refl
+
+  -- all rows that waited
+  pub view_given : (n : Counts) (p q : Part TraceNote) → AreInOrder n → Given policies n.decided n.opened p.rows q.rows →
+      view (record n { decided = n.opened }) [] q ≡ record {
+        settled = settled_in n p ++ all_settled policies (waiting_in n p);
+        waiting = [];
+        pending = [];
+      }
+  view_given n p q order g =
+      let a = order.first in
+      let b = order.decided in
+      let size : (n.decided - n.first) + (n.opened - n.decided) ≡ n.opened - n.first = omega (arith, a, b) in
+      let middle : n.first + (n.decided - n.first) ≡ n.decided = omega (arith, a) in
+      let numbers : range n.first (n.opened - n.first) ≡ settled_numbers n ++ waiting_numbers n =
+      ap (range n.first) (sym size) ∙ (range-append (n.decided - n.first) (n.opened - n.decided) n.first
+      ∙ ap (λ (k : ℕ). settled_numbers n ++ range k (n.opened - n.decided)) middle) in
+      let front : settled_rows q.rows (settled_numbers n) ≡ settled_in n p = settled_same p.rows q.rows (n.decided - n.first) n.first (λ k le. g.before k (omega (arith, le, middle))) in
+      let back : settled_rows q.rows (waiting_numbers n) ≡ all_settled policies (waiting_in n p) =
+      settled_given p.spans p.texts p.rows q.rows (n.opened - n.decided) n.decided (λ k lt le. g.given k lt (omega (arith, le, b))) in
+      let settled : settled_rows q.rows (range n.first (n.opened - n.first)) ≡ settled_in n p ++ all_settled policies (waiting_in n p) =
+      ap (settled_rows q.rows) numbers ∙ (settled-append q.rows (settled_numbers n) (waiting_numbers n)
+      ∙ (ap (λ (rs : List SettledRow). rs ++ settled_rows q.rows (waiting_numbers n)) front ∙ ap (λ (rs : List SettledRow). settled_in n p ++ rs) back)) in
+      let none : n.opened - n.opened ≡ 0 = omega arith in
+      let waiting : waiting_rows q.spans q.texts q.rows (range n.opened (n.opened - n.opened)) ≡ [] = ap (λ (k : ℕ). waiting_rows q.spans q.texts q.rows (range n.opened k)) none in
+      view_by _ _ _ _ _ _ settled waiting refl
+
+  -- ---- keys of sampled rows
+
+  pub keys_next : (rows : ℕ → Option (Row TraceNote)) (d o number : ℕ) → d < o → number ≡ d + 1 →
+      sampled_keys policies rows (range d (o - d)) ≡ keys_if policies (rows number) ++ sampled_keys policies rows (range number (o - number))
+  keys_next rows d o number lt next =
+      let is : suc d ≡ number = omega (arith, next) in
+      ap (sampled_keys policies rows) (front_of d o lt) ∙ ap (λ (k : ℕ). keys_if policies (rows k) ++ sampled_keys policies rows (range k (o - k))) is
+
+  pub keys_end : (rows : ℕ → Option (Row TraceNote)) (d o : ℕ) → o ≤ d → sampled_keys policies rows (range d (o - d)) ≡ []
+  keys_end rows d o le = let none : o - d ≡ 0 = omega (arith, le) in ap (λ (k : ℕ). sampled_keys policies rows (range d k)) none
+
+  -- ---- one row's verdict
+
+  -- its keys, where it is sampled
+  pub keys_kept : (slot : Option (Row TraceNote)) (row : Row TraceNote) → slot ≡ Some row → verdict_of policies row.note ≡ true → keys_of slot ≡ keys_if policies slot
+  keys_kept slot row is verdict =
+      ap (λ (o : Option (Row TraceNote)). keys_of o) is
+      ∙ (ap (λ (b : Bool). cond b row.keys []) (sym verdict) ∙ sym (ap (keys_if policies) is))
+
+  -- and none, where it isn't
+  pub keys_dropped : (slot : Option (Row TraceNote)) (row : Row TraceNote) → slot ≡ Some row → verdict_of policies row.note ≡ false → keys_if policies slot ≡ []
+  keys_dropped slot row is verdict = ap (keys_if policies) is ∙ ap (λ (b : Bool). cond b row.keys []) verdict

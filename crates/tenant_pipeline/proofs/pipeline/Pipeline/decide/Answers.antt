@@ -1,0 +1,241 @@
+use Rattle.std.proofs.Common.{◌≡◌, ◌≢◌, ◌∙◌, ◌+◌, ◌++◌, ◌<◌, ◌^◌, ◌≤◌, List, [], length, map, sym, ap, subst, refl, arith, ℕ, Option, Some, true, false}
+use Rattle.span_batcher.specs.State as batcher
+use Rattle.drop_ledger.specs.Ledger.{LedgerData, moved}
+use Rattle.drop_ledger.specs.declared.places.Place.TheVariants.{Undecided, NotSampled}
+use Rattle.tail_policy.specs.declared.note.TraceNote.{TraceNote}
+use Rattle.tail_policy.specs.Note.{verdict_of}
+use Rattle.tail_settings.specs.Policy.{PolicyData, policy_view}
+use Rattle.tail_settings.specs.declared.policy.PolicySpec.{PolicySpec}
+use Rattle.trace_rows.specs.declared.table.Row.{Row}
+use Rattle.trace_rows.specs.Part.{keys_of}
+use Rattle.tenant_stores.specs.Counts.{count, one_decided}
+use Rattle.tenant_stores.specs.Part.{Part, part}
+use Rattle.tenant_stores.specs.Sound.{IsSound}
+use Rattle.tenant_stores.specs.Shows.{first_kept}
+use Rattle.tenant_stores.specs.View.{WaitingRow, view}
+use Rattle.tenant_stores.proofs.Lists.{count-append}
+use Rattle.tenant_rules.specs.Timers.{decide, first_due}
+use Rattle.tenant_pipeline.specs.declared.pipeline.Pipeline.{Pipeline}
+use Rattle.tenant_pipeline.specs.StateIn.{counts_in, part_in, policies_of, state_in, state_of, view_in, waiting_of}
+use Rattle.tenant_pipeline.specs.Held.{IsHeldBy}
+use Rattle.tenant_pipeline.specs.Outbox.{arrivals_at, AreThere, Groups}
+use Rattle.tenant_pipeline.proofs.Deciding.{Ran, drop_all, keep_all}
+use Rattle.tenant_pipeline.proofs.Firsts.{FirstRow, first_row}
+use Rattle.tenant_pipeline.specs.declared.pipeline.RowCounts.{RowCounts}
+use Rattle.tenant_pipeline.proofs.Sweeping.{swept_same, swept_back}
+use Rattle.tenant_pipeline.proofs.pipeline.Pipeline.decide.Goals as goal
+
+pub group-requires-clause-some : goal.group-requires-clause-some
+group-requires-clause-some c =
+    let own = c.args.self.now in
+    let p = part own.tenant c.args.stores.now in
+    let row = c.in-Some.row.now in
+    let f = first_row own p c.requires.held row c.requires.some c.in-Some.ensures c.requires.first c.requires.fits in
+    let keys : c.as_slice-keys.result.now ≡ row.keys = c.as_slice-keys.ensures in
+    let size = ap length keys in let some = f.some in omega (arith, size, some)
+
+pub group-requires-clause-moment : goal.group-requires-clause-moment
+group-requires-clause-moment c =
+    let own = c.args.self.now in
+    let p = part own.tenant c.args.stores.now in
+    let row = c.in-Some.row.now in
+    let f = first_row own p c.requires.held row c.requires.some c.in-Some.ensures c.requires.first c.requires.fits in
+    f.fits
+
+pub group-requires-clause-timer : goal.group-requires-clause-timer
+group-requires-clause-timer c =
+    let own = c.args.self.now in
+    let p = part own.tenant c.args.stores.now in
+    let row = c.in-Some.row.now in
+    let f = first_row own p c.requires.held row c.requires.some c.in-Some.ensures c.requires.first c.requires.fits in
+    f.after
+
+pub group-requires-clause-undecided : goal.group-requires-clause-undecided
+group-requires-clause-undecided c =
+    let own = c.args.self.now in
+    let p = part own.tenant c.args.stores.now in
+    let row = c.in-Some.row.now in
+    let f = first_row own p c.requires.held row c.requires.some c.in-Some.ensures c.requires.first c.requires.fits in
+    let keys : c.as_slice-keys.result.now ≡ row.keys = c.as_slice-keys.ensures in
+    let size = ap length keys in let few = f.undecided in omega (arith, size, few)
+
+pub group-requires-clause-pending : goal.group-requires-clause-pending
+group-requires-clause-pending c =
+    let own = c.args.self.now in
+    let p = part own.tenant c.args.stores.now in
+    let row = c.in-Some.row.now in
+    let f = first_row own p c.requires.held row c.requires.some c.in-Some.ensures c.requires.first c.requires.fits in
+    f.pending
+
+pub group-requires-clause-there : goal.group-requires-clause-there
+group-requires-clause-there c =
+    let own = c.args.self.now in
+    let p = part own.tenant c.args.stores.now in
+    let row = c.in-Some.row.now in
+    let f = first_row own p c.requires.held row c.requires.some c.in-Some.ensures c.requires.first c.requires.fits in
+    let keys : c.as_slice-keys.result.now ≡ row.keys = c.as_slice-keys.ensures in
+    subst (λ (ks : List ℕ). AreThere p (own.batcher.spans ++ ks)) (sym keys) f.there
+
+pub group-requires-clause-room : goal.group-requires-clause-room
+group-requires-clause-room c =
+    let own = c.args.self.now in
+    let p = part own.tenant c.args.stores.now in
+    let row = c.in-Some.row.now in
+    let f = first_row own p c.requires.held row c.requires.some c.in-Some.ensures c.requires.first c.requires.fits in
+    f.room
+
+pub returns-then-samples-clause-ok : goal.returns-then-samples-clause-ok
+returns-then-samples-clause-ok c =
+    let own = c.args.self.now in
+    let p = part own.tenant c.args.stores.now in
+    let row = c.in-Some.row.now in
+    let f = first_row own p c.requires.held row c.requires.some c.in-Some.ensures c.requires.first c.requires.fits in
+    let keys : c.as_slice-keys.result.now ≡ row.keys = c.as_slice-keys.ensures in
+    let mid = c.group.new.self in
+    let q = part own.tenant c.flush.new.self in
+    let p1 = part own.tenant c.keep_row.new.self in
+    let groups : Groups row.due row.keys p own mid = subst (λ (ks : List ℕ). Groups row.due ks p own mid) keys c.in_ok-group.ensures.ok in
+    let verdict : verdict_of (policies_of own) row.note ≡ true = sym (c.samples.ensures ∙ ap (λ (ps : List PolicySpec). verdict_of (map policy_view ps) row.note) c.as_slice-policies.ensures.value) ∙ c.if-samples.true in
+    let most : own.rows.decided + 1 ≤ own.rows.opened = let some = c.requires.some in omega (arith, some) in
+    let kept_keys : c.keep_row.result ≡ row.keys = c.keep_row.ensures.keys ∙ ap (λ (o : Option (Row TraceNote)). keys_of o) (sym c.in-Some.ensures) in
+    let sound1 : IsSound (one_decided (counts_in own)) (own.batcher.spans ++ row.keys) [] p1 =
+    subst (λ (ks : List ℕ). IsSound (one_decided (counts_in own)) (own.batcher.spans ++ ks) [] p1) kept_keys (c.keep_row.ensures.sound (counts_in own) own.batcher.spans [] refl most c.requires.held.sound) in
+    let shows1 : view (one_decided (counts_in own)) (own.batcher.spans ++ row.keys) p1 ≡ first_kept (view_in own p) =
+    subst (λ (ks : List ℕ). view (one_decided (counts_in own)) (own.batcher.spans ++ ks) p1 ≡ first_kept (view_in own p)) kept_keys (c.keep_row.ensures.shows (counts_in own) own.batcher.spans [] own.batcher.spans refl most c.requires.held.sound) in
+    let all : (key : ℕ) → count key c.as_slice-gone.result.now + count key mid.batcher.spans ≡ count key (own.batcher.spans ++ row.keys) = λ key.
+    let gone = ap (count key) c.as_slice-gone.ensures.value in
+    let made = c.in_ok-group.ensures.gone key in
+    let none = ap (count key) c.of-undo.ensures.none in
+    let ks = ap (count key) keys in
+    let both = count-append key own.batcher.spans row.keys in
+    omega (arith, gone, made, none, ks, both) in
+    let sound = c.flush.ensures.sound (one_decided (counts_in own)) (own.batcher.spans ++ row.keys) mid.batcher.spans [] all sound1 in
+    let shows = c.flush.ensures.shows (one_decided (counts_in own)) (own.batcher.spans ++ row.keys) mid.batcher.spans [] mid.batcher.spans all sound1 (λ key. omega arith) in
+    let change = c.keep_row.ensures.own in
+    let ran = keep_all own p q c.requires.held row f.rest f.waiting f.noted c.requires.first f.fits f.after mid p1 verdict groups change.spans change.texts shows1 shows sound in
+    let new : Pipeline = record mid { rows = record mid.rows { decided = own.rows.decided + 1 }; clock = row.due } in
+    let is : c.pass.new.self ≡ new = c.pass.ensures in
+    let tenant : mid.tenant ≡ own.tenant = ap (λ (x : Pipeline). x.tenant) groups.same in
+    let s = state_in own c.args.stores.now in
+    subst (λ (x : Pipeline). state_in x c.flush.new.self ≡ decide s.waiting s) (sym is)
+    (subst (λ (t : ℕ). state_of new (part t c.flush.new.self) ≡ decide s.waiting s) (sym tenant) ran.state)
+
+pub returns-then-samples-clause-held : goal.returns-then-samples-clause-held
+returns-then-samples-clause-held c =
+    let own = c.args.self.now in
+    let p = part own.tenant c.args.stores.now in
+    let row = c.in-Some.row.now in
+    let f = first_row own p c.requires.held row c.requires.some c.in-Some.ensures c.requires.first c.requires.fits in
+    let keys : c.as_slice-keys.result.now ≡ row.keys = c.as_slice-keys.ensures in
+    let mid = c.group.new.self in
+    let q = part own.tenant c.flush.new.self in
+    let p1 = part own.tenant c.keep_row.new.self in
+    let groups : Groups row.due row.keys p own mid = subst (λ (ks : List ℕ). Groups row.due ks p own mid) keys c.in_ok-group.ensures.ok in
+    let verdict : verdict_of (policies_of own) row.note ≡ true = sym (c.samples.ensures ∙ ap (λ (ps : List PolicySpec). verdict_of (map policy_view ps) row.note) c.as_slice-policies.ensures.value) ∙ c.if-samples.true in
+    let most : own.rows.decided + 1 ≤ own.rows.opened = let some = c.requires.some in omega (arith, some) in
+    let kept_keys : c.keep_row.result ≡ row.keys = c.keep_row.ensures.keys ∙ ap (λ (o : Option (Row TraceNote)). keys_of o) (sym c.in-Some.ensures) in
+    let sound1 : IsSound (one_decided (counts_in own)) (own.batcher.spans ++ row.keys) [] p1 =
+    subst (λ (ks : List ℕ). IsSound (one_decided (counts_in own)) (own.batcher.spans ++ ks) [] p1) kept_keys (c.keep_row.ensures.sound (counts_in own) own.batcher.spans [] refl most c.requires.held.sound) in
+    let shows1 : view (one_decided (counts_in own)) (own.batcher.spans ++ row.keys) p1 ≡ first_kept (view_in own p) =
+    subst (λ (ks : List ℕ). view (one_decided (counts_in own)) (own.batcher.spans ++ ks) p1 ≡ first_kept (view_in own p)) kept_keys (c.keep_row.ensures.shows (counts_in own) own.batcher.spans [] own.batcher.spans refl most c.requires.held.sound) in
+    let all : (key : ℕ) → count key c.as_slice-gone.result.now + count key mid.batcher.spans ≡ count key (own.batcher.spans ++ row.keys) = λ key.
+    let gone = ap (count key) c.as_slice-gone.ensures.value in
+    let made = c.in_ok-group.ensures.gone key in
+    let none = ap (count key) c.of-undo.ensures.none in
+    let ks = ap (count key) keys in
+    let both = count-append key own.batcher.spans row.keys in
+    omega (arith, gone, made, none, ks, both) in
+    let sound = c.flush.ensures.sound (one_decided (counts_in own)) (own.batcher.spans ++ row.keys) mid.batcher.spans [] all sound1 in
+    let shows = c.flush.ensures.shows (one_decided (counts_in own)) (own.batcher.spans ++ row.keys) mid.batcher.spans [] mid.batcher.spans all sound1 (λ key. omega arith) in
+    let change = c.keep_row.ensures.own in
+    let ran = keep_all own p q c.requires.held row f.rest f.waiting f.noted c.requires.first f.fits f.after mid p1 verdict groups change.spans change.texts shows1 shows sound in
+    let new : Pipeline = record mid { rows = record mid.rows { decided = own.rows.decided + 1 }; clock = row.due } in
+    let is : c.pass.new.self ≡ new = c.pass.ensures in
+    let tenant : mid.tenant ≡ own.tenant = ap (λ (x : Pipeline). x.tenant) groups.same in
+    subst (λ (x : Pipeline). IsHeldBy x (part_in x c.flush.new.self)) (sym is)
+    (subst (λ (t : ℕ). IsHeldBy new (part t c.flush.new.self)) (sym tenant) ran.held)
+
+pub returns-clause-ok : goal.returns-clause-ok
+returns-clause-ok c =
+    let own = c.args.self.now in
+    let p = part own.tenant c.args.stores.now in
+    let row = c.in-Some.row.now in
+    let f = first_row own p c.requires.held row c.requires.some c.in-Some.ensures c.requires.first c.requires.fits in
+    let q = part own.tenant c.drop_row-spans.new.self in
+    let n = c.drop_row-spans.result in
+    let verdict : verdict_of (policies_of own) row.note ≡ false = sym (c.samples.ensures ∙ ap (λ (ps : List PolicySpec). verdict_of (map policy_view ps) row.note) c.as_slice-policies.ensures.value) ∙ c.if-samples.false in
+    let most : own.rows.decided + 1 ≤ own.rows.opened = let some = c.requires.some in omega (arith, some) in
+    let size : n ≡ length (arrivals_at p row.keys) = c.drop_row-spans.ensures.size ∙ (ap (λ (o : Option (Row TraceNote)). length (keys_of o)) (sym c.in-Some.ensures) ∙ sym f.size) in
+    let sound = c.drop_row-spans.ensures.sound (counts_in own) own.batcher.spans [] refl most c.requires.held.sound in
+    let shows = c.drop_row-spans.ensures.shows (counts_in own) own.batcher.spans [] own.batcher.spans refl most c.requires.held.sound (λ key. omega arith) in
+    let ran = drop_all own p q c.requires.held row f.rest f.waiting f.noted c.requires.first f.fits f.after n size verdict sound shows in
+    let is : c.pass-2.new.self ≡ record own { rows = record own.rows { decided = own.rows.decided + 1 }; clock = row.due; ledger = moved Undecided NotSampled n own.ledger } =
+    c.pass-2.ensures ∙ ap (λ (l : LedgerData). let y : Pipeline = record own { rows = record own.rows { decided = own.rows.decided + 1 }; clock = row.due; ledger = l } in y) c.move_spans.ensures in
+    let s = state_in own c.args.stores.now in
+    subst (λ (x : Pipeline). state_in x c.drop_row-spans.new.self ≡ decide s.waiting s) (sym is) ran.state
+
+pub returns-clause-held : goal.returns-clause-held
+returns-clause-held c =
+    let own = c.args.self.now in
+    let p = part own.tenant c.args.stores.now in
+    let row = c.in-Some.row.now in
+    let f = first_row own p c.requires.held row c.requires.some c.in-Some.ensures c.requires.first c.requires.fits in
+    let q = part own.tenant c.drop_row-spans.new.self in
+    let n = c.drop_row-spans.result in
+    let verdict : verdict_of (policies_of own) row.note ≡ false = sym (c.samples.ensures ∙ ap (λ (ps : List PolicySpec). verdict_of (map policy_view ps) row.note) c.as_slice-policies.ensures.value) ∙ c.if-samples.false in
+    let most : own.rows.decided + 1 ≤ own.rows.opened = let some = c.requires.some in omega (arith, some) in
+    let size : n ≡ length (arrivals_at p row.keys) = c.drop_row-spans.ensures.size ∙ (ap (λ (o : Option (Row TraceNote)). length (keys_of o)) (sym c.in-Some.ensures) ∙ sym f.size) in
+    let sound = c.drop_row-spans.ensures.sound (counts_in own) own.batcher.spans [] refl most c.requires.held.sound in
+    let shows = c.drop_row-spans.ensures.shows (counts_in own) own.batcher.spans [] own.batcher.spans refl most c.requires.held.sound (λ key. omega arith) in
+    let ran = drop_all own p q c.requires.held row f.rest f.waiting f.noted c.requires.first f.fits f.after n size verdict sound shows in
+    let is : c.pass-2.new.self ≡ record own { rows = record own.rows { decided = own.rows.decided + 1 }; clock = row.due; ledger = moved Undecided NotSampled n own.ledger } =
+    c.pass-2.ensures ∙ ap (λ (l : LedgerData). let y : Pipeline = record own { rows = record own.rows { decided = own.rows.decided + 1 }; clock = row.due; ledger = l } in y) c.move_spans.ensures in
+    subst (λ (x : Pipeline). IsHeldBy x (part_in x c.drop_row-spans.new.self)) (sym is) ran.held
+
+pub move_spans-requires : goal.move_spans-requires
+move_spans-requires c =
+    let own = c.args.self.now in
+    let p = part own.tenant c.args.stores.now in
+    let row = c.in-Some.row.now in
+    let f = first_row own p c.requires.held row c.requires.some c.in-Some.ensures c.requires.first c.requires.fits in
+    let size = c.drop_row-spans.ensures.size ∙ ap (λ (o : Option (Row TraceNote)). length (keys_of o)) (sym c.in-Some.ensures) in let few = f.undecided in omega (arith, size, few)
+
+pub returns-then-samples-clause-others : goal.returns-then-samples-clause-others
+returns-then-samples-clause-others c = λ other ne. c.flush.ensures.others other ne ∙ c.keep_row.ensures.others other ne
+
+pub returns-then-samples-clause-clock : goal.returns-then-samples-clause-clock
+returns-then-samples-clause-clock c = λ moment le all.
+    let own = c.args.self.now in
+    let p = part own.tenant c.args.stores.now in
+    let row = c.in-Some.row.now in
+    let f = first_row own p c.requires.held row c.requires.some c.in-Some.ensures c.requires.first c.requires.fits in
+    let due = ap (λ (ws : List (WaitingRow TraceNote)). first_due (map waiting_of ws)) f.waiting in
+    let by = all row.due due in
+    let clock = ap (λ (x : Pipeline). x.clock) c.pass.ensures in
+    omega (arith, by, clock)
+
+pub returns-clause-clock : goal.returns-clause-clock
+returns-clause-clock c = λ moment le all.
+    let own = c.args.self.now in
+    let p = part own.tenant c.args.stores.now in
+    let row = c.in-Some.row.now in
+    let f = first_row own p c.requires.held row c.requires.some c.in-Some.ensures c.requires.first c.requires.fits in
+    let due = ap (λ (ws : List (WaitingRow TraceNote)). first_due (map waiting_of ws)) f.waiting in
+    let by = all row.due due in
+    let clock = ap (λ (x : Pipeline). x.clock) c.pass-2.ensures in
+    omega (arith, by, clock)
+
+pub returns-in_err-group-clause-swept : goal.returns-in_err-group-clause-swept
+returns-in_err-group-clause-swept c = λ is. swept_back c.args.self.now c.group.new.self c.in_err-group.ensures.refused is
+
+pub returns-then-samples-clause-swept : goal.returns-then-samples-clause-swept
+returns-then-samples-clause-swept c = λ is.
+    let mid = c.group.new.self in
+    let passed : Pipeline = record mid { rows = record mid.rows { decided = c.args.self.now.rows.decided + 1 }; clock = c.in-Some.row.now.due } in
+    swept_back passed c.pass.new.self c.pass.ensures (swept_same c.args.self.now mid (ap (λ (x : Pipeline). x.rows) c.in_ok-group.ensures.ok.same) is)
+
+pub returns-clause-swept : goal.returns-clause-swept
+returns-clause-swept c = λ is.
+    let own = c.args.self.now in
+    let rows : c.pass-2.new.self.rows ≡ record own.rows { decided = own.rows.decided + 1 } = ap (λ (x : Pipeline). x.rows) c.pass-2.ensures in
+    subst (λ (r : RowCounts). r.swept ≡ r.first) (sym rows) is

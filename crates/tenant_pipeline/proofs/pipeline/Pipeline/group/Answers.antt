@@ -1,0 +1,100 @@
+use Rattle.std.proofs.Common.{◌≡◌, ◌∙◌, ◌+◌, ◌++◌, ◌<◌, ◌≤◌, ◌^◌, List, length, map, sym, ap, subst, refl, arith, ℕ}
+use Rattle.send_queue.specs.Sender.{BatchData}
+use Rattle.send_queue.specs.View.{batch_view}
+use Rattle.span_batcher.specs.Batches.{Batch}
+use Rattle.span_batcher.specs.State as batcher
+use Rattle.span_batcher.specs.Machine.{PlannedData, cuts, uncut, added, taken}
+use Rattle.span_batcher.specs.Maps.{spans_of}
+use Rattle.tenant_stores.specs.Counts.{count}
+use Rattle.tenant_stores.proofs.Lists.{count-append}
+use Rattle.span_batcher.proofs.Maps.{cuts-whole}
+use Rattle.tenant_rules.specs.Batching.{all_sent}
+use Rattle.tenant_rules.specs.Sender.{sizes}
+use Rattle.tenant_pipeline.specs.declared.pipeline.Pipeline.{Pipeline}
+use Rattle.tenant_pipeline.specs.declared.undo.Undo.{Undo}
+use Rattle.tenant_pipeline.specs.Undo.{TakesBack}
+use Rattle.tenant_pipeline.specs.StateIn.{part_in}
+use Rattle.tenant_pipeline.specs.Outbox.{batch_at, Groups}
+use Rattle.tenant_pipeline.proofs.Grouping.{sent_sizes, added_spans}
+use Rattle.tenant_pipeline.proofs.Grouped.{groups_by, undo_by}
+use Rattle.tenant_pipeline.proofs.Ranges.{own_sound, queue_short}
+use Rattle.tenant_pipeline.proofs.pipeline.Pipeline.group.Goals as goal
+
+pub offer_group-requires-clause-pending : goal.offer_group-requires-clause-pending
+offer_group-requires-clause-pending c =
+    let own = c.args.self.now in
+    let p = part_in own c.args.stores.now in
+    let made = c.in_ok-planned.ensures in
+    let sent = made.sent ∙ ap (λ (bs : List (Batch ℕ)). all_sent (map (batch_at p) bs)) made.batches in
+    let many = ap sizes sent in
+    let whole = sent_sizes p own.batcher c.args.moment c.args.keys.now c.requires.there in
+    let pending = c.requires.pending in
+    omega (arith, many, whole, pending)
+
+pub returns-in-Ok-clause-ok : goal.returns-in-Ok-clause-ok
+returns-in-Ok-clause-ok c =
+    let own = c.args.self.now in
+    let mid = c.offer_group.new.self in
+    let p = part_in own c.args.stores.now in
+    let made = c.in_ok-planned.ensures in
+    let planned : PlannedData ℕ = c.in_ok-planned.field-0.planned in
+    let sent : List BatchData = map batch_view c.in_ok-planned.field-0.sent.items in
+    let sent_are = made.sent ∙ ap (λ (bs : List (Batch ℕ)). all_sent (map (batch_at p) bs)) made.batches in
+    let kept : mid.batcher ≡ own.batcher = ap (λ (x : Pipeline). x.batcher) c.in-Ok.ensures.ok.same in
+    let is : c.exchange.new.self ≡ added c.args.moment c.args.keys.now own.batcher = c.exchange.ensures.pending ∙ (ap (taken planned) kept ∙ made.pending) in
+    subst (λ (b : batcher.State ℕ). let new : Pipeline = record mid { batcher = b } in Groups c.args.moment c.args.keys.now p own new) (sym is)
+    (groups_by own mid p c.args.moment c.args.keys.now sent c.in-Ok.offers c.requires.there sent_are c.in-Ok.ensures.ok c.in-Ok.ensures.took
+    (own_sound own c.requires.rules) c.requires.some c.requires.timer c.requires.pending c.requires.room)
+
+pub note-requires : goal.note-requires
+note-requires c =
+    let own = c.args.self.now in
+    let took = c.in-Ok.ensures.took in
+    let room = c.requires.room in
+    let short = queue_short own room in
+    let more = took.room (let fits = room.fits in let size = room.size in omega (arith, fits, size)) in
+    let count = took.count in
+    let few = c.requires.offers in
+    let size = room.size in
+    let range = own.section.sending_queue.queue_size_range in
+    omega (arith, more, count, few, size, range.1)
+
+pub returns-in-Ok-clause-gone : goal.returns-in-Ok-clause-gone
+returns-in-Ok-clause-gone c = λ key.
+    let own = c.args.self.now in
+    let mid = c.offer_group.new.self in
+    let r = own.batcher.rules in
+    let all = own.batcher.spans ++ c.args.keys.now in
+    let made = c.in_ok-planned.ensures in
+    let planned : PlannedData ℕ = c.in_ok-planned.field-0.planned in
+    let kept : mid.batcher ≡ own.batcher = ap (λ (x : Pipeline). x.batcher) c.in-Ok.ensures.ok.same in
+    let is : c.exchange.new.self ≡ added c.args.moment c.args.keys.now own.batcher = c.exchange.ensures.pending ∙ (ap (taken planned) kept ∙ made.pending) in
+    let left = ap (count key) (ap (λ (b : batcher.State ℕ). b.spans) is ∙ added_spans c.args.moment c.args.keys.now own.batcher) in
+    let cut = ap (count key) (made.gone ∙ ap spans_of made.batches) in
+    let whole = ap (count key) (cuts-whole r c.args.moment all) in
+    let parts = count-append key (spans_of (cuts r c.args.moment all)) (uncut r all) in
+    let both = count-append key own.batcher.spans c.args.keys.now in
+    let gone = ap (count key) c.in_ok-append.ensures.items in
+    let more = count-append key c.args.undo.now.gone.items c.in_ok-planned.field-0.gone.items in
+    let noted = ap (λ (u : Undo). count key u.gone.items) c.note.ensures in
+    omega (arith, left, cut, whole, parts, both, gone, more, noted)
+
+pub returns-in-Ok-clause-back : goal.returns-in-Ok-clause-back
+returns-in-Ok-clause-back c = λ start back.
+    let own = c.args.self.now in
+    let mid = c.offer_group.new.self in
+    let p = part_in own c.args.stores.now in
+    let made = c.in_ok-planned.ensures in
+    let planned : PlannedData ℕ = c.in_ok-planned.field-0.planned in
+    let sent : List BatchData = map batch_view c.in_ok-planned.field-0.sent.items in
+    let sent_are = made.sent ∙ ap (λ (bs : List (Batch ℕ)). all_sent (map (batch_at p) bs)) made.batches in
+    let kept : mid.batcher ≡ own.batcher = ap (λ (x : Pipeline). x.batcher) c.in-Ok.ensures.ok.same in
+    let is : c.exchange.new.self ≡ added c.args.moment c.args.keys.now own.batcher = c.exchange.ensures.pending ∙ (ap (taken planned) kept ∙ made.pending) in
+    let former = c.exchange.ensures.former in
+    let v = c.note.new.self in
+    let noted = c.note.ensures in
+    let start_is : (c.exchange.new.planned).start ≡ own.batcher.start = ap (λ (x : PlannedData ℕ). x.start) former ∙ ap (λ (b : batcher.State ℕ). b.start) kept in
+    let spans_is : (c.exchange.new.planned).spans ≡ own.batcher.spans = ap (λ (x : PlannedData ℕ). x.spans) former ∙ ap (λ (b : batcher.State ℕ). b.spans) kept in
+    subst (λ (b : batcher.State ℕ). let new : Pipeline = record mid { batcher = b } in TakesBack v start new) (sym is)
+    (undo_by own mid p c.args.moment c.args.keys.now sent c.in-Ok.offers c.requires.there sent_are c.in-Ok.ensures.ok c.in-Ok.ensures.took
+    c.exchange.new.planned c.args.undo.now v start_is spans_is (ap (λ (u : Undo). u.rows) noted) (ap (λ (u : Undo). u.counters) noted) (ap (λ (u : Undo). u.former) noted) (ap (λ (u : Undo). u.offers) noted) start back)

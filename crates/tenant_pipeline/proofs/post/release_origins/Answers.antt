@@ -1,0 +1,39 @@
+use Rattle.std.proofs.Common.{◌≡◌, ◌∙◌, ◌++◌, ◌-◌, [], ℕ, List, take, append-nil, ap, refl, subst}
+use Rattle.span_pool.specs.declared.keys.TextKeys.{TextKeys}
+use Rattle.tenant_stores.specs.Part.{part}
+use Rattle.tenant_stores.specs.Sound.{IsSound}
+use Rattle.tenant_stores.specs.Trail.{HoldsAll}
+use Rattle.tenant_pipeline.specs.Posts.{all_text_keys}
+use Rattle.tenant_pipeline.proofs.Origins.{all_left, one_less_held, given_back}
+use Rattle.tenant_pipeline.proofs.post.release_origins.Goals as goal
+
+pub loop-keys-init : goal.loop-keys-init
+loop-keys-init c = record {
+  rest = all_left c.args.all.items (part c.args.tenant c.args.stores.now);
+  others = λ other ne. refl;
+}
+
+pub loop-keys-preserved : goal.loop-keys-preserved
+loop-keys-preserved c =
+    let one = c.release_all.ensures in
+    record {
+      rest = one_less_held c.args.all.items c.loop-keys.left.items c.pop.new.self.items c.in-Some.keys (part c.args.tenant c.args.stores.now) (part c.args.tenant c.loop-keys.stores) (part c.args.tenant c.release_all.new.self)
+          c.in-Some.ensures.items c.loop-keys.invariant.rest one.own one.sound one.shows;
+      others = λ other ne. one.others other ne ∙ c.loop-keys.invariant.others other ne;
+    }
+
+pub returns-clause-own : goal.returns-clause-own
+returns-clause-own c = λ start holds.
+    let p = part c.args.tenant c.loop-keys.stores in
+    let left : List TextKeys = c.loop-keys.left.items in
+    let end = c.in_default.ensures in
+    let none : left ≡ [] = end.items ∙ (append-nil c.pop.new.self.items ∙ (end.rest ∙ ap (λ (k : ℕ). take (k - 1) left) end.cases.0)) in
+    given_back p start (subst (λ (ks : List TextKeys). HoldsAll (all_text_keys ks) start p) none (c.loop-keys.invariant.rest.own start holds))
+
+pub returns-clause-sound : goal.returns-clause-sound
+returns-clause-sound c = λ n pending held sound.
+    let p = part c.args.tenant c.loop-keys.stores in
+    let left : List TextKeys = c.loop-keys.left.items in
+    let end = c.in_default.ensures in
+    let none : left ≡ [] = end.items ∙ (append-nil c.pop.new.self.items ∙ (end.rest ∙ ap (λ (k : ℕ). take (k - 1) left) end.cases.0)) in
+    subst (λ (ks : List TextKeys). IsSound n pending (all_text_keys ks ++ held) p) none (c.loop-keys.invariant.rest.sound n pending held sound)

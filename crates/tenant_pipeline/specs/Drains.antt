@@ -1,0 +1,85 @@
+-- How the rows that wait are decided at once, and all that is pending is sent.
+use Rattle.std.specs.Prelude.{◌≡◌, ◌++◌, ℕ, true, List, [], ◌∷◌, map, length, Option, None, Some, if◌then◌else◌}
+use Rattle.span_batcher.specs.State.{next_due, IsAfter}
+use Rattle.span_batcher.specs.Machine.{fired}
+use Rattle.tail_policy.specs.declared.note.TraceNote.{TraceNote}
+use Rattle.tail_policy.specs.Note.{verdict_of}
+use Rattle.tail_settings.specs.Policy.{PolicyData}
+use Rattle.trace_rows.specs.declared.table.Row.{Row}
+use Rattle.trace_rows.specs.Part.{settled}
+use Rattle.tenant_stores.specs.Part.{Part}
+use Rattle.tenant_stores.specs.View.{SettledRow, WaitingRow}
+use Rattle.tenant_rules.specs.Fate.{WaitingData, are_sampled}
+use Rattle.tenant_rules.specs.Fronts.{decided_rows}
+use Rattle.tenant_rules.specs.Machine.{all_decided, closed}
+use Rattle.tenant_rules.specs.State.{State}
+use Rattle.tenant_rules.specs.Timers.{sample}
+use Rattle.tenant_pipeline.specs.declared.pipeline.Pipeline.{Pipeline}
+use Rattle.tenant_pipeline.specs.Acts.{at}
+use Rattle.tenant_pipeline.specs.StateIn.{policies_of, state_of}
+use Rattle.tenant_pipeline.specs.Outbox.{pending_at, HasRoom}
+
+-- a state has these own numbers, over a part
+pub record IsStateOf (own : Pipeline) (p : Part TraceNote) (s : State) : Type 0 where
+  pub pending : s.pending ≡ pending_at p own.batcher
+  pub sender : s.sender ≡ own.sender
+  pub ledger : s.ledger ≡ own.ledger
+
+-- what is pending, the sender and the counters are what the decision of this row at a moment makes of them, and nothing
+-- else of the tenant's own changes
+pub record SendsRow (moment : ℕ) (row : WaitingData) (p : Part TraceNote) (old new : Pipeline) : Type 0 where
+  pub rules : (s : State) → IsStateOf old p s →
+      sample moment row (are_sampled (policies_of old) row.spans) s ≡
+      record s { pending = pending_at p new.batcher; sender = new.sender; ledger = new.ledger }
+  pub same : new ≡ record old { batcher = new.batcher; sender = new.sender; ledger = new.ledger }
+  pub rules_are : new.batcher.rules ≡ old.batcher.rules
+  pub timer : IsAfter (next_due new.batcher) moment
+  pub pending_is : new.ledger.places.pending ≡ length new.batcher.spans
+  pub room : HasRoom new
+
+-- what the last batch makes of the sender and the counters
+pub record SendsRest (moment : ℕ) (p : Part TraceNote) (old new : Pipeline) : Type 0 where
+  pub rules : (s : State) → IsStateOf old p s →
+      closed moment s ≡ record s { drained = true; pending = fired s.pending; sender = new.sender; ledger = new.ledger }
+  pub same : new ≡ record old { sender = new.sender; ledger = new.ledger }
+  pub room : HasRoom new
+
+-- the state at a moment, drained: its rows have their verdicts, nothing is pending, and the sender and the counters are
+-- these
+abbrev pub closed_state : ℕ → State → Pipeline → State
+closed_state moment s own = record (at moment s) {
+  drained = true;
+  settled = s.settled ++ decided_rows s.section.tail_sampling.policies s.waiting;
+  waiting = [];
+  pending = fired s.pending;
+  sender = own.sender;
+  ledger = own.ledger;
+}
+
+-- the decisions of all rows that wait, and then the last batch
+pub record SendsAll (moment : ℕ) (p : Part TraceNote) (old new : Pipeline) : Type 0 where
+  pub rules : closed moment (all_decided moment (state_of old p).waiting (at moment (state_of old p))) ≡
+      closed_state moment (state_of old p) new
+  pub same : new ≡ record old { batcher = new.batcher; sender = new.sender; ledger = new.ledger }
+  pub rules_are : new.batcher.rules ≡ old.batcher.rules
+  pub timer : IsAfter (next_due new.batcher) moment
+  pub room : HasRoom new
+
+-- the row's keys, where it is sampled by its note
+abbrev pub keys_if : List PolicyData → Option (Row TraceNote) → List ℕ
+keys_if policies None = []
+keys_if policies (Some row) = if verdict_of policies row.note then row.keys else []
+
+-- those of the rows of these numbers
+abbrev pub sampled_keys : List PolicyData → (ℕ → Option (Row TraceNote)) → List ℕ → List ℕ
+sampled_keys policies rows [] = []
+sampled_keys policies rows (number ∷ numbers) = keys_if policies (rows number) ++ sampled_keys policies rows numbers
+
+-- rows that wait, once they have their verdicts
+abbrev pub all_settled : List PolicyData → List (WaitingRow TraceNote) → List SettledRow
+all_settled policies rows = map (λ row. record { trace = row.trace; sampled = verdict_of policies row.note }) rows
+
+-- a row with the verdict of its note
+abbrev pub verdict_given : List PolicyData → Option (Row TraceNote) → Option (Row TraceNote)
+verdict_given policies None = None
+verdict_given policies (Some row) = settled (verdict_of policies row.note) (Some row)

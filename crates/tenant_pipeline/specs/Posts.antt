@@ -1,0 +1,114 @@
+-- How the spans of a post come, one after the other.
+use Rattle.std.specs.Prelude.{◌≡◌, ◌<◌, ◌≤◌, ◌+◌, ◌++◌, ℕ, List, [], ◌∷◌, length, map, true, false, None, Some, slice_index_or}
+use Rattle.std.specs.List.{AllByRecursion}
+use Rattle.drop_ledger.specs.Ledger.{counted}
+use Rattle.span_batcher.specs.State.{next_due, IsAfter}
+use Rattle.span_pool.specs.Keyed.{origin_at}
+use Rattle.span_pool.specs.declared.keys.TextKeys.{TextKeys}
+use Rattle.tail_policy.specs.declared.note.TraceNote.{TraceNote}
+use Rattle.tail_policy.specs.Note.{note_of}
+use Rattle.tenant_stores.specs.Part.{Part}
+use Rattle.tenant_stores.specs.View.{text_at, text_keys}
+use Rattle.tenant_stores.specs.Trail.{Trail}
+use Rattle.tenant_rules.specs.Arrivals.{Arrival, trace_of}
+use Rattle.tenant_rules.specs.State.{State}
+use Rattle.tenant_rules.specs.Machine.{all_come, has_row, posted, sampled_in}
+use Rattle.tenant_rules.specs.Intake.{Verdict, verdict_of}
+use Rattle.tenant_pipeline.specs.declared.pipeline.Pipeline.{Pipeline}
+use Rattle.tenant_pipeline.specs.declared.journal.Journal.{Journal}
+use Rattle.tenant_pipeline.specs.declared.place.Seat.{Seat}
+use Rattle.tenant_pipeline.specs.declared.place.Seat.TheVariants as seats
+use Rattle.otlp_prepare.specs.declared.noted.NotedSpan.{NotedSpan}
+use Rattle.tenant_stores.specs.Shows.{AreAmong}
+use Rattle.tenant_pipeline.specs.StateIn.{arrival_of, policies_of, state_of}
+use Rattle.tenant_pipeline.specs.Held.{IsHeldAt}
+use Rattle.tenant_pipeline.specs.Undo.{TakesBack}
+
+-- the keys of texts that origins have, the last one's first
+abbrev pub all_text_keys : List TextKeys → List ℕ
+all_text_keys [] = []
+all_text_keys (keys ∷ rest) = all_text_keys rest ++ text_keys keys
+
+-- a span with this text, whose origin has its texts at these keys
+abbrev pub arrival_at : Part TraceNote → TextKeys → List ℕ → Arrival
+arrival_at p keys text = arrival_of (record { origin = origin_at (text_at p.texts) keys; text = text })
+
+-- within a post, at a moment by which no timer is due, with the texts of its origins held
+pub record IsPosting (moment : ℕ) (journal : Journal) (held : List ℕ) (own : Pipeline) (p : Part TraceNote)
+    : Type 0 where
+  pub holds : IsHeldAt moment journal.undo.gone.items held own p
+  pub quiet : IsAfter (next_due own.batcher) moment
+  pub offers : journal.undo.offers ≤ length own.sender.queue
+
+-- what came in the post is written down: from this start it led here
+pub record IsWritten (journal : Journal) (start own : Pipeline) (start_part p : Part TraceNote) : Type 0 where
+  pub trail : Trail start_part journal.placed.items p
+  pub undo : TakesBack journal.undo start own
+
+-- a span of a post comes, with the texts of its origin at these keys
+pub record IsComing (moment : ℕ) (journal : Journal) (keys : TextKeys) (span : NotedSpan) (held : List ℕ)
+    (own : Pipeline) (p : Part TraceNote) : Type 0 where
+  pub posting : IsPosting moment journal held own p
+  pub among : AreAmong (text_keys keys) held
+  pub note : span.note ≡ note_of (policies_of own) (arrival_at p keys span.text).facts
+  pub trace : span.trace ≡ trace_of (arrival_at p keys span.text)
+
+-- it came: the tenant is what this change makes of it, the post goes on, texts that are held are as they were, and no
+-- more than one span was counted
+pub record Came (change : State → State) (moment : ℕ) (journal journal' : Journal) (own own' : Pipeline)
+    (p p' : Part TraceNote) : Type 0 where
+  pub rules : state_of own' p' ≡ change (state_of own p)
+  pub posting : (held : List ℕ) → IsPosting moment journal held own p → IsPosting moment journal' held own' p'
+  pub texts : (held : List ℕ) → IsPosting moment journal held own p → (keys : TextKeys)
+      → AreAmong (text_keys keys) held → origin_at (text_at p'.texts) keys ≡ origin_at (text_at p.texts) keys
+  pub counted_by : counted own'.ledger ≤ counted own.ledger + 1
+
+-- the tenant is the same, be it as before or not
+pub record IsSameTenant (old new : Pipeline) : Type 0 where
+  pub tenant : new.tenant ≡ old.tenant
+  pub section : new.section ≡ old.section
+  pub clock : new.clock ≡ old.clock
+  pub drained : new.drained ≡ old.drained
+
+-- where a trace has its latest row, as the rules see it
+abbrev pub IsSeat : List ℕ → Seat → State → Type 0
+IsSeat trace seats.Nowhere s = (has_row trace s.waiting ≡ false) × (sampled_in trace s.settled ≡ None)
+IsSeat trace (seats.Decided sampled) s = (has_row trace s.waiting ≡ false) × (sampled_in trace s.settled ≡ Some sampled)
+IsSeat trace (seats.Waits number) s = has_row trace s.waiting ≡ true
+
+-- the number of a row that waits
+abbrev pub IsSeatAt : List ℕ → Seat → Pipeline → Part TraceNote → Type 0
+IsSeatAt trace seats.Nowhere own p = Unit
+IsSeatAt trace (seats.Decided sampled) own p = Unit
+IsSeatAt trace (seats.Waits number) own p = (p.seats trace ≡ Some number) × (own.rows.decided < number)
+
+-- ---- all spans of a body
+
+-- the keys at an index, and none where there are none
+abbrev pub keys_at : List TextKeys → ℕ → TextKeys
+keys_at all index = slice_index_or all index
+    (record { resource = None; resource_schema_url = None; scope = None; scope_schema_url = None })
+
+-- the spans as they arrived, with the texts of their origins at these keys
+abbrev pub arrivals_at : Part TraceNote → List TextKeys → List NotedSpan → List Arrival
+arrivals_at p all spans = map (λ span. arrival_at p (keys_at all span.origin) span.text) spans
+
+-- a span has its origin, its note for the tenant's policies, and its trace
+pub record IsReadyAt (all : List TextKeys) (own : Pipeline) (p : Part TraceNote) (span : NotedSpan) : Type 0 where
+  pub within : span.origin < length all
+  pub note : span.note ≡ note_of (policies_of own) (arrival_at p (keys_at all span.origin) span.text).facts
+  pub trace : span.trace ≡ trace_of (arrival_at p (keys_at all span.origin) span.text)
+
+-- all of them are
+abbrev pub AreComing : List TextKeys → List NotedSpan → Pipeline → Part TraceNote → Type 0
+AreComing all spans own p = AllByRecursion (IsReadyAt all own p) spans
+
+-- what becomes of a post of these valid spans, and so many others
+abbrev pub verdict_after : List Arrival → ℕ → ℕ → State → Verdict
+verdict_after arrivals invalid moment s = verdict_of (length arrivals + invalid) (length arrivals) s.ledger.accepted
+    (all_come moment arrivals s).ledger.accepted
+
+-- these valid spans came, and so many others were left out
+abbrev pub IsTaken : List Arrival → ℕ → ℕ → State → State → Type 0
+IsTaken arrivals invalid moment old new =
+    new ≡ posted (verdict_after arrivals invalid moment old) old (all_come moment arrivals old)

@@ -1,0 +1,23 @@
+-- How what a step has changed of its tenant's own is taken back.
+use Rattle.std.specs.Prelude.{◌≡◌, ◌≤◌, ℕ, length, Option, None, Some}
+use Rattle.drop_ledger.specs.Ledger.{ledger_of}
+use Rattle.span_batcher.specs.State as batcher
+use Rattle.span_batcher.specs.Machine.{PlannedData, taken}
+use Rattle.tenant_pipeline.specs.declared.pipeline.Pipeline.{Pipeline}
+use Rattle.tenant_pipeline.specs.declared.undo.Undo.{Undo}
+use Rattle.tenant_pipeline.specs.Outbox.{undone}
+
+-- what was pending before the first group, where one came
+abbrev pub before : Option (PlannedData ℕ) → batcher.State ℕ → batcher.State ℕ
+before None b = b
+before (Some former) b = taken former b
+
+-- taken back, the tenant's own is what it was
+pub record TakesBack (undo : Undo) (start own : Pipeline) : Type 0 where
+  pub rows : undo.rows ≡ start.rows
+  pub ledger : ledger_of undo.counters ≡ start.ledger
+  pub batcher : before undo.former own.batcher ≡ start.batcher
+  pub sender : undone undo.offers own.sender ≡ start.sender
+  pub offers : undo.offers ≤ length own.sender.queue
+  pub same : start ≡
+      record own { rows = start.rows; ledger = start.ledger; batcher = start.batcher; sender = start.sender }

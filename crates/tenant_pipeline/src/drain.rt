@@ -1,0 +1,223 @@
+//! The end of a tenant: its rows are decided at once, and all that is pending is one batch.
+
+ghost use Rattle.std.specs.Prelude.{◌≡◌, ◌≢◌, ◌<◌, ◌≤◌, ◌+◌, ◌++◌, [], false, ◌^◌, ℕ, List, None, Some, OnOk, OnErr, length};
+ghost use Rattle.span_batcher.specs.State.{next_due, IsAfter};
+ghost use Rattle.trace_rows.specs.Part.{with_at};
+ghost use Rattle.trace_rows.specs.declared.table.Row.{Row};
+ghost use Rattle.tail_policy.specs.declared.note.TraceNote.{TraceNote as Note};
+ghost use Rattle.tenant_stores.specs.Part.{part};
+ghost use Rattle.tenant_stores.specs.Counts.{Counts, count, one_decided, waiting_numbers};
+ghost use Rattle.tenant_stores.specs.Sound.{IsSound};
+ghost use Rattle.tenant_stores.specs.Shows.{row_shown};
+ghost use Rattle.tenant_stores.specs.View.{view};
+ghost use Rattle.tail_settings.specs.Section.{section_view};
+ghost use Rattle.tenant_rules.specs.Batching.{rules_of};
+ghost use Rattle.tenant_rules.specs.Machine.{drain};
+ghost use Rattle.tenant_pipeline.specs.declared.pipeline.Pipeline.{Pipeline as Own};
+ghost use Rattle.tenant_pipeline.specs.Acts.{ActsAt};
+ghost use Rattle.tenant_pipeline.specs.Drains.{SendsRow, SendsRest, SendsAll, keys_if, sampled_keys, all_settled, verdict_given};
+ghost use Rattle.tenant_pipeline.specs.Outbox.{AreThere, HasRoom};
+ghost use Rattle.tenant_pipeline.specs.StateIn.{counts_in, part_in, policies_of, state_in, waiting_of};
+ghost use Rattle.tenant_pipeline.specs.Held.{IsHeldAt, IsNoted, IsSwept};
+ghost use Rattle.tenant_pipeline.specs.Undo.{TakesBack};
+
+use crate::outbox::encoded;
+use crate::pipeline::Pipeline;
+use crate::undo::Undo;
+use drop_ledger::Place;
+use std::alloc::AllocError;
+use tail_policy::TraceNote;
+use tenant_stores::Stores;
+
+impl Pipeline {
+    /// The first drain, at a moment, in milliseconds, by which no timer is due. Where memory is refused, nothing has
+    /// changed.
+    pub(crate) fn close(
+        &mut self,
+        stores: &mut Stores<TraceNote>,
+        moment: u64,
+    ) -> Result<(), AllocError>
+        requires holds { IsHeldAt moment [] [] self.old (part_in self.old stores.old) }
+        requires quiet { IsAfter (next_due self.old.batcher) moment }
+        requires first { self.old.drained ≡ false }
+        ensures ok { OnOk result (ActsAt moment (drain moment)
+            (state_in self.old stores.old) (state_in self.new stores.new)) }
+        ensures holds { OnOk result (IsHeldAt moment [] [] self.new (part_in self.new stores.new)) }
+        ensures others { (other : ℕ) → other ≢ self.old.tenant → part other stores.new ≡ part other stores.old }
+        ensures refused { OnErr result (self.new ≡ self.old) }
+        ensures refused_part { OnErr result (part self.old.tenant stores.new ≡ part self.old.tenant stores.old) }
+        ensures tenant { self.new.tenant ≡ self.old.tenant }
+        ensures section { self.new.section ≡ self.old.section }
+        ensures clock { self.new.clock ≡ self.old.clock }
+        ensures swept { IsSwept self.old → IsSwept self.new }
+    {
+        let mut undo = Undo::of(self);
+        match self.send_all(stores, &mut undo, moment) {
+            Ok(()) => {
+                let _ = self.batcher.drain(moment);
+                self.settle_rows(stores);
+                stores.flush(self.tenant, undo.gone.as_slice());
+                self.drained = true;
+                Ok(())
+            }
+            Err(refused) => {
+                self.take_back(undo);
+                Err(refused)
+            }
+        }
+    }
+
+    /// The spans of all rows that wait leave, row by row, those of sampled rows for batches, and what is pending then
+    /// is one batch. The stores have them still.
+    fn send_all(
+        &mut self,
+        stores: &Stores<TraceNote>,
+        undo: &mut Undo,
+        moment: u64,
+    ) -> Result<(), AllocError>
+        requires holds { IsHeldAt moment [] [] self.old (part_in self.old stores.now) }
+        requires quiet { IsAfter (next_due self.old.batcher) moment }
+        requires offers { undo.old.offers ≤ length self.old.sender.queue }
+        ensures ok { OnOk result (SendsAll moment (part_in self.old stores.now) self.old self.new) }
+        ensures gone { OnOk result ((key : ℕ) → count key undo.new.gone.items ≡ count key undo.old.gone.items
+            + (count key self.old.batcher.spans + count key (sampled_keys (policies_of self.old)
+            (part_in self.old stores.now).rows (waiting_numbers (counts_in self.old))))) }
+        ensures back { (start : Own) → TakesBack undo.old start self.old → TakesBack undo.new start self.new }
+    {
+        let mut number = self.rows.decided;
+        while number < self.rows.opened {
+            number += 1;
+            self.send_row(stores, undo, moment, number)?;
+        }
+        self.send_rest(stores, undo, moment)
+    }
+
+    /// The spans of a row that waits leave, for a batch where it is sampled.
+    fn send_row(
+        &mut self,
+        stores: &Stores<TraceNote>,
+        undo: &mut Undo,
+        moment: u64,
+        number: u64,
+    ) -> Result<(), AllocError>
+        requires there { (row : Row Note) × ((part_in self.old stores.now).rows number ≡ Some row)
+            × IsNoted (policies_of self.old) (row_shown (part_in self.old stores.now) row)
+            × (length row.keys ≤ self.old.ledger.places.undecided)
+            × AreThere (part_in self.old stores.now) (self.old.batcher.spans ++ row.keys) }
+        requires quiet { IsAfter (next_due self.old.batcher) moment }
+        requires fits { moment ≤ 2 ^ 62 }
+        requires rules { self.old.batcher.rules ≡ rules_of (section_view self.old.section) }
+        requires pending { self.old.ledger.places.pending ≡ length self.old.batcher.spans }
+        requires room { HasRoom self.old }
+        requires offers { undo.old.offers ≤ length self.old.sender.queue }
+        ensures ok { OnOk result ((row : Row Note) → (part_in self.old stores.now).rows number ≡ Some row →
+            SendsRow moment (waiting_of (row_shown (part_in self.old stores.now) row)) (part_in self.old stores.now)
+            self.old self.new) }
+        ensures gone { OnOk result ((key : ℕ) → count key undo.new.gone.items + count key self.new.batcher.spans ≡
+            count key undo.old.gone.items + (count key self.old.batcher.spans
+            + count key (keys_if (policies_of self.old) ((part_in self.old stores.now).rows number)))) }
+        ensures back { (start : Own) → TakesBack undo.old start self.old → TakesBack undo.new start self.new }
+    {
+        let Some(row) = stores.row(self.tenant, number) else {
+            unreachable!()
+        };
+        let keys = row.keys.as_slice();
+        if row
+            .note
+            .samples(self.section.tail_sampling.policies.as_slice())
+        {
+            return self.group(stores, undo, moment, keys);
+        }
+        self.ledger
+            .move_spans(Place::Undecided, Place::NotSampled, keys.len() as u64);
+        Ok(())
+    }
+
+    /// What is pending is one batch, and is offered.
+    fn send_rest(
+        &mut self,
+        stores: &Stores<TraceNote>,
+        undo: &mut Undo,
+        moment: u64,
+    ) -> Result<(), AllocError>
+        requires pending { self.old.ledger.places.pending ≡ length self.old.batcher.spans }
+        requires room { HasRoom self.old }
+        requires offers { undo.old.offers ≤ length self.old.sender.queue }
+        requires there { AreThere (part_in self.old stores.now) self.old.batcher.spans }
+        ensures ok { OnOk result (SendsRest moment (part_in self.old stores.now) self.old self.new) }
+        ensures gone { OnOk result ((key : ℕ) → count key undo.new.gone.items ≡
+            count key undo.old.gone.items + count key self.old.batcher.spans) }
+        ensures back { (start : Own) → TakesBack undo.old start self.old → TakesBack undo.new start self.new }
+    {
+        let keys = self.batcher.spans();
+        if keys.is_empty() {
+            return Ok(());
+        }
+        let batch = encoded(self.alloc, stores, self.tenant, moment, keys)?;
+        let kept = undo.gone.len();
+        undo.gone.extend_from_slice(keys)?;
+        match self.offer(batch) {
+            Ok(offers) => {
+                undo.offers += offers;
+                Ok(())
+            }
+            Err(refused) => {
+                undo.gone.truncate(kept);
+                Err(refused)
+            }
+        }
+    }
+
+    /// All rows that wait have their verdict, and no keys any more.
+    fn settle_rows(&mut self, stores: &mut Stores<TraceNote>)
+        requires sound { (pending : List ℕ) × IsSound (counts_in self.old) pending [] (part_in self.old stores.old) }
+        requires few { self.old.rows.opened ≤ 2 ^ 62 }
+        ensures own { self.new ≡ record self.old {
+          rows = record self.old.rows { decided = self.old.rows.opened };
+        } }
+        ensures sound { (pending : List ℕ) → IsSound (counts_in self.old) pending [] (part_in self.old stores.old)
+            → IsSound (counts_in self.new) (pending ++ sampled_keys (policies_of self.old)
+            (part_in self.old stores.old).rows (waiting_numbers (counts_in self.old))) []
+            (part_in self.new stores.new) }
+        ensures shows { view (counts_in self.new) [] (part_in self.new stores.new) ≡ (
+            let old = view (counts_in self.old) [] (part_in self.old stores.old) in
+            record {
+              settled = old.settled ++ all_settled (policies_of self.old) old.waiting;
+              waiting = [];
+              pending = [];
+            }) }
+        ensures others { (other : ℕ) → other ≢ self.old.tenant → part other stores.new ≡ part other stores.old }
+    {
+        let mut number = self.rows.decided;
+        while number < self.rows.opened {
+            number += 1;
+            self.settle_row(stores, number);
+        }
+        self.rows.decided = number;
+    }
+
+    /// The row has its verdict: where it is sampled its keys are pending, and else its spans leave.
+    fn settle_row(&self, stores: &mut Stores<TraceNote>, number: u64)
+        requires there { (part_in self.now stores.old).rows number ≢ None }
+        ensures sound { (n : Counts) (pending : List ℕ) → number ≡ n.decided + 1 → number ≤ n.opened
+            → IsSound n pending [] (part_in self.now stores.old)
+            → IsSound (one_decided n) (pending ++ keys_if (policies_of self.now)
+            ((part_in self.now stores.old).rows number)) [] (part_in self.now stores.new) }
+        ensures rows { (part_in self.now stores.new).rows ≡ with_at number
+            (verdict_given (policies_of self.now) ((part_in self.now stores.old).rows number))
+            (part_in self.now stores.old).rows }
+        ensures others { (other : ℕ) → other ≢ self.now.tenant → part other stores.new ≡ part other stores.old }
+    {
+        let Some(row) = stores.row(self.tenant, number) else {
+            unreachable!()
+        };
+        if row
+            .note
+            .samples(self.section.tail_sampling.policies.as_slice())
+        {
+            stores.keep_row(self.tenant, number);
+        } else {
+            stores.drop_row(self.tenant, number);
+        }
+    }
+}

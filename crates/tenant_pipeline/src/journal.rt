@@ -1,0 +1,35 @@
+//! What a post has changed, so that it can be taken back.
+
+ghost use Rattle.std.specs.Prelude.{◌≡◌, ◌≤◌, [], IfOk, vec_capacity};
+ghost use Rattle.tenant_pipeline.specs.Undo.{TakesBack};
+
+use crate::pipeline::Pipeline;
+use crate::undo::Undo;
+use std::alloc::AllocError;
+use tail_policy::TraceNote;
+use tenant_stores::Placed;
+
+/// What a post has changed so far.
+#[derive(Drop)]
+pub struct Journal {
+    /// Of the stores, one entry a span that came.
+    pub placed: Vec<Placed<TraceNote>>,
+    /// Of the tenant's own.
+    pub undo: Undo,
+}
+
+impl Journal {
+    /// Nothing has changed so far. There is room for so many spans.
+    pub(crate) fn of(own: &Pipeline, spans: usize) -> Result<Journal, AllocError>
+        ensures none { IfOk result (λ journal. journal.placed.items ≡ []) }
+        ensures room { IfOk result (λ journal. spans ≤ vec_capacity journal.placed) }
+        ensures gone { IfOk result (λ journal. journal.undo.gone.items ≡ []) }
+        ensures back { IfOk result (λ journal. TakesBack journal.undo own.now own.now) }
+    {
+        let placed = Vec::with_capacity(own.alloc, spans)?;
+        Ok(Journal {
+            placed,
+            undo: Undo::of(own),
+        })
+    }
+}

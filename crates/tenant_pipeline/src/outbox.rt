@@ -1,0 +1,258 @@
+//! Spans that leave their rows become batches that wait to be sent.
+
+ghost use Rattle.std.specs.Prelude.{◌≡◌, ◌<◌, ◌≤◌, ◌+◌, ◌^◌, ◌++◌, ◌∷◌, [], ℕ, map, length, IfOk, OnOk, OnErr};
+ghost use Rattle.drop_ledger.specs.declared.places.Place.TheVariants.{Undecided, Pending};
+ghost use Rattle.send_queue.specs.View.{batch_view};
+ghost use Rattle.span_batcher.specs.State.{next_due, IsAfter};
+ghost use Rattle.span_batcher.specs.Machine.{cuts, added, taken};
+ghost use Rattle.span_batcher.specs.Maps.{spans_of};
+ghost use Rattle.span_batcher.specs.Texts.{spans_in};
+ghost use Rattle.tenant_stores.specs.Part.{part};
+ghost use Rattle.tenant_stores.specs.Counts.{count};
+ghost use Rattle.tenant_stores.specs.View.{spans_at};
+ghost use Rattle.tail_settings.specs.Section.{section_view};
+ghost use Rattle.tenant_rules.specs.Batching.{as_sent, all_sent, rules_of};
+ghost use Rattle.tenant_rules.specs.Sender.{sizes};
+ghost use Rattle.tenant_rules.specs.Timers.{recount, queued, all_queued};
+ghost use Rattle.tenant_pipeline.specs.declared.pipeline.Pipeline.{Pipeline as Own};
+ghost use Rattle.tenant_pipeline.specs.StateIn.{part_in};
+ghost use Rattle.tenant_pipeline.specs.Outbox.{arrivals_at, AreThere, batch_at, Sends, Groups, Took, HasRoom};
+ghost use Rattle.tenant_pipeline.specs.Undo.{TakesBack};
+
+use crate::pipeline::Pipeline;
+use crate::undo::{Undo, take_back_offers};
+use drop_ledger::{Ledger, Place};
+use send_queue::{Batch, OfferFault};
+use span_batcher::{Planned, encode_batch};
+use span_pool::KeyedSpan;
+use std::alloc::{AllocError, Global};
+use std::collections::VecDeque;
+use tail_policy::TraceNote;
+use tenant_stores::Stores;
+
+/// The tenant's spans at these keys, in their order. A key that has none is left out.
+fn spans_by_keys<'a>(
+    alloc: Global,
+    stores: &'a Stores<TraceNote>,
+    tenant: u32,
+    keys: &[usize],
+) -> Result<Vec<&'a KeyedSpan>, AllocError>
+    ensures { IfOk result (λ spans. spans_in stores.now.texts spans.items ≡
+        spans_at (part tenant stores.now).spans (part tenant stores.now).texts keys.now) }
+{
+    let mut spans = Vec::with_capacity(alloc, keys.len())?;
+    for key in keys {
+        let Some(found) = stores.span(tenant, *key) else {
+            continue;
+        };
+        spans.push(found)?;
+    }
+    Ok(spans)
+}
+
+/// A batch of the tenant's spans at these keys, as it is sent. It formed at a moment, in milliseconds.
+pub(crate) fn encoded(
+    alloc: Global,
+    stores: &Stores<TraceNote>,
+    tenant: u32,
+    moment: u64,
+    keys: &[usize],
+) -> Result<Batch, AllocError>
+    ensures { IfOk result (λ batch. batch_view batch ≡
+        as_sent (record { moment = moment; spans = arrivals_at (part tenant stores.now) keys.now })) }
+{
+    let spans = spans_by_keys(alloc, stores, tenant, keys)?;
+    let payload = encode_batch(alloc, stores.texts(), spans.as_slice())?;
+    Ok(Batch {
+        moment,
+        spans: spans.len() as u64,
+        payload,
+    })
+}
+
+/// Batches of the tenant's spans, as they are sent, in their order.
+fn all_encoded(
+    alloc: Global,
+    stores: &Stores<TraceNote>,
+    tenant: u32,
+    batches: &[span_batcher::Batch],
+) -> Result<VecDeque<Batch>, AllocError>
+    ensures { IfOk result (λ all. map batch_view all.items ≡
+        all_sent (map (batch_at (part tenant stores.now)) batches.now)) }
+{
+    let mut all = VecDeque::new(alloc);
+    for batch in batches {
+        let sent = encoded(alloc, stores, tenant, batch.moment(), batch.spans())?;
+        all.push_back(sent)?;
+    }
+    Ok(all)
+}
+
+/// The keys of all spans of these batches, in their order.
+fn keys_of(alloc: Global, batches: &[span_batcher::Batch]) -> Result<Vec<usize>, AllocError>
+    ensures { IfOk result (λ keys. keys.items ≡ spans_of batches.now) }
+{
+    let mut keys = Vec::new(alloc);
+    for batch in batches {
+        keys.extend_from_slice(batch.spans())?;
+    }
+    Ok(keys)
+}
+
+/// What a group of spans will make of the pending ones.
+#[derive(Drop)]
+pub(crate) struct Cut {
+    /// The batches that it fills, by key, and what is pending afterwards.
+    pub planned: Planned,
+    /// The same batches, as they are sent.
+    pub sent: VecDeque<Batch>,
+    /// The keys of their spans.
+    pub gone: Vec<usize>,
+}
+
+impl Pipeline {
+    /// What the spans at these keys, which leave together, will make of the pending ones. Nothing changes yet.
+    fn plan_group(
+        &self,
+        stores: &Stores<TraceNote>,
+        moment: u64,
+        keys: &[usize],
+    ) -> Result<Cut, AllocError>
+        requires some { 0 < length keys.now }
+        requires moment { moment ≤ 2 ^ 62 }
+        requires timer { IsAfter (next_due self.now.batcher) moment }
+        ensures batches { IfOk result (λ cut. cut.planned.batches ≡
+            cuts self.now.batcher.rules moment (self.now.batcher.spans ++ keys.now)) }
+        ensures pending { IfOk result (λ cut.
+            taken cut.planned self.now.batcher ≡ added moment keys.now self.now.batcher) }
+        ensures sent { IfOk result (λ cut. map batch_view cut.sent.items ≡
+            all_sent (map (batch_at (part_in self.now stores.now)) cut.planned.batches)) }
+        ensures gone { IfOk result (λ cut. cut.gone.items ≡ spans_of cut.planned.batches) }
+    {
+        let planned = self.batcher.plan(moment, keys)?;
+        let sent = all_encoded(self.alloc, stores, self.tenant, planned.batches())?;
+        let gone = keys_of(self.alloc, planned.batches())?;
+        Ok(Cut {
+            planned,
+            sent,
+            gone,
+        })
+    }
+
+    /// A batch of pending spans is offered to the queue; where that is full, its spans are dropped. The answer is how
+    /// many the queue took, one or none. Where memory is refused, nothing has changed.
+    pub(crate) fn offer(&mut self, batch: Batch) -> Result<usize, AllocError>
+        requires pending { batch.spans ≤ self.old.ledger.places.pending }
+        ensures ok { OnOk result (Sends (queued (batch_view batch)) self.old self.new) }
+        ensures took { IfOk result (λ offers. Took offers self.old.sender self.new.sender) }
+        ensures few { IfOk result (λ offers. offers ≤ 1) }
+        ensures refused { OnErr result (self.new ≡ self.old) }
+    {
+        let spans = batch.spans;
+        match self.sender.offer(batch) {
+            Ok(()) => {
+                self.ledger.move_spans(Place::Pending, Place::Queued, spans);
+                Ok(1)
+            }
+            Err(OfferFault::Full(_)) => {
+                self.ledger
+                    .move_spans(Place::Pending, Place::QueueFull, spans);
+                Ok(0)
+            }
+            Err(OfferFault::OutOfMemory(_)) => Err(AllocError),
+        }
+    }
+
+    /// Batches of pending spans are offered, one after the other, all or none. The answer is how many the queue took.
+    fn offer_all(&mut self, mut batches: VecDeque<Batch>) -> Result<usize, AllocError>
+        requires pending { sizes (map batch_view batches.items) ≤ self.old.ledger.places.pending }
+        requires room { HasRoom self.old }
+        ensures ok { OnOk result (Sends (all_queued (map batch_view batches.items)) self.old self.new) }
+        ensures took { IfOk result (λ offers. Took offers self.old.sender self.new.sender) }
+        ensures refused { OnErr result (self.new ≡ self.old) }
+    {
+        let before = self.ledger.counters();
+        let mut offers = 0;
+        while let Some(batch) = batches.pop_front() {
+            match self.offer(batch) {
+                Ok(taken) => offers += taken,
+                Err(refused) => {
+                    take_back_offers(&mut self.sender, offers);
+                    self.ledger = Ledger::of(before);
+                    return Err(refused);
+                }
+            }
+        }
+        Ok(offers)
+    }
+
+    /// So many undecided spans become pending, and then batches of pending spans are offered, all or none. The answer
+    /// is how many the queue took.
+    fn offer_group(&mut self, spans: u64, batches: VecDeque<Batch>) -> Result<usize, AllocError>
+        requires undecided { spans ≤ self.old.ledger.places.undecided }
+        requires pending { sizes (map batch_view batches.items) ≤ self.old.ledger.places.pending + spans }
+        requires room { HasRoom self.old }
+        ensures ok { OnOk result (Sends (λ s. all_queued (map batch_view batches.items)
+            (recount Undecided Pending spans s)) self.old self.new) }
+        ensures took { IfOk result (λ offers. Took offers self.old.sender self.new.sender) }
+        ensures refused { OnErr result (self.new ≡ self.old) }
+    {
+        let before = self.ledger.counters();
+        self.ledger
+            .move_spans(Place::Undecided, Place::Pending, spans);
+        let offered = self.offer_all(batches);
+        if offered.is_err() {
+            self.ledger = Ledger::of(before);
+        }
+        offered
+    }
+
+    /// The undecided spans at these keys leave together at a moment, in milliseconds, and wait for a batch. Batches
+    /// that this fills are offered, and the keys of their spans noted as gone. All of it happens, or nothing.
+    pub(crate) fn group(
+        &mut self,
+        stores: &Stores<TraceNote>,
+        undo: &mut Undo,
+        moment: u64,
+        keys: &[usize],
+    ) -> Result<(), AllocError>
+        requires some { 0 < length keys.now }
+        requires moment { moment ≤ 2 ^ 62 }
+        requires timer { IsAfter (next_due self.old.batcher) moment }
+        requires rules { self.old.batcher.rules ≡ rules_of (section_view self.old.section) }
+        requires undecided { length keys.now ≤ self.old.ledger.places.undecided }
+        requires pending { self.old.ledger.places.pending ≡ length self.old.batcher.spans }
+        requires there { AreThere (part_in self.old stores.now) (self.old.batcher.spans ++ keys.now) }
+        requires room { HasRoom self.old }
+        requires offers { undo.old.offers ≤ length self.old.sender.queue }
+        ensures ok { OnOk result (Groups moment keys.now (part_in self.old stores.now) self.old self.new) }
+
+        // Each key is pending or gone, as often as before.
+        ensures gone { OnOk result ((key : ℕ) → count key undo.new.gone.items + count key self.new.batcher.spans ≡
+            count key undo.old.gone.items + (count key self.old.batcher.spans + count key keys.now)) }
+
+        // It can be taken back as before.
+        ensures back { (start : Own) → TakesBack undo.old start self.old → TakesBack undo.new start self.new }
+        ensures refused { OnErr result (self.new ≡ self.old) }
+        ensures refused_gone { OnErr result (undo.new.gone.items ≡ undo.old.gone.items) }
+    {
+        let Cut {
+            mut planned,
+            sent,
+            mut gone,
+        } = self.plan_group(stores, moment, keys)?;
+        let kept = undo.gone.len();
+        undo.gone.append(&mut gone)?;
+        match self.offer_group(keys.len() as u64, sent) {
+            Ok(offers) => {
+                self.batcher.exchange(&mut planned);
+                undo.note(planned, offers);
+                Ok(())
+            }
+            Err(refused) => {
+                undo.gone.truncate(kept);
+                Err(refused)
+            }
+        }
+    }
+}

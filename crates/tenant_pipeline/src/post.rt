@@ -1,0 +1,249 @@
+//! The spans of a body come, all of them or none.
+
+ghost use Rattle.std.specs.Prelude.{◌≡◌, ◌≢◌, ◌<◌, ◌≤◌, ◌+◌, ◌-◌, ◌++◌, [], ◌^◌, ℕ, List, IfOk, OnOk, OnErr, length, map};
+ghost use Rattle.drop_ledger.specs.Ledger.{counted, most_counted};
+ghost use Rattle.span_batcher.specs.State.{next_due, IsAfter};
+ghost use Rattle.span_pool.specs.Keyed.{origin_at};
+ghost use Rattle.tail_policy.specs.declared.note.TraceNote.{TraceNote as Note};
+ghost use Rattle.tenant_stores.specs.Part.{Part, part};
+ghost use Rattle.tenant_stores.specs.Counts.{Counts};
+ghost use Rattle.tenant_stores.specs.Sound.{IsSound};
+ghost use Rattle.tenant_stores.specs.View.{view, text_at};
+ghost use Rattle.tenant_stores.specs.Trail.{HoldsAll};
+ghost use Rattle.tenant_rules.specs.Answers.{reply_of};
+ghost use Rattle.tenant_rules.specs.Intake.{verdict_of};
+ghost use Rattle.tenant_rules.specs.Machine.{post, post_verdict};
+ghost use Rattle.tenant_pipeline.specs.declared.pipeline.Pipeline.{Pipeline as Own};
+ghost use Rattle.tenant_stores.specs.Shows.{AreAmong};
+ghost use Rattle.otlp_prepare.specs.Arrivals.{origin_view};
+ghost use Rattle.tenant_pipeline.specs.Prepared.{arrivals_of};
+ghost use Rattle.tenant_pipeline.specs.StateIn.{part_in, policies_of, state_in};
+ghost use Rattle.tenant_pipeline.specs.Held.{IsHeldAt, IsSwept};
+ghost use Rattle.tenant_pipeline.specs.Posts.{all_text_keys, arrivals_at, AreComing, IsPosting, IsTaken, IsWritten, IsSameTenant, verdict_after};
+ghost use Rattle.tenant_pipeline.specs.Acts.{ActsAt, IsPosted, at};
+
+use crate::journal::Journal;
+use crate::pipeline::Pipeline;
+use crate::reply::{refusal, success};
+use otlp_prepare::{NotedSpan, Origin, Prepared};
+use span_pool::TextKeys;
+use std::alloc::{AllocError, Global};
+use tail_policy::TraceNote;
+use tenant_rules::Reply;
+use tenant_stores::Stores;
+
+/// One use of the texts of each origin. The answer is their keys, an origin's at its index. All or none.
+fn hold_origins(
+    alloc: Global,
+    stores: &mut Stores<TraceNote>,
+    tenant: u32,
+    origins: &[Origin],
+) -> Result<Vec<TextKeys>, AllocError>
+    ensures own { IfOk result (λ all. (n : Counts) (pending held : List ℕ)
+        → IsSound n pending held (part tenant stores.old)
+        → HoldsAll (all_text_keys all.items) (part tenant stores.old) (part tenant stores.new)) }
+    ensures sound { IfOk result (λ all. (n : Counts) (pending held : List ℕ)
+        → IsSound n pending held (part tenant stores.old)
+        → IsSound n pending (all_text_keys all.items ++ held) (part tenant stores.new)) }
+    ensures origins { IfOk result (λ all. (n : Counts) (pending held : List ℕ)
+        → IsSound n pending held (part tenant stores.old)
+        → map (origin_at (text_at (part tenant stores.new).texts)) all.items ≡ map origin_view origins.now) }
+    ensures shows { OnOk result ((n : Counts) (pending held shown : List ℕ)
+        → IsSound n pending held (part tenant stores.old) → AreAmong shown pending
+        → view n shown (part tenant stores.new) ≡ view n shown (part tenant stores.old)) }
+    ensures others { (other : ℕ) → other ≢ tenant → part other stores.new ≡ part other stores.old }
+    ensures refused { OnErr result ((n : Counts) (pending held : List ℕ)
+        → IsSound n pending held (part tenant stores.old) → part tenant stores.new ≡ part tenant stores.old) }
+{
+    let mut all = Vec::with_capacity(alloc, origins.len())?;
+    for origin in origins {
+        match stores.hold_all(
+            tenant,
+            origin.resource.as_ref(),
+            origin.resource_schema_url.as_ref(),
+            origin.scope.as_ref(),
+            origin.scope_schema_url.as_ref(),
+        ) {
+            Ok(keys) => all.push_reserved(keys),
+            Err(refused) => {
+                release_origins(stores, tenant, all);
+                return Err(refused);
+            }
+        }
+    }
+    Ok(all)
+}
+
+/// One use less of the texts of each origin. It takes no memory.
+fn release_origins(stores: &mut Stores<TraceNote>, tenant: u32, all: Vec<TextKeys>)
+    ensures own { (start : Part Note) → HoldsAll (all_text_keys all.items) start (part tenant stores.old)
+        → part tenant stores.new ≡ start }
+    ensures sound { (n : Counts) (pending held : List ℕ)
+        → IsSound n pending (all_text_keys all.items ++ held) (part tenant stores.old)
+        → IsSound n pending held (part tenant stores.new) }
+    ensures shows { (n : Counts) (pending held shown : List ℕ)
+        → IsSound n pending (all_text_keys all.items ++ held) (part tenant stores.old) → AreAmong shown pending
+        → view n shown (part tenant stores.new) ≡ view n shown (part tenant stores.old) }
+    ensures others { (other : ℕ) → other ≢ tenant → part other stores.new ≡ part other stores.old }
+{
+    let mut left = all;
+    while let Some(keys) = left.pop() {
+        stores.release_all(tenant, keys);
+    }
+}
+
+impl Pipeline {
+    /// A body comes at a moment, in milliseconds, by which no timer is due. Where memory is refused, nothing has
+    /// changed.
+    pub(crate) fn take_post(
+        &mut self,
+        stores: &mut Stores<TraceNote>,
+        moment: u64,
+        prepared: &Prepared<'_>,
+    ) -> Result<Reply, AllocError>
+        requires holds { IsHeldAt moment [] [] self.old (part_in self.old stores.old) }
+        requires quiet { IsAfter (next_due self.old.batcher) moment }
+        requires policies { prepared.now.policies ≡ policies_of self.old }
+        ensures ok { OnOk result (ActsAt moment (post moment (arrivals_of prepared.now))
+            (state_in self.old stores.old) (state_in self.new stores.new)) }
+        ensures told { IfOk result (λ reply. reply ≡
+            reply_of (post_verdict moment (arrivals_of prepared.now) (at moment (state_in self.old stores.old)))) }
+        ensures holds { OnOk result (IsHeldAt moment [] [] self.new (part_in self.new stores.new)) }
+        ensures others { (other : ℕ) → other ≢ self.old.tenant → part other stores.new ≡ part other stores.old }
+        ensures refused { OnErr result (self.new ≡ self.old) }
+        ensures refused_part { OnErr result (part self.old.tenant stores.new ≡ part self.old.tenant stores.old) }
+        ensures swept { IsSwept self.old → IsSwept self.new }
+        ensures same { IsSameTenant self.old self.new }
+    {
+        if self.drained {
+            return refusal(self.alloc, 503, "shutting down");
+        }
+        let (origins, spans) = prepared.parts();
+        let invalid = prepared.invalid();
+        if !self
+            .ledger
+            .fits((spans.len() as u64).saturating_add(invalid))
+        {
+            return refusal(self.alloc, 503, "counter limit");
+        }
+        let keys = hold_origins(self.alloc, stores, self.tenant, origins)?;
+        let reply = self.take_spans(stores, moment, keys.as_slice(), spans, invalid);
+        release_origins(stores, self.tenant, keys);
+        reply
+    }
+
+    /// The spans of a body come, with the texts of their origins held at these keys. Where memory is refused, nothing
+    /// has changed.
+    fn take_spans(
+        &mut self,
+        stores: &mut Stores<TraceNote>,
+        moment: u64,
+        keys: &[TextKeys],
+        spans: &[NotedSpan],
+        invalid: u64,
+    ) -> Result<Reply, AllocError>
+        requires holds { IsHeldAt moment [] (all_text_keys keys.now) self.old (part_in self.old stores.old) }
+        requires quiet { IsAfter (next_due self.old.batcher) moment }
+        requires ready { AreComing keys.now spans.now self.old (part_in self.old stores.old) }
+        requires fits { counted self.old.ledger + (length spans.now + invalid) ≤ most_counted }
+        ensures ok { OnOk result (IsTaken (arrivals_at (part_in self.old stores.old) keys.now spans.now) invalid moment
+            (state_in self.old stores.old) (state_in self.new stores.new)) }
+        ensures told { IfOk result (λ reply. reply ≡ reply_of (verdict_after
+            (arrivals_at (part_in self.old stores.old) keys.now spans.now) invalid moment
+            (state_in self.old stores.old))) }
+        ensures holds { OnOk result (IsHeldAt moment [] (all_text_keys keys.now) self.new
+            (part_in self.new stores.new)) }
+        ensures others { (other : ℕ) → other ≢ self.old.tenant → part other stores.new ≡ part other stores.old }
+        ensures refused { OnErr result (self.new ≡ self.old) }
+        ensures refused_part { OnErr result (part self.old.tenant stores.new ≡ part self.old.tenant stores.old) }
+        ensures swept { OnOk result (IsSwept self.new) }
+        ensures same { IsSameTenant self.old self.new }
+    {
+        let mut journal = Journal::of(self, spans.len())?;
+        match self.place_all(stores, &mut journal, moment, keys, spans, invalid) {
+            Ok(reply) => {
+                stores.flush(self.tenant, journal.undo.gone.as_slice());
+                self.sweep(stores);
+                Ok(reply)
+            }
+            Err(refused) => {
+                stores.take_all_back(self.tenant, &mut journal.placed);
+                self.take_back(journal.undo);
+                Err(refused)
+            }
+        }
+    }
+
+    /// The spans of a body come, one after the other, and the reply says how many were left out.
+    fn place_all(
+        &mut self,
+        stores: &mut Stores<TraceNote>,
+        journal: &mut Journal,
+        moment: u64,
+        keys: &[TextKeys],
+        spans: &[NotedSpan],
+        invalid: u64,
+    ) -> Result<Reply, AllocError>
+        requires posting { IsPosting moment journal.old (all_text_keys keys.now) self.old
+            (part_in self.old stores.old) }
+        requires ready { AreComing keys.now spans.now self.old (part_in self.old stores.old) }
+        requires fits { counted self.old.ledger + (length spans.now + invalid) ≤ most_counted }
+        ensures ok { OnOk result (IsTaken (arrivals_at (part_in self.old stores.old) keys.now spans.now) invalid moment
+            (state_in self.old stores.old) (state_in self.new stores.new)) }
+        ensures told { IfOk result (λ reply. reply ≡ reply_of (verdict_after
+            (arrivals_at (part_in self.old stores.old) keys.now spans.now) invalid moment
+            (state_in self.old stores.old))) }
+        ensures posting { OnOk result (IsPosting moment journal.new (all_text_keys keys.now) self.new
+            (part_in self.new stores.new)) }
+        ensures written { (start : Own) (first : Part Note)
+            → IsWritten journal.old start self.old first (part_in self.old stores.old)
+            → IsWritten journal.new start self.new first (part_in self.new stores.new) }
+        ensures others { (other : ℕ) → other ≢ self.old.tenant → part other stores.new ≡ part other stores.old }
+        ensures same { IsSameTenant self.old self.new }
+    {
+        let before = self.ledger.accepted();
+        for span in spans {
+            self.place(stores, journal, moment, keys[span.origin], span)?;
+        }
+        let taken = self.ledger.accepted() - before;
+        let reply = self.reply(spans.len() as u64, taken, invalid)?;
+        Ok(reply)
+    }
+
+    /// The reply to a body with so many valid spans, of which so many were taken, and so many others. What was left out
+    /// is counted. Where memory is refused, nothing has changed.
+    fn reply(&mut self, valid: u64, taken: u64, invalid: u64) -> Result<Reply, AllocError>
+        requires fits { counted self.old.ledger + (invalid + (valid - taken)) ≤ most_counted }
+        requires within { taken ≤ valid }
+        ensures told { (before : ℕ) → IfOk result (λ reply. reply ≡
+            reply_of (verdict_of (valid + invalid) valid before (before + taken))) }
+        ensures ok { OnOk result (IsPosted (verdict_of (valid + invalid) valid 0 taken) self.old self.new) }
+        ensures refused { OnErr result (self.new ≡ self.old) }
+    {
+        if taken == 0 && valid > 0 {
+            return refusal(self.alloc, 429, "span budget exhausted");
+        }
+        let reply = success(self.alloc, invalid, valid - taken)?;
+        self.ledger.leave_out(invalid, valid - taken);
+        Ok(reply)
+    }
+
+    /// Rows that are no longer present leave the table, with their spans. It takes no memory.
+    fn sweep(&mut self, stores: &mut Stores<TraceNote>)
+        requires { (reached : ℕ) × (held : List ℕ)
+            × IsHeldAt reached [] held self.old (part_in self.old stores.old) }
+        ensures state { state_in self.new stores.new ≡ state_in self.old stores.old }
+        ensures holds { (reached : ℕ) (held : List ℕ)
+            → IsHeldAt reached [] held self.old (part_in self.old stores.old)
+            → IsHeldAt reached [] held self.new (part_in self.new stores.new) }
+        ensures others { (other : ℕ) → other ≢ self.old.tenant → part other stores.new ≡ part other stores.old }
+        ensures swept { IsSwept self.new }
+        ensures same { IsSameTenant self.old self.new }
+    {
+        while self.rows.swept < self.rows.first {
+            let number = self.rows.swept + 1;
+            stores.sweep(self.tenant, number);
+            self.rows.swept = number;
+        }
+    }
+}

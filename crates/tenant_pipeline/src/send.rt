@@ -1,0 +1,86 @@
+//! What workers, back ends and reports are told, and what they change.
+
+ghost use Rattle.std.specs.Prelude.{◌≡◌, ◌≤◌, ◌^◌, IfOk, OnOk, OnErr};
+ghost use Rattle.drop_ledger.specs.Report.{report_text};
+ghost use Rattle.send_retry.specs.Class.{answer_view};
+ghost use Rattle.send_queue.specs.Sender.{in_flight};
+ghost use Rattle.tenant_rules.specs.Answers.{turn_told, heard};
+ghost use Rattle.tenant_rules.specs.Machine.{turned, settled, all_moved};
+ghost use Rattle.tenant_rules.specs.Sender.{sizes, active_sizes};
+ghost use Rattle.tenant_rules.specs.Sending.{ended_by};
+ghost use Rattle.tenant_rules.specs.declared.told.Told.TheVariants as tell;
+ghost use Rattle.tenant_pipeline.specs.Outbox.{Sends, spans_ended};
+
+use crate::pipeline::Pipeline;
+use drop_ledger::Place;
+use otlp_trace::Octets;
+use send_queue::{SettleFault, Settled};
+use send_retry::Answer;
+use std::alloc::AllocError;
+use tenant_rules::Told;
+
+impl Pipeline {
+    /// Hands out the job whose turn it is at a moment, in milliseconds, where there is one.
+    pub(crate) fn hand_out(&mut self, moment: u64) -> Result<Told, AllocError>
+        requires queued { sizes self.old.sender.queue ≡ self.old.ledger.places.queued }
+        ensures told { IfOk result (λ told. told ≡ turn_told moment self.old.sender) }
+        ensures ok { OnOk result (Sends (turned moment) self.old self.new) }
+        ensures refused { OnErr result (self.new ≡ self.old) }
+    {
+        let leaving = self.sender.leaving(moment);
+        let Some((ticket, payload)) = self.sender.take_job(moment)? else {
+            return Ok(Told::Worked);
+        };
+        self.ledger
+            .move_spans(Place::Queued, Place::Active, leaving);
+        Ok(Told::Job { ticket, payload })
+    }
+
+    /// The batch in flight under a ticket was answered at a moment, in milliseconds. It takes no memory.
+    pub(crate) fn settle(&mut self, moment: u64, ticket: u64, word: u32, answer: &Answer) -> Told
+        requires fits { moment ≤ 2 ^ 62 }
+        requires active { active_sizes self.old.sender.active ≡ self.old.ledger.places.active }
+        ensures told { result ≡ heard (in_flight ticket self.old.sender) }
+        ensures sends { Sends (settled ticket moment word (answer_view answer.now)) self.old self.new }
+    {
+        match self.sender.settle(ticket, moment, word, answer) {
+            Ok(settled) => {
+                self.end(settled);
+                Told::Done
+            }
+            Err(SettleFault::UnknownTicket) => Told::UnknownTicket,
+        }
+    }
+
+    /// The spans of an active batch end, by what became of it.
+    fn end(&mut self, settled: Settled)
+        requires active { spans_ended settled ≤ self.old.ledger.places.active }
+        ensures { self.new ≡ record self.old { ledger = all_moved (ended_by settled) self.old.ledger } }
+    {
+        match settled {
+            Settled::Taken { exported, rejected } => {
+                self.ledger
+                    .move_spans(Place::Active, Place::BackEndRejected, rejected);
+                self.ledger
+                    .move_spans(Place::Active, Place::Exported, exported);
+            }
+            Settled::Waits { .. } => {}
+            Settled::Refused { spans } => {
+                self.ledger
+                    .move_spans(Place::Active, Place::BackEndRefused, spans);
+            }
+            Settled::Exhausted { spans } => {
+                self.ledger
+                    .move_spans(Place::Active, Place::RetryExhausted, spans);
+            }
+        }
+    }
+
+    /// What a report tells.
+    pub(crate) fn report_told(&self) -> Result<Told, AllocError>
+        ensures { IfOk result (λ told. told ≡ tell.Report (report_text self.now.ledger)) }
+    {
+        let text = self.ledger.report_text(self.alloc)?;
+        Ok(Told::Report(Octets::from_vec(text.into_bytes())))
+    }
+}

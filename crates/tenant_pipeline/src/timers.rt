@@ -1,0 +1,194 @@
+//! A tenant's due timers, which run one at a time: the batch timer, and the decisions of rows.
+
+ghost use Rattle.std.specs.Prelude.{◌≡◌, ◌≢◌, ◌<◌, ◌≤◌, ◌+◌, ◌^◌, ℕ, [], true, false, Some, OnOk, OnErr};
+ghost use Rattle.span_batcher.specs.State.{next_due};
+ghost use Rattle.span_batcher.specs.Timers.{is_due};
+ghost use Rattle.tenant_stores.specs.Part.{part};
+ghost use Rattle.tenant_rules.specs.Timers.{first_due, next_timer, is_batch, flushed, decide, one_run, ran, enough, IsFront};
+ghost use Rattle.tenant_pipeline.specs.StateIn.{part_in, state_in};
+ghost use Rattle.tenant_pipeline.specs.Held.{IsHeld, IsHeldAt, IsSwept};
+
+use crate::outbox::encoded;
+use crate::pipeline::{Pipeline, lesser};
+use crate::undo::Undo;
+use drop_ledger::Place;
+use std::alloc::AllocError;
+use tail_policy::TraceNote;
+use tenant_stores::Stores;
+
+/// Whether the batch timer is the first of these two.
+fn is_batch(batch: Option<u64>, decision: Option<u64>) -> bool
+    ensures { result ≡ is_batch batch decision }
+{
+    match (batch, decision) {
+        (None, _) => false,
+        (Some(_), None) => true,
+        (Some(batch), Some(decision)) => batch <= decision,
+    }
+}
+
+/// Whether a timer is due by the moment.
+fn is_due(timer: Option<u64>, moment: u64) -> bool
+    ensures { result ≡ is_due timer moment }
+{
+    match timer {
+        None => false,
+        Some(due) => due <= moment,
+    }
+}
+
+impl Pipeline {
+    /// When the first row that waits is due, in milliseconds.
+    fn first_due(&self, stores: &Stores<TraceNote>) -> Option<u64>
+        requires held { IsHeld self.now stores.now }
+        ensures { result ≡ first_due (state_in self.now stores.now).waiting }
+    {
+        if self.rows.decided >= self.rows.opened {
+            return None;
+        }
+        let Some(row) = stores.row(self.tenant, self.rows.decided + 1) else {
+            unreachable!()
+        };
+        Some(row.due)
+    }
+
+    /// When the first timer is due, in milliseconds.
+    pub(crate) fn next_timer(&self, stores: &Stores<TraceNote>) -> Option<u64>
+        requires held { IsHeld self.now stores.now }
+        ensures { result ≡ next_timer (state_in self.now stores.now) }
+    {
+        lesser(self.batcher.next_due(), self.first_due(stores))
+    }
+
+    /// The batch timer runs out: all that is pending is one batch.
+    fn flush(&mut self, stores: &mut Stores<TraceNote>) -> Result<(), AllocError>
+        requires held { IsHeld self.old stores.old }
+        requires first { is_batch (next_due self.old.batcher) (first_due (state_in self.old stores.old).waiting)
+            ≡ true }
+        requires fits { (due : ℕ) → next_due self.old.batcher ≡ Some due → due ≤ 2 ^ 62 }
+        ensures ok { OnOk result (state_in self.new stores.new ≡
+            flushed (next_due (state_in self.old stores.old).pending) (state_in self.old stores.old)) }
+        ensures held { IsHeld self.new stores.new }
+        ensures others { (other : ℕ) → other ≢ self.old.tenant → part other stores.new ≡ part other stores.old }
+        ensures refused { OnErr result (state_in self.new stores.new ≡ state_in self.old stores.old) }
+        ensures tenant { self.new.tenant ≡ self.old.tenant }
+        ensures section { self.new.section ≡ self.old.section }
+        ensures swept { IsSwept self.old → IsSwept self.new }
+        ensures clock { (moment : ℕ) → self.old.clock ≤ moment
+            → ((due : ℕ) → next_due self.old.batcher ≡ Some due → due ≤ moment) → self.new.clock ≤ moment }
+    {
+        let Some(due) = self.batcher.next_due() else {
+            return Ok(());
+        };
+        let tenant = self.tenant;
+        let batch = encoded(self.alloc, stores, tenant, due, self.batcher.spans())?;
+        self.offer(batch)?;
+        let fired = self.batcher.fire();
+        stores.flush(tenant, fired.spans());
+        self.clock = due;
+        Ok(())
+    }
+
+    /// The row of this number has its verdict, by a moment.
+    fn pass(&mut self, number: u64, moment: u64)
+        ensures { self.new ≡ record self.old { rows = record self.old.rows { decided = number }; clock = moment } }
+    {
+        self.rows.decided = number;
+        self.clock = moment;
+    }
+
+    /// The first row that waits is decided: its spans wait for a batch where it is sampled, and else they leave.
+    fn decide(&mut self, stores: &mut Stores<TraceNote>) -> Result<(), AllocError>
+        requires held { IsHeld self.old stores.old }
+        requires some { self.old.rows.decided < self.old.rows.opened }
+        requires first { is_batch (next_due self.old.batcher) (first_due (state_in self.old stores.old).waiting)
+            ≡ false }
+        requires fits { (due : ℕ) → first_due (state_in self.old stores.old).waiting ≡ Some due → due ≤ 2 ^ 62 }
+        ensures ok { OnOk result (state_in self.new stores.new ≡
+            decide (state_in self.old stores.old).waiting (state_in self.old stores.old)) }
+        ensures held { IsHeld self.new stores.new }
+        ensures others { (other : ℕ) → other ≢ self.old.tenant → part other stores.new ≡ part other stores.old }
+        ensures refused { OnErr result (state_in self.new stores.new ≡ state_in self.old stores.old) }
+        ensures tenant { self.new.tenant ≡ self.old.tenant }
+        ensures section { self.new.section ≡ self.old.section }
+        ensures swept { IsSwept self.old → IsSwept self.new }
+        ensures clock { (moment : ℕ) → self.old.clock ≤ moment
+            → ((due : ℕ) → first_due (state_in self.old stores.old).waiting ≡ Some due → due ≤ moment)
+            → self.new.clock ≤ moment }
+    {
+        let tenant = self.tenant;
+        let number = self.rows.decided + 1;
+        let Some(row) = stores.row(tenant, number) else {
+            unreachable!()
+        };
+        let due = row.due;
+        let policies = self.section.tail_sampling.policies.as_slice();
+        if row.note.samples(policies) {
+            let mut undo = Undo::of(self);
+            let keys = row.keys.as_slice();
+            self.group(stores, &mut undo, due, keys)?;
+            stores.keep_row(tenant, number);
+            let gone = undo.gone.as_slice();
+            stores.flush(tenant, gone);
+            self.pass(number, due);
+            return Ok(());
+        }
+        let spans = stores.drop_row(tenant, number);
+        self.ledger
+            .move_spans(Place::Undecided, Place::NotSampled, spans as u64);
+        self.pass(number, due);
+        Ok(())
+    }
+
+    /// The first timer runs.
+    fn run_one(&mut self, stores: &mut Stores<TraceNote>, moment: u64) -> Result<(), AllocError>
+        requires held { IsHeld self.old stores.old }
+        requires due { is_due (next_timer (state_in self.old stores.old)) moment ≡ true }
+        requires fits { moment ≤ 2 ^ 62 }
+        ensures ok { OnOk result (state_in self.new stores.new ≡ one_run (state_in self.old stores.old)) }
+        ensures held { IsHeld self.new stores.new }
+        ensures others { (other : ℕ) → other ≢ self.old.tenant → part other stores.new ≡ part other stores.old }
+        ensures refused { OnErr result (state_in self.new stores.new ≡ state_in self.old stores.old) }
+        ensures tenant { self.new.tenant ≡ self.old.tenant }
+        ensures section { self.new.section ≡ self.old.section }
+        ensures swept { IsSwept self.old → IsSwept self.new }
+        ensures clock { self.old.clock ≤ moment → self.new.clock ≤ moment }
+    {
+        if is_batch(self.batcher.next_due(), self.first_due(stores)) {
+            self.flush(stores)
+        } else {
+            self.decide(stores)
+        }
+    }
+
+    /// The timers that are due by the moment, in milliseconds, run. Where one is refused memory, those before it have
+    /// run.
+    pub(crate) fn run_due(
+        &mut self,
+        stores: &mut Stores<TraceNote>,
+        moment: u64,
+    ) -> Result<(), AllocError>
+        requires held { IsHeld self.old stores.old }
+        requires later { self.old.clock ≤ moment }
+        requires fits { moment ≤ 2 ^ 62 }
+
+        // All of them have run, or some first ones.
+        ensures ok { OnOk result (state_in self.new stores.new ≡
+            ran (enough (state_in self.old stores.old)) moment (state_in self.old stores.old)) }
+        ensures front { IsFront moment (state_in self.old stores.old) (state_in self.new stores.new) }
+        ensures quiet { OnOk result (is_due (next_timer (state_in self.new stores.new)) moment ≡ false) }
+
+        // What always holds goes on to hold, up to the moment where all have run.
+        ensures held { IsHeld self.new stores.new }
+        ensures reached { OnOk result (IsHeldAt moment [] [] self.new (part_in self.new stores.new)) }
+        ensures others { (other : ℕ) → other ≢ self.old.tenant → part other stores.new ≡ part other stores.old }
+        ensures tenant { self.new.tenant ≡ self.old.tenant }
+        ensures section { self.new.section ≡ self.old.section }
+        ensures swept { IsSwept self.old → IsSwept self.new }
+    {
+        while is_due(self.next_timer(stores), moment) {
+            self.run_one(stores, moment)?;
+        }
+        Ok(())
+    }
+}
