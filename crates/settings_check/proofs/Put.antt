@@ -1,0 +1,23 @@
+-- What an insert into the map of a table does to its members, and one more value of an array.
+use Rattle.std.proofs.Common.{◌≡◌, List, [], ◌∷◌, String, Global, Ordering, Less, Equal, Greater, string_bytes, refl, ap}
+use Rattle.std.specs.BTreeMap.{insert_entry}
+use Rattle.std.specs.Ordering.{match_ordering}
+use Rattle.std.specs.String.{string_cmp}
+use Rattle.toml.specs.Data.{member}
+use Rattle.toml.specs.View.{view, members_view}
+use Rattle.toml.specs.declared.value.Value.{Value}
+use Rattle.settings_check.specs.Put.{put_member}
+
+put_at : (o : Ordering) (k : String Global) (v : Value) (e : String Global × Value) (es : List (String Global × Value))
+    → members_view (insert_entry string_cmp es k v) ≡ put_member (string_bytes k) (view v) (members_view es)
+    → members_view (match_ordering o ((k, v) ∷ e ∷ es) ((e.0, v) ∷ es) (e ∷ insert_entry string_cmp es k v))
+    ≡ match_ordering o (member (string_bytes k) (view v) (members_view (e ∷ es))) (member (string_bytes e.0) (view v) (members_view es))
+    (member (string_bytes e.0) (view e.1) (put_member (string_bytes k) (view v) (members_view es)))
+put_at Less k v e es ih = refl
+put_at Equal k v e es ih = refl
+put_at Greater k v e es ih = ap (member (string_bytes e.0) (view e.1)) ih
+
+pub members_view-insert : (k : String Global) (v : Value) (es : List (String Global × Value))
+    → members_view (insert_entry string_cmp es k v) ≡ put_member (string_bytes k) (view v) (members_view es)
+members_view-insert k v [] = refl
+members_view-insert k v (e ∷ es) = put_at (string_cmp k e.0) k v e es (members_view-insert k v es)

@@ -1,0 +1,10 @@
+pub mod Table
+pub mod Shown
+pub mod Unknown
+pub mod Warning
+pub mod Put
+pub mod Document
+pub mod Told
+pub mod Place
+pub mod Report
+pub mod Law
