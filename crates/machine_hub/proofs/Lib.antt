@@ -1,0 +1,4 @@
+mod Lists
+mod Opens
+mod Closing
+mod Steps

@@ -1,0 +1,63 @@
+-- A caller's call at one shard of a hub.
+use Rattle.std.proofs.Common.{◌≡◌, ℕ, ◌<◌, List, length, get_or, set, Bool, Option, Some, None, sym, ap, ◌∙◌, subst, arith}
+use Rattle.std.specs.Prelude.{Result, Ok, Err, OnErr, option_map, slice_get}
+use Rattle.atomic_table.specs.Seated.{TableId}
+use Rattle.shared_machine.specs.declared.entry.Entry.{Entry}
+use Rattle.shared_machine.specs.Seats.{SeatState, seat_after, seat_refused, IsAbove, WasMade, WasTold}
+use Rattle.machine_hub.specs.declared.receipt.Receipt.{Receipt}
+use Rattle.machine_hub.specs.Hub.{receipt_at, slots_of, IsRefusedOn, IsCallOn, IsToldOn}
+use Rattle.machine_hub.proofs.Lists.{get_is, map_at, map_long, map_set}
+
+pub on_err : {A E : Type 0} (r : Result A E) (P : Type 0) → P → OnErr r P
+on_err (Ok a) P p = tt
+on_err (Err e) P p = p
+
+-- the receipt by the entry and by what holds it
+pub receipt_by : {S O P : Type 0} (value : P → Entry S O) (k : ℕ) (given : Option (ℕ × P)) (receipt : Option Receipt) → receipt ≡ option_map (λ g. receipt_at k g.0) given
+    → receipt ≡ option_map (λ (g : ℕ × Entry S O). receipt_at k g.0) (option_map (λ g. (g.0, value g.1)) given)
+receipt_by value k None receipt is = is
+receipt_by value k (Some g) receipt is = is
+
+module _ {M S O : Type 0} where
+  abbrev slot_in : SeatState M S O → TableId
+  slot_in s = s.slot
+
+  -- the seat at a shard, and its slot
+  pub seat_at : (ss me : List (SeatState M S O)) (self : List TableId) (k : ℕ) (s : SeatState M S O) → ss ≡ me → slots_of me ≡ self → k < length self → s ≡ get_or ss k s → slice_get ss k ≡ Some s
+  seat_at ss me self k s is e lt got = get_is ss k s (omega (arith, lt, ap length is, map_long slot_in me self e)) got
+
+  pub same_slot : (ss me : List (SeatState M S O)) (self ts : List TableId) (k : ℕ) (s : SeatState M S O) (t : TableId) → ss ≡ me → ts ≡ self → slots_of me ≡ self → k < length self → s ≡ get_or ss k s → t ≡ get_or ts k t → s.slot ≡ t
+  same_slot ss me self ts k s t is at e lt got got' =
+      map_at slot_in ss ts k s t (ap slots_of is ∙ e ∙ sym at) (seat_at ss me self k s is e lt got) got'
+
+  pub still_mine : (ss me : List (SeatState M S O)) (self : List TableId) (k : ℕ) (s w : SeatState M S O) → ss ≡ me → slots_of me ≡ self → k < length self → s ≡ get_or ss k s → w.slot ≡ s.slot → slots_of (set ss k w) ≡ self
+  still_mine ss me self k s w is e lt got same = map_set slot_in ss k s w (seat_at ss me self k s is e lt got) same ∙ ap slots_of is ∙ e
+
+  pub slot_after : (s w : SeatState M S O) (given : Option (ℕ × Entry S O)) → w ≡ seat_after s given → w.slot ≡ s.slot
+  slot_after s w None is = ap slot_in is
+  slot_after s w (Some given) is = ap slot_in is
+
+  pub slot_refused : (s w : SeatState M S O) → w ≡ seat_refused s → w.slot ≡ s.slot
+  slot_refused s w is = ap slot_in is
+
+  pub refused_on : (ss me : List (SeatState M S O)) (self : List TableId) (k : ℕ) (s w : SeatState M S O) → ss ≡ me → slots_of me ≡ self → k < length self → s ≡ get_or ss k s → w ≡ seat_refused s → IsRefusedOn me (set ss k w) k
+  refused_on ss me self k s w is e lt got w_is =
+      (s, subst (λ l. slice_get l k ≡ Some s) is (seat_at ss me self k s is e lt got), (λ i. set (is i) k (w_is i)))
+
+module _ {M S O : Type 0} (steps : M → S → O → M → Type 0) where
+  pub call_on : {C : Type 0} (asks : C → S → Type 0) (ss me : List (SeatState M S O)) (self : List TableId) (k : ℕ) (s w : SeatState M S O) (call : C) (outcome : O) (given : Option (ℕ × Entry S O)) (receipt : Option Receipt)
+      → ss ≡ me → slots_of me ≡ self → k < length self → s ≡ get_or ss k s → WasMade asks steps s call outcome given → IsAbove s given → w ≡ seat_after s given → receipt ≡ option_map (λ g. receipt_at k g.0) given
+      → IsCallOn asks steps me (set ss k w) k call outcome receipt
+  call_on asks ss me self k s w call outcome given receipt is e lt got made above after receipt_is = record {
+    seat = s;
+    given = given;
+    at = subst (λ l. slice_get l k ≡ Some s) is (seat_at ss me self k s is e lt got);
+    made = made;
+    above = above;
+    after = (λ i. set (is i) k (after i));
+    receipt_is = receipt_is;
+  }
+
+  pub told_on : {Q : Type 0} (is_so : M → Q → Bool) (ss me : List (SeatState M S O)) (self : List TableId) (k : ℕ) (s : SeatState M S O) (question : Q) (answer : Bool)
+      → ss ≡ me → slots_of me ≡ self → k < length self → s ≡ get_or ss k s → WasTold steps is_so s question answer → IsToldOn steps is_so me k question answer
+  told_on is_so ss me self k s question answer is e lt got told = (s, subst (λ l. slice_get l k ≡ Some s) is (seat_at ss me self k s is e lt got), told)

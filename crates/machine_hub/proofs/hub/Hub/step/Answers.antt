@@ -1,0 +1,21 @@
+use Rattle.std.specs.Prelude.{option_map}
+use Rattle.std.specs.Arc.{arc_value}
+use Rattle.machine_hub.proofs.Steps.{on_err, receipt_by, still_mine, slot_after, slot_refused, refused_on, call_on}
+use Rattle.machine_hub.proofs.hub.Hub.step.Goals as goal
+
+pub returns-in_err-outcome-clause-mine : goal.returns-in_err-outcome-clause-mine
+returns-in_err-outcome-clause-mine g c = still_mine _ _ _ _ _ _ c.me.view_is c.requires.mine c.requires.shard c.index_mut-seat.ensures.value (slot_refused _ _ c.in_err-outcome.ensures.refused)
+
+pub returns-in_err-outcome-clause-refused : goal.returns-in_err-outcome-clause-refused
+returns-in_err-outcome-clause-refused g c = on_err _ _ (refused_on _ _ _ _ _ _ c.me.view_is c.requires.mine c.requires.shard c.index_mut-seat.ensures.value c.in_err-outcome.ensures.refused)
+
+pub returns-clause-mine : goal.returns-clause-mine
+returns-clause-mine g c =
+    still_mine _ _ _ _ _ _ c.me.view_is c.requires.mine c.requires.shard c.index_mut-seat.ensures.value
+    (slot_after _ _ (option_map (λ x. (x.0, arc_value x.1)) c.in_ok-outcome.given) c.in_ok-outcome.ensures.seat)
+
+pub returns-clause-call : goal.returns-clause-call
+returns-clause-call g c =
+    let e = c.in_ok-outcome.ensures in
+    call_on g.M.Machine.steps g.M.Machine.asks _ _ _ _ _ _ _ _ (option_map (λ x. (x.0, arc_value x.1)) c.in_ok-outcome.given) _ c.me.view_is c.requires.mine c.requires.shard c.index_mut-seat.ensures.value e.made e.above e.seat
+    (receipt_by arc_value _ _ _ c.receipt_of-receipt.ensures)

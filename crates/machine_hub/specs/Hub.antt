@@ -1,0 +1,106 @@
+-- What contracts see of a hub of machines, of its callers, and of what all their calls tell of the machines at the end.
+use Rattle.std.specs.Prelude.{◌≡◌, ℕ, ◌<◌, List, [], ◌∷◌, map, flat_map, sum_by, length, Bool, true, false, Option, Some, option_map, slice_get, slice_set, All}
+use Rattle.std.specs.List.{filter_map}
+use Rattle.atomic_table.specs.Seated.{TableId}
+use Rattle.numbered_items.specs.Numbered.{AreRising, AreAllOf}
+use Rattle.shared_machine.specs.declared.entry.Entry.{Entry}
+use Rattle.shared_machine.specs.declared.view.Home.{Home}
+use Rattle.shared_machine.specs.declared.view.Standing.{Standing}
+use Rattle.shared_machine.specs.Slot.{home_of, IsAtHome}
+use Rattle.shared_machine.specs.Seats.{SeatState, new_seat, seat_after, seat_refused, IsAbove, WasMade, WasTold}
+use Rattle.machine_hub.specs.declared.receipt.Receipt.{Receipt}
+
+-- who ends a hub: at which slots its shards stand, what they were at first, and how many callers it has
+pub record HubKeeping (M : Type 0) : Type 0 where
+  pub slots : List TableId
+  pub homes : List (Home M)
+  pub callers : ℕ
+
+-- the same, by its parts
+abbrev pub keeping : {M : Type 0} → List TableId → List (Home M) → ℕ → HubKeeping M
+keeping slots homes callers = record { slots = slots; homes = homes; callers = callers }
+
+-- each of the one list with the one of the other that stands beside it
+abbrev pub paired : {A B C : Type 0} → (A → B → C) → List A → List B → List C
+paired f [] ys = []
+paired f (x ∷ xs) [] = []
+paired f (x ∷ xs) (y ∷ ys) = f x y ∷ paired f xs ys
+
+-- a receipt of the entry at this position of a shard's log
+abbrev pub receipt_at : ℕ → ℕ → Receipt
+receipt_at shard position = record { shard = shard; position = position }
+
+module _ {M S O : Type 0} where
+  -- the machines' logs are empty
+  abbrev pub AreNew : List (Standing M S O) → Type 0
+  AreNew [] = Unit {0}
+  AreNew (s ∷ ss) = ((s.entries ≡ []) × (s.stopped ≡ false)) × AreNew ss
+
+  -- what the machines are at first
+  abbrev pub homes_of : List (Standing M S O) → List (Home M)
+  homes_of ms = map home_of ms
+
+  -- the slots at which a caller has its seats, one at each shard
+  abbrev pub slots_of : List (SeatState M S O) → List TableId
+  slots_of seats = map (λ s. s.slot) seats
+
+  -- each of them is a caller of these shards
+  abbrev pub AreCallersOf : List TableId → List (List (SeatState M S O)) → Type 0
+  AreCallersOf slots callers = All (λ c. slots_of c ≡ slots) callers
+
+  -- a caller that made no call yet
+  abbrev pub new_caller : List TableId → List (Home M) → List (SeatState M S O)
+  new_caller slots homes = paired new_seat slots homes
+
+  -- the callers' seats at one shard
+  abbrev pub seats_at : ℕ → List (List (SeatState M S O)) → List (SeatState M S O)
+  seats_at shard callers = filter_map (λ c. slice_get c shard) callers
+
+  -- of each seat the positions of its entries rise, in the order of its calls
+  abbrev pub EachRises : List (SeatState M S O) → Type 0
+  EachRises [] = Unit {0}
+  EachRises (s ∷ ss) = AreRising s.calls × EachRises ss
+
+  -- a call at one shard was refused memory: the caller's seat there counts it, and its other seats are as before
+  abbrev pub IsRefusedOn : List (SeatState M S O) → List (SeatState M S O) → ℕ → Type 0
+  IsRefusedOn old new shard =
+      (seat : SeatState M S O) × (slice_get old shard ≡ Some seat) × (new ≡ slice_set old shard (seat_refused seat))
+
+-- a call at one shard answered: the machine there made one step that the call asked for, with this outcome; the
+-- caller's seat there has its entry, if there is one, above those of its earlier calls there; the receipt names the
+-- shard and the entry's position; the caller's other seats are as before
+pub record IsCallOn {C M S O : Type 0} (asks : C → S → Type 0) (steps : M → S → O → M → Type 0)
+    (old new : List (SeatState M S O)) (shard : ℕ) (call : C) (outcome : O) (receipt : Option Receipt) : Type 0 where
+  pub seat : SeatState M S O
+  pub given : Option (ℕ × Entry S O)
+  pub at : slice_get old shard ≡ Some seat
+  pub made : WasMade asks steps seat call outcome given
+  pub above : IsAbove seat given
+  pub after : new ≡ slice_set old shard (seat_after seat given)
+  pub receipt_is : receipt ≡ option_map (λ g. receipt_at shard g.0) given
+
+-- at one moment of a call the machine of this shard, whose log has all that the caller's earlier calls there gave,
+-- answered so
+abbrev pub IsToldOn : {M S O Q : Type 0} → (M → S → O → M → Type 0) → (M → Q → Bool) →
+    List (SeatState M S O) → ℕ → Q → Bool → Type 0
+IsToldOn {M} {S} {O} steps is_so callers shard question answer =
+    (seat : SeatState M S O) × (slice_get callers shard ≡ Some seat) × WasTold steps is_so seat question answer
+
+module _ {M S O : Type 0} (steps : M → S → O → M → Type 0) where
+  -- what all callers' calls at a shard tell of it at the end. Its log is a run from what it was at first. Each entry is
+  -- one call's, and each call with a receipt is there: so there are as many entries as receipts, no two receipts are
+  -- equal, and each has its call's step and outcome. Of each caller they rise. A call without one came only where the
+  -- log was stopped, and the log is stopped only where a call was refused memory
+  pub record IsShardRun (home : Home M) (seats : List (SeatState M S O)) (s : Standing M S O) : Type 0 where
+    pub run : IsAtHome steps home s
+    pub each : AreAllOf s.entries (flat_map (λ x. x.calls) seats)
+    pub rising : EachRises seats
+    pub blank : home.keeps ≡ true → 0 < sum_by (λ x. x.bare) seats → s.stopped ≡ true
+    pub blame : s.stopped ≡ true → 0 < sum_by (λ x. x.refused) seats
+
+  -- the same of each shard
+  pub record AreShardRuns (homes : List (Home M)) (callers : List (List (SeatState M S O)))
+      (shards : List (Standing M S O)) : Type 0 where
+    pub count : length shards ≡ length homes
+    pub each : (k : ℕ) (home : Home M) (s : Standing M S O) → slice_get homes k ≡ Some home →
+        slice_get shards k ≡ Some s → IsShardRun home (seats_at k callers) s

@@ -1,0 +1,5 @@
+mod Members
+mod Building
+mod Telling
+mod Drawing
+mod Closing

@@ -1,0 +1,89 @@
+-- What contracts say of calls, and of the logs at the end.
+use Rattle.std.specs.Prelude.{◌≡◌, ℕ, List, [], map, length, Bool, true, false, Option, Some, None, slice_get}
+use Rattle.send_retry.specs.declared.answer.Answer.{Answer}
+use Rattle.send_retry.specs.Class.{answer_view}
+use Rattle.tail_settings.specs.Section.{SectionData}
+use Rattle.tail_settings.specs.Settings.{SettingsData}
+use Rattle.tenant_words.specs.Words.{start, first_words}
+use Rattle.tenant_shard.specs.declared.step.Step.{Step}
+use Rattle.tenant_shard.specs.declared.step.Outcome.{Outcome}
+use Rattle.tenant_shard.specs.View.{kept_of}
+use Rattle.tenant_shard.specs.Empty.{is_empty}
+use Rattle.tenant_shard.specs.Lists.{ShardStands}
+use Rattle.tenant_shard.specs.Run.{Run, after_all}
+use Rattle.tenant_shard.specs.Chain.{ShardRuns}
+use Rattle.tenant_shard.specs.Outcomes.{OwnStep, Answer as Answered, named}
+use Rattle.tenant_shard.specs.Alone.{alone, own_steps, told_to}
+use Rattle.tenant_shard.specs.Table.{section_of, opened}
+use Rattle.shared_machine.specs.declared.view.Standing.{Standing}
+use Rattle.shared_machine.specs.Seats.{SeatState}
+use Rattle.machine_hub.specs.declared.receipt.Receipt.{Receipt}
+use Rattle.machine_hub.specs.Hub.{IsCallOn, IsToldOn}
+use Rattle.worded_machine.specs.declared.step.Call.TheVariants as calls
+use Rattle.worded_machine.specs.declared.step.WordedStep.{WordedStep}
+use Rattle.worded_machine.specs.Worded.{Worded, AsksFor, WordedDoes}
+use Rattle.worded_machine.specs.Run.{Logged, steps_of, outcomes_of, drawn_for}
+use Rattle.shared_hub.specs.Shards.{members_of, IsFresh}
+
+-- a caller, by its seats at the shards
+abbrev pub Seats : Type 0
+Seats = List (SeatState Worded WordedStep Outcome)
+
+-- a shard with its log
+abbrev pub LoggedShard : Type 0
+LoggedShard = Standing Worded WordedStep Outcome
+
+-- a call made this step of a shard, with this outcome and this receipt
+abbrev pub IsStepOn : Seats → Seats → ℕ → Step → Outcome → Option Receipt → Type 0
+IsStepOn old new shard step outcome receipt =
+    IsCallOn AsksFor WordedDoes old new shard (calls.Step step) outcome receipt
+
+-- a call made the step of a back end's answer, for whose word its tenant's generator was asked
+abbrev pub IsAnswerOn : Seats → Seats → ℕ → ℕ → ℕ → ℕ → Answer → Outcome → Option Receipt → Type 0
+IsAnswerOn old new shard tenant now ticket answer outcome receipt =
+    (copy : Answer) × (answer_view copy ≡ answer_view answer)
+    × IsCallOn AsksFor WordedDoes old new shard (calls.Answer tenant now ticket copy) outcome receipt
+
+-- whether a tenant is empty in a shard
+abbrev pub has_none : Worded → ℕ → Bool
+has_none shard tenant = is_empty (kept_of tenant shard.views)
+
+-- at one moment of a call this was so
+abbrev pub IsEmptyOn : Seats → ℕ → ℕ → Bool → Type 0
+IsEmptyOn caller shard tenant empty = IsToldOn WordedDoes has_none caller shard tenant empty
+
+-- entries are a run of a shard of these tenants from before its first step: one chain of what is kept. The outcomes are
+-- those that the members' own steps say, each member was told exactly what its pipeline alone answers to the steps that
+-- were its own, and the shard stands for these. The words that were drawn for a member are in order the first of its
+-- own generator, which starts from its own seed, and none was drawn for anyone else
+pub record IsLogOf (table : SettingsData) (members : List ℕ) (entries : List Logged) (last : Worded) : Type 0 where
+  pub first : Worded
+  pub fresh : IsFresh table members first
+  pub runs : ShardRuns (steps_of entries) first.views (outcomes_of entries) last.views
+  pub by_own_steps : Run (opened table members) (steps_of entries) (outcomes_of entries)
+  pub each_alone : (tenant : ℕ) (section : SectionData) → section_of table members tenant ≡ Some section →
+      told_to tenant (outcomes_of entries)
+      ≡ map (named tenant) (alone section [] (own_steps tenant (steps_of entries) (outcomes_of entries)))
+  pub stands : ShardStands (after_all (steps_of entries) (outcomes_of entries) (opened table members)) last.views
+  pub words : (tenant : ℕ) (section : SectionData) → section_of table members tenant ≡ Some section →
+      drawn_for tenant entries ≡ first_words (length (drawn_for tenant entries)) (start section.seed)
+  pub nobodys : (tenant : ℕ) → section_of table members tenant ≡ None → drawn_for tenant entries ≡ []
+
+-- the log of this shard, where it keeps, is such a run. Unless it is stopped, the run leaves what the shard is now
+abbrev pub IsLogged : SettingsData → ℕ → LoggedShard → Type 0
+IsLogged table shard s =
+    (last : Worded) × IsLogOf table (members_of table shard) s.entries last × (s.stopped ≡ false → last ≡ s.machine)
+
+-- so it is of each shard
+abbrev pub AreLogged : SettingsData → List LoggedShard → Type 0
+AreLogged table shards = (shard : ℕ) (s : LoggedShard) → slice_get shards shard ≡ Some s → s.keeps ≡ true →
+    IsLogged table shard s
+
+-- what a tenant is told follows from its section and its own steps alone, whichever log it is, whatever the other
+-- tenants' sections and steps, and whatever threads did
+abbrev pub LogsTellByOwnSteps : Type 0
+LogsTellByOwnSteps = (section : SectionData) (steps : List OwnStep) → (answers : List Answered)
+    × ((table : SettingsData) (members : List ℕ) (entries : List Logged) (last : Worded) →
+    IsLogOf table members entries last → (tenant : ℕ) → section_of table members tenant ≡ Some section →
+    own_steps tenant (steps_of entries) (outcomes_of entries) ≡ steps →
+    told_to tenant (outcomes_of entries) ≡ map (named tenant) answers)

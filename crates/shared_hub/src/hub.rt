@@ -1,0 +1,178 @@
+//! The hub.
+
+ghost use Rattle.std.specs.Prelude.{◌≡◌, ◌≢◌, ◌<◌, ◌%◌, ◌⊎◌, length, replicate, IfOk, IfErr, OnErr, vec_len};
+ghost use Rattle.tail_settings.specs.Settings.{SettingsData, settings_view};
+ghost use Rattle.machine_hub.specs.Hub.{slots_of, new_caller, AreCallersOf, AreShardRuns, IsRefusedOn};
+ghost use Rattle.worded_machine.specs.Worded.{WordedDoes};
+ghost use Rattle.shared_hub.specs.Shards.{AreOpened, kept};
+ghost use Rattle.shared_hub.specs.Logs.{IsStepOn, IsAnswerOn, IsEmptyOn, AreLogged};
+ghost use Rattle.shared_hub.specs.declared.fault.HubFault.TheVariants as faults;
+
+use crate::copy::copy_of;
+use crate::fault::{CallersMissing, HubFault};
+use crate::log::OptionalLog;
+use crate::shards::shards_of;
+use crate::{Caller, HubKeeper, ShardLog};
+use machine_hub::{Hub, Receipt};
+use send_retry::Answer;
+use std::alloc::{AllocError, Global};
+use std::marker::Model;
+use std::sync::Wait;
+use tail_settings::Settings;
+use tenant_shard::{Outcome, Step};
+use worded_machine::{Call, WordedShard, runs_are_shard_runs, words_are_in_order};
+
+/// All shards of the settings, which threads share. Shards are numbered from 0, and tenant i is in shard i mod their
+/// number.
+#[derive(Drop)]
+pub struct SharedHub<'a> {
+    hub: Hub<WordedShard<'a>, OptionalLog<'a>>,
+}
+
+impl<'a> Model for SharedHub<'a> {
+    ghost use Rattle.std.specs.Prelude.{List};
+    ghost use Rattle.atomic_table.specs.Seated.{TableId};
+
+    ghost Value = { List TableId };
+
+    ghost use Rattle.std.specs.Prelude.{◌<◌, length};
+
+    ghost view = { λ s. s.hub };
+
+    ghost invariant = { λ s. 0 < length s.hub };
+}
+
+impl<'a> SharedHub<'a> {
+    /// A hub of all shards of the settings, none of which made a step, its keeper, and its callers, one for each
+    /// thread. The logs keep each entry or nothing. Where memory is refused nothing is kept.
+    pub fn open<R: Wait>(
+        rt: &R,
+        alloc: Global,
+        settings: &'a Settings,
+        callers: usize,
+        keeps: bool,
+    ) -> Result<(SharedHub<'a>, HubKeeper<'a>, Vec<Caller<'a>>), AllocError>
+        requires { 0 < callers }
+        ensures shards { IfOk result (λ r. length r.0 ≡ settings.now.global.shards) }
+        ensures keeper { IfOk result (λ r. (r.1.slots ≡ r.0) × (r.1.callers ≡ callers)) }
+        ensures opened { IfOk result (λ r. AreOpened (settings_view settings.now) r.1.homes) }
+        ensures keeps { IfOk result (λ r. kept r.1.homes ≡ replicate settings.now.global.shards keeps) }
+        ensures callers { IfOk result (λ r. (vec_len r.2 ≡ callers) × AreCallersOf r.0 r.2.items) }
+        ensures new { IfOk result (λ r. r.2.items ≡ replicate callers (new_caller r.0 r.1.homes)) }
+    {
+        let shards = shards_of(alloc, settings, keeps)?;
+        let (hub, keeper, list) = Hub::open(rt, alloc, shards, callers)?;
+        Ok((SharedHub { hub }, keeper, list))
+    }
+
+    /// How many shards there are.
+    pub fn shards(&self) -> usize
+        ensures count { result ≡ length self.now }
+        ensures some { 0 < result }
+    {
+        self.hub.shards()
+    }
+
+    /// Makes one step of a shard. Answers its outcome, and a receipt of its entry: none where the log keeps nothing, or
+    /// where the shard was refused memory before.
+    pub fn step<R: Wait>(
+        &self,
+        rt: &R,
+        alloc: Global,
+        me: &mut Caller<'a>,
+        shard: usize,
+        step: Step<'a>,
+    ) -> Result<(Outcome, Option<Receipt>), HubFault>
+        requires shard { shard < length self.now }
+        requires mine { slots_of me.old ≡ self.now }
+        ensures mine { slots_of me.new ≡ self.now }
+        ensures call { IfOk result (λ r. IsStepOn me.old me.new shard step.entry r.0 r.1) }
+        ensures refused { OnErr result (IsRefusedOn me.old me.new shard) }
+        ensures fault { IfErr result (λ fault. fault ≡ faults.OutOfMemory) }
+    {
+        let made = self.hub.step(rt, alloc, me, shard, Call::Step(step))?;
+        Ok(made)
+    }
+
+    /// Makes the step of a back end's answer to the tenant's job with this ticket, at the moment `now`, in
+    /// milliseconds, with the next word of the tenant's generator. The answer is copied, and stays the caller's. A
+    /// tenant that is no member is refused (22), and draws no word.
+    pub fn answer<R: Wait>(
+        &self,
+        rt: &R,
+        alloc: Global,
+        me: &mut Caller<'a>,
+        tenant: u32,
+        now: u64,
+        ticket: u64,
+        answer: &Answer,
+    ) -> Result<(Outcome, Option<Receipt>), HubFault>
+        requires mine { slots_of me.old ≡ self.now }
+        ensures mine { slots_of me.new ≡ self.now }
+        ensures call { IfOk result (λ r.
+            IsAnswerOn me.old me.new (tenant % length self.now) tenant now ticket answer.now r.0 r.1) }
+        ensures refused { OnErr result ((me.new ≡ me.old)
+            ⊎ IsRefusedOn me.old me.new (tenant % length self.now)) }
+        ensures fault { IfErr result (λ fault. fault ≡ faults.OutOfMemory) }
+    {
+        let answer = copy_of(answer)?;
+        let shard = self.shard_of(tenant);
+        let call = Call::Answer {
+            tenant,
+            now,
+            ticket,
+            answer,
+        };
+        let made = self.hub.step(rt, alloc, me, shard, call)?;
+        Ok(made)
+    }
+
+    /// Whether the tenant is a member that holds no spans: none waits for its trace's decision, for a batch or in the
+    /// queue, and no batch is on its way. It makes no step.
+    pub fn empty<R: Wait>(&self, rt: &R, me: &mut Caller<'a>, tenant: u32) -> bool
+        requires mine { slots_of me.old ≡ self.now }
+        ensures empty { IsEmptyOn me.old (tenant % length self.now) tenant result }
+        ensures same { me.new ≡ me.old }
+    {
+        let shard = self.shard_of(tenant);
+        self.hub.ask(rt, me, shard, &tenant)
+    }
+
+    /// Ends the hub, once all its callers are back, and gives the shards with their logs, in the order of the shards.
+    /// It takes no memory. Where some callers are missing it hands all back, as it was.
+    pub fn close<R: Wait>(
+        self,
+        rt: &R,
+        keeper: HubKeeper<'a>,
+        callers: Vec<Caller<'a>>,
+    ) -> Result<Vec<ShardLog<'a>>, CallersMissing<'a>>
+        requires keeper { keeper.slots ≡ self }
+        requires callers { AreCallersOf self callers.items }
+        ensures all { IfOk result (λ shards. vec_len callers.entry ≡ keeper.entry.callers) }
+        ensures calls { IfOk result (λ shards.
+            AreShardRuns WordedDoes keeper.entry.homes callers.entry.items shards.items) }
+        ensures logs { IfOk result (λ shards. (table : SettingsData) →
+            AreOpened table keeper.entry.homes → AreLogged table shards.items) }
+        ensures missing { IfErr result (λ back. (vec_len callers.entry ≢ keeper.entry.callers) × (back.hub ≡ self.entry)
+            × (back.keeper ≡ keeper.entry) × (back.callers ≡ callers.entry)) }
+    {
+        runs_are_shard_runs();
+        words_are_in_order();
+        match self.hub.close(rt, keeper, callers) {
+            Ok(shards) => Ok(shards),
+            Err(missing) => Err(CallersMissing {
+                hub: SharedHub { hub: missing.hub },
+                keeper: missing.keeper,
+                callers: missing.callers,
+            }),
+        }
+    }
+
+    /// In which shard the tenant is.
+    fn shard_of(&self, tenant: u32) -> usize
+        ensures is { result ≡ tenant % length self.now }
+        ensures within { result < length self.now }
+    {
+        tenant as usize % self.hub.shards()
+    }
+}

@@ -1,0 +1,51 @@
+//! The shards of all tenants, which any number of threads step.
+//!
+//! Each thread has a [`Caller`]. A call makes one step of one shard, under that shard's lock, and gives what the step
+//! gave, with a receipt of its entry in the shard's log. The words of answers are drawn under the same lock, each from
+//! its tenant's own generator. Once all callers are back [`SharedHub::close`] says of each shard that its log is a run
+//! of a shard of its tenants, so that each of them was told what its own steps say, whatever threads did; and that each
+//! entry is one call's (`specs/Logs`).
+//!
+//! It stands on `machine_hub` for the shards behind their locks, on `worded_machine` for what a shard is, and on
+//! `tail_settings` for the tenants. Its rules come from no public text.
+#![tactic(auto)]
+
+ghost use Rattle.shared_hub.specs.Logs.{LogsTellByOwnSteps};
+ghost use Rattle.shared_hub.specs.Shards.{EachInItsShard};
+
+mod copy;
+mod fault;
+mod hub;
+mod log;
+mod shards;
+
+pub use fault::{CallersMissing, HubFault};
+pub use hub::SharedHub;
+pub use log::OptionalLog;
+pub use machine_hub::Receipt;
+use tenant_shard::Outcome;
+pub use worded_machine::{Call, WordOf, WordedShard, WordedStep};
+
+/// A step that was made, and what it gave.
+pub type Entry<'a> = shared_machine::Entry<WordedStep<'a>, Outcome>;
+
+/// Who calls a hub, one for each thread.
+pub type Caller<'a> = machine_hub::Caller<WordedShard<'a>, OptionalLog<'a>>;
+
+/// Who opened a hub, and can close it.
+pub type HubKeeper<'a> = machine_hub::HubKeeper<WordedShard<'a>, OptionalLog<'a>>;
+
+/// A shard with its log.
+pub type ShardLog<'a> = shared_machine::LoggedMachine<WordedShard<'a>, OptionalLog<'a>>;
+
+/// Each tenant of a table is in one shard, with its own section: a law over settings.
+pub fn each_tenant_is_in_its_shard()
+    ensures { EachInItsShard }
+{}
+
+/// What the logs of any hubs tell a tenant follows from its section and its own steps alone: a law over logs.
+pub fn logs_tell_by_own_steps()
+    ensures { LogsTellByOwnSteps }
+{
+    tenant_shard::own_steps_decide();
+}

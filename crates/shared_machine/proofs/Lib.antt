@@ -1,0 +1,4 @@
+mod Kept
+mod Moves
+mod Stepping
+mod Ending

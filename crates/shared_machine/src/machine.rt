@@ -1,0 +1,49 @@
+//! What makes steps.
+
+use std::alloc::{AllocError, Global};
+
+/// A state machine. A call names a step, but for what only the machine knows, as the next of its random words.
+pub trait Machine: Drop + Send {
+    ghost use Rattle.std.specs.Prelude.{◌≡◌, Bool, IfOk};
+
+    /// What a caller asks for.
+    type Call: Drop;
+
+    /// A step that was made.
+    type Step: Drop + Send + Sync;
+
+    /// What a step gave.
+    type Outcome: Drop + Send + Sync;
+
+    /// What can be asked of a state without a step.
+    type Question: Drop;
+
+    // a state of no meaning, which stands in clauses before there is a machine
+    ghost nowhere: { Self };
+
+    // the step is one that the call asks for
+    ghost asks: { Self.Call → Self.Step → Type 0 };
+
+    // the step leads from one state to another, and gives that outcome
+    ghost steps: { Self → Self.Step → Self.Outcome → Self → Type 0 };
+
+    // whether a question's answer is yes in a state
+    ghost is_so: { Self → Self.Question → Bool };
+
+    /// Makes one step. Where memory is refused the step isn't done; what the machine is then is for it to say.
+    fn make(
+        &mut self,
+        alloc: Global,
+        call: Self::Call,
+    ) -> Result<(Self::Step, Self::Outcome), AllocError>
+        ensures asked { IfOk result (λ made. asks call made.0) }
+        ensures made { IfOk result (λ made. steps self.old made.0 made.1 self.new) };
+
+    /// Whether the question's answer is yes.
+    fn tell(&self, question: &Self::Question) -> bool
+        ensures { result ≡ is_so self.now question.now };
+
+    /// A copy of an outcome.
+    fn copied(outcome: &Self::Outcome) -> Result<Self::Outcome, AllocError>
+        ensures { IfOk result (λ copy. copy ≡ outcome.now) };
+}

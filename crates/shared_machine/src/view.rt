@@ -1,0 +1,31 @@
+//! What contracts and seats know of a machine with a log. No value of these is made: a `LinkedList` is a list there.
+
+use crate::entry::Entry;
+use std::collections::LinkedList;
+
+// A machine with its log: its number, its state, the entries, whether the log keeps, and whether it is stopped.
+pub struct Standing<M, S, O> {
+    pub number: u64,
+    pub machine: M,
+    pub entries: LinkedList<Entry<S, O>>,
+    pub keeps: bool,
+    pub stopped: bool,
+}
+
+// Which machine it is, what it was at first, and whether its log keeps.
+pub struct Home<M> {
+    pub number: u64,
+    pub start: M,
+    pub keeps: bool,
+}
+
+// What a seat knows: its parts of the right to know the whole, the machine's home, the machine while the seat has it
+// out, its calls that have an entry, each with its position, and how many have none and how many were refused memory.
+pub struct SlotView<M, S, O> {
+    pub parts: u64,
+    pub home: Home<M>,
+    pub held: Option<Standing<M, S, O>>,
+    pub calls: LinkedList<(u64, Entry<S, O>)>,
+    pub bare: u64,
+    pub refused: u64,
+}

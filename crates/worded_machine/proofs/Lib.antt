@@ -1,0 +1,3 @@
+mod Going
+mod Seeding
+mod Runs

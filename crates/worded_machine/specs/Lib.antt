@@ -1,0 +1,3 @@
+pub mod Worded
+pub mod Drawing
+pub mod Run
