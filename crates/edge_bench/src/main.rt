@@ -20,6 +20,7 @@ use fault::BenchFault;
 use measure::{check, measure};
 use std::process::ExitCode;
 use std::rt::{Clock, Env, Files};
+use std::thread::Threads;
 use std::{env, fs};
 use task::{Task, asked_task};
 
@@ -45,7 +46,9 @@ fn ended(rt: &impl Eprint, end: Result<(), BenchFault>) -> ExitCode
     }
 }
 
-fn run(rt: &(impl Env + Files + Clock + Print + AllocGlobal)) -> Result<(), BenchFault> {
+fn run<R: Threads + Sync + Env + Files + Clock + Print + AllocGlobal>(
+    rt: &R,
+) -> Result<(), BenchFault> {
     let mut args = Vec::new(rt.alloc());
     for arg in env::args(rt)?.skip(1) {
         args.push(arg)?;

@@ -9,6 +9,7 @@ use httparse::Status;
 use httparse::spans::{EMPTY_HEADER_SPAN, parse_request};
 use std::alloc::{AllocError, Global};
 use std::rt::Clock;
+use std::thread::Threads;
 use std::time::Instant;
 
 /// Nanoseconds in a second.
@@ -18,10 +19,13 @@ const SECOND: u128 = 1_000_000_000;
 const MAX_FIELDS: usize = 64;
 
 /// Serves the message once, which has to be a post.
-pub(crate) fn check(rt: &(impl Print + AllocGlobal), message: &[u8]) -> Result<(), BenchFault> {
+pub(crate) fn check<R: Threads + Sync + Print + AllocGlobal>(
+    rt: &R,
+    message: &[u8],
+) -> Result<(), BenchFault> {
     let input = repeated(rt.alloc(), message, 1)?;
     let mut connection = Connection::open(rt.alloc(), input)?;
-    let served = connection.serve()?;
+    let served = connection.serve(rt)?;
     if served.posts != 1 {
         return Err(BenchFault::NotPosted);
     }
@@ -33,15 +37,15 @@ pub(crate) fn check(rt: &(impl Print + AllocGlobal), message: &[u8]) -> Result<(
 
 /// Serves so many copies of the message from one connection, and parses its head so many times, and prints for each how
 /// many messages and bytes a second it took.
-pub(crate) fn measure(
-    rt: &(impl Clock + Print + AllocGlobal),
+pub(crate) fn measure<R: Threads + Sync + Clock + Print + AllocGlobal>(
+    rt: &R,
     message: &[u8],
     rounds: u32,
 ) -> Result<(), BenchFault> {
     let input = repeated(rt.alloc(), message, rounds)?;
     let mut connection = Connection::open(rt.alloc(), input)?;
     let start = Instant::now(rt)?;
-    let served = connection.serve()?;
+    let served = connection.serve(rt)?;
     report(rt, "served", message.len(), rounds, start)?;
     if served.posts != u64::from(rounds) {
         return Err(BenchFault::NotPosted);

@@ -6,6 +6,7 @@ use http_edge::{Handler, HttpMessage, Reply, serve};
 use http_line::MemoryLine;
 use otlp_front::{Route, route};
 use std::alloc::{AllocError, Global};
+use std::thread::Threads;
 use tail_settings::{Settings, load};
 
 /// So many tenants stand before the one that messages name: a look-up that went through them would be seen.
@@ -40,7 +41,7 @@ struct Front {
 impl Handler for Front {
     ghost answers = { λ _ _ _ _. Unit {0} };
 
-    fn handle(&mut self, message: &HttpMessage) -> Reply {
+    fn handle<T: Threads + Sync>(&mut self, _rt: &T, message: &HttpMessage) -> Reply {
         match route(&self.settings, message) {
             Route::Post { tenant: _ } => {
                 self.posts = self.posts.saturating_add(1);
@@ -87,8 +88,8 @@ impl Connection {
     }
 
     /// Reads and answers to the end of the input.
-    pub(crate) fn serve(&mut self) -> Result<Served, BenchFault> {
-        serve(self.alloc, &mut self.line, &mut self.front)?;
+    pub(crate) fn serve<T: Threads + Sync>(&mut self, rt: &T) -> Result<Served, BenchFault> {
+        serve(rt, self.alloc, &mut self.line, &mut self.front)?;
         Ok(Served {
             posts: self.front.posts,
             written: self.line.output().len(),

@@ -15,10 +15,12 @@ use crate::reply::{is_for_no_memory, no_memory_bytes, plain_bytes, refusal_body}
 use crate::wire::{EdgeFault, Watch, drop_front, fill, send};
 use http_line::Line;
 use std::alloc::{AllocError, Global};
+use std::thread::Threads;
 
 /// Reads messages and writes the handler's replies, until the connection is to close, a message is
 /// bad, or the input ends.
-pub fn serve<L: Line, H: Handler>(
+pub fn serve<T: Threads + Sync, L: Line, H: Handler>(
+    rt: &T,
     alloc: Global,
     line: &mut L,
     handler: &mut H,
@@ -36,12 +38,13 @@ pub fn serve<L: Line, H: Handler>(
     ensures write { result ≡ Err EdgeFault.WriteFailed → HasFailed (L.failed line.old) (L.failed line.new) }
 {
     let mut buffer = Vec::new(alloc);
-    'messages: while exchange(alloc, line, handler, &mut buffer)? {}
+    'messages: while exchange(rt, alloc, line, handler, &mut buffer)? {}
     Ok(())
 }
 
 /// One message, and whether the connection goes on after it.
-fn exchange<L: Line, H: Handler>(
+fn exchange<T: Threads + Sync, L: Line, H: Handler>(
+    rt: &T,
     alloc: Global,
     line: &mut L,
     handler: &mut H,
@@ -73,7 +76,7 @@ fn exchange<L: Line, H: Handler>(
             Ok(false)
         }
         Begin::Whole(head) => {
-            let goes = attend(alloc, line, handler, buffer, head)?;
+            let goes = attend(rt, alloc, line, handler, buffer, head)?;
             Ok(goes)
         }
     }
@@ -168,7 +171,8 @@ fn refuse<L: Line>(
 }
 
 /// Reads the body of a head's message, and answers it.
-fn attend<L: Line, H: Handler>(
+fn attend<T: Threads + Sync, L: Line, H: Handler>(
+    rt: &T,
     alloc: Global,
     line: &mut L,
     handler: &mut H,
@@ -204,7 +208,7 @@ fn attend<L: Line, H: Handler>(
             Ok(false)
         }
         BodyRead::Whole(body) => {
-            let goes = answer(alloc, line, handler, head, body)?;
+            let goes = answer(rt, alloc, line, handler, head, body)?;
             Ok(goes)
         }
     }
@@ -232,7 +236,8 @@ fn interim<L: Line>(line: &mut L, due: bool) -> Result<(), EdgeFault>
 }
 
 /// Answers a message.
-fn answer<L: Line, H: Handler>(
+fn answer<T: Threads + Sync, L: Line, H: Handler>(
+    rt: &T,
     alloc: Global,
     line: &mut L,
     handler: &mut H,
@@ -255,7 +260,7 @@ fn answer<L: Line, H: Handler>(
     let closes = head.closes;
     let bodiless = head.bodiless;
     let message = message_of(head, body);
-    let reply = handler.handle(&message);
+    let reply = handler.handle(rt, &message);
     say(alloc, line, &reply, closes, bodiless)?;
     Ok(!closes)
 }

@@ -5,6 +5,7 @@ use http_edge::{Handler, HttpMessage, Reply, serve};
 use http_line::MemoryLine;
 use std::alloc::Global;
 use std::test::Fail;
+use std::thread::Threads;
 
 /// Answers each message with a status and the body that it was sent.
 #[derive(Drop)]
@@ -22,7 +23,7 @@ impl Echo {
 impl Handler for Echo {
     ghost answers = { λ _ _ _ _. Unit {0} };
 
-    fn handle(&mut self, message: &HttpMessage) -> Reply {
+    fn handle<T: Threads + Sync>(&mut self, _rt: &T, message: &HttpMessage) -> Reply {
         match Vec::from_slice(self.alloc, &message.body) {
             Ok(body) => Reply {
                 status: self.status,
@@ -37,7 +38,13 @@ impl Handler for Echo {
 }
 
 /// What is written for this input, which comes in pieces of these lengths and then as it is.
-pub fn talk(alloc: Global, input: &[u8], pieces: &[usize], status: u16) -> Result<Vec<u8>, Fail> {
+pub fn talk<R: Threads + Sync>(
+    rt: &R,
+    alloc: Global,
+    input: &[u8],
+    pieces: &[usize],
+    status: u16,
+) -> Result<Vec<u8>, Fail> {
     let mut line = MemoryLine::new(
         Vec::from_slice(alloc, input)?,
         Vec::from_slice(alloc, pieces)?,
@@ -45,6 +52,6 @@ pub fn talk(alloc: Global, input: &[u8], pieces: &[usize], status: u16) -> Resul
         0,
     );
     let mut handler = Echo::new(alloc, status);
-    serve(alloc, &mut line, &mut handler)?;
+    serve(rt, alloc, &mut line, &mut handler)?;
     Ok(Vec::from_slice(alloc, line.output())?)
 }

@@ -35,7 +35,7 @@ fn a_talk_is_broken_off_where_a_call_fails(rt: HostRuntime) -> Result<(), Fail> 
     for fuse in 1..50u64 {
         let mut line = line_with(alloc, TALK, fuse)?;
         let mut handler = Echo::new(alloc, 200);
-        match serve(alloc, &mut line, &mut handler) {
+        match serve(&rt, alloc, &mut line, &mut handler) {
             Ok(()) => {
                 was_whole = true;
                 assert_eq!(rt; line.output(), TOLD);

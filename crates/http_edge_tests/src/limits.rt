@@ -28,9 +28,9 @@ fn with_fields(alloc: Global, count: usize) -> Result<Vec<u8>, Fail> {
 #[test]
 fn sixty_four_fields_are_taken(rt: HostRuntime) -> Result<(), Fail> {
     let alloc = rt.alloc();
-    let told = talk(alloc, &with_fields(alloc, 63)?, &[], 200)?;
+    let told = talk(&rt, alloc, &with_fields(alloc, 63)?, &[], 200)?;
     assert_eq!(rt; told.as_slice(), OK);
-    let told = talk(alloc, &with_fields(alloc, 64)?, &[], 200)?;
+    let told = talk(&rt, alloc, &with_fields(alloc, 64)?, &[], 200)?;
     assert_eq!(rt; told.as_slice(), TOO_MANY);
     Ok(())
 }
@@ -49,9 +49,9 @@ fn head_of(alloc: Global, len: usize) -> Result<Vec<u8>, Fail> {
 #[test]
 fn a_head_of_65536_bytes_is_taken(rt: HostRuntime) -> Result<(), Fail> {
     let alloc = rt.alloc();
-    let told = talk(alloc, &head_of(alloc, 65_536)?, &[], 200)?;
+    let told = talk(&rt, alloc, &head_of(alloc, 65_536)?, &[], 200)?;
     assert_eq!(rt; told.as_slice(), OK);
-    let told = talk(alloc, &head_of(alloc, 65_537)?, &[], 200)?;
+    let told = talk(&rt, alloc, &head_of(alloc, 65_537)?, &[], 200)?;
     assert_eq!(rt; told.as_slice(), TOO_MANY);
     Ok(())
 }
@@ -78,7 +78,7 @@ fn in_chunks(alloc: Global, count: usize, last: usize) -> Result<Vec<u8>, Fail> 
 #[test]
 fn a_body_of_20971520_bytes_is_taken(rt: HostRuntime) -> Result<(), Fail> {
     let alloc = rt.alloc();
-    let told = talk(alloc, &in_chunks(alloc, 320, 0)?, &[], 200)?;
+    let told = talk(&rt, alloc, &in_chunks(alloc, 320, 0)?, &[], 200)?;
     assert!(rt; told.starts_with(b"HTTP/1.1 200 OK\r\n"));
     assert!(rt; told.len() > 20_971_520);
     Ok(())
@@ -87,7 +87,7 @@ fn a_body_of_20971520_bytes_is_taken(rt: HostRuntime) -> Result<(), Fail> {
 #[test]
 fn one_byte_more_is_refused(rt: HostRuntime) -> Result<(), Fail> {
     let alloc = rt.alloc();
-    let told = talk(alloc, &in_chunks(alloc, 320, 1)?, &[], 200)?;
+    let told = talk(&rt, alloc, &in_chunks(alloc, 320, 1)?, &[], 200)?;
     assert_eq!(rt; told.as_slice(), TOO_LARGE);
     Ok(())
 }

@@ -5,13 +5,14 @@ use crate::echo::talk;
 use crate::talks::{BAD, OK};
 use std::alloc::Global;
 use std::test::Fail;
+use std::thread::Threads;
 
 const CHUNKED: &[u8] = b"POST / HTTP/1.1\r\nHost: c\r\nTransfer-Encoding: chunked\r\n\r\n";
 
 /// What is written for these bytes, one by one.
-fn told_singly(alloc: Global, input: &[u8]) -> Result<Vec<u8>, Fail> {
+fn told_singly<R: Threads + Sync>(rt: &R, alloc: Global, input: &[u8]) -> Result<Vec<u8>, Fail> {
     let single = vec![in alloc; 1usize; input.len()]?;
-    talk(alloc, input, &single, 200)
+    talk(rt, alloc, input, &single, 200)
 }
 
 /// The text so often.
@@ -42,7 +43,7 @@ fn a_long_head_of_many_lines(rt: HostRuntime) -> Result<(), Fail> {
         alloc,
         &[b"GET / HTTP/1.1\r\nHost: c\r\n", lines.as_slice(), b"\r\n"],
     )?;
-    let told = told_singly(alloc, &head)?;
+    let told = told_singly(&rt, alloc, &head)?;
     assert_eq!(rt; told.as_slice(), OK);
     Ok(())
 }
@@ -55,7 +56,7 @@ fn empty_lines_before_a_head(rt: HostRuntime) -> Result<(), Fail> {
         alloc,
         &[blank.as_slice(), b"GET / HTTP/1.1\r\nHost: c\r\n\r\n"],
     )?;
-    let told = told_singly(alloc, &text)?;
+    let told = told_singly(&rt, alloc, &text)?;
     assert_eq!(rt; told.as_slice(), OK);
     Ok(())
 }
@@ -65,10 +66,10 @@ fn a_long_line_of_a_chunk(rt: HostRuntime) -> Result<(), Fail> {
     let alloc = rt.alloc();
     let extension = repeated(alloc, b"y", 65_536 - 4)?;
     let text = joined(alloc, &[CHUNKED, b"0;", extension.as_slice(), b"\r\n\r\n"])?;
-    let told = told_singly(alloc, &text)?;
+    let told = told_singly(&rt, alloc, &text)?;
     assert_eq!(rt; told.as_slice(), OK);
     let text = joined(alloc, &[CHUNKED, b"0;", extension.as_slice(), b"y\r\n\r\n"])?;
-    let told = told_singly(alloc, &text)?;
+    let told = told_singly(&rt, alloc, &text)?;
     assert_eq!(rt; told.as_slice(), BAD);
     Ok(())
 }
@@ -80,7 +81,7 @@ fn long_lines_of_many_chunks(rt: HostRuntime) -> Result<(), Fail> {
     let chunk = joined(alloc, &[b"1;", extension.as_slice(), b"\r\na\r\n"])?;
     let chunks = repeated(alloc, &chunk, 5)?;
     let text = joined(alloc, &[CHUNKED, chunks.as_slice(), b"0\r\n\r\n"])?;
-    let told = talk(alloc, &text, &[], 200)?;
+    let told = talk(&rt, alloc, &text, &[], 200)?;
     assert!(rt; told.as_slice().ends_with(b"Content-Length: 5\r\n\r\naaaaa"));
     Ok(())
 }
@@ -90,13 +91,13 @@ fn a_long_trailer(rt: HostRuntime) -> Result<(), Fail> {
     let alloc = rt.alloc();
     let value = repeated(alloc, b"y", 65_536 - 6)?;
     let text = joined(alloc, &[CHUNKED, b"0\r\nx:", value.as_slice(), b"\r\n\r\n"])?;
-    let told = told_singly(alloc, &text)?;
+    let told = told_singly(&rt, alloc, &text)?;
     assert_eq!(rt; told.as_slice(), OK);
     let text = joined(
         alloc,
         &[CHUNKED, b"0\r\nx:", value.as_slice(), b"y\r\n\r\n"],
     )?;
-    let told = told_singly(alloc, &text)?;
+    let told = told_singly(&rt, alloc, &text)?;
     assert_eq!(rt; told.as_slice(), BAD);
     Ok(())
 }
@@ -106,13 +107,13 @@ fn a_trailer_of_64_fields(rt: HostRuntime) -> Result<(), Fail> {
     let alloc = rt.alloc();
     let fields = repeated(alloc, b"x: y\r\n", 64)?;
     let text = joined(alloc, &[CHUNKED, b"0\r\n", fields.as_slice(), b"\r\n"])?;
-    let told = told_singly(alloc, &text)?;
+    let told = told_singly(&rt, alloc, &text)?;
     assert_eq!(rt; told.as_slice(), OK);
     let text = joined(
         alloc,
         &[CHUNKED, b"0\r\n", fields.as_slice(), b"z: y\r\n\r\n"],
     )?;
-    let told = told_singly(alloc, &text)?;
+    let told = told_singly(&rt, alloc, &text)?;
     assert_eq!(rt; told.as_slice(), BAD);
     Ok(())
 }
@@ -123,10 +124,10 @@ fn too_many_fields_without_an_end(rt: HostRuntime) -> Result<(), Fail> {
     let alloc = rt.alloc();
     let fields = repeated(alloc, b"x: y\r\n", 65)?;
     let text = joined(alloc, &[CHUNKED, b"0\r\n", fields.as_slice()])?;
-    let told = told_singly(alloc, &text)?;
+    let told = told_singly(&rt, alloc, &text)?;
     assert_eq!(rt; told.as_slice(), BAD);
     let head = joined(alloc, &[b"GET / HTTP/1.1\r\n", fields.as_slice()])?;
-    let told = told_singly(alloc, &head)?;
+    let told = told_singly(&rt, alloc, &head)?;
     assert!(rt;
         told.as_slice()
             .starts_with(b"HTTP/1.1 431 Request Header Fields Too Large\r\n")
@@ -139,7 +140,7 @@ fn chunks_of_one_byte(rt: HostRuntime) -> Result<(), Fail> {
     let alloc = rt.alloc();
     let chunks = repeated(alloc, b"1\r\na\r\n", 10_000)?;
     let text = joined(alloc, &[CHUNKED, chunks.as_slice(), b"0\r\n\r\n"])?;
-    let told = told_singly(alloc, &text)?;
+    let told = told_singly(&rt, alloc, &text)?;
     assert!(rt; told.starts_with(b"HTTP/1.1 200 OK\r\n"));
     assert!(rt; told.len() > 10_000);
     Ok(())

@@ -60,7 +60,7 @@ Content-Length: 1\r\n\r\na",
 #[test]
 fn replies_with_each_status(rt: HostRuntime) -> Result<(), Fail> {
     for (status, want) in REPLIES {
-        let told = talk(rt.alloc(), POST, &[], status)?;
+        let told = talk(&rt, rt.alloc(), POST, &[], status)?;
         assert_eq!(rt; told.as_slice(), want);
     }
     Ok(())
@@ -77,11 +77,11 @@ Content-Length: 15\r\n\r\n\x12\x0dout of memory";
 #[test]
 fn a_503_without_a_body_tells_of_memory(rt: HostRuntime) -> Result<(), Fail> {
     let alloc = rt.alloc();
-    let open = talk(alloc, b"POST / HTTP/1.1\r\nHost: c\r\n\r\n", &[], 503)?;
+    let open = talk(&rt, alloc, b"POST / HTTP/1.1\r\nHost: c\r\n\r\n", &[], 503)?;
     assert_eq!(rt; open.as_slice(), NO_MEMORY);
-    let closing = talk(alloc, b"POST / HTTP/1.0\r\n\r\n", &[], 503)?;
+    let closing = talk(&rt, alloc, b"POST / HTTP/1.0\r\n\r\n", &[], 503)?;
     assert_eq!(rt; closing.as_slice(), NO_MEMORY_CLOSING);
-    let head = talk(alloc, b"HEAD / HTTP/1.1\r\nHost: c\r\n\r\n", &[], 503)?;
+    let head = talk(&rt, alloc, b"HEAD / HTTP/1.1\r\nHost: c\r\n\r\n", &[], 503)?;
     assert_eq!(rt; head.as_slice(), &NO_MEMORY[..NO_MEMORY.len() - 15]);
     Ok(())
 }

@@ -121,7 +121,7 @@ fn a_head_without_an_end_is_refused_while_it_comes(rt: HostRuntime) -> Result<()
             reads: &reads,
         });
         let mut handler = Echo::new(rt.alloc(), 200);
-        assert!(rt; serve(rt.alloc(), &mut line, &mut handler).is_ok());
+        assert!(rt; serve(&rt, rt.alloc(), &mut line, &mut handler).is_ok());
         assert!(rt; reads.get() < 1000);
     }
     Ok(())

@@ -1,13 +1,16 @@
 //! A handler that posts bodies to the tenants of one shard, and a server of it over memory.
 ghost use Rattle.std.specs.Prelude.{ℕ};
 
+use bytes::Bytes;
 use http_edge::{Handler, HttpMessage, Reply, serve};
 use http_line::MemoryLine;
 use otlp_front::{Route, RouteRefusal, route};
+use otlp_prepare::{Refusal, prepare};
+use otlp_trace::write_status;
 use std::alloc::{AllocError, Global};
 use std::test::Fail;
+use std::thread::Threads;
 use tail_settings::Settings;
-use tenant_pipeline::{Refusal, prepare};
 use tenant_shard::{Outcome, Shard, Step};
 
 /// Two tenants that keep every trace, a second after its first span.
@@ -47,9 +50,9 @@ num_consumers = 1
 pub struct Collector<'a> {
     alloc: Global,
     settings: &'a Settings,
-    pub shard: Shard,
+    shard: Shard,
     /// In milliseconds.
-    pub now: u64,
+    now: u64,
 }
 
 impl<'a> Collector<'a> {
@@ -63,18 +66,34 @@ impl<'a> Collector<'a> {
         })
     }
 
-    fn answer(&mut self, message: &HttpMessage) -> Result<Reply, AllocError> {
+    /// A turn of the shard.
+    pub fn turn(&mut self, now: u64) -> Result<Outcome, AllocError> {
+        let step = Step::Turn { now };
+        self.shard.step(&step)
+    }
+
+    fn answer<R: Threads + Sync>(
+        &mut self,
+        rt: &R,
+        message: &HttpMessage,
+    ) -> Result<Reply, AllocError> {
         match route(self.settings, message) {
-            Route::Post { tenant } => self.post(tenant, &message.body),
+            Route::Post { tenant } => self.post(rt, tenant, &message.body),
             Route::Refuse(refusal) => refusal.reply(self.alloc),
         }
     }
 
-    fn post(&mut self, tenant: u32, body: &[u8]) -> Result<Reply, AllocError> {
+    fn post<R: Threads + Sync>(
+        &mut self,
+        rt: &R,
+        tenant: u32,
+        body: &[u8],
+    ) -> Result<Reply, AllocError> {
         let Some(section) = self.settings.section(tenant) else {
             return RouteRefusal::UnknownTenant.reply(self.alloc);
         };
-        match prepare(self.alloc, tenant, section, body) {
+        let body = Bytes::copy_from_slice(self.alloc, body)?;
+        match prepare(rt, self.alloc, tenant, section, body, 1) {
             Ok(prepared) => {
                 let step = Step::Post {
                     now: self.now,
@@ -82,28 +101,27 @@ impl<'a> Collector<'a> {
                 };
                 self.step(&step)
             }
-            Err(Refusal::Bad(_)) => Ok(reply_of(tenant_pipeline::Reply::refusal(
-                self.alloc,
-                400,
-                "bad protobuf",
-            )?)),
+            Err(Refusal::Bad(_)) => bad_protobuf(self.alloc),
             Err(Refusal::OutOfMemory) => Ok(no_memory(self.alloc)),
         }
     }
 
-    fn step(&mut self, step: &Step) -> Result<Reply, AllocError> {
+    fn step(&mut self, step: &Step<'_>) -> Result<Reply, AllocError> {
         match self.shard.step(step)? {
-            Outcome::Reply(_, reply) => Ok(reply_of(reply)),
+            Outcome::Reply(_, reply) => Ok(Reply {
+                status: reply.status,
+                body: reply.body.into_vec(),
+            }),
             _ => RouteRefusal::UnknownTenant.reply(self.alloc),
         }
     }
 }
 
-fn reply_of(reply: tenant_pipeline::Reply) -> Reply {
-    Reply {
-        status: reply.status,
-        body: reply.body.into_vec(),
-    }
+/// The reply to a body that has no value.
+fn bad_protobuf(alloc: Global) -> Result<Reply, AllocError> {
+    let mut body = Vec::new(alloc);
+    write_status(alloc, &mut body, "bad protobuf")?;
+    Ok(Reply { status: 400, body })
 }
 
 /// The reply that takes no memory.
@@ -117,8 +135,8 @@ fn no_memory(alloc: Global) -> Reply {
 impl Handler for Collector<'_> {
     ghost answers = { λ _ _ _ _. Unit {0} };
 
-    fn handle(&mut self, message: &HttpMessage) -> Reply {
-        match self.answer(message) {
+    fn handle<T: Threads + Sync>(&mut self, rt: &T, message: &HttpMessage) -> Reply {
+        match self.answer(rt, message) {
             Ok(reply) => reply,
             Err(_) => no_memory(self.alloc),
         }
@@ -127,7 +145,8 @@ impl Handler for Collector<'_> {
 
 /// What is written for this input, which comes in pieces of these lengths and then as it is. The line has room for it
 /// from the first, so that no write of its own fails for want of memory.
-pub fn talk<H: Handler>(
+pub fn talk<R: Threads + Sync, H: Handler>(
+    rt: &R,
     alloc: Global,
     handler: &mut H,
     input: &[u8],
@@ -139,7 +158,7 @@ pub fn talk<H: Handler>(
         Vec::with_capacity(alloc, 4096)?,
         0,
     );
-    serve(alloc, &mut line, handler)?;
+    serve(rt, alloc, &mut line, handler)?;
     Ok(Vec::from_slice(alloc, line.output())?)
 }
 

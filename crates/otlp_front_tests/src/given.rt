@@ -3,6 +3,7 @@ ghost use Rattle.std.specs.Prelude.{ℕ};
 
 use http_edge::{Handler, HttpMessage, Reply};
 use std::alloc::Global;
+use std::thread::Threads;
 
 /// Gives each message this reply. A pipeline gives it where its tenant's spans, counters or end come in.
 #[derive(Drop)]
@@ -15,7 +16,7 @@ pub struct Given<'a> {
 impl Handler for Given<'_> {
     ghost answers = { λ _ _ _ _. Unit {0} };
 
-    fn handle(&mut self, _message: &HttpMessage) -> Reply {
+    fn handle<T: Threads + Sync>(&mut self, _rt: &T, _message: &HttpMessage) -> Reply {
         match Vec::from_slice(self.alloc, self.body) {
             Ok(body) => Reply {
                 status: self.status,

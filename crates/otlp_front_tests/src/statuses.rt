@@ -8,6 +8,7 @@ use crate::replies::{
 };
 use std::alloc::Global;
 use std::test::Fail;
+use std::thread::Threads;
 use tail_settings::load;
 
 /// A handler's status and body, and the reply that is written.
@@ -33,6 +34,7 @@ fn replies_of_pipelines(rt: HostRuntime) -> Result<(), Fail> {
             body,
         };
         let told = talk(
+            &rt,
             alloc,
             &mut handler,
             b"POST /v1/traces HTTP/1.1\r\nHost: c\r\n\r\n",
@@ -44,10 +46,14 @@ fn replies_of_pipelines(rt: HostRuntime) -> Result<(), Fail> {
 }
 
 /// What both tenants' collector writes.
-fn told_by_collector(alloc: Global, input: &[u8]) -> Result<Vec<u8>, Fail> {
+fn told_by_collector<R: Threads + Sync>(
+    rt: &R,
+    alloc: Global,
+    input: &[u8],
+) -> Result<Vec<u8>, Fail> {
     let settings = load(alloc, SETTINGS)?;
     let mut collector = Collector::open(alloc, &settings, 0)?;
-    talk(alloc, &mut collector, input, &[])
+    talk(rt, alloc, &mut collector, input, &[])
 }
 
 /// The line of a post, a Host, and so many fields beside.
@@ -65,9 +71,9 @@ fn the_tenant_is_found_behind_many_fields(rt: HostRuntime) -> Result<(), Fail> {
     let alloc = rt.alloc();
     let rest =
         b"Content-Type: application/x-protobuf\r\nContent-Length: 0\r\nX-Scope-OrgID: b\r\n\r\n";
-    let told = told_by_collector(alloc, &with_fields(alloc, 60, rest)?)?;
+    let told = told_by_collector(&rt, alloc, &with_fields(alloc, 60, rest)?)?;
     assert_eq!(rt; told.as_slice(), TAKEN);
-    let told = told_by_collector(alloc, &with_fields(alloc, 61, rest)?)?;
+    let told = told_by_collector(&rt, alloc, &with_fields(alloc, 61, rest)?)?;
     assert_eq!(rt; told.as_slice(), TOO_MANY_FIELDS);
     Ok(())
 }
@@ -82,6 +88,9 @@ fn a_long_body_is_refused_whatever_its_head_says(rt: HostRuntime) -> Result<(), 
             b"x".as_slice(),
         ],
     )?;
-    assert_eq!(rt; told_by_collector(alloc, &input)?.as_slice(), TOO_LARGE);
+    assert_eq!(rt;
+        told_by_collector(&rt, alloc, &input)?.as_slice(),
+        TOO_LARGE
+    );
     Ok(())
 }

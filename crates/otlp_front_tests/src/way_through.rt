@@ -6,9 +6,11 @@ use crate::replies::{NO_MEMORY, TAKEN};
 use http_edge::write_post;
 use http_line::MemoryLine;
 use std::alloc::{AllocError, Global};
+use std::process::Abort;
 use std::test::Fail;
+use std::thread::Threads;
 use tail_settings::load;
-use tenant_shard::{Outcome, Step};
+use tenant_shard::Outcome;
 
 /// A post of that span to tenant b.
 const POST: &[u8] =
@@ -30,21 +32,42 @@ fn post_of(alloc: Global, payload: &[u8]) -> Result<Vec<u8>, Fail> {
 
 #[test]
 fn a_span_is_posted_and_sent_on(rt: HostRuntime) -> Result<(), Fail> {
-    let alloc = rt.alloc();
-    let settings = load(alloc, SETTINGS)?;
-    let mut collector = Collector::open(alloc, &settings, 5)?;
-    let told = talk(alloc, &mut collector, POST, &[])?;
-    assert_eq!(rt; told.as_slice(), TAKEN);
-    let early = collector.shard.step(&Step::Turn { now: 1004 })?;
-    assert!(rt; early == Outcome::Idle);
-    match collector.shard.step(&Step::Turn { now: 1005 })? {
-        Outcome::Job(tenant, ticket, payload) => {
-            assert!(rt; tenant == 1 && ticket == 1);
-            assert_eq!(rt; payload.as_slice(), SPAN);
-            assert_eq!(rt; post_of(alloc, payload.as_slice())?.as_slice(), SENT);
-        }
-        _ => assert!(rt; false),
-    }
+    let settings = load(rt.alloc(), SETTINGS)?;
+    let mut collector = Collector::open(rt.alloc(), &settings, 5)?;
+    check_one_post(&rt, rt.alloc(), &mut collector)
+}
+
+fn check_one_post<R: Threads + Sync + Abort>(
+    rt: &R,
+    alloc: Global,
+    collector: &mut Collector<'_>,
+) -> Result<(), Fail> {
+    assert!(rt; is_taken(rt, alloc, collector)?);
+    assert!(rt; is_idle(collector, 1004)?);
+    let outcome = collector.turn(1005)?;
+    check_job(rt, alloc, &outcome)
+}
+
+fn is_taken<R: Threads + Sync>(
+    rt: &R,
+    alloc: Global,
+    collector: &mut Collector<'_>,
+) -> Result<bool, Fail> {
+    let told = talk(rt, alloc, collector, POST, &[])?;
+    Ok(told.as_slice() == TAKEN)
+}
+
+fn is_idle(collector: &mut Collector<'_>, now: u64) -> Result<bool, AllocError> {
+    Ok(collector.turn(now)? == Outcome::Idle)
+}
+
+fn check_job<R: Abort>(rt: &R, alloc: Global, outcome: &Outcome) -> Result<(), Fail> {
+    let Outcome::Job(tenant, ticket, payload) = outcome else {
+        return Err(Fail::from("no job"));
+    };
+    assert!(rt; *tenant == 1 && *ticket == 1);
+    assert_eq!(rt; payload.as_slice(), SPAN);
+    assert_eq!(rt; post_of(alloc, payload.as_slice())?.as_slice(), SENT);
     Ok(())
 }
 
@@ -71,18 +94,33 @@ fn due(alloc: Global, told: &[u8]) -> Result<Option<&'static [u8]>, AllocError> 
 /// Also where an allocation is refused: then a post may be answered 503, and the next one is taken.
 #[test]
 fn what_is_answered_200_leaves_and_nothing_else(rt: HostRuntime) -> Result<(), Fail> {
-    let alloc = rt.alloc();
-    let settings = load(alloc, SETTINGS)?;
-    let mut collector = Collector::open(alloc, &settings, 0)?;
-    let input = joined(alloc, &[POST, POST])?;
-    let told = talk(alloc, &mut collector, &input, &[])?;
-    let due = due(alloc, &told)?.ok_or("another reply")?;
-    match collector.shard.step(&Step::Turn { now: 1000 })? {
-        Outcome::Job(tenant, _, payload) => {
-            assert!(rt; tenant == 1);
-            assert_eq!(rt; payload.as_slice(), due);
-        }
-        _ => assert!(rt; false),
-    }
+    let settings = load(rt.alloc(), SETTINGS)?;
+    let mut collector = Collector::open(rt.alloc(), &settings, 0)?;
+    check_two_posts(&rt, rt.alloc(), &mut collector)
+}
+
+fn check_two_posts<R: Threads + Sync + Abort>(
+    rt: &R,
+    alloc: Global,
+    collector: &mut Collector<'_>,
+) -> Result<(), Fail> {
+    let due = due_after_two_posts(rt, alloc, collector)?;
+    let outcome = collector.turn(1000)?;
+    let Outcome::Job(tenant, _, payload) = &outcome else {
+        return Err(Fail::from("no job"));
+    };
+    assert!(rt; *tenant == 1);
+    assert_eq!(rt; payload.as_slice(), due);
     Ok(())
+}
+
+fn due_after_two_posts<R: Threads + Sync>(
+    rt: &R,
+    alloc: Global,
+    collector: &mut Collector<'_>,
+) -> Result<&'static [u8], Fail> {
+    let input = joined(alloc, &[POST, POST])?;
+    let told = talk(rt, alloc, collector, &input, &[])?;
+    let due = due(alloc, &told)?.ok_or("another reply")?;
+    Ok(due)
 }

@@ -1,0 +1,3 @@
+mod Throughs
+mod Rounds
+mod Notes

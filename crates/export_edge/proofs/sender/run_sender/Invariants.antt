@@ -1,0 +1,12 @@
+use Rattle.std.proofs.Common.{◌≡◌}
+use Rattle.export_edge.specs.Work.{Sending}
+use Rattle.export_edge.proofs.sender.run_sender.Given as goal
+
+pub record SoFar (P Q R : Type 0) : Type 0 where
+  pub lane : P
+  pub pushes : Q
+  pub work : R
+
+abbrev pub invariant-rounds : goal.invariant-rounds
+invariant-rounds g l = SoFar (l.seat.lane ≡ l.fn.seat.lane) (l.seat.pushes ≡ l.fn.seat.pushes)
+    (Sending g.B.BackEnd.posts g.S.AnswerSink.takes g.S.AnswerSink.refuses l.fn.back_end l.back_end l.fn.sink l.sink l.fn.seat.pops l.seat.pops)

@@ -1,0 +1,12 @@
+use Rattle.std.proofs.Common.{◌≡◌}
+use Rattle.export_edge.specs.Work.{Turning}
+use Rattle.export_edge.proofs.turner.run_turner.Given as goal
+
+pub record SoFar (P Q R : Type 0) : Type 0 where
+  pub lane : P
+  pub pops : Q
+  pub work : R
+
+abbrev pub invariant-rounds : goal.invariant-rounds
+invariant-rounds g l = SoFar (l.seat.lane ≡ l.fn.seat.lane) (l.seat.pops ≡ l.fn.seat.pops)
+    (Turning g.S.JobSource.turns l.fn.source l.source l.fn.seat.pushes l.seat.pushes l.held)

@@ -1,0 +1,29 @@
+-- Laws of turners' and senders' work: who takes notes of what is asked of it has, after a whole work, noted just what
+-- the work is said to be. So the steps from a first state to a last are as many as the items, and no others.
+use Rattle.std.specs.Prelude.{◌≡◌, List, [], ◌∷◌, ◌++◌, map}
+use Rattle.export_edge.specs.Work.{Through, Turn, Posted, Given, given, given_for, Hands}
+
+-- a source that notes its turns has noted those that were made, each once and in order
+abbrev pub TurnsAreNoted : {S : Type 0} → (S → Turn → S → Type 0) → Type 0
+TurnsAreNoted {S} turns = (noted : S → List Turn)
+    → ((old new : S) (t : Turn) → turns old t new → noted new ≡ noted old ++ t ∷ [])
+    → (old new : S) (made : List Turn) → Through turns old made new → noted new ≡ noted old ++ made
+
+-- a back end that notes its posts has noted those that were made, each once and in order
+abbrev pub PostsAreNoted : {B : Type 0} → (B → Posted → B → Type 0) → Type 0
+PostsAreNoted {B} posts = (noted : B → List Posted)
+    → ((old new : B) (p : Posted) → posts old p new → noted new ≡ noted old ++ p ∷ [])
+    → (old new : B) (sent : List Posted) → Through posts old sent new → noted new ≡ noted old ++ sent
+
+-- an answer that is handed in, without its moment
+abbrev pub timeless : Given → Given
+timeless g = given g.tenant 0 g.ticket g.answer
+
+-- a sink that notes the answers that it takes, and no others, has noted one to each job, under its tenant and ticket,
+-- in order
+abbrev pub AnswersAreNoted : {S : Type 0} → (S → Given → S → Type 0) → (S → Given → S → Type 0) → Type 0
+AnswersAreNoted {S} takes refuses = (noted : S → List Given)
+    → ((old new : S) (g : Given) → takes old g new → noted new ≡ noted old ++ g ∷ [])
+    → ((old new : S) (g : Given) → refuses old g new → noted new ≡ noted old)
+    → (old new : S) (sent : List Posted) → Through (Hands takes refuses) old sent new
+    → map timeless (noted new) ≡ map timeless (noted old) ++ map (λ p. given_for p 0) sent

@@ -1,0 +1,3 @@
+pub mod Posting
+pub mod Work
+pub mod Law

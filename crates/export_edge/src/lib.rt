@@ -1,0 +1,43 @@
+//! The edge at which jobs leave: who makes turns and hands their jobs to the lane, and who takes jobs from the lane,
+//! posts them to their back ends and hands in the answers.
+//!
+//! [`post_over`] posts a payload over a line and says what it came to: an answer, or none where the line, the answer's
+//! head or its body is at fault. [`TcpBackEnd`] does so over a connection of its own for each job. [`run_turner`] and
+//! [`run_sender`] are the work of one thread each, over whoever makes turns and takes answers ([`JobSource`],
+//! [`AnswerSink`]) and to whatever beat ([`Beat`]); what they promise is said of their whole work (`specs/Work`).
+//!
+//! It stands on `http_edge` and `http_line`, for posts and answers on the wire, on `job_lane`, and on `send_retry`, for
+//! answers. The bytes of a post are OTLP/HTTP's; the rules of turners and senders are this project's own.
+#![tactic(auto)]
+
+ghost use Rattle.export_edge.specs.Law.{TurnsAreNoted, PostsAreNoted, AnswersAreNoted};
+
+mod back_end;
+mod posting;
+mod sender;
+mod tcp;
+mod turner;
+mod work;
+
+pub use crate::back_end::BackEnd;
+pub use crate::posting::post_over;
+pub use crate::sender::run_sender;
+pub use crate::tcp::TcpBackEnd;
+pub use crate::turner::run_turner;
+pub use crate::work::{AnswerRefused, AnswerSink, Beat, JobSource, Turned};
+
+/// A source that notes its turns has noted those that a turner is said to have made: a law over the definitions.
+pub fn turns_are_noted<S: JobSource>()
+    ensures { TurnsAreNoted S.turns }
+{}
+
+/// A back end that notes its posts has noted those that a sender is said to have made: a law over the definitions.
+pub fn posts_are_noted<B: BackEnd>()
+    ensures { PostsAreNoted B.posts }
+{}
+
+/// A sink that notes the answers that it takes has noted one to each job that a sender is said to have sent: a law over
+/// the definitions.
+pub fn answers_are_noted<S: AnswerSink>()
+    ensures { AnswersAreNoted S.takes S.refuses }
+{}

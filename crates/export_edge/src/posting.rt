@@ -1,0 +1,39 @@
+//! A post and its answer over one line.
+ghost use Rattle.std.specs.Prelude.{IfOk, IfErr};
+ghost use Rattle.send_retry.specs.Class.{answer_view};
+ghost use Rattle.http_edge.specs.Post.{post_text};
+ghost use Rattle.export_edge.specs.Posting.{Exchanges, BreaksOff, ComesTo};
+
+use http_edge::{EdgeFault, read_answer, write_post};
+use http_line::Line;
+use send_retry::Answer;
+use std::alloc::Global;
+
+/// Posts the payload over a new line, and says what came of it. Each fault is `Answer::Failed`: of the line, of memory,
+/// of the answer's head, its framing or its body. The line is given up with it.
+pub fn post_over<L: Line>(alloc: Global, line: &mut L, host: &str, payload: &[u8]) -> Answer
+    ensures { ComesTo L.received L.sent L.ends L.failed (post_text host.now payload.now) line.old line.new
+        (answer_view result) }
+{
+    match exchange(alloc, line, host, payload) {
+        Ok(answer) => answer,
+        Err(_) => Answer::Failed,
+    }
+}
+
+/// Writes the post, and then reads the answer to it.
+fn exchange<L: Line>(
+    alloc: Global,
+    line: &mut L,
+    host: &str,
+    payload: &[u8],
+) -> Result<Answer, EdgeFault>
+    ensures ok { IfOk result (λ answer. Exchanges L.received L.sent L.ends (post_text host.now payload.now) line.old
+        line.new (answer_view answer)) }
+    ensures err { IfErr result (λ fault. BreaksOff L.received L.sent L.failed (post_text host.now payload.now) line.old
+        line.new fault) }
+{
+    write_post(alloc, line, host, payload)?;
+    let answer = read_answer(alloc, line)?;
+    Ok(answer)
+}

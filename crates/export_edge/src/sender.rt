@@ -1,0 +1,91 @@
+//! Who takes jobs from the lane, posts them and hands in the answers.
+ghost use Rattle.std.specs.Prelude.{◌≡◌, List};
+ghost use Rattle.job_lane.specs.Lane.{Entry};
+ghost use Rattle.send_retry.specs.Class.{AnswerData, answer_view};
+ghost use Rattle.export_edge.specs.Work.{posted, Hands, Sending};
+
+use crate::back_end::BackEnd;
+use crate::work::{AnswerRefused, AnswerSink, Beat};
+use job_lane::{Job, Lane, LaneSeat};
+use send_retry::Answer;
+use std::sync::Wait;
+
+/// Takes jobs from the lane until the work is over: posts each once, and hands in the answer to it once, under the
+/// job's own tenant and ticket. It pauses where the lane is empty.
+pub fn run_sender<B: BackEnd, S: AnswerSink, T: Beat, R: Wait>(
+    rt: &R,
+    lane: &Lane,
+    seat: &mut LaneSeat,
+    back_end: &mut B,
+    sink: &mut S,
+    beat: &mut T,
+)
+    requires { seat.old.lane ≡ lane.now.name }
+    ensures same { (seat.new.lane ≡ seat.old.lane) × (seat.new.pushes ≡ seat.old.pushes) }
+    ensures work { Sending B.posts S.takes S.refuses back_end.old back_end.new sink.old sink.new seat.old.pops
+        seat.new.pops }
+{
+    'rounds: for _ in rt.forever() {
+        if beat.is_over() {
+            return;
+        }
+        go_on(rt, lane, seat, back_end, sink, beat);
+    }
+    unreachable!()
+}
+
+/// Sends the lane's first job, or pauses where there is none.
+fn go_on<B: BackEnd, S: AnswerSink, T: Beat, R: Wait>(
+    rt: &R,
+    lane: &Lane,
+    seat: &mut LaneSeat,
+    back_end: &mut B,
+    sink: &mut S,
+    beat: &mut T,
+)
+    requires { seat.old.lane ≡ lane.now.name }
+    ensures same { (seat.new.lane ≡ seat.old.lane) × (seat.new.pushes ≡ seat.old.pushes) }
+    // Whatever was done before.
+    ensures work { (b : B) (s : S) (before : List Entry) → Sending B.posts S.takes S.refuses b back_end.old s sink.old
+        before seat.old.pops → Sending B.posts S.takes S.refuses b back_end.new s sink.new before seat.new.pops }
+{
+    match lane.pop(rt, seat) {
+        Some(job) => send(rt, back_end, sink, beat, &job),
+        None => beat.pause(),
+    }
+}
+
+/// Posts the job, and hands in the answer to it.
+fn send<B: BackEnd, S: AnswerSink, T: Beat, R: Wait>(
+    rt: &R,
+    back_end: &mut B,
+    sink: &mut S,
+    beat: &mut T,
+    job: &Job,
+)
+    ensures { (answer : AnswerData) × B.posts back_end.old (posted job.now answer) back_end.new
+        × Hands S.takes S.refuses sink.old (posted job.now answer) sink.new }
+{
+    let answer = back_end.post(job);
+    hand_in(rt, sink, beat, job, &answer);
+}
+
+/// Hands in the answer to the job: again after a pause, at the moment that it then is, where it isn't taken.
+fn hand_in<S: AnswerSink, T: Beat, R: Wait>(
+    rt: &R,
+    sink: &mut S,
+    beat: &mut T,
+    job: &Job,
+    answer: &Answer,
+)
+    ensures { Hands S.takes S.refuses sink.old (posted job.now (answer_view answer.now)) sink.new }
+{
+    'attempts: for _ in rt.forever() {
+        let now = beat.now();
+        match sink.answer(job.tenant, now, job.ticket, answer) {
+            Ok(()) => return,
+            Err(AnswerRefused) => beat.pause(),
+        }
+    }
+    unreachable!()
+}

@@ -1,0 +1,89 @@
+//! Who makes turns and hands their jobs to the lane.
+ghost use Rattle.std.specs.Prelude.{◌≡◌, ℕ, List, ◌++◌, ◌∷◌, [], MatchOption, option_to_list};
+ghost use Rattle.job_lane.specs.Lane.{Entry};
+ghost use Rattle.export_edge.specs.Work.{Turn, Turning, jobs_in};
+
+use crate::work::{Beat, JobSource, Turned};
+use job_lane::{Job, Lane, LaneSeat};
+use std::sync::Wait;
+
+/// Makes turns until the work is over, and hands their jobs to the lane: in order, each once. It pauses where a turn
+/// had nothing to do and where the lane is full, keeping the job meanwhile. The job that it has at the end comes back.
+pub fn run_turner<S: JobSource, B: Beat, R: Wait>(
+    rt: &R,
+    lane: &Lane,
+    seat: &mut LaneSeat,
+    source: &mut S,
+    beat: &mut B,
+) -> Option<Job>
+    requires { seat.old.lane ≡ lane.now.name }
+    ensures same { (seat.new.lane ≡ seat.old.lane) × (seat.new.pops ≡ seat.old.pops) }
+    ensures work { Turning S.turns source.old source.new seat.old.pushes seat.new.pushes result }
+{
+    let mut held = None;
+    'rounds: for _ in rt.forever() {
+        if beat.is_over() {
+            return held;
+        }
+        held = go_on(rt, lane, seat, source, beat, held);
+    }
+    unreachable!()
+}
+
+/// Pushes the job that is held, or makes a turn where there is none. The job that is then held.
+fn go_on<S: JobSource, B: Beat, R: Wait>(
+    rt: &R,
+    lane: &Lane,
+    seat: &mut LaneSeat,
+    source: &mut S,
+    beat: &mut B,
+    held: Option<Job>,
+) -> Option<Job>
+    requires { seat.old.lane ≡ lane.now.name }
+    ensures same { (seat.new.lane ≡ seat.old.lane) × (seat.new.pops ≡ seat.old.pops) }
+    // Whatever was done before.
+    ensures work { (start : S) (before : List Entry) → Turning S.turns start source.old before seat.old.pushes held
+        → Turning S.turns start source.new before seat.new.pushes result }
+{
+    match held {
+        Some(job) => offer(rt, lane, seat, beat, job),
+        None => next_job(source, beat),
+    }
+}
+
+/// Pushes the job. It comes back, after a pause, where the lane is full.
+fn offer<B: Beat, R: Wait>(
+    rt: &R,
+    lane: &Lane,
+    seat: &mut LaneSeat,
+    beat: &mut B,
+    job: Job,
+) -> Option<Job>
+    requires { seat.old.lane ≡ lane.now.name }
+    ensures same { (seat.new.lane ≡ seat.old.lane) × (seat.new.pops ≡ seat.old.pops) }
+    ensures pushed { MatchOption result ((n : ℕ) × (seat.new.pushes ≡ seat.old.pushes ++ (n, job) ∷ []))
+        (λ back. (back ≡ job) × (seat.new.pushes ≡ seat.old.pushes)) }
+{
+    match lane.push(rt, seat, job) {
+        Ok(()) => None,
+        Err(back) => {
+            beat.pause();
+            Some(back)
+        }
+    }
+}
+
+/// Makes a turn, and pauses where there was nothing to do. The job that it gave, if it gave one.
+fn next_job<S: JobSource, B: Beat>(source: &mut S, beat: &mut B) -> Option<Job>
+    ensures { (made : Turn) × S.turns source.old made source.new × (jobs_in made ≡ option_to_list result) }
+{
+    let now = beat.now();
+    match source.turn(now) {
+        Turned::Job(job) => Some(job),
+        Turned::Worked => None,
+        Turned::Idle => {
+            beat.pause();
+            None
+        }
+    }
+}

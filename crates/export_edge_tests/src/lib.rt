@@ -1,0 +1,17 @@
+//! Tests of `export_edge`: posts over lines in memory, cut and broken off at every byte and at every call; posts over a
+//! connection to this machine; and what turners and senders did, seen from a source, a sink and a back end that take
+//! notes.
+#![tactic(auto)]
+
+#[cfg(test)]
+mod notes;
+#[cfg(test)]
+mod posting_tests;
+#[cfg(test)]
+mod sender_tests;
+#[cfg(test)]
+mod tcp_tests;
+#[cfg(test)]
+mod thread_tests;
+#[cfg(test)]
+mod turner_tests;
