@@ -1,5 +1,5 @@
 -- What the definitions give on small arguments, faults and texts, for the tests, worked out by hand.
-use Rattle.std.specs.Prelude.{◌≡◌, codes, ℕ, List, [], ◌∷◌, map, Some, None, Ok, Err}
+use Rattle.std.specs.Prelude.{◌≡◌, true, false, codes, ℕ, List, [], ◌∷◌, map, Some, None, Ok, Err}
 use Rattle.std.specs.declared.io.ErrorKind.TheVariants as kinds
 use Rattle.tail_settings.specs.declared.fault.SettingsFault.TheVariants as settings
 use Rattle.trace_collector.specs.declared.engine.ReplayFault.TheVariants as replay_faults
@@ -7,7 +7,8 @@ use Rattle.trace_collector.specs.Replay.{IsReplay}
 use Rattle.trace_collector_program.specs.Fault.{IsOfFile, IsOfArguments, IsOfText}
 use Rattle.trace_collector_program.specs.Run.{IsRun}
 use Rattle.trace_collector_program.specs.Status.{status_of, end_status}
-use Rattle.trace_collector_program.specs.Task.{replay, help, version, task_of}
+use Rattle.trace_collector_program.specs.Task.{replay, serve, check, help, version, task_of}
+use Rattle.trace_collector_program.specs.declared.check.End.TheVariants.{Good, Faulty}
 use Rattle.trace_collector_program.specs.declared.ProgramFault.{ProgramFault}
 use Rattle.trace_collector_program.specs.declared.ProgramFault.TheVariants.{Usage, Replay}
 
@@ -25,6 +26,9 @@ pub record Arguments : Type 0 where
   pub same_word : task_of (command ∷ command ∷ []) ≡ Some (replay command)
   pub empty_path : task_of (command ∷ [] ∷ []) ≡ Some (replay [])
   pub option_as_path : task_of (command ∷ codes "--help" ∷ []) ≡ Some (replay (codes "--help"))
+  pub checked : task_of (codes "check" ∷ path ∷ []) ≡ Some (check path)
+  pub check_alone : task_of (codes "check" ∷ []) ≡ None
+  pub check_two : task_of (codes "check" ∷ path ∷ path ∷ []) ≡ None
   pub help_alone : task_of (codes "--help" ∷ []) ≡ Some help
   pub version_alone : task_of (codes "--version" ∷ []) ≡ Some version
   pub help_and_more : task_of (codes "--help" ∷ path ∷ []) ≡ None
@@ -32,7 +36,14 @@ pub record Arguments : Type 0 where
   pub one_word_more : task_of (command ∷ path ∷ path ∷ []) ≡ None
   pub no_path : task_of (command ∷ []) ≡ None
   pub none : task_of [] ≡ None
-  pub other_command : task_of (codes "serve" ∷ path ∷ []) ≡ None
+  pub served : task_of (codes "serve" ∷ path ∷ []) ≡ Some (serve path false)
+  pub audited : task_of (codes "serve" ∷ path ∷ codes "--audit" ∷ []) ≡ Some (serve path true)
+  pub serve_alone : task_of (codes "serve" ∷ []) ≡ None
+  pub serve_two : task_of (codes "serve" ∷ path ∷ path ∷ []) ≡ None
+  pub audit_first : task_of (codes "serve" ∷ codes "--audit" ∷ path ∷ []) ≡ None
+  pub audited_and_more : task_of (codes "serve" ∷ path ∷ codes "--audit" ∷ path ∷ []) ≡ None
+  pub replay_audited : task_of (command ∷ path ∷ codes "--audit" ∷ []) ≡ None
+  pub other_command : task_of (codes "run" ∷ path ∷ []) ≡ None
   pub capital : task_of (codes "Replay" ∷ path ∷ []) ≡ None
   pub longer_command : task_of (codes "replays" ∷ path ∷ []) ≡ None
   pub other_order : task_of (path ∷ command ∷ []) ≡ None
@@ -41,7 +52,8 @@ pub record Arguments : Type 0 where
 
 -- the four of the program's own words: 0 done, 1 a fault, 2 wrong usage, 3 no memory
 pub record Statuses : Type 0 where
-  pub done : end_status (Ok tt) ≡ 0
+  pub done : end_status (Ok Good) ≡ 0
+  pub checked : end_status (Ok Faulty) ≡ 1
   pub faults : map status_of (Replay (replay_faults.Settings settings.NotToml) ∷ Replay (replay_faults.Script 7)
       ∷ Replay replay_faults.Line ∷ [])
       ≡ 1 ∷ 1 ∷ 1 ∷ []

@@ -5,8 +5,17 @@ use Rattle.std.specs.declared.io.ErrorKind.{ErrorKind}
 use Rattle.std.specs.declared.io.ErrorKind.TheVariants as kinds
 use Rattle.tail_settings.specs.declared.fault.SettingsFault.TheVariants as settings
 use Rattle.trace_collector.specs.declared.engine.ReplayFault.TheVariants as replay
+use Rattle.trace_service.specs.declared.service.ServiceFault.{ServiceFault}
+use Rattle.trace_service.specs.declared.service.ServiceFault.TheVariants as service
 use Rattle.trace_collector_program.specs.declared.ProgramFault.{ProgramFault}
 use Rattle.trace_collector_program.specs.declared.ProgramFault.TheVariants.{Usage, Replay}
+
+-- of a service only the want of memory, or of what a thread is started with, is told apart
+abbrev pub of_service : ServiceFault → ProgramFault
+of_service service.OutOfMemory = Replay replay.OutOfMemory
+of_service service.NoThread = Replay replay.OutOfMemory
+of_service service.Line = Replay replay.Line
+of_service service.CallersMissing = Replay replay.Line
 
 -- of files, input and output only the want of memory is told apart
 pub record IsOfFile (kind : ErrorKind) (fault : ProgramFault) : Type 0 where

@@ -1,6 +1,8 @@
 -- The statuses with which the program ends early.
 use Rattle.std.specs.Prelude.{ℕ, Result, Ok, Err}
 use Rattle.trace_collector.specs.declared.engine.ReplayFault.TheVariants as replay
+use Rattle.trace_collector_program.specs.declared.check.End.{End}
+use Rattle.trace_collector_program.specs.declared.check.End.TheVariants.{Good, Faulty}
 use Rattle.trace_collector_program.specs.declared.ProgramFault.{ProgramFault}
 use Rattle.trace_collector_program.specs.declared.ProgramFault.TheVariants.{Usage, Replay}
 
@@ -12,7 +14,8 @@ status_of (Replay (replay.Settings fault)) = 1
 status_of (Replay (replay.Script line)) = 1
 status_of (Replay replay.Line) = 1
 
--- 0 where it comes to its end
-abbrev pub end_status : Result Unit ProgramFault → ℕ
-end_status (Ok done) = 0
+-- 0 where it comes to its end, and 1 where that is a fault of settings that were checked
+abbrev pub end_status : Result End ProgramFault → ℕ
+end_status (Ok Good) = 0
+end_status (Ok Faulty) = 1
 end_status (Err fault) = status_of fault

@@ -1,13 +1,17 @@
 -- What the program's arguments ask for.
-use Rattle.std.specs.Prelude.{ℕ, List, [], ◌∷◌, codes, Option, Some, None, if◌then◌else◌}
+use Rattle.std.specs.Prelude.{ℕ, List, [], ◌∷◌, codes, Bool, true, false, Option, Some, None, if◌then◌else◌}
 use Rattle.std.specs.Str.{bytes_eq}
 use Rattle.trace_collector_program.specs.declared.task.Task.{Task}
-use Rattle.trace_collector_program.specs.declared.task.Task.TheVariants.{Replay, Help, Version}
+use Rattle.trace_collector_program.specs.declared.task.Task.TheVariants.{Replay, Serve, Check, Help, Version}
 
 -- what the program is to do
 pub data TaskData : Type 0 where
   -- the script on standard input is replayed under the settings in the file of this path
   replay : List ℕ → TaskData
+  -- the collector serves under the settings in the file of this path, with or without an audit
+  serve : List ℕ → Bool → TaskData
+  -- the settings in the file of this path are checked
+  check : List ℕ → TaskData
   -- the help is printed
   help : TaskData
   -- the version is printed
@@ -16,6 +20,8 @@ pub data TaskData : Type 0 where
 -- the task that a value of the code stands for
 abbrev pub task_view : Task → TaskData
 task_view (Replay settings) = replay settings.now
+task_view (Serve settings audit) = serve settings.now audit
+task_view (Check settings) = check settings.now
 task_view Help = help
 task_view Version = version
 
@@ -26,9 +32,25 @@ option_of word =
     else if bytes_eq word (codes "--version") then Some version
     else None
 
--- one of these alone, or `replay SETTINGS`, and nothing else
+-- `replay`, `serve` or `check`, with a path
+abbrev pub on_file : List ℕ → List ℕ → Option TaskData
+on_file command path =
+    if bytes_eq command (codes "replay") then Some (replay path)
+    else if bytes_eq command (codes "serve") then Some (serve path false)
+    else if bytes_eq command (codes "check") then Some (check path)
+    else None
+
+-- `serve`, with a path and `--audit`
+abbrev pub with_option : List ℕ → List ℕ → List ℕ → Option TaskData
+with_option command path word =
+    if bytes_eq command (codes "serve") then
+    if bytes_eq word (codes "--audit") then Some (serve path true) else None
+    else None
+
+-- an option alone, a command with a path, or that with an option, and nothing else
 abbrev pub task_of : List (List ℕ) → Option TaskData
 task_of (word ∷ []) = option_of word
-task_of (command ∷ path ∷ []) = if bytes_eq command (codes "replay") then Some (replay path) else None
-task_of (command ∷ path ∷ word ∷ words) = None
+task_of (command ∷ path ∷ []) = on_file command path
+task_of (command ∷ path ∷ word ∷ []) = with_option command path word
+task_of (command ∷ path ∷ word ∷ more ∷ words) = None
 task_of [] = None

@@ -1,12 +1,18 @@
 //! `trace_collector replay SETTINGS`: replays the script on standard input under the settings in that file, and writes
 //! what its steps are answered to standard output, each answer before it waits for more of the script. `--help` and
-//! `--version` print on standard output. Statuses: 0 done; 1 a fault of the settings, the script, the input or the
-//! output; 2 wrong usage; 3 no memory. A fault is told in one line on standard error.
+//! `--version` print on standard output. `trace_collector check SETTINGS` writes to standard output what is to be said
+//! of the settings in that file. `trace_collector serve SETTINGS` receives bodies and sends traces under the settings
+//! in that file, until standard input ends. Statuses: 0 done, and settings that are good; 1 a fault of the settings,
+//! the script, the input or the output; 2 wrong usage; 3 no memory. A fault is told in one line on standard error, but
+//! that of settings that are checked, which is on standard output already.
 //!
-//! It stands on `trace_collector`, whose `replay` promises what is written.
+//! It stands on `trace_collector`, whose `replay` promises what is written, on `settings_check`, whose `check` does so
+//! too, and on `trace_service`.
 #![tactic(auto)]
 
+mod check;
 mod examples;
+mod serve;
 mod task;
 
 ghost use Rattle.std.specs.Prelude.{◌≡◌, ℕ, List, IfSome, IfOk, IfErr, string_bytes};
@@ -19,10 +25,16 @@ ghost use Rattle.trace_collector_program.specs.Status.{status_of, end_status};
 ghost use Rattle.trace_collector_program.specs.declared.ProgramFault.TheVariants as faults;
 ghost use Rattle.trace_collector.specs.declared.engine.ReplayFault.TheVariants as replay_faults;
 
-use std::alloc::{AllocFailed, Global};
+use check::{End, check_file};
+use serve::serve_file;
+use std::alloc::{AllocError, AllocFailed, Global};
 use std::io::{BufRead, BufReader, ErrorKind, Write};
+use std::net::{Net, TcpListener, TcpStream};
 use std::process::ExitCode;
 use std::rt::{Env, Files};
+use std::sync::Wait;
+use std::thread::Threads;
+use std::time::Clock;
 use std::{env, fs, io};
 use tail_settings::SettingsFault;
 use task::{HELP, Task, VERSION, asked_task};
@@ -36,7 +48,7 @@ const READ_SIZE: usize = 65_536;
 #[derive(Debug, Drop, Error)]
 enum ProgramFault {
     /// The arguments ask for nothing that the program does, or one of them isn't UTF-8.
-    #[error("usage: trace_collector replay SETTINGS")]
+    #[error("usage: trace_collector replay SETTINGS | serve SETTINGS [--audit]")]
     Usage,
     /// The replay ended early, or there was none.
     #[error("{0}")]
@@ -77,6 +89,14 @@ impl From<io::Error> for ProgramFault {
     }
 }
 
+impl From<AllocError> for ProgramFault {
+    ghost from_gives = { λ _ given. given ≡ faults.Replay replay_faults.OutOfMemory };
+
+    fn from(_error: AllocError) -> ProgramFault {
+        ProgramFault::Replay(ReplayFault::OutOfMemory)
+    }
+}
+
 impl<T: Drop> From<AllocFailed<T>> for ProgramFault {
     ghost from_gives = { λ _ given. given ≡ faults.Replay replay_faults.OutOfMemory };
 
@@ -90,11 +110,12 @@ fn main(rt: HostRuntime) -> ExitCode {
 }
 
 /// The status with which the program ends. A fault is told on standard error.
-fn ended(rt: &impl Eprint, end: Result<(), ProgramFault>) -> ExitCode
+fn ended(rt: &impl Eprint, end: Result<End, ProgramFault>) -> ExitCode
     ensures { exit_status result ≡ end_status end }
 {
     match end {
-        Ok(()) => ExitCode::SUCCESS,
+        Ok(End::Good) => ExitCode::SUCCESS,
+        Ok(End::Faulty) => ExitCode::from(1),
         Err(fault) => {
             let status = fault.status();
             // Where standard error can't be written, the status has to do.
@@ -104,7 +125,11 @@ fn ended(rt: &impl Eprint, end: Result<(), ProgramFault>) -> ExitCode
     }
 }
 
-fn run(rt: &(impl Env + Files + Input + Print + AllocGlobal)) -> Result<(), ProgramFault> {
+fn run<R>(rt: &R) -> Result<End, ProgramFault>
+where
+    R: Env + Files + Input + Print + AllocGlobal + Clock + Threads + Wait + Sync,
+    R: Net<Listener = TcpListener, Stream = TcpStream>,
+{
     let args = match env::args(rt) {
         Ok(args) => args,
         Err(error) => return Err(of_arguments(error)),
@@ -114,11 +139,14 @@ fn run(rt: &(impl Env + Files + Input + Print + AllocGlobal)) -> Result<(), Prog
         words.push(word)?;
     }
     match asked_task(words.as_slice()) {
-        Some(Task::Replay { settings }) => replay_file(rt, settings),
-        Some(Task::Help) => Ok(rt.println(HELP)?),
-        Some(Task::Version) => Ok(rt.println(VERSION)?),
-        None => Err(ProgramFault::Usage),
+        Some(Task::Replay { settings }) => replay_file(rt, settings)?,
+        Some(Task::Serve { settings, audit }) => serve_file(rt, settings, audit)?,
+        Some(Task::Check { settings }) => return check_file(rt, settings),
+        Some(Task::Help) => rt.println(HELP)?,
+        Some(Task::Version) => rt.println(VERSION)?,
+        None => return Err(ProgramFault::Usage),
     }
+    Ok(End::Good)
 }
 
 /// The library gives all arguments as text, or none where one of them isn't UTF-8, the program's own name included.
@@ -134,14 +162,14 @@ fn of_arguments(error: io::Error) -> ProgramFault
 
 /// Replays the script on standard input under the settings in a file.
 fn replay_file(
-    rt: &(impl Files + Input + Print + AllocGlobal),
+    rt: &(impl Files + Input + Print + AllocGlobal + Threads + Sync),
     path: &str,
 ) -> Result<(), ProgramFault> {
     let settings = fs::read(rt, path)?;
     let alloc = rt.alloc();
     let mut reader = BufReader::with_capacity(alloc, READ_SIZE, rt.reader())?;
     let mut writer = io::writer(rt);
-    replay_under(alloc, settings, &mut reader, &mut writer)
+    replay_under(rt, alloc, settings, &mut reader, &mut writer)
 }
 
 /// The text that a file's bytes spell. Bytes that spell none are no TOML document.
@@ -156,7 +184,8 @@ fn settings_text(bytes: Vec<u8>) -> Result<String, ProgramFault>
 }
 
 /// Replays a script under the settings in a file's bytes.
-fn replay_under<R: BufRead, W: Write>(
+fn replay_under<T: Threads + Sync, R: BufRead, W: Write>(
+    rt: &T,
     alloc: Global,
     settings: Vec<u8>,
     reader: &mut R,
@@ -167,6 +196,6 @@ fn replay_under<R: BufRead, W: Write>(
         × IsRun settings.items script written result) }
 {
     let settings = settings_text(settings)?;
-    replay(alloc, settings.as_str(), reader, writer)?;
+    replay(rt, alloc, settings.as_str(), reader, writer)?;
     Ok(())
 }

@@ -1,16 +1,24 @@
 //! What the arguments ask for.
 
 ghost use Rattle.std.specs.Prelude.{◌≡◌, map, option_map, string_bytes};
-ghost use Rattle.trace_collector_program.specs.Task.{option_of, task_of, task_view};
+ghost use Rattle.trace_collector_program.specs.Task.{option_of, on_file, task_of, task_view, with_option};
 
 /// What `--help` prints.
 pub const HELP: &str =
-    "trace_collector replays scripts of posts and workers' turns, as OTLP traces of many tenants.
+    "trace_collector is a collector of OTLP traces that many tenants share. It serves, or replays scripts of what
+happens to it.
 
-usage: trace_collector replay SETTINGS
+usage: trace_collector replay SETTINGS | serve SETTINGS [--audit]
+       trace_collector check SETTINGS
 
   replay SETTINGS  does the script on standard input, a command a line, under the settings in that
                    TOML file, and prints what each command is answered
+  serve SETTINGS   receives bodies over HTTP and sends what is kept to the tenants' back ends, until
+                   standard input ends and all is sent; a line `report NAME` there prints that
+                   tenant's counters, and at the end all are printed; with --audit also a line
+                   `audit SHARD ENTRIES` for each shard's log, which is kept in memory then
+  check SETTINGS   says what is wrong with that TOML file, or prints the settings in force; warns of
+                   keys that no setting has
   --help           prints this text
   --version        prints the version
 
@@ -18,8 +26,15 @@ usage: trace_collector replay SETTINGS
                          prints `reply NAME STATUS HEX`
   turn SHARD MOMENT      a worker asks that shard for a job;
                          prints `job NAME TICKET HEX`, `worked NAME` or `idle SHARD`
+  answer NAME MOMENT TICKET WORD STATUS RETRY HEX
+                         the tenant's back end answers the job of that ticket: a status of 100 to 999,
+                         seconds of Retry-After and a body, or `failed - -`. WORD, below 2^32, picks the
+                         delay before the next attempt; prints `done NAME` or `refused NAME 21`
+  report NAME MOMENT     prints `report NAME` and the tenant's counters
+  drain NAME MOMENT      the tenant takes no more spans and sends all it holds; prints `done NAME`
 
-Bytes are hexadecimal digits, `-` for none. Empty lines and lines that begin with `#` are skipped.
+Bytes are hexadecimal digits, `-` for none, and so are seconds that aren't given. Empty lines and
+lines that begin with `#` are skipped.
 Exit statuses: 0 done; 1 a fault of the settings, the script, the input or the output; 2 wrong usage;
 3 no memory.";
 
@@ -31,6 +46,10 @@ pub const VERSION: &str = "trace_collector 0.1.0";
 pub enum Task<'a> {
     /// The script on standard input is replayed under the settings in this file.
     Replay { settings: &'a str },
+    /// The collector serves under the settings in this file. With `audit` its logs keep all.
+    Serve { settings: &'a str, audit: bool },
+    /// The settings in this file are checked.
+    Check { settings: &'a str },
     /// The help is printed.
     Help,
     /// The version is printed.
@@ -43,16 +62,41 @@ pub fn asked_task(args: &[String]) -> Option<Task<'_>>
 {
     match args {
         [word] => option(word.as_str()),
-        [command, path] => {
-            if command.as_str() == "replay" {
-                Some(Task::Replay {
-                    settings: path.as_str(),
-                })
-            } else {
-                None
-            }
-        }
+        [command, path] => on_file(command.as_str(), path.as_str()),
+        [command, path, word] => with_option(command.as_str(), path.as_str(), word.as_str()),
         _ => None,
+    }
+}
+
+/// What a command asks for of the file of this path.
+fn on_file<'a>(command: &str, path: &'a str) -> Option<Task<'a>>
+    ensures { option_map task_view result ≡ on_file command.now path.now }
+{
+    if command == "replay" {
+        Some(Task::Replay { settings: path })
+    } else if command == "serve" {
+        Some(Task::Serve {
+            settings: path,
+            audit: false,
+        })
+    } else if command == "check" {
+        Some(Task::Check { settings: path })
+    } else {
+        None
+    }
+}
+
+/// What a command with an option asks for of the file of this path.
+fn with_option<'a>(command: &str, path: &'a str, word: &str) -> Option<Task<'a>>
+    ensures { option_map task_view result ≡ with_option command.now path.now word.now }
+{
+    if command == "serve" && word == "--audit" {
+        Some(Task::Serve {
+            settings: path,
+            audit: true,
+        })
+    } else {
+        None
     }
 }
 

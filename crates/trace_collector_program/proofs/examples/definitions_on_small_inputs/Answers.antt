@@ -14,6 +14,9 @@ returns-clause-arguments c = record {
   same_word = refl;
   empty_path = refl;
   option_as_path = refl;
+  checked = refl;
+  check_alone = refl;
+  check_two = refl;
   help_alone = refl;
   version_alone = refl;
   help_and_more = refl;
@@ -21,6 +24,13 @@ returns-clause-arguments c = record {
   one_word_more = refl;
   no_path = refl;
   none = refl;
+  served = refl;
+  audited = refl;
+  serve_alone = refl;
+  serve_two = refl;
+  audit_first = refl;
+  audited_and_more = refl;
+  replay_audited = refl;
   other_command = refl;
   capital = refl;
   longer_command = refl;
@@ -28,7 +38,7 @@ returns-clause-arguments c = record {
 }
 
 pub returns-clause-statuses : goal.returns-clause-statuses
-returns-clause-statuses c = record { done = refl; faults = refl; usage = refl; memory = refl; ended = refl }
+returns-clause-statuses c = record { done = refl; checked = refl; faults = refl; usage = refl; memory = refl; ended = refl }
 
 -- ---- faults
 

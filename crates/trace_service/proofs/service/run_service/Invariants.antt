@@ -1,0 +1,4 @@
+use Rattle.trace_service.proofs.service.run_service.Given as goal
+
+abbrev pub ghosts-run_named : goal.ghosts-run_named
+ghosts-run_named g a = record { slots = a.hub; lane = a.lane.now.name }

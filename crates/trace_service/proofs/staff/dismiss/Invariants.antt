@@ -1,0 +1,9 @@
+use Rattle.std.proofs.Common.{vec_len}
+use Rattle.machine_hub.specs.Hub.{AreCallersOf}
+use Rattle.trace_service.proofs.staff.dismiss.Given as goal
+
+abbrev pub invariant-loop-worker : goal.invariant-loop-worker
+invariant-loop-worker g l = AreCallersOf g.J.Naming.slots l.callers.items
+
+abbrev pub decreases-loop-worker : goal.decreases-loop-worker
+decreases-loop-worker g l = vec_len l.crew

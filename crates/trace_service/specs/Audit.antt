@@ -1,0 +1,23 @@
+-- What the service prints of its shards' logs.
+use Rattle.std.specs.Prelude.{◌≡◌, ℕ, List, [], ◌∷◌, ◌++◌, codes, length, Option}
+use Rattle.std.specs.Fmt.{decimal}
+use Rattle.std.specs.Io.KnownBytes.{Appends}
+use Rattle.shared_hub.specs.Logs.{LoggedShard, AreLogged}
+use Rattle.tail_settings.specs.Settings.{SettingsData}
+
+-- how many entries a shard's log has
+abbrev pub audit_line : ℕ → ℕ → List ℕ
+audit_line shard entries = codes "audit " ++ decimal shard ++ codes " " ++ decimal entries ++ codes "\n"
+
+-- the same of each shard, in their order
+abbrev pub audit_text : List LoggedShard → List ℕ
+audit_text [] = []
+audit_text (s ∷ ss) = audit_line s.number (length s.entries) ++ audit_text ss
+
+-- what was written last are the lines of logs of all shards, each of which is a run of that shard's tenants
+pub record IsAudited (table : SettingsData) (written : Option (List ℕ)) : Type 0 where
+  pub shards : List LoggedShard
+  pub count : length shards ≡ table.global.shards
+  pub logged : AreLogged table shards
+  pub before : Option (List ℕ)
+  pub lines : Appends before written (audit_text shards)

@@ -1,0 +1,11 @@
+-- How the service's faults come of others.
+use Rattle.std.specs.Prelude.{◌≡◌, ◌≢◌}
+use Rattle.std.specs.declared.io.ErrorKind.{ErrorKind}
+use Rattle.std.specs.declared.io.ErrorKind.TheVariants as kinds
+use Rattle.trace_service.specs.declared.service.ServiceFault.{ServiceFault}
+use Rattle.trace_service.specs.declared.service.ServiceFault.TheVariants.{Line, OutOfMemory}
+
+-- of the input and the output only the want of memory is told apart
+pub record IsOfLine (kind : ErrorKind) (fault : ServiceFault) : Type 0 where
+  pub memory : kind ≡ kinds.OutOfMemory → fault ≡ OutOfMemory
+  pub other : kind ≢ kinds.OutOfMemory → fault ≡ Line

@@ -1,0 +1,4 @@
+pub mod Post
+pub mod Work
+pub mod Audit
+pub mod Fault

@@ -1,0 +1,172 @@
+//! The threads' work.
+
+ghost use Rattle.std.specs.Prelude.{◌≡◌};
+ghost use Rattle.std.specs.Thread.{IsSync};
+
+use crate::beat::ServiceBeat;
+use crate::naming::Naming;
+use crate::shared::Shared;
+use crate::station::Station;
+use export_edge::{Beat, TcpBackEnd, run_sender, run_turner};
+use http_edge::serve;
+use http_line::StreamLine;
+use job_lane::LaneSeat;
+use std::net::{Net, TcpListener, TcpStream};
+use std::sync::Wait;
+use std::thread::{Threads, for_each_mut};
+use std::time::Clock;
+
+/// So often a thread looks whether all others have been started.
+const MOST_LOOKS: u32 = 10_000;
+
+/// What a thread does.
+#[derive(Clone, Copy, PartialEq, Eq, Debug)]
+pub(crate) enum Role {
+    /// Makes turns of its station's shard.
+    Turner,
+    /// Sends jobs.
+    Sender,
+    /// Serves connections, one after another.
+    Receiver,
+}
+
+/// One thread's things.
+#[derive(Drop)]
+pub(crate) struct Worker<'h, 'a, J: Naming, R> {
+    role: Role,
+    station: Station<'h, 'a, J, R>,
+    seat: LaneSeat,
+    ghost seated: { seat.lane ≡ J.lane },
+}
+
+impl<'h, 'a, J: Naming, R: Wait + Clock> Worker<'h, 'a, J, R> {
+    ghost use Rattle.std.specs.Prelude.{◌≡◌};
+
+    /// A thread's things, before its work.
+    pub fn new(role: Role, station: Station<'h, 'a, J, R>, seat: LaneSeat) -> Worker<'h, 'a, J, R>
+        requires { seat.lane ≡ J.lane }
+    {
+        Worker {
+            role,
+            station,
+            seat,
+        }
+    }
+
+    /// The station, after the work.
+    pub fn into_station(self) -> Station<'h, 'a, J, R> {
+        self.station
+    }
+}
+
+/// All threads' work, each in a thread of its own. Where one can't be started, all give up.
+pub(crate) fn work_all<'h, 'a, J, R>(shared: &Shared<'h, 'a, R>, crew: &mut [Worker<'h, 'a, J, R>])
+where
+    J: Naming + Send + Sync,
+    R: Net<Listener = TcpListener, Stream = TcpStream> + Threads + Wait + Clock + Sync,
+    requires { shared.now.lane.now.name ≡ J.lane }
+{
+    let threads = crew.len();
+    if threads == 0 {
+        return;
+    }
+    for_each_mut(
+        shared.rt,
+        crew,
+        threads,
+        &|_i: usize, worker: &mut Worker<J, R>|
+            requires { IsSync R.row × (shared.now.lane.now.name ≡ J.lane) }
+        { work(shared, worker) },
+    );
+}
+
+/// One thread's work, once all are there.
+fn work<J, R>(shared: &Shared<'_, '_, R>, worker: &mut Worker<'_, '_, J, R>)
+where
+    J: Naming,
+    R: Net<Listener = TcpListener, Stream = TcpStream> + Threads + Wait + Clock + Sync,
+    requires { shared.now.lane.now.name ≡ J.lane }
+{
+    let mut beat = worker.station.beat();
+    if !all_arrive(&mut beat, shared.threads) {
+        return;
+    }
+    match worker.role {
+        Role::Turner => {
+            // A job that it still holds at the end is let go with the shards.
+            let _held = run_turner(
+                shared.rt,
+                shared.lane,
+                &mut worker.seat,
+                &mut worker.station,
+                &mut beat,
+            );
+        }
+        Role::Sender => {
+            let mut back_end = TcpBackEnd::new(shared.rt, shared.alloc, shared.addresses);
+            run_sender(
+                shared.rt,
+                shared.lane,
+                &mut worker.seat,
+                &mut back_end,
+                &mut worker.station,
+                &mut beat,
+            );
+        }
+        Role::Receiver => receive_all(shared, &mut worker.station, &mut beat),
+    }
+}
+
+/// Says that this thread is there, and waits for the others. False where they don't come, or the work is over.
+pub(crate) fn all_arrive<C: Clock>(beat: &mut ServiceBeat<'_, C>, threads: usize) -> bool {
+    let signals = beat.signals();
+    signals.arrive();
+    for _ in 0..MOST_LOOKS {
+        if signals.is_over() {
+            return false;
+        }
+        if signals.here() >= threads {
+            return true;
+        }
+        beat.pause();
+    }
+    signals.end();
+    false
+}
+
+/// Serves connections, one after another, until no more are to be served.
+fn receive_all<J, R>(
+    shared: &Shared<'_, '_, R>,
+    station: &mut Station<'_, '_, J, R>,
+    beat: &mut ServiceBeat<'_, R>,
+)
+where
+    J: Naming,
+    R: Threads + Wait + Clock + Sync,
+{
+    let signals = beat.signals();
+    for _ in shared.rt.forever() {
+        if signals.is_closing() {
+            return;
+        }
+        match shared.listener.accept() {
+            Ok((stream, _peer)) => {
+                if !signals.is_closing() {
+                    receive(shared, stream, station);
+                }
+            }
+            Err(_) => beat.pause(),
+        }
+    }
+}
+
+/// Serves a connection to its end. Its faults are nobody's but its own.
+fn receive<J, R>(shared: &Shared<'_, '_, R>, stream: TcpStream, station: &mut Station<'_, '_, J, R>)
+where
+    J: Naming,
+    R: Threads + Wait + Clock + Sync,
+{
+    let mut line = StreamLine::new(stream);
+    // A connection that failed is given up, and what was posted over it stands.
+    let _served = serve(shared.rt, shared.alloc, &mut line, station);
+}

@@ -1,0 +1,26 @@
+//! The collector as a service: threads that receive bodies, make turns, send jobs and take answers, over shards that
+//! they share.
+//!
+//! [`post_body`] posts one body to its tenant's shard. [`run_service`] has as many threads as the settings say, until
+//! the input ends and all tenants have sent what they held. A thread works at a station, which makes turns of one
+//! shard, takes answers and handles messages; what its calls did to the hub its caller knows, and no lock is held while
+//! bytes are read, bodies are read, notes are made or payloads are sent.
+//!
+//! It stands on `shared_hub` for the shards, on `export_edge` and `job_lane` for jobs, on `http_edge`, `otlp_front` and
+//! `otlp_prepare` for bodies. How it starts and ends is this project's own.
+#![tactic(auto)]
+
+mod beat;
+mod control;
+mod crew;
+mod input;
+mod naming;
+mod post;
+mod reports;
+mod service;
+mod shared;
+mod staff;
+mod station;
+
+pub use crate::post::post_body;
+pub use crate::service::{ServiceFault, run_service};

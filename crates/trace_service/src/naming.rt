@@ -1,0 +1,25 @@
+//! Which hub and which lane a thread's things are of.
+
+use std::marker::Brand;
+
+/// Names one hub and one lane, in the proofs alone. Each call of a service picks its own.
+pub(crate) trait Naming {
+    ghost use Rattle.std.specs.Prelude.{List};
+    ghost use Rattle.atomic_table.specs.Seated.{TableId};
+    ghost use Rattle.job_lane.specs.Lane.{LaneName};
+
+    // the slots of the hub's shards
+    ghost slots: { List TableId };
+
+    // the lane
+    ghost lane: { LaneName };
+}
+
+impl Naming for Brand {
+    ghost use Rattle.std.specs.Prelude.{[]};
+    ghost use Rattle.trace_service.specs.Work.{no_lane};
+
+    ghost slots = { [] };
+
+    ghost lane = { no_lane };
+}

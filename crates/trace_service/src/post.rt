@@ -1,0 +1,121 @@
+//! One body, posted to its tenant's shard.
+
+ghost use Rattle.std.specs.Prelude.{◌≡◌, ◌<◌, ◌≤◌, ◌%◌, length, IfOk};
+ghost use Rattle.http_edge.specs.Seen.{answer_of};
+ghost use Rattle.machine_hub.specs.Hub.{slots_of};
+ghost use Rattle.otlp_front.specs.Seen.{answer_for};
+ghost use Rattle.tail_settings.specs.Section.{section_view};
+ghost use Rattle.trace_service.specs.Post.{IsPosted, IsStepped, MayTell, Tells, bad_request, no_memory};
+
+use bytes::Bytes;
+use http_edge::Reply;
+use otlp_front::RouteRefusal;
+use otlp_prepare::{Prepared, Refusal, prepare};
+use shared_hub::{Caller, SharedHub};
+use std::alloc::{AllocError, Global};
+use std::sync::Wait;
+use std::thread::Threads;
+use tail_settings::Section;
+use tenant_shard::{Outcome, Step};
+
+/// Posts a body that came at the moment `now`, in milliseconds, to the shard of the tenant with this number and
+/// section: a body without a value is no step, and any other is one. Its notes are made before, in at most `parts`
+/// threads, this one among them, which `threads` starts. A 503 without a body says that memory was refused; whether the
+/// step was made then is for the caller to know.
+pub fn post_body<'a, T: Threads + Sync, R: Wait>(
+    threads: &T,
+    rt: &R,
+    alloc: Global,
+    hub: &SharedHub<'a>,
+    me: &mut Caller<'a>,
+    now: u64,
+    tenant: u32,
+    section: &'a Section,
+    body: Bytes,
+    parts: u32,
+) -> Reply
+    requires parts { (0 < parts) × (parts ≤ 16) }
+    requires mine { slots_of me.old ≡ hub.now }
+    ensures mine { slots_of me.new ≡ hub.now }
+    ensures posted { IsPosted me.old me.new (length hub.now) now tenant (section_view section.now) body
+        (answer_of result) }
+{
+    match prepare(threads, alloc, tenant, section, body, parts) {
+        Ok(prepared) => post_prepared(rt, alloc, hub, me, now, tenant, prepared),
+        Err(Refusal::Bad(_)) => bad_protobuf(alloc),
+        Err(Refusal::OutOfMemory) => without_memory(alloc),
+    }
+}
+
+/// Posts a body that is ready.
+fn post_prepared<'a, R: Wait>(
+    rt: &R,
+    alloc: Global,
+    hub: &SharedHub<'a>,
+    me: &mut Caller<'a>,
+    now: u64,
+    tenant: u32,
+    prepared: Prepared<'a>,
+) -> Reply
+    requires mine { slots_of me.old ≡ hub.now }
+    ensures mine { slots_of me.new ≡ hub.now }
+    ensures stepped { IsStepped me.old me.new (tenant % length hub.now) now prepared.entry (answer_of result) }
+{
+    let shard = tenant as usize % hub.shards();
+    match hub.step(rt, alloc, me, shard, Step::Post { now, prepared }) {
+        Ok((outcome, _receipt)) => told(alloc, outcome),
+        Err(_) => without_memory(alloc),
+    }
+}
+
+/// What a sender is told of its body's outcome.
+fn told(alloc: Global, outcome: Outcome) -> Reply
+    ensures { Tells outcome (answer_of result) }
+{
+    match outcome {
+        Outcome::Reply(_, reply) => Reply {
+            status: reply.status,
+            body: reply.body.into_vec(),
+        },
+        _ => refused(alloc, RouteRefusal::UnknownTenant),
+    }
+}
+
+/// The reply to who is refused so.
+pub(crate) fn refused(alloc: Global, refusal: RouteRefusal) -> Reply
+    ensures { MayTell (answer_for refusal) (answer_of result) }
+{
+    match refusal.reply(alloc) {
+        Ok(reply) => reply,
+        Err(_) => without_memory(alloc),
+    }
+}
+
+/// The reply to a body that has no value.
+fn bad_protobuf(alloc: Global) -> Reply
+    ensures { MayTell bad_request (answer_of result) }
+{
+    match bad_protobuf_reply(alloc) {
+        Ok(reply) => reply,
+        Err(_) => without_memory(alloc),
+    }
+}
+
+fn bad_protobuf_reply(alloc: Global) -> Result<Reply, AllocError>
+    ensures { IfOk result (λ reply. answer_of reply ≡ bad_request) }
+{
+    Ok(Reply {
+        status: 400,
+        body: Vec::from_slice(alloc, b"\x12\x0cbad protobuf")?,
+    })
+}
+
+/// The reply that takes no memory.
+pub(crate) fn without_memory(alloc: Global) -> Reply
+    ensures { answer_of result ≡ no_memory }
+{
+    Reply {
+        status: 503,
+        body: Vec::new(alloc),
+    }
+}

@@ -1,0 +1,292 @@
+//! The service, from its start to its end.
+
+ghost use Rattle.std.specs.Prelude.{◌≡◌, List, map, string_bytes, All, IfOk, OnOk, IsTrue};
+ghost use Rattle.std.specs.Io.KnownBytes.{Appends};
+ghost use Rattle.std.specs.IoError.{error_kind};
+ghost use Rattle.std.specs.Thread.{IsSync};
+ghost use Rattle.machine_hub.specs.Hub.{AreCallersOf, AreShardRuns};
+ghost use Rattle.shared_hub.specs.Logs.{LoggedShard};
+ghost use Rattle.shared_hub.specs.Shards.{AreOpened};
+ghost use Rattle.tail_settings.specs.Settings.{SettingsData, settings_view};
+ghost use Rattle.worded_machine.specs.Worded.{WordedDoes};
+ghost use Rattle.shared_hub.specs.declared.fault.HubFault.TheVariants as hub_faults;
+ghost use Rattle.trace_service.specs.Audit.{audit_text, IsAudited};
+ghost use Rattle.trace_service.specs.Fault.{IsOfLine};
+ghost use Rattle.trace_service.specs.declared.service.ServiceFault.TheVariants as faults;
+
+use crate::beat::{ServiceBeat, Signals};
+use crate::control::Control;
+use crate::crew::{Worker, work_all};
+use crate::naming::Naming;
+use crate::reports::write_audit;
+use crate::shared::Shared;
+use crate::staff::{dismiss, staff};
+use job_lane::{Lane, LaneSeat};
+use shared_hub::{Caller, HubFault, HubKeeper, SharedHub};
+use std::alloc::{AllocError, Global};
+use std::io;
+use std::io::{BufRead, ErrorKind, Write};
+use std::marker::Brand;
+use std::net::{Net, TcpListener, TcpStream};
+use std::sync::Wait;
+use std::thread::{Threads, join};
+use std::time::{Clock, Instant};
+use tail_settings::Settings;
+use thiserror::Error;
+
+/// Why a service ended early, or what it met on its way.
+#[derive(Clone, Copy, Debug, Drop, PartialEq, Eq, Error)]
+pub enum ServiceFault {
+    /// The clock, the listener, the input or the output failed.
+    #[error("input or output fault")]
+    Line,
+    /// There was no memory.
+    #[error("out of memory")]
+    OutOfMemory,
+    /// A thread couldn't be started.
+    #[error("no thread")]
+    NoThread,
+    /// Not all callers came back: nothing is told of the logs.
+    #[error("callers missing")]
+    CallersMissing,
+}
+
+impl From<AllocError> for ServiceFault {
+    ghost from_gives = { λ _ given. given ≡ faults.OutOfMemory };
+
+    fn from(_error: AllocError) -> ServiceFault {
+        ServiceFault::OutOfMemory
+    }
+}
+
+/// Of the input and the output only the want of memory is told apart.
+impl From<io::Error> for ServiceFault {
+    ghost from_gives = { λ error given. IsOfLine (error_kind error) given };
+
+    fn from(error: io::Error) -> ServiceFault {
+        if error.kind() == ErrorKind::OutOfMemory {
+            ServiceFault::OutOfMemory
+        } else {
+            ServiceFault::Line
+        }
+    }
+}
+
+/// Of a hub's faults only the want of memory comes.
+impl From<HubFault> for ServiceFault {
+    ghost from_gives = { λ fault given. fault ≡ hub_faults.OutOfMemory → given ≡ faults.OutOfMemory };
+
+    fn from(fault: HubFault) -> ServiceFault {
+        match fault {
+            HubFault::OutOfMemory => ServiceFault::OutOfMemory,
+            HubFault::Behind { .. } | HubFault::OtherEntry { .. } => ServiceFault::Line,
+        }
+    }
+}
+
+/// Serves until the input ends and all tenants have sent what they held: as many receivers and senders as the settings
+/// say, a turner for each shard, and one lane. A line `report NAME` of the input prints that tenant's counters, and all
+/// reports are printed at the end; with `audit` also how many entries each shard's log has. After a fault of the input
+/// or the output the service ends as it does at the input's end, and then says so.
+pub fn run_service<R, I, O>(
+    rt: &R,
+    alloc: Global,
+    settings: &Settings,
+    listener: &TcpListener,
+    input: &mut I,
+    output: &mut O,
+    audit: bool,
+) -> Result<(), ServiceFault>
+where
+    R: Net<Listener = TcpListener, Stream = TcpStream> + Threads + Wait + Clock + Sync,
+    I: BufRead,
+    O: Write,
+    ensures audit { OnOk result (IsTrue audit → IsAudited (settings_view settings.now) (O.contents output.new)) }
+{
+    let global = &settings.global;
+    let threads = global.shards as usize + global.senders as usize + global.receivers as usize + 1;
+    let (hub, keeper, callers) = SharedHub::open(rt, alloc, settings, threads, audit)?;
+    let (lane, _keeper, seats) = Lane::open(alloc, global.lane_size as usize, threads)?;
+    run_named::<Brand, R, I, O>(
+        rt, alloc, settings, listener, hub, keeper, callers, &lane, seats, input, output, audit,
+    )
+}
+
+/// The same, with a hub and a lane that have a name.
+fn run_named<'a, J, R, I, O>(
+    rt: &R,
+    alloc: Global,
+    settings: &'a Settings,
+    listener: &TcpListener,
+    hub: SharedHub<'a>,
+    keeper: HubKeeper<'a>,
+    callers: Vec<Caller<'a>>,
+    lane: &Lane,
+    seats: Vec<LaneSeat>,
+    input: &mut I,
+    output: &mut O,
+    audit: bool,
+) -> Result<(), ServiceFault>
+where
+    J: Naming + Send + Sync,
+    R: Net<Listener = TcpListener, Stream = TcpStream> + Threads + Wait + Clock + Sync,
+    I: BufRead,
+    O: Write,
+    requires hub { hub ≡ J.slots }
+    requires keeper { keeper.slots ≡ hub }
+    requires callers { AreCallersOf J.slots callers.items }
+    requires lane { lane.now.name ≡ J.lane }
+    requires seats { All (λ s. s.lane ≡ J.lane) seats.items }
+    requires opened { AreOpened (settings_view settings.now) keeper.homes }
+    ensures audit { OnOk result (IsTrue audit → IsAudited (settings_view settings.now) (O.contents output.new)) }
+{
+    let (callers, ended) = at_work::<J, R, I, O>(
+        rt, alloc, settings, listener, &hub, callers, lane, seats, input, output,
+    )?;
+    if audit {
+        write_logs(rt, alloc, hub, keeper, callers, output)?;
+    }
+    ended
+}
+
+/// Ends the hub, and writes how many entries each shard's log has.
+fn write_logs<'a, R: Wait, O: Write>(
+    rt: &R,
+    alloc: Global,
+    hub: SharedHub<'a>,
+    keeper: HubKeeper<'a>,
+    callers: Vec<Caller<'a>>,
+    output: &mut O,
+) -> Result<(), ServiceFault>
+    requires keeper { keeper.slots ≡ hub }
+    requires callers { AreCallersOf hub callers.items }
+    ensures lines { OnOk result ((shards : List LoggedShard)
+        × AreShardRuns WordedDoes keeper.entry.homes callers.entry.items shards
+        × Appends (O.contents output.old) (O.contents output.new) (audit_text shards)) }
+    ensures audit { OnOk result ((table : SettingsData) → AreOpened table keeper.entry.homes →
+        IsAudited table (O.contents output.new)) }
+{
+    let Ok(shards) = hub.close(rt, keeper, callers) else {
+        return Err(ServiceFault::CallersMissing);
+    };
+    write_audit(alloc, output, shards.as_slice())?;
+    Ok(())
+}
+
+/// All threads' work, to its end: the callers, and how the input and the output fared.
+fn at_work<'a, J, R, I, O>(
+    rt: &R,
+    alloc: Global,
+    settings: &'a Settings,
+    listener: &TcpListener,
+    hub: &SharedHub<'a>,
+    callers: Vec<Caller<'a>>,
+    lane: &Lane,
+    seats: Vec<LaneSeat>,
+    input: &mut I,
+    output: &mut O,
+) -> Result<(Vec<Caller<'a>>, Result<(), ServiceFault>), ServiceFault>
+where
+    J: Naming + Send + Sync,
+    R: Net<Listener = TcpListener, Stream = TcpStream> + Threads + Wait + Clock + Sync,
+    I: BufRead,
+    O: Write,
+    requires hub { hub.now ≡ J.slots }
+    requires callers { AreCallersOf J.slots callers.items }
+    requires lane { lane.now.name ≡ J.lane }
+    requires seats { All (λ s. s.lane ≡ J.lane) seats.items }
+    ensures { IfOk result (λ r. AreCallersOf J.slots r.0.items) }
+{
+    let signals = Signals::new();
+    let start = Instant::now(rt)?;
+    let addresses = addresses_of(alloc, settings)?;
+    let shared = Shared {
+        rt,
+        alloc,
+        settings,
+        hub,
+        lane,
+        listener,
+        addresses: addresses.as_slice(),
+        beat: ServiceBeat::new(rt, &signals, start),
+        threads: callers.len(),
+    };
+    work_on::<J, R, I, O>(&shared, callers, seats, input, output)
+}
+
+/// The same, with what is shared.
+fn work_on<'h, 'a, J, R, I, O>(
+    shared: &Shared<'h, 'a, R>,
+    mut callers: Vec<Caller<'a>>,
+    seats: Vec<LaneSeat>,
+    input: &mut I,
+    output: &mut O,
+) -> Result<(Vec<Caller<'a>>, Result<(), ServiceFault>), ServiceFault>
+where
+    J: Naming + Send + Sync,
+    R: Net<Listener = TcpListener, Stream = TcpStream> + Threads + Wait + Clock + Sync,
+    I: BufRead,
+    O: Write,
+    requires hub { shared.now.hub.now ≡ J.slots }
+    requires callers { AreCallersOf J.slots callers.items }
+    requires lane { shared.now.lane.now.name ≡ J.lane }
+    requires seats { All (λ s. s.lane ≡ J.lane) seats.items }
+    ensures { IfOk result (λ r. AreCallersOf J.slots r.0.items) }
+{
+    let shards = shared.hub.shards();
+    prove!(0 < shards);
+    let Some(own) = callers.pop() else {
+        return Err(ServiceFault::CallersMissing);
+    };
+    let mut control = Control {
+        rt: shared.rt,
+        alloc: shared.alloc,
+        settings: shared.settings,
+        listener: shared.listener,
+        station: shared.station::<J>(own, 0),
+        beat: shared.beat.again(),
+    };
+    let mut crew = staff::<J, R>(shared, callers, seats)?;
+    let ended = work_beside(shared, crew.as_mut_slice(), &mut control, input, output);
+    let own = control.station.into_caller();
+    Ok((dismiss(shared.alloc, crew, own)?, ended))
+}
+
+/// The crew's work, with that of who reads the input beside it: how the input and the output fared.
+fn work_beside<'h, 'a, J, R, I, O>(
+    shared: &Shared<'h, 'a, R>,
+    crew: &mut [Worker<'h, 'a, J, R>],
+    control: &mut Control<'h, 'a, J, R>,
+    input: &mut I,
+    output: &mut O,
+) -> Result<(), ServiceFault>
+where
+    J: Naming + Send + Sync,
+    R: Net<Listener = TcpListener, Stream = TcpStream> + Threads + Wait + Clock + Sync,
+    I: BufRead,
+    O: Write,
+    requires { shared.now.lane.now.name ≡ J.lane }
+{
+    let ((), ended) = join(
+        shared.rt,
+        ||
+            requires { IsSync R.row × (shared.now.lane.now.name ≡ J.lane) }
+        { work_all(shared, crew) },
+        || control.direct(input, output, shared.threads),
+    );
+    ended
+}
+
+/// Each tenant's back end, at the tenant's number.
+fn addresses_of(alloc: Global, settings: &Settings) -> Result<Vec<String>, AllocError>
+    ensures { IfOk result (λ all. map string_bytes all.items
+        ≡ map (λ t. t.section.endpoint) (settings_view settings.now).tenants) }
+{
+    let mut addresses = Vec::new(alloc);
+    for tenant in 0..settings.tenants_len() {
+        if let Some(section) = settings.section(tenant) {
+            addresses.push(section.endpoint.clone()?)?;
+        }
+    }
+    Ok(addresses)
+}

@@ -1,0 +1,52 @@
+//! What all threads share.
+
+ghost use Rattle.std.specs.Prelude.{◌≡◌, ◌<◌, length};
+ghost use Rattle.machine_hub.specs.Hub.{slots_of};
+
+use crate::beat::ServiceBeat;
+use crate::naming::Naming;
+use crate::station::Station;
+use job_lane::Lane;
+use shared_hub::{Caller, SharedHub};
+use std::alloc::Global;
+use std::net::TcpListener;
+use std::sync::Wait;
+use std::time::Clock;
+use tail_settings::Settings;
+
+/// What all threads share.
+#[derive(Drop)]
+pub(crate) struct Shared<'h, 'a, R> {
+    pub rt: &'h R,
+    pub alloc: Global,
+    pub settings: &'a Settings,
+    pub hub: &'h SharedHub<'a>,
+    pub lane: &'h Lane,
+    pub listener: &'h TcpListener,
+    /// Each tenant's back end, at the tenant's number.
+    pub addresses: &'h [String],
+    pub beat: ServiceBeat<'h, R>,
+    /// How many threads there are.
+    pub threads: usize,
+}
+
+impl<'h, 'a, R: Wait + Clock> Shared<'h, 'a, R> {
+    ghost use Rattle.std.specs.Prelude.{◌≡◌, ◌<◌, length};
+
+    /// A station here, for who makes turns of this shard.
+    pub fn station<J: Naming>(&self, caller: Caller<'a>, shard: usize) -> Station<'h, 'a, J, R>
+        requires hub { self.now.hub.now ≡ J.slots }
+        requires mine { slots_of caller ≡ J.slots }
+        requires shard { shard < length J.slots }
+    {
+        Station::new(
+            self.rt,
+            self.alloc,
+            self.settings,
+            self.hub,
+            caller,
+            shard,
+            self.beat.again(),
+        )
+    }
+}

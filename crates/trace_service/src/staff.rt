@@ -1,0 +1,67 @@
+//! Who works at what.
+
+ghost use Rattle.std.specs.Prelude.{◌≡◌, ◌<◌, length, All, IfOk, vec_len};
+ghost use Rattle.machine_hub.specs.Hub.{AreCallersOf, slots_of};
+
+use crate::crew::{Role, Worker};
+use crate::naming::Naming;
+use crate::shared::Shared;
+use job_lane::LaneSeat;
+use shared_hub::Caller;
+use std::alloc::{AllocError, Global};
+use std::sync::Wait;
+use std::time::Clock;
+
+/// A worker for each caller that has a seat: turners first, one for each shard, then senders, then receivers.
+pub(crate) fn staff<'h, 'a, J: Naming, R: Wait + Clock>(
+    shared: &Shared<'h, 'a, R>,
+    mut callers: Vec<Caller<'a>>,
+    mut seats: Vec<LaneSeat>,
+) -> Result<Vec<Worker<'h, 'a, J, R>>, AllocError>
+    requires hub { shared.now.hub.now ≡ J.slots }
+    requires callers { AreCallersOf J.slots callers.items }
+    requires seats { All (λ s. s.lane ≡ J.lane) seats.items }
+{
+    let shards = shared.hub.shards();
+    let senders = shared.settings.global.senders as usize;
+    let mut crew = Vec::new(shared.alloc);
+    while let Some(caller) = callers.pop() {
+        let Some(seat) = seats.pop() else {
+            return Ok(crew);
+        };
+        let (role, shard) = place(crew.len(), shards, senders);
+        crew.push(Worker::new(role, shared.station::<J>(caller, shard), seat))?;
+    }
+    Ok(crew)
+}
+
+/// What the worker of this number does, and at which shard's station.
+fn place(number: usize, shards: usize, senders: usize) -> (Role, usize)
+    requires { 0 < shards }
+    ensures { result.1 < shards }
+{
+    if number < shards {
+        (Role::Turner, number)
+    } else if number - shards < senders {
+        (Role::Sender, 0)
+    } else {
+        (Role::Receiver, 0)
+    }
+}
+
+/// The callers of all workers, after their work, and the caller of who read the input.
+pub(crate) fn dismiss<'h, 'a, J: Naming, R: Wait + Clock>(
+    alloc: Global,
+    mut crew: Vec<Worker<'h, 'a, J, R>>,
+    own: Caller<'a>,
+) -> Result<Vec<Caller<'a>>, AllocError>
+    requires { slots_of own ≡ J.slots }
+    ensures { IfOk result (λ all. AreCallersOf J.slots all.items) }
+{
+    let mut callers = Vec::new(alloc);
+    callers.push(own)?;
+    while let Some(worker) = crew.pop() {
+        callers.push(worker.into_station().into_caller())?;
+    }
+    Ok(callers)
+}
