@@ -5,6 +5,7 @@ Takes the program's path, `./trace_collector` if there is none. Each expected te
 """
 
 import os
+import re
 import select
 import subprocess
 import sys
@@ -14,7 +15,7 @@ from pathlib import Path
 HERE = Path(__file__).resolve().parent.parent
 PROGRAM = os.path.abspath(sys.argv[1] if len(sys.argv) > 1 else HERE / "trace_collector")
 SETTINGS = str(HERE / "crates/trace_collector_program/data/settings.toml")
-USAGE = b"usage: trace_collector replay SETTINGS\n"
+USAGE = b"usage: trace_collector replay SETTINGS | serve SETTINGS [--audit]\n"
 SPAN = "0a20121e121c0a101111111111111111111111111111111112082121212121212121"
 failed = 0
 
@@ -33,7 +34,9 @@ def ended(arguments, script=b"", **how):
 
 
 def usage():
-    wrong = ([], ["replay"], ["help"], ["-h"], ["--help", "more"], ["replay", SETTINGS, "more"], ["serve", SETTINGS],
+    wrong = ([], ["replay"], ["help"], ["-h"], ["--help", "more"], ["replay", SETTINGS, "more"], ["check"],
+             ["check", SETTINGS, "more"], ["serve"], ["serve", SETTINGS, "more"], ["serve", "--audit", SETTINGS],
+             ["serve", SETTINGS, "--audit", "more"], ["replay", SETTINGS, "--audit"],
              [b"replay", b"\xff"], [b"\xff"], [b"--help", b"\xc3("])
     for arguments in wrong:
         check(arguments, ended(arguments), (2, b"", USAGE))
@@ -59,6 +62,198 @@ def faults():
         check("a full disk", ended(replay, b"turn 0 1\n", stdout=full), (1, None, b"input or output fault\n"))
 
 
+TENANT = """[[tenant]]
+name = "a"
+[[tenant.tail_sampling.policy]]
+type = "always_sample"
+"""
+IN_FORCE = """# the settings in force
+[global]
+lane_size = 64
+listen = "127.0.0.1:4318"
+parts = 2
+receivers = 4
+senders = 4
+shards = 1
+tenant_header = "x-scope-orgid"
+
+[[tenant]]
+endpoint = "127.0.0.1:4319"
+max_spans = 100000
+name = "a"
+seed = 0
+
+[tenant.batch]
+send_batch_max_size = 0
+send_batch_size = 8192
+timeout_ms = 200
+
+[tenant.retry_on_failure]
+initial_interval_ms = 5000
+max_elapsed_time_ms = 300000
+max_interval_ms = 30000
+multiplier = 1500
+randomization_factor = 500
+
+[tenant.sending_queue]
+num_consumers = 10
+queue_size = 1000
+
+[tenant.tail_sampling]
+decision_wait_ms = 30000
+num_traces = 50000
+
+[[tenant.tail_sampling.policy]]
+type = "always_sample"
+"""
+WAIT = "[tenant.tail_sampling]\ndecision_wait%s\n[[tenant.tail_sampling.policy]]"
+# a document, and what `check` says of it: the faults 10 to 15 in turn, in each kind of table
+FAULTY = [
+    ("name =", "settings fault 10\nthe text is no TOML document\nTOML parse error at line 1, column "),
+    ("", "settings fault 11 tenant\nthe document: the key tenant is missing\n"
+         "tenant may be: an array of 1 to 1000 tables, one for each tenant\n"),
+    (TENANT + "[[tenant]]\nname = \"b\"\n", "settings fault 11 policy\ntenant 2 (b), table tail_sampling: the key policy is "
+     "missing\npolicy may be: an array of one or more tables, each a policy\n"),
+    ("global = 1\n" + TENANT, "settings fault 12 global\nthe document: the key global is of another kind, or a member of it "
+     "is\nglobal may be: a table, or missing\n"),
+    (TENANT.replace("[[tenant.tail_sampling.policy]]", WAIT % "_ms = '1s'"), "settings fault 12 decision_wait_ms\n"
+     "tenant 1 (a), table tail_sampling: the key decision_wait_ms is of another kind, or a member of it is\n"
+     "decision_wait_ms may be: whole milliseconds from 1 to 86400000, or missing, which is 30000\n"),
+    (TENANT.replace("[[tenant.tail_sampling.policy]]", WAIT % "_ms = 0"), "settings fault 13 decision_wait_ms\n"
+     "tenant 1 (a), table tail_sampling: the key decision_wait_ms has a value that it may not have\n"
+     "decision_wait_ms may be: whole milliseconds from 1 to 86400000, or missing, which is 30000\n"),
+    ("[global]\nshards = 65\n" + TENANT, "settings fault 13 shards\ntable global: the key shards has a value that it may "
+     "not have\nshards may be: a whole number from 1 to 64, or missing, which is 1\n"),
+    (TENANT + TENANT.replace("always_sample", "latency"), "settings fault 14 a\na second tenant has the name a\n"),
+    (TENANT + TENANT.replace('"a"', '"b"').replace("always_sample", "latency"), "settings fault 11 threshold_ms\n"
+     "tenant 2 (b), a policy: the key threshold_ms is missing\nthreshold_ms may be: whole milliseconds from 0 to "
+     "1099511627776\n"),
+    (TENANT + '[[tenant.tail_sampling.policy]]\ntype = "always_sample"\n' * 64, "settings fault 15\ntenant 1 (a), more than 64 "
+     "policies, where an and counts as those that it holds\n"),
+    (TENANT.replace("[[tenant.", "max_spans = 2147483648\n[[tenant.") + TENANT.replace('"a"', '"b"'), "settings fault 15\n"
+     "more than 1000 tenants, more than 64 policies of one tenant, or a sum of max_spans above 2147483648\n"),
+]
+# a key that no setting has, in a document of one tenant, and the warning of it
+UNKNOWN = [
+    ("gobal = 1\n", TENANT, "the document: no setting has the key gobal"),
+    ("[global]\nshard = 2\n", TENANT, "table global: no setting has the key shard"),
+    ("", TENANT.replace("[[tenant.", "spans = 1\n[[tenant."), "tenant 1 (a): no setting has the key spans"),
+    ("", TENANT.replace("[[tenant.tail_sampling.policy]]", WAIT % ' = "10s"'), "tenant 1 (a), table tail_sampling: no setting "
+     "has the key decision_wait", "decision_wait_ms"),
+    ("", TENANT + "[tenant.batch]\ntimeout_s = 1\n", "tenant 1 (a), table batch: no setting has the key timeout_s",
+     "timeout_ms"),
+    ("", TENANT + "[tenant.sending_queue]\nenabled = true\n", "tenant 1 (a), table sending_queue: no setting has the key "
+     "enabled"),
+    ("", TENANT + "[tenant.retry_on_failure]\nmax_interval = 1\n", "tenant 1 (a), table retry_on_failure: no setting has the "
+     "key max_interval", "max_interval_ms"),
+    ("", TENANT + "threshold_ms = 1\n", "tenant 1 (a), policy 1: no setting has the key threshold_ms"),
+    ("", TENANT + '"\\u001b[1m\\\\" = 1\n', "tenant 1 (a), policy 1: no setting has the key \\x1b[1m\\x5c"),
+]
+
+
+def checks():
+    """What `check` says of documents; what it prints of a good one is a document that it says the same of."""
+    with tempfile.TemporaryDirectory() as folder:
+        file = Path(folder, "settings.toml")
+
+        def said(text):
+            file.write_bytes(text.encode() if isinstance(text, str) else text)
+            status, out, err = ended(["check", str(file)])
+            check(f"standard error of {text!r}", err, b"")
+            return status, out.decode()
+
+        check("the smallest document", said(TENANT), (0, IN_FORCE))
+        check("all of its settings", said(IN_FORCE), (0, IN_FORCE))
+        for text, told in FAULTY:
+            status, out = said(text)
+            check(text, (status, out[: len(told)]), (1, told))
+            check(f"lines of {text!r}", out.count("\n"), told.count("\n") + (2 if text == "name =" else 0))
+        check("no UTF-8", said(b"\xff"), (1, "settings fault 10\nthe file is not UTF-8\n"))
+        for before, text, told, *meant in UNKNOWN:
+            hint = f"; perhaps {meant[0]} was meant" if meant else ""
+            check(text, said(before + text), (0, f"# warning: {told}, so it is ignored{hint}\n" + IN_FORCE))
+        both = said(TENANT.replace("policy]]", "polcy]]"))
+        check("a warning beside a fault", both[1].split("\n")[0::3], ["settings fault 11 policy", "# warning: tenant 1 (a), "
+              "table tail_sampling: no setting has the key polcy, so it is ignored"])
+        missing = str(Path(folder, "missing"))
+        check("no file to check", ended(["check", missing]), (1, b"", b"input or output fault\n"))
+        for example in sorted((HERE / "examples").glob("*.toml")):
+            status, out = said(example.read_text())
+            check(f"{example.name} is good", (status, "# warning" in out), (0, False))
+            check(f"{example.name} twice", said(out), (0, out))
+        with open("/dev/full", "wb") as full:
+            check("a full disk at a check", ended(["check", SETTINGS], stdout=full), (1, None, b"input or output fault\n"))
+
+
+FAULTS = HERE / "docs/FAULTS.md"
+KEYS = HERE / "crates/settings_check/src/table.rt"
+ALWAYS = 'policy = [{ type = "always_sample" }]'
+TITLES = {"The document": "the document", "Policies": "a policy"}
+WRONG = {"11": "is missing", "12": "is of another kind, or a member of it is", "13": "has a value that it may not have"}
+
+
+def rows_of_faults():
+    """Of each row of docs/FAULTS.md its section, the fault's number and key, what is wrong and right, and what may be."""
+    section = None
+    for line in FAULTS.read_text().splitlines():
+        section = line[3:].strip("`") if line.startswith("## ") else section
+        cells = [cell.strip() for cell in line.split("|")[1:-1]]
+        if len(cells) == 4 and cells[0].startswith("`settings fault"):
+            number, key = (cells[0].strip("`") + " ").split(" ")[2:4]
+            wrong, right = (re.findall("`([^`]*)`", re.sub("no `[^`]*`", "``", cell)) for cell in cells[1:3])
+            yield section, number, key, wrong, right, cells[3]
+
+
+def with_line(section, key, code):
+    """A file with this in the table of a section of docs/FAULTS.md, the rest being good."""
+    if section == "The document":
+        return code + "\n"
+    if section == "[global]":
+        return f"[global]\n{code}\n{TENANT}"
+    if section == "[[tenant]]":
+        others = {"name": 'name = "a"', "tail_sampling": f"tail_sampling.{ALWAYS}"}
+        return "\n".join(["[[tenant]]", *(line for other, line in others.items() if other != key), code, ""])
+    sampling = '[[tenant]]\nname = "a"\n[tenant.tail_sampling]\n'
+    if section == "[tenant.tail_sampling]":
+        return sampling + ("" if key == "policy" else ALWAYS + "\n") + code + "\n"
+    if section == "Policies":
+        return f"{sampling}policy = [{{ {code} }}]\n"
+    return f"{TENANT}{section}\n{code}\n"
+
+
+def told_of(section, number, key, may_be):
+    """How the first lines of what is told of a fault of docs/FAULTS.md end."""
+    if number in WRONG:
+        title = TITLES.get(section) or "table " + section.strip("[]").rsplit(".", 1)[-1]
+        return [f"settings fault {number} {key}", f"{title}: the key {key} {WRONG[number]}", f"{key} may be: {may_be}"]
+    return {"10": ["settings fault 10", "the text is no TOML document"],
+            "14": [f"settings fault 14 {key}", f"a second tenant has the name {key}"]}[number]
+
+
+def page_of_faults():
+    """Each example of docs/FAULTS.md is told as the page says, and each key that there is has its rows."""
+    of_kind = set()
+    with tempfile.TemporaryDirectory() as folder:
+        file = Path(folder, "settings.toml")
+
+        def said(text):
+            file.write_text(text)
+            status, out, _ = ended(["check", str(file)])
+            return status, out.decode().split("\n")
+
+        for section, number, key, wrong, right, may_be in rows_of_faults():
+            of_kind |= {key} if number == "12" else set()
+            for code in wrong:
+                status, lines = said(with_line(section, key, code))
+                told = told_of(section, number, key, may_be)
+                check(f"{code} of {section}", (status, [line.endswith(end) for line, end in zip(lines, told)]),
+                      (1, [True] * len(told)))
+            for code in right:
+                status, lines = said(with_line(section, key, code))
+                check(f"{code} of {section}", (status, lines[0]), (0, "# the settings in force"))
+    check("keys of the page", of_kind, set(re.findall('Key::\\w+ => "(\\w+)"', KEYS.read_text())))
+
+
 def answer(run, line):
     """What the program prints within ten seconds of a line."""
     run.stdin.write(line)
@@ -81,6 +276,8 @@ def answers_at_once():
 
 usage()
 faults()
+checks()
+page_of_faults()
 answers_at_once()
 print("the program prints and ends as it has to" if not failed else f"{failed} wrong")
 sys.exit(min(failed, 1))

@@ -7,6 +7,7 @@
 #include <stddef.h>
 #include <stdio.h>
 #include <stdlib.h>
+#include <sys/syscall.h>
 #include <unistd.h>
 
 static long asked, refused, held, most;
@@ -53,5 +54,11 @@ void free(void *old) {
 __attribute__((destructor)) static void told(void) {
     char text[96];
     int length = snprintf(text, sizeof text, "\nallocations %ld\nbytes %ld\n", asked, most);
-    if (write(2, text, length) < 0) _exit(9);
+    if (write(2, text, length) < 0) syscall(SYS_exit_group, 9);
+}
+
+/* A program that may have threads ends so, and runs no destructor. */
+void _exit(int status) {
+    told();
+    for (;;) syscall(SYS_exit_group, status);
 }

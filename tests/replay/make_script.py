@@ -143,4 +143,5 @@ def main():
     print(f"{posts} bodies of {total} bytes in all, {posts * spans} spans, {posts * turns} turns")
 
 
-main()
+if __name__ == "__main__":
+    main()

@@ -1,0 +1,243 @@
+#!/usr/bin/env python3
+"""Tells how many instructions a replay takes at one size and at twice it, for shapes on which it could take time that
+grows faster than its input.
+
+    make trace_collector && python3 tests/growth.py [PROGRAM] [SHAPE..]
+
+Takes `./trace_collector` if no program is named, and all shapes if none is. It prints a table of Markdown: the size,
+all instructions of the program, those at twice the size, and the ratio. Instructions are valgrind's (callgrind), so
+what else runs on the machine has no say. Ends with 1 where a ratio is above 2.2, or where a replay isn't answered as
+its shape wants it. Nothing is random, so the same program gives the same table but for addresses.
+"""
+
+import hashlib
+import os
+import re
+import socket
+import subprocess
+import sys
+import tempfile
+import threading
+from pathlib import Path
+
+from replay.make_script import attribute, number_field, piece, span, time_field
+
+ROOT = Path(__file__).resolve().parent.parent
+MOST = 2.2
+ALL = '[[tenant.tail_sampling.policy]]\ntype = "always_sample"\n'
+NONE = '[[tenant.tail_sampling.policy]]\ntype = "status_code"\nstatus_codes = ["ERROR"]\n'
+SOME_VALUE = piece(1, b"v")
+
+
+def batches(size, timeout=0, consumers=1000):
+    """Batches of so many spans, and a queue with room for all."""
+    return (f"[tenant.batch]\nsend_batch_size = {size}\nsend_batch_max_size = {size}\ntimeout_ms = {timeout}\n"
+            f"[tenant.sending_queue]\nqueue_size = 100000\nnum_consumers = {consumers}\n")
+
+
+def tenant(name="a", policies=ALL, wait=1000, traces=1_000_000, more=batches(8192)):
+    """A tenant's section with room for all that a shape makes."""
+    return (f'[[tenant]]\nname = "{name}"\nmax_spans = 2000000\n[tenant.tail_sampling]\ndecision_wait_ms = {wait}\n'
+            f"num_traces = {traces}\n{policies}{more}")
+
+
+def ids(trace, at):
+    """A span's ids: of a trace by number, or by its sixteen bytes."""
+    trace = trace if isinstance(trace, bytes) else trace.to_bytes(16, "big")
+    return piece(1, trace) + piece(2, (at + 1).to_bytes(8, "big"))
+
+
+def request(spans, resource=b""):
+    """A body with these spans in one scope."""
+    return piece(1, piece(1, resource) + piece(2, b"".join(piece(2, text) for text in spans)))
+
+
+def post(moment, text, name="a"):
+    return f"post {name} {moment} {text.hex()}\n"
+
+
+def resources_and_spans(n):
+    """n spans of one trace under a resource with a text of 30 n bytes: a product of both would be four times as much."""
+    body = request([ids(1, at) for at in range(n)], attribute(1, "k", "v" * 30 * n))
+    return tenant(), post(0, body) + "turn 0 1000\n", "job a 1 "
+
+
+def attributes(n):
+    """One span of n attributes, of which policies look for the last one."""
+    last = f"key-{n - 1:08}"
+    wanted = "".join(f'[[tenant.tail_sampling.policy]]\ntype = "string_attribute"\nkey = "{last}"\nvalues = ["{value}"]\n'
+                     for value in "wxyzv")
+    body = request([ids(1, 1) + b"".join(attribute(9, f"key-{at:08}", "v") for at in range(n))])
+    return tenant(policies=wanted), post(0, body) + "turn 0 1000\n", "job a 1 "
+
+
+def nesting(n):
+    """One span of n attributes, each of arrays within arrays down to depth 99."""
+    value = SOME_VALUE
+    for _ in range(47):
+        value = piece(5, piece(1, value))
+    body = request([ids(1, 1) + piece(9, piece(1, b"k") + piece(2, value)) * n])
+    return tenant(), post(0, body) + "turn 0 1000\n", "job a 1 "
+
+
+def unknown_fields(n):
+    """One span of n unknown fields, which stand before its ids, so that it is written anew."""
+    return tenant(), post(0, request([number_field(100, 1) * n + ids(1, 1)])) + "turn 0 1000\n", "job a 1 "
+
+
+def resource_again(n):
+    """A resource that stands n times, merged."""
+    body = piece(1, piece(1, attribute(1, "k", "v")) * n + piece(2, piece(2, ids(1, 1))))
+    return tenant(), post(0, body) + "turn 0 1000\n", "job a 1 "
+
+
+def empty_spans(n):
+    """n spans of two bytes, none of them valid."""
+    return tenant(), post(0, request([b""] * n)), "reply a 200 "
+
+
+def any_traces(n):
+    """n posts, each of one span of a trace of its own; ids as they come."""
+    return (tenant(wait=86_400_000),
+            "".join(post(0, request([ids(hashlib.md5(b"%d" % at).digest(), at)])) for at in range(n)), "reply a 200 -\n")
+
+
+def chosen_traces(n):
+    """The same with ids that differ in their last bytes alone, the greatest first."""
+    return (tenant(wait=86_400_000), "".join(post(0, request([ids(2**127 + n - at, at)])) for at in range(n)),
+            "reply a 200 -\n")
+
+
+def due_at_once(n):
+    """n traces of one body, all due in one turn, kept and cut into batches of 100 spans."""
+    body = request([ids(at + 1, at) for at in range(n)])
+    return tenant(more=batches(100)), post(0, body) + "turn 0 1000\n" * (n // 100), "job a 1 "
+
+
+def due_and_dropped(n):
+    """The same, none of them kept."""
+    body = request([ids(at + 1, at) for at in range(n)])
+    return tenant(policies=NONE), post(0, body) + "turn 0 1000\n", "worked a\n"
+
+
+def pushed_out(n):
+    """n traces in turn where ten are held, so that each pushes one out."""
+    return (tenant(traces=10), "".join(post(0, request([ids(at + 1, at)])) for at in range(n)), "reply a 200 -\n")
+
+
+def late_spans(n):
+    """n posts of a span to a trace that was kept already."""
+    one = request([ids(1, 1)])
+    return tenant(more=batches(1)), post(0, one) + "turn 0 1000\n" + post(1000, one) * n, "job a 1 "
+
+
+def many_tenants(n):
+    """n tenants in one shard: a post each, and then a turn each."""
+    names = [f"tenant-{at}" for at in range(n)]
+    return ("".join(tenant(name, traces=1000).replace("2000000", "2000") for name in names),
+            "".join(post(0, request([ids(1, 1)]), name) for name in names) + "turn 0 1000\n" * n, f"job tenant-{n - 1} 1 ")
+
+
+def many_policies(n):
+    """50 spans of eight attributes before n policies of 64 texts each."""
+    values = ", ".join(f'"value-{at}"' for at in range(64))
+    wanted = "".join(f'[[tenant.tail_sampling.policy]]\ntype = "string_attribute"\nkey = "http.route-{at}"\n'
+                     f"values = [{values}]\n" for at in range(n))
+    body = request([span(1, at) for at in range(50)])
+    return tenant(policies=wanted), post(0, body) * 20 + "turn 0 1000\n", "worked a\n"
+
+
+def many_batches(n):
+    """n batches of one span, each handed out and answered before the next."""
+    body = request([ids(at + 1, at) for at in range(n)])
+    turns = "".join(f"turn 0 1000\nanswer a 1000 {at} 0 200 - -\n" for at in range(1, n + 1))
+    return tenant(more=batches(1, consumers=1)), post(0, body) + turns, "done a\n"
+
+
+def many_retries(n):
+    """n batches of one span on their way at a time, refused by a busy back end, sent again at one moment and taken."""
+    body = request([ids(at + 1, at) for at in range(n)])
+    busy = "".join(f"answer a 1000 {at} 0 503 9 -\n" for at in range(1, n + 1))
+    taken = "".join(f"answer a 99000 {at} 0 200 - -\n" for at in range(n + 1, 2 * n + 1))
+    return (tenant(more=batches(1)), post(0, body) + "turn 0 1000\n" * n + busy + "turn 0 99000\n" * n + taken,
+            "done a\n")
+
+
+def small_pieces(n):
+    """A post of n spans that comes in pieces of 64 bytes, each a read of its own."""
+    return tenant(), post(0, request([ids(at + 1, at) for at in range(n)])), "reply a 200 -\n", 64
+
+
+def short_lines(n):
+    """n lines that are empty or comments, in pieces of 64 bytes, before a turn."""
+    return tenant(), "\n# a comment\n" * (n // 2) + "turn 0 0\n", "idle 0\n", 64
+
+
+# a shape and its smaller size
+SHAPES = {
+    "resources times spans": (resources_and_spans, 1_000),
+    "attributes of a span": (attributes, 12_500),
+    "nested attributes": (nesting, 500),
+    "unknown fields": (unknown_fields, 25_000),
+    "a resource that stands again": (resource_again, 10_000),
+    "empty spans": (empty_spans, 50_000),
+    "traces": (any_traces, 4_000),
+    "traces of chosen ids": (chosen_traces, 4_000),
+    "rows due at once, kept": (due_at_once, 8_000),
+    "rows due at once, dropped": (due_and_dropped, 8_000),
+    "rows pushed out": (pushed_out, 4_000),
+    "late spans": (late_spans, 4_000),
+    "tenants": (many_tenants, 500),
+    "policies": (many_policies, 32),
+    "batches": (many_batches, 4_000),
+    "retries": (many_retries, 500),
+    "small pieces of a line": (small_pieces, 4_000),
+    "small pieces of short lines": (short_lines, 20_000),
+}
+
+
+def fed(script, size):
+    """A file that gives the script in pieces of so many bytes, each to one read."""
+    mine, yours = socket.socketpair(socket.AF_UNIX, socket.SOCK_SEQPACKET)
+
+    def send():
+        with mine:
+            for at in range(0, len(script), size):
+                mine.sendall(script[at:at + size])
+
+    threading.Thread(target=send, daemon=True).start()
+    return yours
+
+
+def instructions(program, folder, settings, script, wanted, size=None):
+    """What a replay takes, or None where it isn't answered as it has to be."""
+    at, told = folder / "settings.toml", folder / "script"
+    at.write_text(settings)
+    told.write_text(script)
+    words = ["valgrind", "--tool=callgrind", "--callgrind-out-file=/dev/null", program, "replay", at]
+    with fed(script.encode(), size) if size else open(told, "rb") as given, open(folder / "answers", "wb") as answers:
+        done = subprocess.run(words, stdin=given, stdout=answers, stderr=subprocess.PIPE, text=True, check=False)
+    ends = any(line.startswith(wanted) for line in open(folder / "answers", encoding="ascii"))
+    if done.returncode != 0 or not ends:
+        print(f"ended with {done.returncode}, {wanted!r} wanted: {done.stderr[-300:]}", file=sys.stderr)
+        return None
+    return int(re.findall(r"Collected : (\d+)", done.stderr)[-1])
+
+
+def main():
+    words = sys.argv[1:]
+    program = os.path.abspath(words.pop(0) if words and words[0] not in SHAPES else ROOT / "trace_collector")
+    worst = 0
+    print("| Shape | Size | Instructions | At twice the size | Ratio |\n|---|---|---|---|---|")
+    with tempfile.TemporaryDirectory() as folder:
+        for name in words or SHAPES:
+            shape, n = SHAPES[name]
+            once, twice = (instructions(program, Path(folder), *shape(size)) for size in (n, 2 * n))
+            ratio = twice / once if once and twice else float("inf")
+            worst = max(worst, ratio)
+            print(f"| {name} | {n:,} | {once or 0:,} | {twice or 0:,} | {ratio:.2f} |", flush=True)
+    sys.exit(worst > MOST)
+
+
+if __name__ == "__main__":
+    main()

@@ -1,0 +1,41 @@
+//! Load for the collector as a service, and a back end for it: what `load post` and `load sink` do stands in post.rs
+//! and sink.rs. measure.py builds and starts both.
+
+mod http;
+mod post;
+mod sink;
+mod wire;
+
+use post::Load;
+use std::time::Duration;
+use std::{env, io, process};
+
+fn load_of(words: &[String]) -> Option<Load> {
+    let words: Vec<u32> = words.iter().filter_map(|word| word.parse().ok()).collect();
+    let [port, tenants, connections, rate, seconds, spans] = *words else {
+        return None;
+    };
+    Some(Load {
+        port: port.try_into().ok()?,
+        tenants: tenants as usize,
+        connections: connections as usize,
+        rate,
+        time: Duration::from_secs(seconds.into()),
+        spans: spans as usize,
+    })
+}
+
+fn main() -> io::Result<()> {
+    let words: Vec<String> = env::args().skip(1).collect();
+    match words.split_first() {
+        Some((word, [])) if word == "sink" => return sink::run(),
+        Some((word, rest)) if word == "post" => {
+            if let Some(load) = load_of(rest) {
+                return post::run(load);
+            }
+        }
+        _ => {}
+    }
+    eprintln!("load sink | load post PORT TENANTS CONNECTIONS RATE SECONDS SPANS");
+    process::exit(2)
+}

@@ -1,0 +1,179 @@
+#!/usr/bin/env python3
+"""Measures a collector as a service: `python3 tests/load/measure.py PROGRAM [SECONDS]`.
+
+`PROGRAM serve SETTINGS` has to listen where its settings say, to go on until its input ends, and then to print each
+tenant's report. The load and the back end that stand beside this file are built with rustc. For 1 to 64 tenants, over 1
+to 32 connections, bodies of 50 spans of 350 bytes are posted for ten seconds or as many as are named: once 200
+requests a second, for how long a request takes, and once as many as are answered, for how many spans a second are taken
+and come to the back end. It prints a table of Markdown.
+
+Processor time is the program's alone, from the first request until the back end has all spans; memory the most that it
+had (VmHWM). Load and back end run beside it on the same processors. Ends with 1 where a request isn't taken, a span is
+lost or the reports say anything else than was posted.
+"""
+
+import os
+import re
+import socket
+import subprocess
+import sys
+import tempfile
+import time
+from pathlib import Path
+
+HERE = Path(__file__).resolve().parent
+SPANS = 50
+RATE = 200
+SHAPES = [(tenants, connections) for tenants in (1, 8, 64) for connections in (1, 8, 32)]
+TICKS = os.sysconf("SC_CLK_TCK")
+# the longest that the program may take to come up, to send what it holds, or to end
+MOST = 60
+
+
+def settings(port, back_end, tenants, connections):
+    """Each connection has a receiver, and all that may come before it is decided has room."""
+    text = (f'[global]\nlisten = "127.0.0.1:{port}"\nshards = 4\nparts = 1\nreceivers = {max(connections, 4)}\n'
+            "senders = 4\n")
+    for number in range(tenants):
+        text += (f'[[tenant]]\nname = "tenant-{number}"\nendpoint = "127.0.0.1:{back_end}"\nmax_spans = 30000000\n'
+                 "[tenant.tail_sampling]\ndecision_wait_ms = 1000\nnum_traces = 1000000\n"
+                 '[[tenant.tail_sampling.policy]]\ntype = "status_code"\nstatus_codes = ["ERROR", "OK", "UNSET"]\n'
+                 "[tenant.batch]\nsend_batch_size = 1000\nsend_batch_max_size = 1000\n"
+                 "[tenant.sending_queue]\nqueue_size = 100000\nnum_consumers = 4\n")
+    return text
+
+
+def free_port():
+    with socket.socket() as probe:
+        probe.bind(("127.0.0.1", 0))
+        return probe.getsockname()[1]
+
+
+def numbers(line):
+    """The numbers of a line of `name=number`."""
+    return {name: int(value) for name, value in re.findall(r"(\w+)=(\d+)", line)}
+
+
+def wait_for(is_so, what):
+    end = time.monotonic() + MOST
+    while not is_so():
+        if time.monotonic() > end:
+            raise TimeoutError(f"waited {MOST} seconds until {what}")
+        time.sleep(0.02)
+
+
+class Started:
+    """A program that goes on until its input ends, and that nothing is left of behind a `with`."""
+
+    def __init__(self, *words):
+        pipe = subprocess.PIPE
+        self.run = subprocess.Popen(words, stdin=pipe, stdout=pipe, stderr=pipe, text=True)
+
+    def __enter__(self):
+        return self
+
+    def __exit__(self, *_):
+        self.run.kill()
+        self.run.communicate()
+
+
+class BackEnd(Started):
+    """`load sink`."""
+
+    def __init__(self, load):
+        super().__init__(load, "sink")
+        self.port = int(self.run.stdout.readline().split()[1])
+
+    def spans(self):
+        self.run.stdin.write("\n")
+        self.run.stdin.flush()
+        return numbers(self.run.stdout.readline())["spans"]
+
+
+class Service(Started):
+    """The program as a service."""
+
+    def __init__(self, program, file, port):
+        super().__init__(program, "serve", file)
+        self.port = port
+
+    def is_up(self):
+        if self.run.poll() is not None:
+            raise RuntimeError(f"the service ended with {self.run.returncode}: {self.run.stderr.read()}")
+        try:
+            socket.create_connection(("127.0.0.1", self.port), timeout=1).close()
+            return True
+        except OSError:
+            return False
+
+    def seconds(self):
+        """Of processor time."""
+        words = Path(f"/proc/{self.run.pid}/stat").read_text().rpartition(")")[2].split()
+        return (int(words[11]) + int(words[12])) / TICKS
+
+    def megabytes(self):
+        status = Path(f"/proc/{self.run.pid}/status").read_text()
+        return int(re.search(r"VmHWM:\s*(\d+)", status)[1]) / 1000
+
+    def end(self):
+        """The sums of its reports, and its status."""
+        out, err = self.run.communicate(timeout=MOST)
+        sums = {}
+        for line in out.splitlines():
+            for name, value in numbers(line).items():
+                sums[name] = sums.get(name, 0) + value
+        if err:
+            print(err, file=sys.stderr)
+        return sums, self.run.returncode
+
+
+def measured(load, program, folder, tenants, connections, rate, seconds):
+    """A row's numbers, and what is wrong."""
+    port = free_port()
+    file = Path(folder, "settings.toml")
+    with BackEnd(load) as back_end:
+        file.write_text(settings(port, back_end.port, tenants, connections))
+        with Service(program, file, port) as service:
+            wait_for(service.is_up, "the service is up")
+            before = service.seconds()
+            words = [load, "post", *map(str, (port, tenants, connections, rate, seconds, SPANS))]
+            told = numbers(subprocess.run(words, stdout=subprocess.PIPE, text=True, check=True).stdout)
+            sent = back_end.spans()
+            wait_for(lambda: back_end.spans() >= told["spans"], "all spans are sent")
+            told["sent_a_second"] = sent * 1000 / told["millis"]
+            told["processor"] = service.seconds() - before
+            told["megabytes"] = service.megabytes()
+            sums, status = service.end()
+        got = (sums.get("accepted"), sums.get("exported"), back_end.spans(), told["others"], status)
+    wanted = (told["spans"], told["spans"], told["spans"], 0, 0)
+    what = "spans accepted, exported and come, requests not taken, the program's status"
+    return told, None if got == wanted else f"{what}: {got}, expected {wanted}"
+
+
+def main():
+    if len(sys.argv) not in (2, 3):
+        sys.exit("measure.py PROGRAM [SECONDS]")
+    program = os.path.abspath(sys.argv[1])
+    seconds = int(sys.argv[2]) if len(sys.argv) == 3 else 10
+    wrong = 0
+    print("| Tenants | Connections | Requests a second | half within | 99 of 100 within | Spans a second taken "
+          "| come to the back end | Processor seconds for a million | Memory, MB |\n" + "|---" * 9 + "|")
+    with tempfile.TemporaryDirectory() as folder:
+        load = str(Path(folder, "load"))
+        subprocess.run(["rustc", "--edition", "2021", "-O", "-o", load, HERE / "main.rs"], check=True)
+        for rate in (RATE, 0):
+            for tenants, connections in SHAPES:
+                told, fault = measured(load, program, folder, tenants, connections, rate, seconds)
+                second = told["millis"] / 1000
+                print(f"| {tenants} | {connections} | {told['requests'] / second:,.0f} | {told['half'] / 1000:.1f} ms "
+                      f"| {told['most_99'] / 1000:.1f} ms | {told['spans'] / second:,.0f} "
+                      f"| {told['sent_a_second']:,.0f} | {told['processor'] * 1e6 / max(told['spans'], 1):.2f} "
+                      f"| {told['megabytes']:,.0f} |", flush=True)
+                if fault:
+                    wrong += 1
+                    print(fault, file=sys.stderr)
+    sys.exit(min(wrong, 1))
+
+
+if __name__ == "__main__":
+    main()

@@ -1,0 +1,177 @@
+//! `load post PORT TENANTS CONNECTIONS RATE SECONDS SPANS`: posts bodies of so many spans to a collector for so long,
+//! for `tenant-0` and so on in turn, over so many connections that stay open, at so many requests a second in all;
+//! with RATE 0 each connection posts as soon as it was answered. At a rate a request's time is from the moment at
+//! which it was due, so one that waits for a slow one before it counts as slow too.
+//!
+//! It prints one line: how many requests were answered, of these how many not by 200 with an empty body, how many
+//! spans the others had, the seconds from the first request to the last answer, and of the requests' times in
+//! microseconds the one that half of them and that 99 of 100 don't exceed, and the longest.
+
+use crate::http::Reader;
+use crate::wire::{
+    put_fixed, put_number, put_piece, REQUEST_RESOURCE_SPANS, RESOURCE_SPANS_SCOPE_SPANS, SCOPE_SPANS_SPANS,
+};
+use std::io::{self, Write};
+use std::net::TcpStream;
+use std::thread;
+use std::time::{Duration, Instant};
+
+const START: u64 = 1_700_000_000_000_000_000;
+const SPANS_OF_A_TRACE: usize = 12;
+const TEXTS: [(&str, &str); 7] = [
+    ("http.request.method", "GET"),
+    ("http.route", "/v1/orders/{order}/items/{item}"),
+    ("url.scheme", "https"),
+    ("server.address", "orders.internal.example"),
+    ("network.protocol.version", "1.1"),
+    ("customer.tier", "silver"),
+    ("user_agent.original", "orders-client/4.2 (linux)"),
+];
+
+/// What is to be posted, and where.
+#[derive(Clone, Copy)]
+pub struct Load {
+    pub port: u16,
+    pub tenants: usize,
+    pub connections: usize,
+    /// Requests a second; 0 for as many as are answered.
+    pub rate: u32,
+    pub time: Duration,
+    /// Of each request.
+    pub spans: usize,
+}
+
+/// A request's bytes but for the ids, which are other ones in each request.
+struct Body {
+    text: Vec<u8>,
+    // Where each span's trace id begins; its own id is behind that and two bytes.
+    ids: Vec<usize>,
+}
+
+#[derive(Default)]
+struct Told {
+    micros: Vec<u64>,
+    others: u64,
+    spans: u64,
+}
+
+fn attribute(text: &mut Vec<u8>, field: u64, key: &str, value: &str) {
+    let (mut inner, mut pair) = (Vec::new(), Vec::new());
+    put_piece(&mut inner, 1, value.as_bytes());
+    put_piece(&mut pair, 1, key.as_bytes());
+    put_piece(&mut pair, 2, &inner);
+    put_piece(text, field, &pair);
+}
+
+fn span(number: usize) -> Vec<u8> {
+    let mut text = Vec::new();
+    put_piece(&mut text, 1, &[0; 16]);
+    put_piece(&mut text, 2, &[0; 8]);
+    put_piece(&mut text, 5, b"GET /v1/orders/{order}/items/{item}");
+    put_number(&mut text, 6, 2);
+    put_fixed(&mut text, 7, START + number as u64);
+    put_fixed(&mut text, 8, START + 25_000_000 + number as u64);
+    for (key, value) in TEXTS {
+        attribute(&mut text, 9, key, value);
+    }
+    text
+}
+
+impl Body {
+    fn new(spans: usize) -> Self {
+        let (mut scope_spans, mut resource) = (Vec::new(), Vec::new());
+        let mut behind = Vec::new();
+        for number in 0..spans {
+            let text = span(number);
+            put_piece(&mut scope_spans, SCOPE_SPANS_SPANS, &text);
+            behind.push((scope_spans.len() - text.len(), text.len()));
+        }
+        attribute(&mut resource, 1, "service.name", "orders");
+        let (mut resource_spans, mut text) = (Vec::new(), Vec::new());
+        put_piece(&mut resource_spans, 1, &resource);
+        put_piece(&mut resource_spans, RESOURCE_SPANS_SCOPE_SPANS, &scope_spans);
+        put_piece(&mut text, REQUEST_RESOURCE_SPANS, &resource_spans);
+        let start = text.len() - scope_spans.len();
+        let ids = behind.iter().map(|(at, _)| start + at + 2).collect();
+        Body { text, ids }
+    }
+
+    /// Gives each span ids that no other request has.
+    fn number(&mut self, connection: usize, request: u64) {
+        for (place, at) in self.ids.iter().enumerate() {
+            let trace = (place / SPANS_OF_A_TRACE) as u32;
+            self.text[*at..at + 8].copy_from_slice(&(request + 1).to_be_bytes());
+            self.text[at + 8..at + 12].copy_from_slice(&trace.to_be_bytes());
+            self.text[at + 12..at + 16].copy_from_slice(&(connection as u32).to_be_bytes());
+            self.text[at + 18..at + 26].copy_from_slice(&(place as u64 + 1).to_be_bytes());
+        }
+    }
+}
+
+/// What one connection was told.
+fn connection(load: Load, number: usize, start: Instant) -> io::Result<Told> {
+    let peer = TcpStream::connect(("127.0.0.1", load.port))?;
+    peer.set_nodelay(true)?;
+    let mut reader = Reader::new(&peer);
+    let mut body = Body::new(load.spans);
+    let mut told = Told::default();
+    for request in 0.. {
+        let turn = request as usize * load.connections + number;
+        let due = match load.rate {
+            0 => Instant::now(),
+            rate => start + Duration::from_secs(1) * turn as u32 / rate,
+        };
+        if due >= start + load.time {
+            break;
+        }
+        thread::sleep(due.saturating_duration_since(Instant::now()));
+        body.number(number, request);
+        let mut text = format!(
+            "POST /v1/traces HTTP/1.1\r\nHost: c\r\nX-Scope-OrgID: tenant-{}\r\n\
+             Content-Type: application/x-protobuf\r\nContent-Length: {}\r\n\r\n",
+            turn % load.tenants,
+            body.text.len()
+        )
+        .into_bytes();
+        text.extend_from_slice(&body.text);
+        (&peer).write_all(&text)?;
+        let Some(reply) = reader.next()? else {
+            return Err(io::Error::from(io::ErrorKind::UnexpectedEof));
+        };
+        told.micros.push(due.elapsed().as_micros() as u64);
+        if reply.start.starts_with("HTTP/1.1 200 ") && reply.body.is_empty() {
+            told.spans += load.spans as u64;
+        } else {
+            told.others += 1;
+        }
+    }
+    Ok(told)
+}
+
+/// Posts over all connections, and prints what came of it.
+pub fn run(load: Load) -> io::Result<()> {
+    let start = Instant::now();
+    let threads: Vec<_> = (0..load.connections)
+        .map(|number| thread::spawn(move || connection(load, number, start)))
+        .collect();
+    let mut all = Told::default();
+    for thread in threads {
+        let told = thread.join().expect("a connection ends")?;
+        all.micros.extend(told.micros);
+        all.others += told.others;
+        all.spans += told.spans;
+    }
+    let millis = start.elapsed().as_millis();
+    all.micros.sort_unstable();
+    let most = all.micros.last().copied().unwrap_or(0);
+    let within = |share: usize| all.micros.get(all.micros.len() * share / 100).copied().unwrap_or(most);
+    println!(
+        "requests={} others={} spans={} millis={millis} half={} most_99={} most={most}",
+        all.micros.len(),
+        all.others,
+        all.spans,
+        within(50),
+        within(99)
+    );
+    Ok(())
+}
