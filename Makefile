@@ -1,4 +1,4 @@
-.PHONY: test replay
+.PHONY: test replay serve
 
 PROGRAM = crates/trace_collector_program
 
@@ -9,6 +9,7 @@ test: checks
 	@command -v rt > /dev/null || { echo 'make: there is no command rt: README.md names the toolchain' >&2; exit 1; }
 	@rt ci
 	@said=$$(python3 tests/program.py $(PROGRAM)/out/trace_collector_program) || { echo "$$said"; exit 1; }
+	@said=$$(python3 tests/replay/steady.py $(PROGRAM)/out/trace_collector_program 100000) || { echo "$$said"; exit 1; }
 
 # Seconds, with Python alone: the definitions that docs/ quotes stand so in their
 # files, each public definition has its comment, want of memory is made only where
@@ -22,6 +23,7 @@ checks:
 
 # Builds the program, makes a script of a body that is stored as a file, which is posted
 # before a worker asks for a job twice, one millisecond too early and in time, and replays it.
+# Then a story whose traces are kept, dropped, batched, sent again and reported.
 replay: trace_collector
 	@echo
 	@echo 'The script: a body is posted, and a worker asks for a job before its second of waiting is over, and then.'
@@ -33,9 +35,23 @@ replay: trace_collector
 	@echo 'Its answers: the reply to the post, no job yet, and a job whose payload goes to the back end.'
 	@echo '$$ ./trace_collector replay $(PROGRAM)/data/settings.toml < $(SCRIPT)'
 	@./trace_collector replay $(PROGRAM)/data/settings.toml < $(SCRIPT)
+	@echo
+	@echo 'A story, $(STORY).script: traces are kept or dropped, batched, sent again to a busy back end, and counted.'
+	@echo 'Bodies are cut short here.'
+	@echo '$$ cut -c1-200 $(STORY).script'
+	@cut -c1-200 $(STORY).script
+	@echo
+	@echo '$$ ./trace_collector replay $(STORY).toml < $(STORY).script | cut -c1-200'
+	@./trace_collector replay $(STORY).toml < $(STORY).script | cut -c1-200
+
+# Builds the program, starts it as a service with two tenants and a back end for each, and shows
+# what arrives there.
+serve: trace_collector
+	@python3 examples/serve.py
 
 BODY = examples/trace.pb
 SCRIPT = $(PROGRAM)/out/script
+STORY = examples/story
 LOG = $(PROGRAM)/out/build.log
 
 # The program's crate and those that it stands on, the lowest first.
