@@ -1,18 +1,18 @@
 //! Steps and outcomes as lines of a story say them.
 
 use bytes::Bytes;
-use otlp_prepare::prepare;
+use otlp_prepare::{Prepared, prepare};
 use otlp_trace::Octets;
 use send_retry::Answer;
 use std::alloc::Global;
 use std::test::Fail;
 use std::thread::Threads;
-use tail_settings::Settings;
+use tail_settings::{Section, Settings};
 use tenant_rules::Reply;
 use tenant_shard::{Outcome, Step};
 
 /// A line up to its first space, and the rest.
-fn cut(line: &str) -> (&str, &str) {
+pub fn cut(line: &str) -> (&str, &str) {
     match line.split_once(' ') {
         Some(parts) => parts,
         None => (line, ""),
@@ -27,38 +27,90 @@ fn bytes_of(alloc: Global, digits: &str) -> Result<Vec<u8>, Fail> {
     Ok(hex::decode(alloc, digits)?)
 }
 
-/// A span's text within its scope, from the digits of its trace id's byte and its span id's.
-fn put_span(alloc: Global, body: &mut Vec<u8>, ids: &str) -> Result<(), Fail> {
-    let (trace, span) = ids.split_once('.').ok_or("no span id")?;
-    let trace = hex::decode(alloc, trace)?;
-    let span = hex::decode(alloc, span)?;
-    body.extend_from_slice(&[0x12, 0x1c, 0x0a, 0x10])?;
-    for _ in 0..16 {
-        body.extend_from_slice(trace.as_slice())?;
+/// A field of at most 127 bytes, with its tag and its length.
+fn put_field(out: &mut Vec<u8>, tag: u8, text: &[u8]) -> Result<(), Fail> {
+    let length = u8::try_from(text.len())?;
+    if length > 127 {
+        return Err(Fail::new("a field of more than 127 bytes"));
     }
-    body.extend_from_slice(&[0x12, 0x08])?;
-    for _ in 0..8 {
-        body.extend_from_slice(span.as_slice())?;
-    }
+    out.extend_from_slice(&[tag, length])?;
+    out.extend_from_slice(text)?;
     Ok(())
 }
 
-/// A body of one resource and one scope with these spans, at most four, which `+` parts. A span's name is the byte of
-/// its trace id, which stands there sixteen times, and the byte of its id, which stands there eight times.
-fn body_of(alloc: Global, names: &str) -> Result<Vec<u8>, Fail> {
-    let mut body = Vec::new(alloc);
-    if names == "-" {
-        return Ok(body);
+/// A span by its name: the byte of its trace id, which stands there sixteen times, the byte of its id, which stands
+/// there eight times, and where there are any, the bytes of its other fields.
+fn span_of(alloc: Global, name: &str) -> Result<Vec<u8>, Fail> {
+    let (trace, rest) = name.split_once('.').ok_or("no span id")?;
+    let (span, rest) = match rest.split_once('.') {
+        Some(parts) => parts,
+        None => (rest, "-"),
+    };
+    let trace = hex::decode(alloc, trace)?;
+    let span = hex::decode(alloc, span)?;
+    let mut out = Vec::new(alloc);
+    out.extend_from_slice(&[0x0a, 0x10])?;
+    for _ in 0..16 {
+        out.extend_from_slice(trace.as_slice())?;
     }
-    let mut spans = Vec::new(alloc);
-    for ids in names.split('+') {
-        put_span(alloc, &mut spans, ids)?;
+    out.extend_from_slice(&[0x12, 0x08])?;
+    for _ in 0..8 {
+        out.extend_from_slice(span.as_slice())?;
     }
-    let scope = u8::try_from(spans.len())?;
-    let resource = scope.checked_add(2).ok_or("too many spans")?;
-    body.extend_from_slice(&[0x0a, resource, 0x12, scope])?;
-    body.extend_from_slice(spans.as_slice())?;
-    Ok(body)
+    let rest = bytes_of(alloc, rest)?;
+    out.extend_from_slice(rest.as_slice())?;
+    Ok(out)
+}
+
+/// Spans of one scope without a name, parted by `+`.
+fn scope_of(alloc: Global, names: &str) -> Result<Vec<u8>, Fail> {
+    let mut out = Vec::new(alloc);
+    for name in names.split('+') {
+        let span = span_of(alloc, name)?;
+        put_field(&mut out, 0x12, span.as_slice())?;
+    }
+    Ok(out)
+}
+
+/// `SPANS` or `RESOURCE:SPANS`: the spans of one resource, after its bytes where it is there.
+fn resource_of(alloc: Global, part: &str) -> Result<Vec<u8>, Fail> {
+    let mut out = Vec::new(alloc);
+    let names = match part.split_once(':') {
+        Some((resource, names)) => {
+            let resource = bytes_of(alloc, resource)?;
+            put_field(&mut out, 0x0a, resource.as_slice())?;
+            names
+        }
+        None => part,
+    };
+    let scope = scope_of(alloc, names)?;
+    put_field(&mut out, 0x12, scope.as_slice())?;
+    Ok(out)
+}
+
+/// A body of resources with their spans, parted by `/`, or an empty one for `-`.
+fn body_of(alloc: Global, parts: &str) -> Result<Vec<u8>, Fail> {
+    let mut out = Vec::new(alloc);
+    if parts == "-" {
+        return Ok(out);
+    }
+    for part in parts.split('/') {
+        let resource = resource_of(alloc, part)?;
+        put_field(&mut out, 0x0a, resource.as_slice())?;
+    }
+    Ok(out)
+}
+
+/// The body of these parts, as `body_of` has them, made ready for the tenant by the section's policies.
+pub fn prepared_of<'a, R: Threads + Sync>(
+    rt: &R,
+    alloc: Global,
+    tenant: u32,
+    section: &'a Section,
+    parts: &str,
+) -> Result<Prepared<'a>, Fail> {
+    let body = Bytes::from_vec(body_of(alloc, parts)?)?;
+    Ok(prepare(rt, alloc, tenant, section, body, 2)?)
 }
 
 /// `T SECTION NOW SPANS`: a body comes to a tenant, prepared with the section of that number.
@@ -72,8 +124,7 @@ fn post_of<'a, R: Threads + Sync>(
     let (number, rest) = cut(rest);
     let (now, names) = cut(rest);
     let section = settings.section(number.parse()?).ok_or("no such section")?;
-    let body = Bytes::from_vec(body_of(alloc, names)?)?;
-    let prepared = prepare(rt, alloc, tenant.parse()?, section, body, 2)?;
+    let prepared = prepared_of(rt, alloc, tenant.parse()?, section, names)?;
     let now = now.parse()?;
     Ok(Step::Post { now, prepared })
 }
@@ -133,11 +184,15 @@ pub fn step_of<'a, R: Threads + Sync>(
     Ok(Step::Report { tenant, now })
 }
 
+/// The payload of a batch of these parts, as `body_of` has them.
+pub fn payload_of(alloc: Global, parts: &str) -> Result<Bytes, Fail> {
+    Ok(Bytes::from_vec(body_of(alloc, parts)?)?)
+}
+
 /// `TICKET SPANS`: a batch of this tenant.
 fn job_of(alloc: Global, tenant: u32, rest: &str) -> Result<Outcome, Fail> {
     let (ticket, names) = cut(rest);
-    let payload = Bytes::from_vec(body_of(alloc, names)?)?;
-    Ok(Outcome::Job(tenant, ticket.parse()?, payload))
+    Ok(Outcome::Job(tenant, ticket.parse()?, payload_of(alloc, names)?))
 }
 
 /// `STATUS HEX`: the reply to a post of this tenant.
@@ -150,8 +205,8 @@ fn reply_of(alloc: Global, tenant: u32, rest: &str) -> Result<Outcome, Fail> {
     Ok(Outcome::Reply(tenant, reply))
 }
 
-/// The counters that are named here, and 0 for the others.
-fn report_of(alloc: Global, tenant: u32, counters: &str) -> Result<Outcome, Fail> {
+/// A report's line: the counters that are named here, and 0 for the others.
+pub fn counters_of(alloc: Global, counters: &str) -> Result<Octets, Fail> {
     let mut text = Vec::new(alloc);
     for name in COUNTERS.split(' ') {
         if !text.is_empty() {
@@ -161,7 +216,7 @@ fn report_of(alloc: Global, tenant: u32, counters: &str) -> Result<Outcome, Fail
         text.push(b'=')?;
         text.extend_from_slice(count_of(counters, name).as_bytes())?;
     }
-    Ok(Outcome::Report(tenant, Octets::from_vec(text)))
+    Ok(Octets::from_vec(text))
 }
 
 /// The counters in their order.
@@ -192,7 +247,7 @@ pub fn outcome_of(alloc: Global, line: &str) -> Result<Outcome, Fail> {
     match word {
         "reply" => reply_of(alloc, tenant, rest),
         "job" => job_of(alloc, tenant, rest),
-        "report" => report_of(alloc, tenant, rest),
+        "report" => Ok(Outcome::Report(tenant, counters_of(alloc, rest)?)),
         "worked" => Ok(Outcome::Worked(tenant)),
         "done" => Ok(Outcome::Done(tenant)),
         _ => Ok(Outcome::Refused(tenant, rest.parse()?)),

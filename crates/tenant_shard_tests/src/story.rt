@@ -42,7 +42,42 @@ pub fn read<'a, R: Threads + Sync>(
     Ok((steps, outcomes))
 }
 
+/// What the steps give of a new shard with these members.
+fn outcomes_of(
+    alloc: Global,
+    settings: &Settings,
+    members: &[u32],
+    steps: &[Step<'_>],
+) -> Result<Vec<Outcome>, Fail> {
+    let mut shard = Shard::open(alloc, settings, members)?;
+    Ok(shard.run(steps)?)
+}
+
+/// How many of the first outcomes are those that are wanted.
+fn equal_first(outcomes: &[Outcome], wanted: &[Outcome]) -> usize {
+    for i in 0..outcomes.len() {
+        if i >= wanted.len() || outcomes[i] != wanted[i] {
+            return i;
+        }
+    }
+    outcomes.len()
+}
+
 /// How many of a story's first outcomes come true of a new shard with these members, and how many there are.
+fn true_with<R: Threads + Sync>(
+    rt: &R,
+    alloc: Global,
+    settings: &Settings,
+    members: &[u32],
+    story: &str,
+) -> Result<(usize, usize), Fail> {
+    let (steps, wanted) = read(rt, alloc, settings, story)?;
+    let outcomes = outcomes_of(alloc, settings, members, steps.as_slice())?;
+    let first = equal_first(outcomes.as_slice(), wanted.as_slice());
+    Ok((first, wanted.len()))
+}
+
+/// The same, of tenants with these tables.
 pub fn true_of<R: Threads + Sync>(
     rt: &R,
     alloc: Global,
@@ -51,13 +86,5 @@ pub fn true_of<R: Threads + Sync>(
     story: &str,
 ) -> Result<(usize, usize), Fail> {
     let settings = settings_of(alloc, tables)?;
-    let (steps, wanted) = read(rt, alloc, &settings, story)?;
-    let mut shard = Shard::open(alloc, &settings, members)?;
-    let outcomes = shard.run(steps.as_slice())?;
-    for i in 0..outcomes.len() {
-        if i >= wanted.len() || outcomes[i] != wanted[i] {
-            return Ok((i, wanted.len()));
-        }
-    }
-    Ok((outcomes.len(), wanted.len()))
+    true_with(rt, alloc, &settings, members, story)
 }

@@ -6,6 +6,8 @@ use crate::story::{read, settings_of};
 use std::alloc::{AllocError, Global};
 use std::process::Abort;
 use std::test::Fail;
+use std::thread::Threads;
+use tail_settings::Settings;
 use tenant_shard::{Outcome, Shard, Step, Stopped};
 
 /// Tenant 0 has batches of two or three spans, 1 has room for two traces and one batch, and 2 samples errors.
@@ -72,6 +74,18 @@ fn tenant_of(outcome: &Outcome) -> Option<u32> {
     }
 }
 
+/// The counters of all tenants.
+fn reports(shard: &mut Shard) -> Result<[Outcome; 3], AllocError> {
+    Ok([report(shard, 0)?, report(shard, 1)?, report(shard, 2)?])
+}
+
+/// Whether the counters of all tenants but this one are as before.
+fn are_others_same(own: Option<u32>, before: &[Outcome; 3], after: &[Outcome; 3]) -> bool {
+    (own == Some(0) || before[0] == after[0])
+        && (own == Some(1) || before[1] == after[1])
+        && (own == Some(2) || before[2] == after[2])
+}
+
 /// What a step gives, after it was refused memory where it is. The counters of all tenants but the one whose step it
 /// was are then as before.
 fn given_at_last(
@@ -79,32 +93,46 @@ fn given_at_last(
     shard: &mut Shard,
     step: &Step<'_>,
 ) -> Result<Outcome, AllocError> {
-    let before = [report(shard, 0)?, report(shard, 1)?, report(shard, 2)?];
+    let before = reports(shard)?;
     if let Ok(outcome) = shard.step(step) {
         return Ok(outcome);
     }
-    let after = [report(shard, 0)?, report(shard, 1)?, report(shard, 2)?];
+    let after = reports(shard)?;
     let outcome = shard.step(step)?;
-    let own = tenant_of(&outcome);
-    assert!(rt; own == Some(0) || before[0] == after[0]);
-    assert!(rt; own == Some(1) || before[1] == after[1]);
-    assert!(rt; own == Some(2) || before[2] == after[2]);
+    assert!(rt; are_others_same(tenant_of(&outcome), &before, &after));
     Ok(outcome)
 }
 
-/// The steps are done one by one, each again where it was refused memory.
+/// The steps are done one by one, each again where it was refused memory, and give what is wanted.
+fn each_is_given(
+    rt: &impl Abort,
+    shard: &mut Shard,
+    steps: &[Step<'_>],
+    wanted: &[Outcome],
+) -> Result<(), Fail> {
+    assert_eq!(rt; steps.len(), wanted.len());
+    for (step, outcome) in steps.iter().zip(wanted.iter()) {
+        let found = given_at_last(rt, shard, step)?;
+        assert!(rt; found == *outcome, "{found:?} in place of {outcome:?}");
+    }
+    Ok(())
+}
+
+fn story_is_given<R: Threads + Sync + Abort>(
+    rt: &R,
+    alloc: Global,
+    settings: &Settings,
+) -> Result<(), Fail> {
+    let (steps, wanted) = read(rt, alloc, settings, STORY)?;
+    let mut shard = Shard::open(alloc, settings, &[0, 1, 2])?;
+    each_is_given(rt, &mut shard, steps.as_slice(), wanted.as_slice())
+}
+
 #[test]
 fn a_refused_step_is_done_again(rt: HostRuntime) -> Result<(), Fail> {
     let alloc = rt.alloc();
     let settings = settings_of(alloc, &TABLES)?;
-    let (steps, wanted) = read(&rt, alloc, &settings, STORY)?;
-    let mut shard = Shard::open(alloc, &settings, &[0, 1, 2])?;
-    assert_eq!(rt; steps.len(), wanted.len());
-    for (step, outcome) in steps.iter().zip(wanted.iter()) {
-        let found = given_at_last(&rt, &mut shard, step)?;
-        assert!(rt; found == *outcome, "{found:?} in place of {outcome:?}");
-    }
-    Ok(())
+    story_is_given(&rt, alloc, &settings)
 }
 
 /// Whether these are the first outcomes.
@@ -116,24 +144,46 @@ fn are_first(found: &[Outcome], wanted: &[Outcome]) -> bool {
             .all(|(one, other)| one == other)
 }
 
+/// The outcomes of a run, up to where it stopped.
+fn outcomes_of(shard: &mut Shard, steps: &[Step<'_>]) -> Vec<Outcome> {
+    match shard.run(steps) {
+        Ok(outcomes) => outcomes,
+        Err(Stopped { outcomes }) => outcomes,
+    }
+}
+
 /// The run stops where memory is refused, with the outcomes so far, and goes on with the refused step.
+fn run_goes_on(
+    rt: &impl Abort,
+    shard: &mut Shard,
+    steps: &[Step<'_>],
+    wanted: &[Outcome],
+) -> Result<(), Fail> {
+    let done = outcomes_of(shard, steps);
+    assert!(rt; are_first(done.as_slice(), wanted));
+    let first = done.len();
+    assert!(rt; first <= steps.len() && first <= wanted.len());
+    let rest = shard.run(&steps[first..])?;
+    assert!(rt; are_first(rest.as_slice(), &wanted[first..]));
+    assert_eq!(rt; first.checked_add(rest.len()), Some(wanted.len()));
+    Ok(())
+}
+
+fn story_goes_on<R: Threads + Sync + Abort>(
+    rt: &R,
+    alloc: Global,
+    settings: &Settings,
+) -> Result<(), Fail> {
+    let (steps, wanted) = read(rt, alloc, settings, STORY)?;
+    let mut shard = Shard::open(alloc, settings, &[0, 1, 2])?;
+    run_goes_on(rt, &mut shard, steps.as_slice(), wanted.as_slice())
+}
+
 #[test]
 fn a_run_goes_on_where_it_stopped(rt: HostRuntime) -> Result<(), Fail> {
     let alloc = rt.alloc();
     let settings = settings_of(alloc, &TABLES)?;
-    let (steps, wanted) = read(&rt, alloc, &settings, STORY)?;
-    let mut shard = Shard::open(alloc, &settings, &[0, 1, 2])?;
-    let done = match shard.run(steps.as_slice()) {
-        Ok(outcomes) => outcomes,
-        Err(Stopped { outcomes }) => outcomes,
-    };
-    assert!(rt; are_first(done.as_slice(), wanted.as_slice()));
-    let first = done.len();
-    assert!(rt; first <= steps.len() && first <= wanted.len());
-    let rest = shard.run(&steps.as_slice()[first..])?;
-    assert!(rt; are_first(rest.as_slice(), &wanted.as_slice()[first..]));
-    assert_eq!(rt; first.checked_add(rest.len()), Some(wanted.len()));
-    Ok(())
+    story_goes_on(&rt, alloc, &settings)
 }
 
 /// The number that a counter's text says.
@@ -164,21 +214,40 @@ fn is_counted(shard: &mut Shard, tenant: u32) -> Result<bool, Fail> {
     Ok(taken == sum)
 }
 
-/// After each step, and after each refusal.
+/// Whether that is so of all tenants after a step, and where it was refused memory before it is done again.
+fn are_counted_after(shard: &mut Shard, step: &Step<'_>) -> Result<bool, Fail> {
+    let refused = shard.step(step).is_err();
+    for tenant in 0..3 {
+        if !is_counted(shard, tenant)? {
+            return Ok(false);
+        }
+    }
+    if refused {
+        let _outcome = shard.step(step)?;
+    }
+    Ok(true)
+}
+
+/// Whether that is so after each step of the story.
+fn story_is_counted<R: Threads + Sync>(
+    rt: &R,
+    alloc: Global,
+    settings: &Settings,
+) -> Result<bool, Fail> {
+    let (steps, _) = read(rt, alloc, settings, STORY)?;
+    let mut shard = Shard::open(alloc, settings, &[0, 1, 2])?;
+    for step in steps.as_slice() {
+        if !are_counted_after(&mut shard, step)? {
+            return Ok(false);
+        }
+    }
+    Ok(true)
+}
+
 #[test]
 fn each_span_is_counted_once(rt: HostRuntime) -> Result<(), Fail> {
     let alloc = rt.alloc();
     let settings = settings_of(alloc, &TABLES)?;
-    let (steps, _) = read(&rt, alloc, &settings, STORY)?;
-    let mut shard = Shard::open(alloc, &settings, &[0, 1, 2])?;
-    for step in steps.as_slice() {
-        let refused = shard.step(step).is_err();
-        assert!(rt;
-            is_counted(&mut shard, 0)? && is_counted(&mut shard, 1)? && is_counted(&mut shard, 2)?
-        );
-        if refused {
-            let _outcome = shard.step(step)?;
-        }
-    }
+    assert!(rt; story_is_counted(&rt, alloc, &settings)?);
     Ok(())
 }

@@ -1,0 +1,22 @@
+//! What tenants' settings say beside their names.
+
+/// Every trace is sampled a second after it opened, each group of spans is a batch, and one batch at a time is on its
+/// way.
+pub const BASE: &str = "tail_sampling = { decision_wait_ms = 1000, num_traces = 10, \
+policy = [{ type = \"always_sample\" }] }, batch = { timeout_ms = 0 }, sending_queue = { num_consumers = 1 }";
+
+/// Errors are sampled, and wait a second for a batch.
+pub const ERRORS: &str = "tail_sampling = { decision_wait_ms = 1000, num_traces = 10, \
+policy = [{ type = \"status_code\", status_codes = [\"ERROR\"] }] }, batch = { timeout_ms = 1000 }, \
+sending_queue = { num_consumers = 1 }";
+
+/// Batches are of two or three spans, or of those of a second.
+pub const TWO_OR_THREE: &str = "tail_sampling = { decision_wait_ms = 1000, num_traces = 10, \
+policy = [{ type = \"always_sample\" }] }, \
+batch = { send_batch_size = 2, timeout_ms = 1000, send_batch_max_size = 3 }, sending_queue = { num_consumers = 3 }";
+
+/// Two traces are present, one batch waits, and each is sent a second time at most.
+pub const NARROW: &str = "tail_sampling = { decision_wait_ms = 1000, num_traces = 2, \
+policy = [{ type = \"always_sample\" }] }, batch = { timeout_ms = 0 }, \
+sending_queue = { queue_size = 1, num_consumers = 1 }, \
+retry_on_failure = { initial_interval_ms = 1000, max_elapsed_time_ms = 1500, randomization_factor = 0 }";
