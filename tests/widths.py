@@ -2,8 +2,8 @@
 """Whether each line of code and of definitions has at most 120 columns: crates/**/*.rt and crates/*/specs.
 
 Imports and attributes are passed over, since the formatter keeps each on one line, and so are bytes made elsewhere
-(vectors.rt). A text in quotes can't be parted, so it counts for nothing. Ends with 1, and names the lines, where some are longer; `widths.py --count` prints only how many there are
-in each crate.
+(vectors.rt). A text in quotes can't be parted, so it counts for nothing. Ends with 1, and names the lines, where some
+are longer; `widths.py --count` prints only how many there are in each crate.
 """
 import collections
 import pathlib
