@@ -1,17 +1,18 @@
 #!/usr/bin/env python3
-"""Measures a collector as a service: `python3 tests/load/measure.py PROGRAM [SECONDS]`.
+"""Measures a collector as a service: `python3 tests/load/measure.py PROGRAM`, with the options that `--help` names.
 
 `PROGRAM serve SETTINGS` has to listen where its settings say, to go on until its input ends, and then to print each
 tenant's report. The load and the back end that stand beside this file are built with rustc. For 1 to 64 tenants, over 1
-to 32 connections, bodies of 50 spans of 350 bytes are posted for ten seconds or as many as are named: once 200
+to 32 connections, bodies of 100 spans of 460 bytes are posted for ten seconds or as many as are named: once 200
 requests a second, for how long a request takes, and once as many as are answered, for how many spans a second are taken
 and come to the back end. It prints a table of Markdown.
 
 Processor time is the program's alone, from the first request until the back end has all spans; memory the most that it
-had (VmHWM). Load and back end run beside it on the same processors. Ends with 1 where a request isn't taken, a span is
-lost or the reports say anything else than was posted.
+had (VmHWM). The program has the first two processors, and load and back end the others where there are any. Ends with
+1 where a request isn't taken, a span is lost or the reports say anything else than was posted.
 """
 
+import argparse
 import os
 import re
 import socket
@@ -22,9 +23,10 @@ import time
 from pathlib import Path
 
 HERE = Path(__file__).resolve().parent
-SPANS = 50
+SPANS = 100
 RATE = 200
-SHAPES = [(tenants, connections) for tenants in (1, 8, 64) for connections in (1, 8, 32)]
+TENANTS = (1, 8, 64)
+CONNECTIONS = (1, 8, 32)
 TICKS = os.sysconf("SC_CLK_TCK")
 # the longest that the program may take to come up, to send what it holds, or to end
 MOST = 60
@@ -32,7 +34,7 @@ MOST = 60
 
 def settings(port, back_end, tenants, connections):
     """Each connection has a receiver, and all that may come before it is decided has room."""
-    text = (f'[global]\nlisten = "127.0.0.1:{port}"\nshards = 4\nparts = 1\nreceivers = {max(connections, 4)}\n'
+    text = (f'[global]\nlisten = "127.0.0.1:{port}"\nshards = 2\nparts = 1\nreceivers = {max(connections, 4)}\n'
             "senders = 4\n")
     for number in range(tenants):
         text += (f'[[tenant]]\nname = "tenant-{number}"\nendpoint = "127.0.0.1:{back_end}"\nmax_spans = 30000000\n'
@@ -63,11 +65,11 @@ def wait_for(is_so, what):
 
 
 class Started:
-    """A program that goes on until its input ends, and that nothing is left of behind a `with`."""
+    """A program on these processors that goes on until its input ends, and that nothing is left of behind a `with`."""
 
-    def __init__(self, *words):
+    def __init__(self, processors, *words):
         pipe = subprocess.PIPE
-        self.run = subprocess.Popen(words, stdin=pipe, stdout=pipe, stderr=pipe, text=True)
+        self.run = subprocess.Popen(on(processors, *words), stdin=pipe, stdout=pipe, stderr=pipe, text=True)
 
     def __enter__(self):
         return self
@@ -77,11 +79,15 @@ class Started:
         self.run.communicate()
 
 
+def on(processors, *words):
+    return ["taskset", "-c", processors, *words]
+
+
 class BackEnd(Started):
     """`load sink`."""
 
-    def __init__(self, load):
-        super().__init__(load, "sink")
+    def __init__(self, processors, load):
+        super().__init__(processors, load, "sink")
         self.port = int(self.run.stdout.readline().split()[1])
 
     def spans(self):
@@ -93,8 +99,8 @@ class BackEnd(Started):
 class Service(Started):
     """The program as a service."""
 
-    def __init__(self, program, file, port):
-        super().__init__(program, "serve", file)
+    def __init__(self, processors, port, *words):
+        super().__init__(processors, *words)
         self.port = port
 
     def is_up(self):
@@ -127,17 +133,19 @@ class Service(Started):
         return sums, self.run.returncode
 
 
-def measured(load, program, folder, tenants, connections, rate, seconds):
+def measured(words, load, folder, tenants, connections, rate):
     """A row's numbers, and what is wrong."""
     port = free_port()
     file = Path(folder, "settings.toml")
-    with BackEnd(load) as back_end:
+    others = words.others
+    with BackEnd(others, load) as back_end:
         file.write_text(settings(port, back_end.port, tenants, connections))
-        with Service(program, file, port) as service:
+        program = [os.path.abspath(words.program), "serve", file, *(["--audit"] if words.audit else [])]
+        with Service(words.own, port, *program) as service:
             wait_for(service.is_up, "the service is up")
             before = service.seconds()
-            words = [load, "post", *map(str, (port, tenants, connections, rate, seconds, SPANS))]
-            told = numbers(subprocess.run(words, stdout=subprocess.PIPE, text=True, check=True).stdout)
+            post = on(others, load, "post", *map(str, (port, tenants, connections, rate, words.seconds, SPANS)))
+            told = numbers(subprocess.run(post, stdout=subprocess.PIPE, text=True, check=True).stdout)
             sent = back_end.spans()
             wait_for(lambda: back_end.spans() >= told["spans"], "all spans are sent")
             told["sent_a_second"] = sent * 1000 / told["millis"]
@@ -150,28 +158,39 @@ def measured(load, program, folder, tenants, connections, rate, seconds):
     return told, None if got == wanted else f"{what}: {got}, expected {wanted}"
 
 
+def row(told, tenants, connections):
+    second = told["millis"] / 1000
+    return (f"| {tenants} | {connections} | {told['requests'] / second:,.0f} | {told['half'] / 1000:.1f} ms "
+            f"| {told['most_99'] / 1000:.1f} ms | {told['spans'] / second:,.0f} | {told['sent_a_second']:,.0f} "
+            f"| {told['processor'] * 1e6 / max(told['spans'], 1):.2f} | {told['megabytes']:,.0f} |")
+
+
 def main():
-    if len(sys.argv) not in (2, 3):
-        sys.exit("measure.py PROGRAM [SECONDS]")
-    program = os.path.abspath(sys.argv[1])
-    seconds = int(sys.argv[2]) if len(sys.argv) == 3 else 10
+    processors = os.cpu_count() or 1
+    asked = argparse.ArgumentParser(description="Measures a collector as a service.")
+    asked.add_argument("program")
+    asked.add_argument("--seconds", type=int, default=10, help="how long each row posts")
+    asked.add_argument("--audit", action="store_true", help="the program keeps its log")
+    asked.add_argument("--tenants", type=int, nargs="+", default=TENANTS)
+    asked.add_argument("--connections", type=int, nargs="+", default=CONNECTIONS)
+    asked.add_argument("--rates", type=int, nargs="+", default=(RATE, 0), help="requests a second, 0: all it takes")
+    asked.add_argument("--own", default="0-1" if processors > 1 else "0", help="the program's processors")
+    asked.add_argument("--others", default=f"2-{processors - 1}" if processors > 2 else "0", help="load and back end's")
+    words = asked.parse_args()
     wrong = 0
     print("| Tenants | Connections | Requests a second | half within | 99 of 100 within | Spans a second taken "
           "| come to the back end | Processor seconds for a million | Memory, MB |\n" + "|---" * 9 + "|")
     with tempfile.TemporaryDirectory() as folder:
         load = str(Path(folder, "load"))
         subprocess.run(["rustc", "--edition", "2021", "-O", "-o", load, HERE / "main.rs"], check=True)
-        for rate in (RATE, 0):
-            for tenants, connections in SHAPES:
-                told, fault = measured(load, program, folder, tenants, connections, rate, seconds)
-                second = told["millis"] / 1000
-                print(f"| {tenants} | {connections} | {told['requests'] / second:,.0f} | {told['half'] / 1000:.1f} ms "
-                      f"| {told['most_99'] / 1000:.1f} ms | {told['spans'] / second:,.0f} "
-                      f"| {told['sent_a_second']:,.0f} | {told['processor'] * 1e6 / max(told['spans'], 1):.2f} "
-                      f"| {told['megabytes']:,.0f} |", flush=True)
-                if fault:
-                    wrong += 1
-                    print(fault, file=sys.stderr)
+        for rate in words.rates:
+            for tenants in words.tenants:
+                for connections in words.connections:
+                    told, fault = measured(words, load, folder, tenants, connections, rate)
+                    print(row(told, tenants, connections), flush=True)
+                    if fault:
+                        wrong += 1
+                        print(fault, file=sys.stderr)
     sys.exit(min(wrong, 1))
 
 

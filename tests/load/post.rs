@@ -18,7 +18,8 @@ use std::time::{Duration, Instant};
 
 const START: u64 = 1_700_000_000_000_000_000;
 const SPANS_OF_A_TRACE: usize = 12;
-const TEXTS: [(&str, &str); 7] = [
+/// With these a span has 460 bytes.
+const TEXTS: [(&str, &str); 10] = [
     ("http.request.method", "GET"),
     ("http.route", "/v1/orders/{order}/items/{item}"),
     ("url.scheme", "https"),
@@ -26,6 +27,9 @@ const TEXTS: [(&str, &str); 7] = [
     ("network.protocol.version", "1.1"),
     ("customer.tier", "silver"),
     ("user_agent.original", "orders-client/4.2 (linux)"),
+    ("code.function.name", "orders::items::read"),
+    ("url.path", "/v1/orders/1a2b3c4d/items/77"),
+    ("thread.name", "pool-1"),
 ];
 
 /// What is to be posted, and where.

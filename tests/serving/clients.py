@@ -1,0 +1,153 @@
+"""Clients that go away, that come in pieces, that rest half way, and that are many."""
+
+import re
+import socket
+import struct
+import threading
+import time
+
+from replay.make_script import piece
+from serving.loopback import CHUNKED, HEAD, REPLY
+from serving.talk import ERRORS, MOST, BackEnd, Service, body, check, in_threads, line_of, read_message, tenant, wait_for
+
+LENGTH = HEAD + b"Content-Length: 34\r\n\r\n" + body(18, 34)
+CONNECTIONS = 200
+SPANS = 400_000
+
+
+def cut(folder):
+    """A request that is cut at any of its bytes is told nothing and counted nowhere, whether the client hangs up or is
+    gone; with its last byte it is a post. The receiver serves the next client."""
+    whole = 0
+    with BackEnd() as back_end, Service(folder, [tenant("a", back_end)], shards=1, receivers=1) as service:
+        for text in (LENGTH, CHUNKED):
+            for at in range(len(text) + 1):
+                with service.connect() as peer:
+                    peer.sendall(text[:at])
+                    peer.shutdown(socket.SHUT_WR)
+                    check(f"a request's first {at} bytes", read_message(peer.recv), b"" if at < len(text) else REPLY)
+                with service.connect() as peer:
+                    # It goes with a reset.
+                    peer.setsockopt(socket.SOL_SOCKET, socket.SO_LINGER, struct.pack("ii", 1, 0))
+                    peer.sendall(text[:-1][:at])
+            whole += 1
+        check("the end", service.end(), (0, line_of("a", accepted=whole, exported=whole), b""))
+        check("posts", sorted(back_end.bodies()), [body(17, 33), body(18, 34)])
+
+
+def gone(folder):
+    """Who goes away without having read its replies, by a reset or not, is nobody's fault but its own."""
+    with BackEnd() as back_end, Service(folder, [tenant("a", back_end, policies=ERRORS)], receivers=2) as service:
+        for number in range(60):
+            with service.connect() as peer:
+                if number % 2:
+                    peer.setsockopt(socket.SOL_SOCKET, socket.SO_LINGER, struct.pack("ii", 1, 0))
+                peer.sendall(LENGTH * 20)
+                if number % 3:
+                    peer.recv(1)
+        check("the next client", service.post("a", body(17, 2)), (200, b""))
+        status, out, err = service.end()
+        counts = dict(re.findall(r"(\w+)=(\d+)", out))
+        check("the end", (status, err), (0, b""))
+        check("a report", out, line_of("a", accepted=counts["accepted"], not_sampled=counts["accepted"]))
+
+
+def in_pieces(folder):
+    """A request in two pieces, parted at each byte, and one byte by byte, over one connection: each is one post."""
+    count = 0
+    with BackEnd() as back_end, Service(folder, [tenant("a", back_end, policies=ERRORS)], shards=1) as service:
+        with service.connect() as peer:
+            for text in (LENGTH, CHUNKED):
+                for at in range(1, len(text)):
+                    peer.sendall(text[:at])
+                    peer.sendall(text[at:])
+                    check(f"parted at {at}", read_message(peer.recv), REPLY)
+                    count += 1
+                for at in range(len(text)):
+                    peer.sendall(text[at:at + 1])
+                check("byte by byte", read_message(peer.recv), REPLY)
+                count += 1
+        check("the end", service.end(), (0, line_of("a", accepted=count, not_sampled=count), b""))
+
+
+def half_a_request(folder):
+    """Clients that rest in their head and in their body hold a receiver each, and nobody else: a third is served, for
+    the same tenant and for one of another shard."""
+    with BackEnd() as ones, BackEnd() as others, Service(
+            folder, [tenant("a", ones), tenant("b", others)], receivers=3) as service:
+        with service.connect() as first, service.connect() as second:
+            first.sendall(LENGTH[:30])
+            second.sendall(LENGTH[:-10])
+            for number in range(1, 21):
+                check("a third client", (service.post("a", body(number, 1)), service.post("b", body(number, 1))),
+                      ((200, b""), (200, b"")))
+            for name in "ab":
+                done = line_of(name, accepted=20, exported=20)
+                wait_for(lambda n=name, d=done: service.report(n) == d, "its spans are sent")
+            first.sendall(LENGTH[30:])
+            second.sendall(LENGTH[-10:])
+            check("the rest", (read_message(first.recv), read_message(second.recv)), (REPLY, REPLY))
+        done = line_of("a", accepted=22, exported=22) + line_of("b", accepted=20, exported=20)
+        check("the end", service.end(), (0, done, b""))
+
+
+def many_connections(folder):
+    """Two hundred clients at once: each is answered, and each span arrives once."""
+    statuses = []
+    gate = threading.Barrier(CONNECTIONS)
+    with BackEnd() as back_end, Service(
+            folder, [tenant("a", back_end, consumers=8)], shards=1, receivers=64, senders=8) as service:
+        def client(number):
+            gate.wait(MOST)
+            statuses.append(service.post("a", body(number, 1))[0])
+
+        in_threads(*(lambda n=number: client(n) for number in range(1, CONNECTIONS + 1)))
+        check("replies", statuses, [200] * CONNECTIONS)
+        check("the end", service.end(), (0, line_of("a", accepted=CONNECTIONS, exported=CONNECTIONS), b""))
+        wanted = sorted(body(number, 1) for number in range(1, CONNECTIONS + 1))
+        check("each arrives once", sorted(back_end.bodies()) == wanted, True)
+
+
+def a_long_step(folder):
+    """While a post of very many spans is taken, which is one step of its shard, posts of another shard are answered as
+    ever; those of the same shard wait for it. On a busy machine all wait at times, so it is tried some times."""
+    with BackEnd() as back_end:
+        sections = [tenant(name, back_end, most=2 * SPANS, policies=ERRORS) for name in "abc"]
+        with Service(folder, sections) as service:
+            rounds, apart = [], False
+            while len(rounds) < 8 and not apart:
+                other, same = longest_posts(service, len(rounds) + 1)
+                rounds.append((other, same))
+                apart = other < same / 3
+            check(f"another shard's longest and the same one's: {rounds}", apart, True)
+            check("the end", service.end()[::2], (0, b""))
+
+
+def longest_posts(service, trace):
+    """How long a post of b's and of c's took at most while one of very many spans of this trace was a's."""
+    ids = (b"\x12\x1c\x0a\x10" + bytes([trace]) * 16 + b"\x12\x08" + at.to_bytes(8, "big")
+           for at in range(1, SPANS + 1))
+    large = piece(1, piece(2, b"".join(ids)))
+    longest = {}
+    answered = threading.Event()
+
+    def post_large():
+        try:
+            check("the large post", service.post("a", large), (200, b""))
+        finally:
+            answered.set()
+
+    def post_on(name):
+        times = []
+        with service.connect() as peer:
+            while not answered.is_set():
+                start = time.monotonic()
+                check("a small post", service.post(name, body(1, 1), peer), (200, b""))
+                times.append(time.monotonic() - start)
+        longest[name] = max(times)
+
+    in_threads(post_large, lambda: post_on("b"), lambda: post_on("c"))
+    return longest["b"], longest["c"]
+
+
+TESTS = (cut, gone, in_pieces, half_a_request, many_connections, a_long_step)

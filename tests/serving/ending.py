@@ -1,0 +1,113 @@
+"""How the service ends when its input does."""
+
+import os
+import re
+import signal
+import socket
+import subprocess
+from pathlib import Path
+
+from serving import talk
+from serving.talk import (BUSY, TAKEN, BackEnd, Service, body, check, globals_of, head_of, line_of, listening_port,
+                          read_message, request, tenant, wait_for)
+
+OPERATING = Path(__file__).resolve().parent.parent.parent / "docs" / "OPERATING.md"
+
+
+def drained(folder):
+    """What waits for its decision, for a batch or for a retry is sent at once or when it is due; then all reports are
+    printed, in the order of the settings."""
+    with BackEnd() as ones, BackEnd() as others, BackEnd(lambda count: BUSY if count < 4 else TAKEN) as busy:
+        sections = [tenant("zeta", ones, wait=86_400_000), tenant("mid", others, timeout=86_400_000),
+                    tenant("alpha", busy, wait=86_400_000, timeout=86_400_000), tenant("none", ones)]
+        with Service(folder, sections) as service:
+            for name in ("zeta", "mid", "alpha"):
+                for trace in (1, 2, 3):
+                    check("a post", service.post(name, body(trace, 1)), (200, b""))
+            for name, where in (("zeta", "undecided"), ("mid", "pending"), ("alpha", "undecided")):
+                waits = line_of(name, accepted=3, **{where: 3})
+                wait_for(lambda n=name, w=waits: service.report(n) == w, f"{name}'s spans wait")
+            check("nothing was sent", (ones.posts, others.posts, busy.posts), ([], [], []))
+            done = "".join(line_of(name, accepted=3, exported=3) for name in ("zeta", "mid", "alpha"))
+            check("the end", service.end(), (0, done + line_of("none"), b""))
+        together = request(*((bytes([trace]) * 16, b"\1" * 8, b"") for trace in (1, 2, 3)))
+        check("a batch each", sorted(ones.bodies()), [body(trace, 1) for trace in (1, 2, 3)])
+        check("one batch", others.bodies(), [together])
+        check("one batch, until it is taken", busy.bodies(), [together] * 4)
+
+
+def giving_up(folder):
+    """With an end to retries the service ends though a back end never takes a batch."""
+    elapsed = "max_elapsed_time_ms = 100\n"
+    with BackEnd(BUSY) as busy, Service(folder, [tenant("a", busy) + elapsed]) as service:
+        check("a post", service.post("a", body(1, 1)), (200, b""))
+        wait_for(lambda: busy.posts, "it is sent")
+        check("the end", service.end(), (0, line_of("a", accepted=1, retry_exhausted=1), b""))
+        check("within that time, 20 milliseconds apart", len(busy.posts) <= 6, True)
+
+
+def with_clients(folder):
+    """A client that keeps its connection is told that the service shuts down, and what it was told before was counted
+    and sent."""
+    with BackEnd() as back_end, Service(folder, [tenant("a", back_end, wait=86_400_000)]) as service:
+        with service.connect() as kept, service.connect() as idle:
+            check("a post", service.post("a", body(1, 1), kept), (200, b""))
+            check("another's", service.post("a", body(5, 5), idle), (200, b""))
+            service.run.stdin.close()
+            taken = 2
+            while (told := service.post("a", body(2, 2), kept)) == (200, b""):
+                taken += 1
+            check("what it is told", told, (503, b"\x12\x0dshutting down"))
+            check("what is no request yet", service.post("a", body(3, 3)[:33], kept), (400, b"\x12\x0cbad protobuf"))
+            check("reports", service.hear(), line_of("a", accepted=taken, exported=taken))
+            check("it waits for its clients", service.run.poll(), None)
+            check("who comes late", service.post("a", body(4, 4), idle)[0], 503)
+        check("the end", service.end(), (0, "", b""))
+        check("spans", b"".join(back_end.bodies()).count(b"\x0a\x10"), taken)
+
+
+def started_by_a_script(folder):
+    """The script of docs/OPERATING.md holds the input open, passes lines on, and ends the service in order when it is
+    told to stop."""
+    script = re.search(r"```sh\n(#!/bin/sh\n# collector-run.*?)```", OPERATING.read_text(), re.DOTALL)[1]
+    for there, here in (("/run/collector/", f"{folder}/"), ("/etc/collector.toml", f"{folder}/settings.toml"),
+                        ("/usr/local/bin/trace_collector", talk.program)):
+        check(f"{there} stands in the script", there in script, True)
+        script = script.replace(there, here)
+    file, control = Path(folder, "collector-run"), Path(folder, "control")
+    file.write_text(script)
+    with BackEnd() as back_end:
+        Path(folder, "settings.toml").write_text(globals_of() + tenant("a", back_end, wait=86_400_000))
+        with subprocess.Popen(["/bin/sh", file], stdout=subprocess.PIPE, stderr=subprocess.PIPE) as run:
+            try:
+                wait_for(lambda: port_below(run.pid), "the service listens")
+                with socket.create_connection(("127.0.0.1", port_below(run.pid))) as peer:
+                    peer.sendall(head_of("a", 34) + body(1, 1))
+                    check("a post", read_message(peer.recv)[:15], b"HTTP/1.1 200 OK")
+                control.write_text("report a\n")
+                check("a report", run.stdout.readline().decode(), line_of("a", accepted=1, undecided=1))
+                run.send_signal(signal.SIGTERM)
+                out, err = run.communicate(timeout=talk.MOST)
+                done = line_of("a", accepted=1, exported=1)
+                check("the end", (run.returncode, out.decode(), err), (0, done, b""))
+            finally:
+                if run.poll() is None:
+                    for child in children(run.pid):
+                        os.kill(child, signal.SIGKILL)
+                    run.kill()
+
+
+def children(process):
+    return [int(word) for word in Path(f"/proc/{process}/task/{process}/children").read_text().split()]
+
+
+def port_below(process):
+    """Where one of its children listens."""
+    try:
+        return next(filter(None, map(listening_port, children(process))), None)
+    except OSError:
+        # One of them has just ended.
+        return None
+
+
+TESTS = (drained, giving_up, with_clients, started_by_a_script)
