@@ -6,7 +6,7 @@ use Rattle.otlp_read.specs.Value.{no_span}
 use Rattle.codec_bench.specs.declared.fault.BenchFault.TheVariants.{Usage, Body, NotCanonical, InputOutput, OutOfMemory}
 use Rattle.codec_bench.specs.Round.{spans_of, in_64_bits, IsWrittenAgain, body_fault}
 use Rattle.codec_bench.specs.Status.{status_of}
-use Rattle.codec_bench.specs.Task.{TaskData, check_stored, measure, Asks}
+use Rattle.bench_task.specs.Task.{TaskData, check_stored, measure, Asks}
 
 -- ---- requests
 

@@ -1,4 +1,3 @@
 pub mod Round
 pub mod Status
-pub mod Task
 pub mod Examples

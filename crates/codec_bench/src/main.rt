@@ -4,26 +4,25 @@
 //! usage; 3 no memory. A fault is told in one line on standard error.
 //!
 //! One round is proved to pass exactly on a body that is the canonical text of its value; nothing that is measured is
-//! proved. It stands on `otlp_read` and `otlp_trace`.
+//! proved. It stands on `otlp_read`, `otlp_trace` and `bench_task`.
 #![tactic(auto)]
 
 mod examples;
 mod fault;
 mod measure;
 mod round;
-mod task;
 
 ghost use Rattle.std.specs.Prelude.{◌≡◌};
 ghost use Rattle.std.specs.Process.{exit_status};
 ghost use Rattle.codec_bench.specs.Status.{end_status};
 
+use bench_task::{Task, asked_task};
 use fault::BenchFault;
 use measure::measure;
 use round::checked_round;
 use std::process::ExitCode;
 use std::rt::{Clock, Env, Files};
 use std::{env, fs};
-use task::{Task, asked_task};
 
 /// The stored body.
 const STORED: &str = "request.pb";

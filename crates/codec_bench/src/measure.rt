@@ -1,6 +1,6 @@
 //! Rounds by the clock.
 
-ghost use Rattle.std.specs.Prelude.{◌≡◌, ◌*◌, ◌/◌, ◌<◌, ℕ, max, OnOk, IfErr};
+ghost use Rattle.std.specs.Prelude.{◌≡◌, ◌<◌, OnOk, IfErr};
 ghost use Rattle.otlp_trace.specs.Data.{RequestData};
 ghost use Rattle.otlp_trace.specs.Text.{request_text};
 ghost use Rattle.otlp_trace.specs.View.{request_view};
@@ -9,14 +9,12 @@ ghost use Rattle.codec_bench.specs.Round.{IsOfRound};
 
 use crate::fault::BenchFault;
 use crate::round::spans_len;
+use bench_task::per_second;
 use otlp_read::read_request;
 use otlp_trace::{ExportTraceServiceRequest, write_request};
 use std::alloc::Global;
 use std::rt::Clock;
 use std::time::Instant;
-
-/// Nanoseconds in a second.
-const SECOND: u128 = 1_000_000_000;
 
 /// Reads the body so many times, writes what was read so many times, does both so many times, and prints for each how
 /// many bytes and spans a second it took.
@@ -131,11 +129,4 @@ fn report(
     let spans = per_second(spans, rounds, nanos);
     println!(rt; "{what}: {bytes} bytes/s, {spans} spans/s")?;
     Ok(())
-}
-
-/// How much a second it is, rounded down, where each round took that much. A time of 0 is taken for a nanosecond.
-fn per_second(amount: usize, rounds: u32, nanos: u128) -> u128
-    ensures { result ≡ amount * rounds * 1_000_000_000 / max 1 nanos }
-{
-    amount as u128 * u128::from(rounds) * SECOND / nanos.max(1)
 }

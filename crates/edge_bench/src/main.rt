@@ -4,25 +4,24 @@
 //! written. Statuses: 0 done; 1 a message that is no post of the tenant `bench`, or a fault of the file or the output;
 //! 2 wrong usage; 3 no memory. A fault is told in one line on standard error.
 //!
-//! Nothing that is measured is proved. It stands on `http_edge` and `otlp_front`.
+//! Nothing that is measured is proved. It stands on `http_edge`, `otlp_front` and `bench_task`.
 #![tactic(auto)]
 
 mod fault;
 mod measure;
 mod serving;
-mod task;
 
 ghost use Rattle.std.specs.Prelude.{◌≡◌};
 ghost use Rattle.std.specs.Process.{exit_status};
 ghost use Rattle.edge_bench.specs.Status.{end_status};
 
+use bench_task::{Task, asked_task};
 use fault::BenchFault;
 use measure::{check, measure};
 use std::process::ExitCode;
 use std::rt::{Clock, Env, Files};
 use std::thread::Threads;
 use std::{env, fs};
-use task::{Task, asked_task};
 
 /// The stored message.
 const STORED: &str = "post.http";

@@ -1,19 +1,17 @@
 //! Rounds by the clock.
 
-ghost use Rattle.std.specs.Prelude.{◌≡◌, ◌*◌, ◌/◌, max, IfOk};
+ghost use Rattle.std.specs.Prelude.{◌≡◌, IfOk};
 ghost use Rattle.edge_bench.specs.Repeated.{repeated};
 
 use crate::fault::BenchFault;
 use crate::serving::Connection;
+use bench_task::per_second;
 use httparse::Status;
 use httparse::spans::{EMPTY_HEADER_SPAN, parse_request};
 use std::alloc::{AllocError, Global};
 use std::rt::Clock;
 use std::thread::Threads;
 use std::time::Instant;
-
-/// Nanoseconds in a second.
-const SECOND: u128 = 1_000_000_000;
 
 /// A head has room for so many fields.
 const MAX_FIELDS: usize = 64;
@@ -92,11 +90,4 @@ fn report(
     let bytes = per_second(bytes, rounds, nanos);
     println!(rt; "{what}: {messages} messages/s, {bytes} bytes/s")?;
     Ok(())
-}
-
-/// How much a second it is, rounded down, where each round took that much. A time of 0 is taken for a nanosecond.
-fn per_second(amount: usize, rounds: u32, nanos: u128) -> u128
-    ensures { result ≡ amount * rounds * 1_000_000_000 / max 1 nanos }
-{
-    amount as u128 * u128::from(rounds) * SECOND / nanos.max(1)
 }

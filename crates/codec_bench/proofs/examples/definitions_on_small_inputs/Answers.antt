@@ -1,8 +1,8 @@
 use Rattle.std.proofs.Common.{◌<◌, ◌^◌, ℕ, List, [], ◌∷◌, codes, bytes_eq, refl, ap, true≢false, arith, lit<}
 use Rattle.otlp_read.specs.Walk.{no_pieces}
-use Rattle.codec_bench.specs.Task.{TaskData, Asks, nothing_named, file_named}
+use Rattle.bench_task.specs.Task.{TaskData, Asks, nothing_named, file_named}
 use Rattle.codec_bench.specs.Examples.{path}
-use Rattle.codec_bench.proofs.Words.{not_named}
+use Rattle.bench_task.proofs.Words.{not_named}
 use Rattle.codec_bench.proofs.examples.definitions_on_small_inputs.Goals as goal
 
 pub returns-clause-counts : goal.returns-clause-counts

@@ -1,14 +1,14 @@
--- What the program's arguments ask for.
+-- What a benchmark's arguments ask for: this project's own rule.
 use Rattle.std.specs.Prelude.{◌<◌, ◌^◌, ℕ, List, [], ◌∷◌}
 use Rattle.std.specs.Str.Parse.{IsNumeral, digits_value, without_leading_plus}
-use Rattle.codec_bench.specs.declared.task.Task.{Task}
-use Rattle.codec_bench.specs.declared.task.Task.TheVariants.{CheckStored, Measure}
+use Rattle.bench_task.specs.declared.task.Task.{Task}
+use Rattle.bench_task.specs.declared.task.Task.TheVariants.{CheckStored, Measure}
 
--- what the program is to do
+-- what a benchmark is to do
 pub data TaskData : Type 0 where
-  -- one round on the stored body is checked
+  -- what is stored is checked once
   check_stored : TaskData
-  -- rounds on the body in a file are measured: the file's path and how many
+  -- rounds on what is in a file are measured: the file's path and how many
   measure : List ℕ → ℕ → TaskData
 
 -- the task that a value of the code stands for

@@ -1,19 +1,19 @@
-//! What the arguments ask for.
+//! What a benchmark's arguments ask for.
 
 ghost use Rattle.std.specs.Prelude.{◌≡◌, ◌↔◌, map, IsSome, IsNone, IfSome, string_bytes};
-ghost use Rattle.codec_bench.specs.Task.{TaskData, Asks, IsRounds, rounds_of, task_view};
+ghost use Rattle.bench_task.specs.Task.{TaskData, Asks, IsRounds, rounds_of, task_view};
 
-/// What the program is to do.
-#[derive(Clone, Copy, Debug, PartialEq, Eq)]
+/// What a benchmark is to do.
+#[derive(Clone, Copy, Debug)]
 pub enum Task<'a> {
-    /// One round on the stored body is checked.
+    /// What is stored is checked once.
     CheckStored,
-    /// Rounds on the body in this file are measured.
+    /// Rounds on what is in this file are measured.
     Measure { path: &'a str, rounds: u32 },
 }
 
 /// What these arguments ask for, without the program's name.
-pub(crate) fn asked_task(args: &[String]) -> Option<Task<'_>>
+pub fn asked_task(args: &[String]) -> Option<Task<'_>>
     ensures asked { IfSome result (λ asked. Asks (map string_bytes args.now) (task_view asked)) }
     ensures usage { IsNone result → (asked : TaskData) → ¬ (Asks (map string_bytes args.now) asked) }
 {

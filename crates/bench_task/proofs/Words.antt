@@ -1,6 +1,6 @@
 -- Lists of no words and of two.
 use Rattle.std.proofs.Common.{◌≡◌, ℕ, List, [], ◌∷◌, map, length, get_or, sym, ap, ◌∙◌, subst, arith}
-use Rattle.codec_bench.specs.Task.{TaskData, check_stored, measure, Asks, nothing_named, file_named, IsRounds, rounds_of}
+use Rattle.bench_task.specs.Task.{TaskData, check_stored, measure, Asks, nothing_named, file_named, IsRounds, rounds_of}
 
 pub no_words : {X : Type 0} (view : X → List ℕ) (xs : List X) → length xs ≡ 0 → Asks (map view xs) check_stored
 no_words view [] none = nothing_named

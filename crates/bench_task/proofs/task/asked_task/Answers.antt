@@ -1,7 +1,7 @@
 use Rattle.std.proofs.Common.{rules, ◌≡◌, true, false, map, string_bytes, length, sym, ap, ◌∙◌, subst, arith}
-use Rattle.codec_bench.specs.Task.{Asks, IsRounds, rounds_of, measure}
-use Rattle.codec_bench.proofs.Words.{no_words, two_words, named, not_named}
-use Rattle.codec_bench.proofs.task.asked_task.Goals as goal
+use Rattle.bench_task.specs.Task.{Asks, IsRounds, rounds_of, measure}
+use Rattle.bench_task.proofs.Words.{no_words, two_words, named, not_named}
+use Rattle.bench_task.proofs.task.asked_task.Goals as goal
 
 pub returns-in_err-rounds-in-len2-clause-usage : goal.returns-in_err-rounds-in-len2-clause-usage
 returns-in_err-rounds-in-len2-clause-usage c = λ _ asked asks.
