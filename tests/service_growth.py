@@ -18,12 +18,12 @@ from pathlib import Path
 
 from replay.make_script import piece
 from serving import talk
-from serving.talk import ERRORS, BackEnd, Service, body, check, head_of, line_of, read_message, request, tenant
+from serving.talk import ERRORS, BackEnd, Service, body, check, head_of, read_message, request, tenant
 
 ROOT = Path(__file__).resolve().parent.parent
 MOST = 2.2
-# What that thread calls and no other does.
-RECEIVER, SENDER = "receive", "post_over"
+# What that thread runs and no other does.
+RECEIVER, SENDER = "http_edge::server::answer", "export_edge::sender::run_sender"
 HEAD = b"POST /v1/traces HTTP/1.1\r\nHost: c\r\nX-Scope-OrgID: t0\r\nContent-Type: application/x-protobuf\r\n"
 
 

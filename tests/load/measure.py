@@ -5,7 +5,8 @@
 tenant's report. The load and the back end that stand beside this file are built with rustc. For 1 to 64 tenants, over 1
 to 32 connections, bodies of 100 spans of 460 bytes are posted for ten seconds or as many as are named: once 200
 requests a second, for how long a request takes, and once as many as are answered, for how many spans a second are taken
-and come to the back end. It prints a table of Markdown.
+and come to the back end, the latter in the second half of the time, since traces wait a second for their decision. It
+prints a table of Markdown.
 
 Processor time is the program's alone, from the first request until the back end has all spans; memory the most that it
 had (VmHWM). The program has the first two processors, and load and back end the others where there are any. Ends with
@@ -145,10 +146,12 @@ def measured(words, load, folder, tenants, connections, rate):
             wait_for(service.is_up, "the service is up")
             before = service.seconds()
             post = on(others, load, "post", *map(str, (port, tenants, connections, rate, words.seconds, SPANS)))
-            told = numbers(subprocess.run(post, stdout=subprocess.PIPE, text=True, check=True).stdout)
-            sent = back_end.spans()
+            with subprocess.Popen(post, stdout=subprocess.PIPE, text=True) as run:
+                time.sleep(words.seconds / 2)
+                half, sent = time.monotonic(), back_end.spans()
+                told = numbers(run.communicate()[0])
+                told["sent_a_second"] = (back_end.spans() - sent) / (time.monotonic() - half)
             wait_for(lambda: back_end.spans() >= told["spans"], "all spans are sent")
-            told["sent_a_second"] = sent * 1000 / told["millis"]
             told["processor"] = service.seconds() - before
             told["megabytes"] = service.megabytes()
             sums, status = service.end()

@@ -100,16 +100,22 @@ impl Body {
         Body { text, ids }
     }
 
-    /// Gives each span ids that no other request has.
+    /// Gives each span ids that no other request has, and that look like any.
     fn number(&mut self, connection: usize, request: u64) {
         for (place, at) in self.ids.iter().enumerate() {
-            let trace = (place / SPANS_OF_A_TRACE) as u32;
-            self.text[*at..at + 8].copy_from_slice(&(request + 1).to_be_bytes());
-            self.text[at + 8..at + 12].copy_from_slice(&trace.to_be_bytes());
-            self.text[at + 12..at + 16].copy_from_slice(&(connection as u32).to_be_bytes());
-            self.text[at + 18..at + 26].copy_from_slice(&(place as u64 + 1).to_be_bytes());
+            let trace = (connection as u64) << 48 | (request + 1) << 12 | (place / SPANS_OF_A_TRACE) as u64;
+            self.text[*at..at + 8].copy_from_slice(&mixed(trace).to_be_bytes());
+            self.text[at + 8..at + 16].copy_from_slice(&mixed(!trace).to_be_bytes());
+            self.text[at + 18..at + 26].copy_from_slice(&mixed(place as u64 + 1).to_be_bytes());
         }
     }
+}
+
+/// Another number for each number, and 0 for 0 alone: the steps of splitmix64.
+fn mixed(mut number: u64) -> u64 {
+    number = (number ^ number >> 30).wrapping_mul(0xbf58_476d_1ce4_e5b9);
+    number = (number ^ number >> 27).wrapping_mul(0x94d0_49bb_1331_11eb);
+    number ^ number >> 31
 }
 
 /// What one connection was told.
