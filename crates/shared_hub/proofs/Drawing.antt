@@ -2,8 +2,7 @@
 use Rattle.std.proofs.Common.{◌≡◌, ℕ, ◌==◌, List, [], ◌∷◌, Bool, true, false, eqb, Some, None, refl, ap, ◌∙◌, arith}
 use Rattle.std.specs.Prelude.{option_map, if◌then◌else◌, ◌≢◌}
 use Rattle.std.proofs.lemmas.Bool.Decides.{nat_tests}
-use Rattle.tenant_words.specs.declared.source.Source.{Source}
-use Rattle.tenant_words.specs.Words.{next_word, generator_of, IsDraw}
+use Rattle.tenant_words.specs.Words.{next_word, Source, generator_of, IsDraw}
 use Rattle.tenant_shard.specs.declared.step.Step.{Step}
 use Rattle.tenant_shard.specs.declared.step.Step.TheVariants as steps
 use Rattle.tenant_shard.specs.declared.step.Outcome.{Outcome}

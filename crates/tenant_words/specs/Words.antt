@@ -2,10 +2,10 @@
 -- of simple fast space-efficient statistically good algorithms for random number generation"), started from a seed as
 -- `seed_from_u64` of Rust's `rand_pcg` starts it.
 use Rattle.std.specs.Prelude.{◌≡◌, ◌≢◌, ℕ, zero, suc, List, [], ◌∷◌, length, Option, Some, None, option_map, if◌then◌else◌, ◌==◌}
+use Rattle.std.specs.Map.{lookup}
 use Rattle.rand_core.specs.Pcg32Seed.{pcg32_seed}
 use Rattle.rand_pcg.specs.Lcg.{Lcg}
 use Rattle.rand_pcg.specs.Pcg.{pcg32, pcg32_of_seed}
-use Rattle.tenant_words.specs.declared.source.Source.{Source}
 
 -- a generator at its start
 abbrev pub start : ℕ → Lcg
@@ -29,10 +29,13 @@ abbrev pub after_words : ℕ → Lcg → Lcg
 after_words zero g = g
 after_words (suc n) g = after_words n (moved g)
 
+-- a tenant, by its number, and its generator
+abbrev pub Source : Type 0
+Source = ℕ × Lcg
+
 -- the generator of a tenant, where it has one
 abbrev pub generator_of : ℕ → List Source → Option Lcg
-generator_of tenant [] = None
-generator_of tenant (s ∷ ss) = if s.tenant == tenant then Some s.generator else generator_of tenant ss
+generator_of tenant sources = lookup (λ other. tenant == other) sources
 
 -- a word was drawn for a tenant: it is the next of its own generator, which moves behind it, and no other one moves.
 -- Who has none gets no word, and nothing changes

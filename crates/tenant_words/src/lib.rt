@@ -2,15 +2,14 @@
 //! depend on what others do.
 //!
 //! A tenant's words are those that `rand_pcg`'s `Lcg64Xsh32` gives from the tenant's seed, in order (`specs/Words`).
-//! The generator is PCG's XSH RR with 64 bits of state. It stands on `rand_core` and `rand_pcg`.
+//! The generator is PCG's XSH RR with 64 bits of state. A draw takes as many steps as the logarithm of how many tenants
+//! have a generator. It stands on `rand_core` and `rand_pcg`.
 #![tactic(auto)]
 
 ghost use Rattle.tenant_words.specs.Words.{EachHasItsOwn};
 
-mod source;
 mod words;
 
-pub use source::Source;
 pub use words::Words;
 
 /// A tenant's words are the first of its own generator, in order, whatever is drawn for others in between: a law over

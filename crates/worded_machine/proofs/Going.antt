@@ -4,8 +4,7 @@ use Rattle.std.specs.Prelude.{option_map, ◌≢◌}
 use Rattle.std.proofs.lemmas.Bool.Decides.{nat_tests}
 use Rattle.rand_pcg.specs.Lcg.{Lcg}
 use Rattle.send_retry.specs.declared.answer.Answer.{Answer}
-use Rattle.tenant_words.specs.declared.source.Source.{Source}
-use Rattle.tenant_words.specs.Words.{next_word, moved, generator_of, IsDraw}
+use Rattle.tenant_words.specs.Words.{next_word, moved, Source, generator_of, IsDraw}
 use Rattle.tenant_shard.specs.declared.step.Step.{Step}
 use Rattle.tenant_shard.specs.declared.step.Step.TheVariants as steps
 use Rattle.tenant_shard.specs.declared.step.Outcome.{Outcome}

@@ -6,8 +6,7 @@ use Rattle.std.proofs.lemmas.Bool.Decides.{nat_tests}
 use Rattle.rand_pcg.specs.Lcg.{Lcg}
 use Rattle.tail_settings.specs.Section.{SectionData}
 use Rattle.tail_settings.specs.Settings.{SettingsData}
-use Rattle.tenant_words.specs.declared.source.Source.{Source}
-use Rattle.tenant_words.specs.Words.{start, generator_of, or_start, IsSeeded}
+use Rattle.tenant_words.specs.Words.{start, Source, generator_of, or_start, IsSeeded}
 use Rattle.tenant_shard.specs.Table.{section_at, section_of}
 use Rattle.worded_machine.specs.Worded.{AreSeeded}
 

@@ -1,7 +1,6 @@
 -- A step before it is done, by what its word has to do with the generators.
 use Rattle.std.specs.Prelude.{◌≡◌, List, Some, None}
-use Rattle.tenant_words.specs.declared.source.Source.{Source}
-use Rattle.tenant_words.specs.Words.{generator_of, IsDraw}
+use Rattle.tenant_words.specs.Words.{Source, generator_of, IsDraw}
 use Rattle.tenant_shard.specs.declared.step.Step.{Step}
 use Rattle.tenant_shard.specs.declared.step.Step.TheVariants as steps
 use Rattle.worded_machine.specs.declared.step.WordOf.{WordOf}

@@ -2,8 +2,7 @@
 -- which steps lead from one state to another.
 use Rattle.std.specs.Prelude.{◌≡◌, ◌≢◌, ℕ, List, Some, None, option_map}
 use Rattle.tail_settings.specs.Settings.{SettingsData}
-use Rattle.tenant_words.specs.declared.source.Source.{Source}
-use Rattle.tenant_words.specs.Words.{start, generator_of, IsDraw}
+use Rattle.tenant_words.specs.Words.{start, Source, generator_of, IsDraw}
 use Rattle.tenant_shard.specs.declared.step.Step.{Step}
 use Rattle.tenant_shard.specs.declared.step.Step.TheVariants as steps
 use Rattle.tenant_shard.specs.declared.step.Outcome.{Outcome}

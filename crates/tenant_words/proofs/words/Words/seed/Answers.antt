@@ -1,10 +1,15 @@
-use Rattle.std.proofs.Common.{refl}
-use Rattle.tenant_words.proofs.Drawing.{kept_from, seeded_from}
+use Rattle.std.proofs.Common.{◌≡◌, None, sym, ◌∙◌, subst}
+use Rattle.std.specs.Ordering.{nat_cmp}
+use Rattle.std.specs.BTreeMap as tree
+use Rattle.tenant_words.specs.Words.{IsSeeded}
+use Rattle.tenant_words.proofs.Drawing.{at_tenant, seeded, none_of}
 use Rattle.tenant_words.proofs.words.Words.seed.Goals as goal
 
-pub returns-in-Some : goal.returns-in-Some
-returns-in-Some c = kept_from c.args.tenant c.args.seed _ c.self.inside.sources.items c.deref.result.now _ c.self.view_is c.deref.ensures.value c.in-Some.ensures.found.1
-
-pub returns-in_ok-push-in-None : goal.returns-in_ok-push-in-None
-returns-in_ok-push-in-None c =
-    seeded_from c.args.tenant c.args.seed _ c.self.inside.sources.items c.deref.result.now _ _ c.self.view_is c.deref.ensures.value c.in-None.ensures.none refl c.seed_from_u64.ensures c.in_ok-push-in-None.ensures.items
+pub returns-in_ok-insert : goal.returns-in_ok-insert
+returns-in_ok-insert c =
+    let old = c.self.inside.generators in
+    let new = c.insert.new.self in
+    let tenant = c.args.tenant in
+    let none : tree.get nat_cmp old tenant ≡ None = none_of (tree.get nat_cmp old tenant) (sym c.contains_key.ensures ∙ c.if-not-contains_key.true) in
+    subst (λ sources. IsSeeded tenant c.args.seed sources new.entries) c.self.view_is
+    (seeded old new tenant c.args.seed c.seed_from_u64.result (sym (at_tenant old tenant) ∙ none) c.seed_from_u64.ensures c.in_ok-insert.ensures.updates)
