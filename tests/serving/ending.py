@@ -66,6 +66,23 @@ def with_clients(folder):
         check("spans", b"".join(back_end.bodies()).count(b"\x0a\x10"), taken)
 
 
+def failing_output(folder):
+    """Where a report can't be printed the service ends as at the end of its input, and then says what was wrong."""
+    fault = (1, b"input or output fault\n")
+    with BackEnd() as back_end:
+        section = tenant("a", back_end, wait=86_400_000)
+        with Service(folder, [section]) as service:
+            check("a post", service.post("a", body(1, 1)), (200, b""))
+            service.run.stdout.close()
+            service.say("report a\n")
+            check("nobody reads", (service.run.wait(talk.MOST), service.run.stderr.read()), fault)
+            check("what it held was sent", back_end.bodies(), [body(1, 1)])
+        with open("/dev/full", "wb") as full:
+            done = subprocess.run([talk.program, "serve", str(Path(folder, "settings.toml"))], stdout=full,
+                                  stdin=subprocess.DEVNULL, stderr=subprocess.PIPE, timeout=talk.MOST, check=False)
+        check("a full disk", (done.returncode, done.stderr), fault)
+
+
 def started_by_a_script(folder):
     """The script of docs/OPERATING.md holds the input open, passes lines on, and ends the service in order when it is
     told to stop."""
@@ -110,4 +127,4 @@ def port_below(process):
         return None
 
 
-TESTS = (drained, giving_up, with_clients, started_by_a_script)
+TESTS = (drained, giving_up, with_clients, failing_output, started_by_a_script)

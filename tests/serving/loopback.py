@@ -149,4 +149,30 @@ def faulty_starts(folder):
         check("nothing to do", started(globals_of() + section), (0, line_of("a").encode(), b""))
 
 
-TESTS = (a_span_each, with_an_audit, replies, longest_body, reports, faulty_starts)
+def without_room(folder):
+    """Where threads can't be started the service ends and says so, though others wait for them, ten seconds at most."""
+    file = Path(folder, "settings.toml")
+    with BackEnd() as back_end:
+        file.write_text(globals_of(shards=64, receivers=64, senders=64) + tenant("a", back_end))
+        # 192 threads don't go into 200 MB.
+        words = ["/bin/sh", "-c", 'ulimit -v 200000 && exec "$0" "$@"', talk.program, "serve", str(file)]
+        done = subprocess.run(words, stdin=subprocess.DEVNULL, capture_output=True, timeout=MOST, check=False)
+        check("no thread", (done.returncode, done.stdout, done.stderr), (3, b"", b"out of memory\n"))
+
+
+def the_most_of_all(folder):
+    """A thousand tenants, sixty-four shards, receivers and senders."""
+    with BackEnd() as back_end:
+        names = [f"t{number}" for number in range(1000)]
+        sections = [tenant(name, back_end) for name in names]
+        with Service(folder, sections, shards=64, receivers=64, senders=64) as service:
+            with service.connect() as peer:
+                for number, name in enumerate(names):
+                    check("a post", service.post(name, body(1 + number % 250, 1), peer), (200, b""))
+            wanted = "".join(line_of(name, accepted=1, exported=1) for name in names)
+            check("the end", service.end() == (0, wanted, b""), True)
+        check("posts", sorted(back_end.bodies()) == sorted([body(1 + at, 1) for at in range(250)] * 4), True)
+
+
+TESTS = (a_span_each, with_an_audit, replies, longest_body, reports, faulty_starts, without_room,
+         the_most_of_all)

@@ -62,3 +62,34 @@ fn slices_are_counted(rt: HostRuntime) -> Result<(), Fail> {
     assert!(rt; sliced(alloc, &with_dropped(alloc, 21)?)? == 0);
     Ok(())
 }
+
+/// Bodies of a resource, a scope and a span of 60 bytes of text and more, each of which ends in a default that its
+/// canonical text leaves out, beside the span of 28 bytes.
+const WRITTEN: [(&[u8], &[u8]); 3] = [
+    (
+        b"\x0a\x64\x0a\x42\x0a\x3e\x0a\x3c",
+        b"\x10\x00\x12\x1e\x12\x1c",
+    ),
+    (b"\x0a\x62\x12\x60\x0a\x40\x0a\x3c", b"\x20\x00\x12\x1c"),
+    (
+        b"\x0a\x7e\x12\x7c\x12\x5c\x0a\x10................\x12\x08........\x2a\x3c",
+        b"\x30\x00\x12\x1c",
+    ),
+];
+
+/// What is written of a message isn't a slice, however long it is: what is left of slices is less than half.
+#[test]
+fn what_is_written_is_no_slice(rt: HostRuntime) -> Result<(), Fail> {
+    let alloc = rt.alloc();
+    for (front, back) in WRITTEN {
+        let mut body = Vec::new(alloc);
+        body.extend_from_slice(front)?;
+        body.extend_from_slice(&[0x2e; 60])?;
+        body.extend_from_slice(back)?;
+        body.extend_from_slice(&SPAN[6..])?;
+        let body = Bytes::from_vec(body)?;
+        assert!(rt; !are_slices(alloc, &body)?);
+        assert!(rt; sliced(alloc, &body)? == 0);
+    }
+    Ok(())
+}
