@@ -54,7 +54,8 @@ fn job(alloc: Global, tenant: u32) -> Result<Job, Fail> {
     })
 }
 
-/// Posts `abc` to a back end that answers with these bytes and closes. The answer, and whether it read the post.
+/// Posts `abc` of the second of three tenants, to a back end that answers with these bytes and closes. The answer, and
+/// whether it read the post.
 fn post_to<R>(rt: &R, alloc: Global, reply: &[u8]) -> Result<(Answer, bool), Fail>
 where
     R: Net<Listener = TcpListener, Stream = TcpStream> + Threads + Sync,
@@ -62,9 +63,11 @@ where
     let listener = TcpListener::bind(rt, "127.0.0.1:0")?;
     let port = listener.local_addr()?.port();
     let mut addresses = Vec::new(alloc);
+    addresses.push(String::from_str(alloc, "127.0.0.1:x")?)?;
     addresses.push(format!(in alloc; "127.0.0.1:{port}")?)?;
-    let want = post_text(alloc, addresses[0].as_str(), "abc")?;
-    let sent = job(alloc, 0)?;
+    addresses.push(String::from_str(alloc, "127.0.0.1:x")?)?;
+    let want = post_text(alloc, addresses[1].as_str(), "abc")?;
+    let sent = job(alloc, 1)?;
     let mut back_end = TcpBackEnd::new(rt, alloc, addresses.as_slice());
     let (answer, came) = join(
         rt,
