@@ -38,16 +38,14 @@ replay: trace_collector
 	@echo '$$ ./trace_collector replay $(PROGRAM)/data/settings.toml < $(SCRIPT)'
 	@./trace_collector replay $(PROGRAM)/data/settings.toml < $(SCRIPT)
 	@echo
-	@echo 'A story, $(STORY).script: traces are kept or dropped, batched, sent again to a busy back end, and counted.'
-	@echo 'Bodies are cut short here.'
-	@echo '$$ cut -c1-200 $(STORY).script'
-	@cut -c1-200 $(STORY).script
-	@echo
-	@echo '$$ ./trace_collector replay $(STORY).toml < $(STORY).script | cut -c1-200'
-	@./trace_collector replay $(STORY).toml < $(STORY).script | cut -c1-200
+	@echo 'A story: traces are kept or dropped, batched, sent again to a busy back end, and counted. Under each line of'
+	@echo 'the script (>) is its answer, both cut short.'
+	@echo '$$ ./trace_collector replay $(STORY).toml < $(STORY).script'
+	@./trace_collector replay $(STORY).toml < $(STORY).script | awk 'NR == FNR { told[NR] = $$0; next } \
+	    /^#|^$$/ { print; next } { print "> " substr($$0, 1, 78); print "  " substr(told[++n], 1, 218) }' - $(STORY).script
 
 # Builds the program, starts it as a service with two tenants and a back end for each, and shows
-# what arrives there.
+# what arrives there and what is counted.
 serve: trace_collector
 	@python3 examples/serve.py
 
