@@ -2,9 +2,9 @@
 
 PROGRAM = crates/trace_collector_program
 
-# The gate: what needs no toolchain, and then every crate and its tests proved from
-# nothing, the edits that must be refused, the tests and the programs; last what the
-# program that was built there prints.
+# The gate: what needs no toolchain, and then every crate and its tests proved, but for
+# what has passed on this machine as it stands, the edits that must be refused, the tests
+# and the programs; last what the program that was built there prints.
 test: checks
 	@command -v rt > /dev/null || { echo 'make: there is no command rt: README.md names the toolchain' >&2; exit 1; }
 	@rt ci
