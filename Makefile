@@ -64,7 +64,7 @@ trace_collector:
 	@command -v rt > /dev/null || { echo 'make: there is no command rt: README.md names the toolchain' >&2; exit 1; }
 	@mkdir -p $(PROGRAM)/out
 	@: > $(LOG)
-	@echo 'Proving and building ./trace_collector, $(words $(BELOW)) crates, the lowest first: some 20 processor minutes'
+	@echo 'Proving and building ./trace_collector, $(words $(BELOW)) crates, the lowest first: some 50 processor minutes'
 	@echo 'the first time, and seconds when nothing has changed. What the prover says is in $(LOG).'
 	@n=0; for crate in $(BELOW); do \
 	    n=$$((n + 1)); printf '%2d of %d  %s\n' $$n $(words $(BELOW)) $$crate; \
