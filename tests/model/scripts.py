@@ -42,12 +42,12 @@ def policy_of(chance):
 
 def tenant_settings(chance):
     """Small ones, so that each limit is met within a few steps."""
-    size = chance.choice((1, 2, 2, 3, 5, 8192))
-    return {"max_spans": chance.choice((1, 2, 3, 5, 100, 1000)), "decision_wait_ms": chance.choice((1, 5, 10, 1000)),
-            "num_traces": chance.choice((1, 2, 3, 5, 100)),
+    size = chance.choice((1, 2, 3, 4, 8, 8192))
+    return {"max_spans": chance.choice((1, 2, 5, 20, 100, 1000)), "decision_wait_ms": chance.choice((1, 5, 10, 1000)),
+            "num_traces": chance.choice((1, 2, 3, 5, 100, 100)),
             "policy": [policy_of(chance) for _ in range(chance.randint(1, 2))],
-            "send_batch_size": size, "timeout_ms": chance.choice((0, 0, 1, 5, 10, 20, 200)),
-            "send_batch_max_size": chance.choice((0, 0, size, size, size + 1, size + 2)),
+            "send_batch_size": size, "timeout_ms": chance.choice((0, 1, 5, 20, 50, 200)),
+            "send_batch_max_size": chance.choice((0, size, size, size + 1)),
             "queue_size": chance.choice((1, 2, 3, 1000)), "num_consumers": chance.choice((1, 1, 2, 10)),
             "initial_interval_ms": chance.choice((1, 5, 1000)), "max_interval_ms": chance.choice((1, 7, 30_000)),
             "max_elapsed_time_ms": chance.choice((0, 0, 10, 50, 300_000)),
@@ -87,7 +87,7 @@ def any_body(chance):
     text, spans = b"", []
     for _ in range(chance.choice((0, 1, 1, 1, 2))):
         origin = any_origin(chance)
-        some = [any_span(chance, origin) for _ in range(chance.choice((0, 1, 1, 2, 3, 5)))]
+        some = [any_span(chance, origin) for _ in range(chance.choice((0, 1, 1, 2, 3, 8)))]
         texts = [piece(2, b"\7" * 8) + span.text if span.own and chance.random() < 0.1 else span.text for span in some]
         scope = piece(2, origin.open_scope() + b"".join(piece(2, one) for one in texts) + piece(3, origin.scope[1]))
         text += piece(1, origin.open_resource() + scope + piece(3, origin.resource[1]))
@@ -126,14 +126,14 @@ class Story:
 
     def step(self):
         one, moment, which = self.chance.choice(self.pipelines), self.moment(), self.chance.randrange(200)
-        if which < 80:
+        if which < 90:
             self.post(one, moment)
-        elif which < 140:
+        elif which < 144:
             shard = self.chance.randrange(self.count)
             self.put(f"turn {shard} {moment}", self.shards.turn(shard, moment))
-        elif which < 180:
+        elif which < 183:
             self.answer(one, moment)
-        elif which < 197:
+        elif which < 199:
             self.report(one, moment)
         else:
             one.drain(moment)
