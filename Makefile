@@ -10,6 +10,8 @@ test: checks
 	@rt ci
 	@said=$$(python3 tests/program.py $(PROGRAM)/out/trace_collector_program) || { echo "$$said"; exit 1; }
 	@said=$$(python3 tests/stories.py $(PROGRAM)/out/trace_collector_program) || { echo "$$said"; exit 1; }
+	@said=$$(python3 tests/random_scripts.py $(PROGRAM)/out/trace_collector_program) || { echo "$$said"; exit 1; }
+	@said=$$(python3 tests/random_settings.py $(PROGRAM)/out/trace_collector_program) || { echo "$$said"; exit 1; }
 	@said=$$(python3 tests/service.py $(PROGRAM)/out/trace_collector_program) || { echo "$$said"; exit 1; }
 	@said=$$(python3 tests/replay/steady.py $(PROGRAM)/out/trace_collector_program 100000) || { echo "$$said"; exit 1; }
 
