@@ -1,6 +1,6 @@
 -- One tenant's part of the table, as functions of its own row numbers and traces: this project's own rule.
-use Rattle.std.specs.Prelude.{◌≡◌, ℕ, Bool, false, take, drop, length, ◌-◌, List, [], ◌∷◌, ◌++◌, Option, Some, None, if◌then◌else◌, ◌==◌, ◌&&◌, nat_lt, bytes_eq}
-use Rattle.std.specs.Int.{w64, from_be_bytes}
+use Rattle.std.specs.Prelude.{◌≡◌, ℕ, Bool, false, take, length, ◌-◌, List, [], ◌∷◌, ◌++◌, Option, Some, None, if◌then◌else◌, ◌==◌, ◌&&◌, nat_lt, bytes_eq}
+use Rattle.std.specs.Int.{w128, from_be_bytes}
 use Rattle.std.specs.List.{list_all}
 use Rattle.std.specs.Ordering.{nat_cmp, ordering_then, is_eq}
 use Rattle.std.specs.Map.{lookup}
@@ -29,17 +29,13 @@ rows_part tenant table = λ number. at latest_cmp tenant table.rows.entries (rec
 abbrev pub is_id : List ℕ → Bool
 is_id trace = (length trace == 16) && list_all (λ byte. nat_lt byte 256) trace
 
--- the two numbers that an id's halves are, each with the most significant byte first
-abbrev pub halves : List ℕ → ℕ × ℕ
-halves trace = (from_be_bytes w64 (take 8 trace), from_be_bytes w64 (drop 8 trace))
-
--- what is at each id's halves; nothing at what is no id
-abbrev pub by_id : {X : Type 0} → (ℕ × ℕ → Option X) → List ℕ → Option X
-by_id slots trace = if is_id trace then slots (halves trace) else None
+-- what is at each id's number, which its bytes are with the most significant first; nothing at what is no id
+abbrev pub by_id : {X : Type 0} → (ℕ → Option X) → List ℕ → Option X
+by_id numbers trace = if is_id trace then numbers (from_be_bytes w128 trace) else None
 
 -- the number of the latest row of each of a tenant's traces, by the trace's id
 abbrev pub seats_part : {N : Type 0} → ℕ → TraceRows N → List ℕ → Option ℕ
-seats_part tenant table = by_id (at (pair_cmp nat_cmp) tenant table.seats.entries)
+seats_part tenant table = by_id (at nat_cmp tenant table.seats.entries)
 
 -- the same rows with another one, or none, at one number
 abbrev pub with_at : {X : Type 0} → ℕ → Option X → (ℕ → Option X) → ℕ → Option X

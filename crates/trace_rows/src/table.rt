@@ -1,7 +1,8 @@
 //! The table of rows.
 
 ghost use Rattle.std.specs.Prelude.{◌≡◌, ◌≢◌, ℕ, IfOk, OnOk, OnErr, Some, None, true, option_copied};
-ghost use Rattle.trace_rows.specs.Part.{rows_part, seats_part, with_at, with_seat, joined, unjoined, is_id, halves, settled, unseated, keys_of, note_of, trace_in, IsSame};
+ghost use Rattle.std.specs.Int.{w128, from_be_bytes};
+ghost use Rattle.trace_rows.specs.Part.{rows_part, seats_part, with_at, with_seat, joined, unjoined, is_id, settled, unseated, keys_of, note_of, trace_in, IsSame};
 
 use crate::keys::Keys;
 use std::alloc::{AllocError, Global};
@@ -29,20 +30,17 @@ pub struct TraceRows<N> {
     // By tenant and row number, the latest first: a look-up goes through the keys of a node from the first one on, and
     // most are for the latest rows.
     rows: BTreeMap<(u32, Reverse<u64>), Row<N>>,
-    // By tenant and trace id, the number of the row that opened last. Ids are compared as two numbers, which takes
-    // about as long however many bytes two of them share.
-    seats: BTreeMap<(u32, (u64, u64)), u64>,
+    // By tenant and trace id, the number of the row that opened last. Ids are compared as numbers, which takes as long
+    // however many bytes two of them share.
+    seats: BTreeMap<(u32, u128), u64>,
 }
 
-/// The two numbers that an id's halves are, each with the most significant byte first.
-fn halves_of(trace: [u8; 16]) -> (u64, u64)
-    ensures halves { result ≡ halves trace }
+/// The number that an id's bytes are, the most significant first.
+fn number_of(trace: [u8; 16]) -> u128
+    ensures number { result ≡ from_be_bytes w128 trace }
     ensures id { is_id trace ≡ true }
 {
-    let [a, b, c, d, e, f, g, h, i, j, k, l, m, n, o, p] = trace;
-    let high = u64::from_be_bytes([a, b, c, d, e, f, g, h]);
-    let low = u64::from_be_bytes([i, j, k, l, m, n, o, p]);
-    (high, low)
+    u128::from_be_bytes(trace)
 }
 
 impl<N: Drop> TraceRows<N> {
@@ -61,7 +59,7 @@ impl<N: Drop> TraceRows<N> {
     pub fn seat(&self, tenant: u32, trace: [u8; 16]) -> Option<u64>
         ensures { result ≡ seats_part tenant self.now trace }
     {
-        self.seats.get(&(tenant, halves_of(trace))).copied()
+        self.seats.get(&(tenant, number_of(trace))).copied()
     }
 
     /// The tenant's row of this number, where there is one.
@@ -87,7 +85,7 @@ impl<N: Drop> TraceRows<N> {
     {
         let trace = row.trace;
         self.rows.insert((tenant, Reverse(number)), row)?;
-        match self.seats.insert((tenant, halves_of(trace)), number) {
+        match self.seats.insert((tenant, number_of(trace)), number) {
             Ok(earlier) => Ok(earlier),
             Err(failed) => {
                 self.rows.remove(&(tenant, Reverse(number)));
@@ -138,7 +136,7 @@ impl<N: Drop> TraceRows<N> {
         ensures others { (other : ℕ) → other ≢ tenant → IsSame other self.old self.new }
     {
         self.rows.remove(&(tenant, Reverse(number)));
-        let id = halves_of(trace);
+        let id = number_of(trace);
         let Some(earlier) = earlier else {
             self.seats.remove(&(tenant, id));
             return;
@@ -188,7 +186,7 @@ impl<N: Drop> TraceRows<N> {
         ensures others { (other : ℕ) → other ≢ tenant → seats_part other self.new ≡ seats_part other self.old }
     {
         if self.seat(tenant, trace) == Some(number) {
-            self.seats.remove(&(tenant, halves_of(trace)));
+            self.seats.remove(&(tenant, number_of(trace)));
         }
     }
 }
