@@ -2,7 +2,7 @@
 
 from model import toml
 from model.bodies import Origin, Span
-from model.pipeline import Pipeline, Shards
+from model.pipeline import DAY, Pipeline, Shards
 from replay.make_script import piece
 
 # What an answer's body says of spans that weren't taken. The last ones are no responses, or say nothing of spans.
@@ -116,12 +116,14 @@ class Story:
         self.lines.append(line)
 
     def moment(self):
-        """Mostly the next one, at times an earlier or a much later one."""
+        """Mostly the next one, at times an earlier or a much later one; now and then a day has gone."""
         chance = self.chance
         self.now += chance.choice((0, 0, 0, 1, 1, 2, 4, 5, 5, 10, 50, 1000))
         which = chance.randrange(500)
         if which == 0:
             return chance.choice(LAST_MOMENTS)
+        if which < 4:
+            self.now += 1000 * DAY
         return chance.choice((0, max(0, self.now - 7), self.now + 20)) if which < 50 else self.now
 
     def step(self):
