@@ -1,6 +1,6 @@
 //! The shard with its tenants' generators.
 
-ghost use Rattle.std.specs.Prelude.{◌≡◌, ℕ, List, [], ◌∷◌, ◌++◌, IfOk, OnOk};
+ghost use Rattle.std.specs.Prelude.{◌≡◌, ℕ, List, [], ◌∷◌, ◌++◌, IfOk, OnOk, OnErr};
 ghost use Rattle.tail_settings.specs.Settings.{settings_view};
 ghost use Rattle.tenant_shard.specs.Lists.{ShardStands};
 ghost use Rattle.tenant_shard.specs.Table.{opened};
@@ -61,6 +61,7 @@ impl<'a> Machine for WordedShard<'a> {
     ghost use Rattle.tenant_shard.specs.Empty.{is_empty};
     ghost use Rattle.tenant_shard.specs.View.{kept_of};
     ghost use Rattle.worded_machine.specs.Worded.{AsksFor, WordedDoes};
+    ghost use Rattle.worded_machine.specs.Drawing.{IsLost};
 
     type Call = Call<'a>;
 
@@ -82,7 +83,11 @@ impl<'a> Machine for WordedShard<'a> {
         &mut self,
         _alloc: Global,
         call: Call<'a>,
-    ) -> Result<(WordedStep<'a>, Outcome), AllocError> {
+    ) -> Result<(WordedStep<'a>, Outcome), AllocError>
+        ensures asked { IfOk result (λ made. AsksFor call.entry made.0) }
+        ensures made { IfOk result (λ made. WordedDoes self.old made.0 made.1 self.new) }
+        ensures refused { OnErr result (IsLost call.entry self.old self.new) }
+    {
         let made = ready(&mut self.words, call);
         let outcome = self.shard.step(&made.step)?;
         Ok((made, outcome))

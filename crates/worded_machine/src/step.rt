@@ -19,7 +19,7 @@ pub enum Call<'a> {
 }
 
 /// Where a step's word is from.
-#[derive(Clone, Copy, PartialEq, Eq, Debug)]
+#[derive(Clone, Copy, Debug)]
 pub enum WordOf {
     /// The caller handed in the step, with its word if it has one.
     Caller,
