@@ -2,14 +2,16 @@
 
 PROGRAM = crates/trace_collector_program
 
-# The gate: what needs no toolchain, and then every crate and its tests proved from
-# nothing, the edits that must be refused, the tests and the programs; last what the
-# program that was built there prints.
+# The gate: what needs no toolchain, and then every crate and its tests proved, but for
+# what has passed on this machine as it stands, the edits that must be refused, the tests
+# and the programs; last what the program that was built there prints.
 test: checks
 	@command -v rt > /dev/null || { echo 'make: there is no command rt: README.md names the toolchain' >&2; exit 1; }
 	@rt ci
 	@said=$$(python3 tests/program.py $(PROGRAM)/out/trace_collector_program) || { echo "$$said"; exit 1; }
 	@said=$$(python3 tests/stories.py $(PROGRAM)/out/trace_collector_program) || { echo "$$said"; exit 1; }
+	@said=$$(python3 tests/random_scripts.py $(PROGRAM)/out/trace_collector_program) || { echo "$$said"; exit 1; }
+	@said=$$(python3 tests/random_settings.py $(PROGRAM)/out/trace_collector_program) || { echo "$$said"; exit 1; }
 	@said=$$(python3 tests/service.py $(PROGRAM)/out/trace_collector_program) || { echo "$$said"; exit 1; }
 	@said=$$(python3 tests/replay/steady.py $(PROGRAM)/out/trace_collector_program 100000) || { echo "$$said"; exit 1; }
 
@@ -40,16 +42,14 @@ replay: trace_collector
 	@echo '$$ ./trace_collector replay $(PROGRAM)/data/settings.toml < $(SCRIPT)'
 	@./trace_collector replay $(PROGRAM)/data/settings.toml < $(SCRIPT)
 	@echo
-	@echo 'A story, $(STORY).script: traces are kept or dropped, batched, sent again to a busy back end, and counted.'
-	@echo 'Bodies are cut short here.'
-	@echo '$$ cut -c1-200 $(STORY).script'
-	@cut -c1-200 $(STORY).script
-	@echo
-	@echo '$$ ./trace_collector replay $(STORY).toml < $(STORY).script | cut -c1-200'
-	@./trace_collector replay $(STORY).toml < $(STORY).script | cut -c1-200
+	@echo 'A story: traces are kept or dropped, batched, sent again to a busy back end, and counted. Under each line of'
+	@echo 'the script (>) is its answer, both cut short.'
+	@echo '$$ ./trace_collector replay $(STORY).toml < $(STORY).script'
+	@./trace_collector replay $(STORY).toml < $(STORY).script | awk 'NR == FNR { told[NR] = $$0; next } \
+	    /^#|^$$/ { print; next } { print "> " substr($$0, 1, 78); print "  " substr(told[++n], 1, 218) }' - $(STORY).script
 
 # Builds the program, starts it as a service with two tenants and a back end for each, and shows
-# what arrives there.
+# what arrives there and what is counted.
 serve: trace_collector
 	@python3 examples/serve.py
 
@@ -68,7 +68,7 @@ trace_collector:
 	@command -v rt > /dev/null || { echo 'make: there is no command rt: README.md names the toolchain' >&2; exit 1; }
 	@mkdir -p $(PROGRAM)/out
 	@: > $(LOG)
-	@echo 'Proving and building ./trace_collector, $(words $(BELOW)) crates, the lowest first: some 20 processor minutes'
+	@echo 'Proving and building ./trace_collector, $(words $(BELOW)) crates, the lowest first: some 50 processor minutes'
 	@echo 'the first time, and seconds when nothing has changed. What the prover says is in $(LOG).'
 	@n=0; for crate in $(BELOW); do \
 	    n=$$((n + 1)); printf '%2d of %d  %s\n' $$n $(words $(BELOW)) $$crate; \

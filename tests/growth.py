@@ -27,6 +27,7 @@ MOST = 2.2
 ALL = '[[tenant.tail_sampling.policy]]\ntype = "always_sample"\n'
 NONE = '[[tenant.tail_sampling.policy]]\ntype = "status_code"\nstatus_codes = ["ERROR"]\n'
 SOME_VALUE = piece(1, b"v")
+ERROR = piece(15, number_field(3, 2))
 
 
 def batches(size, timeout=0, consumers=1000):
@@ -91,6 +92,13 @@ def resource_again(n):
     return tenant(), post(0, body) + "turn 0 1000\n", "job a 1 "
 
 
+def different_resources(n):
+    """n resources with a span of a trace each, as long as a resource with a name is; half of them stand twice."""
+    body = b"".join(piece(1, piece(1, attribute(1, "k", f"v-{at % (n // 2):08}")) + piece(2, piece(2, ids(1, at))))
+                    for at in range(n))
+    return tenant(), post(0, body) + "turn 0 1000\n", "job a 1 "
+
+
 def empty_spans(n):
     """n spans of two bytes, none of them valid."""
     return tenant(), post(0, request([b""] * n)), "reply a 200 "
@@ -111,13 +119,13 @@ def chosen_traces(n):
 def due_at_once(n):
     """n traces of one body, all due in one turn, kept and cut into batches of 100 spans."""
     body = request([ids(at + 1, at) for at in range(n)])
-    return tenant(more=batches(100)), post(0, body) + "turn 0 1000\n" * (n // 100), "job a 1 "
+    return tenant(more=batches(100, timeout=200)), post(0, body) + "turn 0 1000\n" * (n // 100), "job a 1 "
 
 
 def due_and_dropped(n):
-    """The same, none of them kept."""
-    body = request([ids(at + 1, at) for at in range(n)])
-    return tenant(policies=NONE), post(0, body) + "turn 0 1000\n", "worked a\n"
+    """The same, of which the last alone is kept."""
+    body = request([*(ids(at + 1, at) for at in range(n)), ids(n + 1, n) + ERROR])
+    return tenant(policies=NONE), post(0, body) + "turn 0 1000\n", "job a 1 "
 
 
 def pushed_out(n):
@@ -129,6 +137,17 @@ def late_spans(n):
     """n posts of a span to a trace that was kept already."""
     one = request([ids(1, 1)])
     return tenant(more=batches(1)), post(0, one) + "turn 0 1000\n" + post(1000, one) * n, "job a 1 "
+
+
+def posts_of_a_trace(n):
+    """n posts of a span to one trace, which is kept."""
+    return (tenant(), "".join(post(0, request([ids(1, at)])) for at in range(n)) + "turn 0 1000\n", "job a 1 ")
+
+
+def drained(n):
+    """n traces of one body that are drained, into batches of 100 spans."""
+    body = request([ids(at + 1, at) for at in range(n)])
+    return tenant(more=batches(100, timeout=200)), post(0, body) + "drain a 0\n" + "turn 0 0\n" * (n // 100), "job a 1 "
 
 
 def many_tenants(n):
@@ -180,6 +199,7 @@ SHAPES = {
     "nested attributes": (nesting, 500),
     "unknown fields": (unknown_fields, 25_000),
     "a resource that stands again": (resource_again, 10_000),
+    "different resources": (different_resources, 10_000),
     "empty spans": (empty_spans, 50_000),
     "traces": (any_traces, 4_000),
     "traces of chosen ids": (chosen_traces, 4_000),
@@ -187,6 +207,8 @@ SHAPES = {
     "rows due at once, dropped": (due_and_dropped, 8_000),
     "rows pushed out": (pushed_out, 4_000),
     "late spans": (late_spans, 4_000),
+    "posts of a trace": (posts_of_a_trace, 4_000),
+    "traces drained": (drained, 8_000),
     "tenants": (many_tenants, 500),
     "policies": (many_policies, 32),
     "batches": (many_batches, 4_000),

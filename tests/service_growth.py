@@ -5,9 +5,9 @@ that grows faster than what comes in.
     make trace_collector && python3 tests/service_growth.py [PROGRAM] [SHAPE..]
 
 Takes `./trace_collector` if no program is named, and all shapes if none is. It prints a table of Markdown as
-tests/growth.py does. Instructions are valgrind's (callgrind), of the one thread that the shape is about, its receiver
-or its sender: the others rest, and look again each millisecond. Ends with 1 where a ratio is above 2.2, or where a
-client isn't told what it has to be.
+tests/growth.py does. Instructions are valgrind's (callgrind), of the one thread that the shape is about, its receiver,
+its sender or its turner: the others rest, and look again each millisecond. Notes are made in the receiver. Ends with 1
+where a ratio is above 2.2, or where a client isn't told what it has to be.
 """
 
 import os
@@ -16,14 +16,16 @@ import sys
 import tempfile
 from pathlib import Path
 
+import growth
 from replay.make_script import piece
 from serving import talk
-from serving.talk import ERRORS, BackEnd, Service, body, check, head_of, read_message, request, tenant
+from serving.talk import (ERRORS, TAKEN, BackEnd, Service, body, check, head_of, read_message, request, tenant, wait_for)
 
 ROOT = Path(__file__).resolve().parent.parent
 MOST = 2.2
 # What that thread runs and no other does.
-RECEIVER, SENDER = "http_edge::server::answer", "export_edge::sender::run_sender"
+RECEIVER, SENDER, TURNER = ("http_edge::server::answer", "export_edge::sender::run_sender",
+                            "tail_policy::note::TraceNote::samples")
 HEAD = b"POST /v1/traces HTTP/1.1\r\nHost: c\r\nX-Scope-OrgID: t0\r\nContent-Type: application/x-protobuf\r\n"
 
 
@@ -88,32 +90,111 @@ def many_jobs(service, n):
         told(peer, head_of("t0", len(text)) + text)
 
 
-# A shape, its smaller size, the thread that it is about, how many tenants there are, and whether they export.
+def long_lines(service, n):
+    """Ten bodies of four chunks whose lines have n bytes of extension, and a trailer of as many."""
+    chunks = b"".join(b"1;" + b"e" * n + b"\r\n" + piece(2, b"vv")[at:at + 1] + b"\r\n" for at in range(4))
+    with service.connect() as peer:
+        told(peer, *[HEAD + b"Transfer-Encoding: chunked\r\n\r\n" + chunks + b"0\r\nX: " + b"t" * n + b"\r\n\r\n"] * 10)
+
+
+def one_job(service, _):
+    """A batch of a span."""
+    with service.connect() as peer:
+        told(peer, head_of("t0", 34) + body(1, 1))
+
+
+def in_chunks(n):
+    """An answer of n bytes in chunks of one byte: a field that a reader passes over."""
+    text = piece(3, bytes(n))
+    chunks = b"".join(b"1\r\n" + text[at:at + 1] + b"\r\n" for at in range(len(text)))
+    return b"HTTP/1.1 200 OK\r\nTransfer-Encoding: chunked\r\n\r\n" + chunks + b"0\r\n\r\n"
+
+
+def behind_a_long_head(n):
+    """An answer behind sixteen interim heads with a field of n bytes."""
+    return (b"HTTP/1.1 103 Early Hints\r\nX: " + b"v" * n + b"\r\n\r\n") * 16 + TAKEN
+
+
+def replayed(name):
+    """The posts of a shape of tests/growth.py, one after the other over one connection."""
+    def shape(service, n):
+        with service.connect() as peer:
+            for line in growth.SHAPES[name][0](n)[1].splitlines():
+                if line.startswith("post "):
+                    _, tenant_of_it, _, digits = line.split(" ")
+                    text = bytes.fromhex(digits)
+                    told(peer, head_of(tenant_of_it, len(text)) + text)
+    shape.settings = lambda n: growth.SHAPES[name][0](n)[0]
+    return shape
+
+
+def no_job(_):
+    return 0
+
+
+def a_job(_):
+    return 1
+
+
+def ten_jobs(_):
+    return 10
+
+
+def for_each(n):
+    return n
+
+
+def for_each_hundred(n):
+    return n // 100
+
+
+# A shape, its smaller size, the thread that it is about, how many jobs it makes, and what its back end answers.
 SHAPES = {
-    "small chunks": (small_chunks, 10_000, RECEIVER),
-    "long heads": (long_heads, 30_000, RECEIVER),
-    "fields of a head": (many_fields, 29, RECEIVER),
-    "connections": (connections, 200, RECEIVER),
-    "posts of a connection": (one_connection, 200, RECEIVER),
-    "large bodies": (large_bodies, 4_000, RECEIVER),
-    "tenants": (many_tenants, 300, RECEIVER),
-    "jobs": (many_jobs, 200, SENDER),
+    "small chunks": (small_chunks, 10_000, RECEIVER, no_job),
+    "long lines of chunks": (long_lines, 15_000, RECEIVER, no_job),
+    "long heads": (long_heads, 30_000, RECEIVER, no_job),
+    "fields of a head": (many_fields, 29, RECEIVER, no_job),
+    "connections": (connections, 200, RECEIVER, no_job),
+    "posts of a connection": (one_connection, 200, RECEIVER, no_job),
+    "large bodies": (large_bodies, 4_000, RECEIVER, no_job),
+    "tenants": (many_tenants, 300, RECEIVER, no_job),
+    "jobs": (many_jobs, 200, SENDER, for_each),
+    "small chunks of an answer": (one_job, 10_000, SENDER, a_job, in_chunks),
+    "long heads of an answer": (one_job, 30_000, SENDER, a_job, behind_a_long_head),
+    **{name: (replayed(name), size, RECEIVER, a_job) for name, size in (
+        ("resources times spans", 1_000), ("attributes of a span", 6_000), ("nested attributes", 500),
+        ("unknown fields", 10_000), ("a resource that stands again", 4_000), ("different resources", 4_000),
+        ("posts of a trace", 1_000))},
+    "empty spans": (replayed("empty spans"), 20_000, RECEIVER, no_job),
+    "traces of chosen ids": (replayed("traces of chosen ids"), 1_000, RECEIVER, for_each),
+    "rows pushed out": (replayed("rows pushed out"), 1_000, RECEIVER, ten_jobs),
+    "policies": (replayed("policies"), 32, RECEIVER, no_job),
+    "rows due at once, kept": (replayed("rows due at once, kept"), 8_000, TURNER, for_each_hundred),
+    "rows due at once, dropped": (replayed("rows due at once, dropped"), 8_000, TURNER, a_job),
 }
 
 
-def instructions(folder, shape, n, thread):
+def sections_of(shape, n, exports, back_end):
+    """The tenants of a shape; those of tests/growth.py with an endpoint each."""
+    if hasattr(shape, "settings"):
+        return [shape.settings(n).replace("[[tenant]]\n", f'[[tenant]]\nendpoint = "127.0.0.1:{back_end.port}"\n')]
+    return [tenant(f"t{number}", back_end, policies=talk.ALL if exports else ERRORS)
+            for number in range(n if shape is many_tenants else 1)]
+
+
+def instructions(folder, n, shape, thread, jobs, reply=None):
     """What this thread takes, or None where it isn't found or the service doesn't end as it has to."""
     out = folder / "callgrind"
     under = ("valgrind", "-q", "--tool=callgrind", "--separate-threads=yes", f"--callgrind-out-file={out}")
-    exports = thread == SENDER
-    with BackEnd() as back_end:
-        sections = [tenant(f"t{number}", back_end, policies=talk.ALL if exports else ERRORS)
-                    for number in range(n if shape is many_tenants else 1)]
-        with Service(folder, sections, under=under, shards=1, receivers=1, senders=1) as service:
+    with BackEnd(reply(n) if reply else TAKEN) as back_end:
+        sections = sections_of(shape, n, jobs(n) > 0, back_end)
+        with Service(folder, sections, under=under, shards=1, receivers=1, senders=1, parts=1) as service:
             shape(service, n)
+            if thread == TURNER:
+                wait_for(lambda: len(back_end.posts) == jobs(n), "all rows are decided")
             status, _, err = service.end()
         check("status and standard error", (status, err), (0, b""))
-        check("jobs", len(back_end.posts), n if exports else 0)
+        check("jobs", len(back_end.posts), jobs(n))
     found = []
     for file in folder.glob("callgrind-*"):
         text = file.read_text()
@@ -130,8 +211,8 @@ def main():
     print("| Shape | Size | Instructions | At twice the size | Ratio |\n|---|---|---|---|---|")
     with tempfile.TemporaryDirectory() as folder:
         for name in words or SHAPES:
-            shape, n, thread = SHAPES[name]
-            once, twice = (instructions(Path(folder), shape, size, thread) for size in (n, 2 * n))
+            shape, n, *how = SHAPES[name]
+            once, twice = (instructions(Path(folder), size, shape, *how) for size in (n, 2 * n))
             ratio = twice / once if once and twice else float("inf")
             worst = max(worst, ratio)
             print(f"| {name} | {n:,} | {once or 0:,} | {twice or 0:,} | {ratio:.2f} |", flush=True)

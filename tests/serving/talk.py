@@ -157,8 +157,9 @@ def tenant(name, back_end, wait=1, timeout=0, consumers=1, retry=20, policies=AL
             f"initial_interval_ms = {retry}\nmax_interval_ms = {retry}\nrandomization_factor = 0\n")
 
 
-def globals_of(port=0, shards=2, receivers=4, senders=2):
-    return f'[global]\nlisten = "127.0.0.1:{port}"\nshards = {shards}\nreceivers = {receivers}\nsenders = {senders}\n'
+def globals_of(port=0, shards=2, receivers=4, senders=2, parts=2):
+    return (f'[global]\nlisten = "127.0.0.1:{port}"\nshards = {shards}\nreceivers = {receivers}\nsenders = {senders}\n'
+            f"parts = {parts}\n")
 
 
 class Service:

@@ -1,3 +1,4 @@
 mod Throughs
 mod Rounds
 mod Notes
+mod Addresses

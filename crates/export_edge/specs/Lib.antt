@@ -1,3 +1,4 @@
 pub mod Posting
 pub mod Work
+pub mod Dialing
 pub mod Law

@@ -2,7 +2,8 @@
 //! posts them to their back ends and hands in the answers.
 //!
 //! [`post_over`] posts a payload over a line and says what it came to: an answer, or none where the line, the answer's
-//! head or its body is at fault. [`TcpBackEnd`] does so over a connection of its own for each job. [`run_turner`] and
+//! head or its body is at fault. [`post_job`] does so over a line of its own to the address of the job's tenant, which
+//! whoever makes lines ([`Dial`]) is asked for: for [`TcpBackEnd`] a connection over TCP. [`run_turner`] and
 //! [`run_sender`] are the work of one thread each, over whoever makes turns and takes answers ([`JobSource`],
 //! [`AnswerSink`]) and to whatever beat ([`Beat`]); what they promise is said of their whole work (`specs/Work`).
 //!
@@ -13,6 +14,7 @@
 ghost use Rattle.export_edge.specs.Law.{TurnsAreNoted, PostsAreNoted, AnswersAreNoted};
 
 mod back_end;
+mod dial;
 mod posting;
 mod sender;
 mod tcp;
@@ -20,9 +22,10 @@ mod turner;
 mod work;
 
 pub use crate::back_end::BackEnd;
+pub use crate::dial::{Dial, DialingBackEnd, post_job};
 pub use crate::posting::post_over;
 pub use crate::sender::run_sender;
-pub use crate::tcp::TcpBackEnd;
+pub use crate::tcp::{TcpBackEnd, TcpDialer};
 pub use crate::turner::run_turner;
 pub use crate::work::{AnswerRefused, AnswerSink, Beat, JobSource, Turned};
 

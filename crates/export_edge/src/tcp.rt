@@ -1,59 +1,43 @@
 //! Back ends that are reached over TCP.
 ghost use Rattle.std.specs.Prelude.{◌≡◌};
 
-use crate::back_end::BackEnd;
-use crate::posting::post_over;
+use crate::dial::{Dial, DialingBackEnd};
 use http_line::StreamLine;
-use job_lane::Job;
-use send_retry::Answer;
 use std::alloc::Global;
-use std::net::{Net, TcpStream};
+use std::net::{Net, OpenStream, TcpStream};
 
-/// Posts each job over a connection of its own to its tenant's address. It waits for as long as the back end does.
+/// Makes connections over TCP.
 #[derive(Drop)]
-pub struct TcpBackEnd<'a, R> {
+pub struct TcpDialer<'a, R> {
     net: &'a R,
-    alloc: Global,
-    /// Each tenant's address, a host and a port, at the tenant's number.
-    addresses: &'a [String],
 }
 
-impl<'a, R: Net> TcpBackEnd<'a, R> {
-    /// Posts to these addresses: hosts with ports, as they also stand in `Host`, each at its tenant's number.
-    pub fn new(net: &'a R, alloc: Global, addresses: &'a [String]) -> TcpBackEnd<'a, R>
-        ensures { result.addresses.now ≡ addresses.now }
-    {
-        TcpBackEnd {
-            net,
-            alloc,
-            addresses,
+impl<R: Net> Dial for TcpDialer<'_, R> {
+    type Connection = StreamLine<R::Stream>;
+
+    // What a connection reaches is not known.
+    ghost dials = { λ _ _ _ _. Unit {0} };
+
+    fn dial(&mut self, address: &str) -> Option<StreamLine<R::Stream>> {
+        match TcpStream::connect(self.net, address) {
+            Ok(stream) => {
+                // A post is two writes, and the second isn't to wait until the first has been acknowledged.
+                let _delays_at_worst = stream.set_nodelay(true);
+                Some(StreamLine::new(stream))
+            }
+            Err(_) => None,
         }
     }
 }
 
-impl<R: Net> BackEnd for TcpBackEnd<'_, R> {
-    ghost use Rattle.std.specs.Prelude.{◌≡◌, ◌≤◌, length};
-    ghost use Rattle.send_retry.specs.Class.{Failed};
+/// Posts each job over a TCP connection of its own to its tenant's address.
+pub type TcpBackEnd<'a, R> = DialingBackEnd<'a, TcpDialer<'a, R>>;
 
-    // It stays as it is, and nothing answers for a tenant without an address. What a socket gave and took is not known.
-    ghost posts = { λ old p new. (new ≡ old) × (length old.addresses.now ≤ p.job.tenant → p.answer ≡ Failed) };
-
-    /// A job of a tenant without an address fails.
-    fn post(&mut self, job: &Job) -> Answer {
-        let Some(address) = self.addresses.get(job.tenant as usize) else {
-            return Answer::Failed;
-        };
-        match TcpStream::connect(self.net, address.as_str()) {
-            Ok(stream) => {
-                let mut line = StreamLine::new(stream);
-                post_over(
-                    self.alloc,
-                    &mut line,
-                    address.as_str(),
-                    job.payload.as_slice(),
-                )
-            }
-            Err(_) => Answer::Failed,
-        }
+impl<'a, R: Net> DialingBackEnd<'a, TcpDialer<'a, R>> {
+    /// Posts to these addresses: hosts with ports, as they also stand in `Host`, each at its tenant's number.
+    pub fn new(net: &'a R, alloc: Global, addresses: &'a [String]) -> TcpBackEnd<'a, R>
+        ensures { result.addresses.now ≡ addresses.now }
+    {
+        DialingBackEnd::over(TcpDialer { net }, alloc, addresses)
     }
 }

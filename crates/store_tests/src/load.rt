@@ -2,8 +2,7 @@
 //! time and the memory of each test here.
 
 use bytes::Bytes;
-use span_pool::{Numbers, SchemaUrls, SpanPool, StoredSpan};
-use span_view::is_text;
+use span_pool::{KeyedSpan, SpanPool, TextKeys};
 use std::alloc::{AllocError, Global};
 use std::process::Abort;
 use std::test::Fail;
@@ -18,10 +17,18 @@ const SPANS_OF_A_TRACE: u64 = 10;
 /// A span's text: a name.
 const TEXT: &[u8] = b"\x2a\x12the name of a span";
 
+/// No texts that spans share.
+const NO_KEYS: TextKeys = TextKeys {
+    resource: None,
+    resource_schema_url: None,
+    scope: None,
+    scope_schema_url: None,
+};
+
 /// The stores, and whose spans come: a trace of each tenant in turn.
 #[derive(Drop)]
 struct Load {
-    pool: SpanPool<StoredSpan>,
+    pool: SpanPool<KeyedSpan>,
     table: TraceRows<u64>,
     tenants: u32,
 }
@@ -39,26 +46,40 @@ fn trace_id(trace: u64) -> [u8; 16] {
     [a, b, c, d, e, f, g, h, i, j, k, l, m, n, o, p]
 }
 
-/// A span of this tenant, with a text of its own.
-fn stored(rt: &impl Abort, alloc: Global, tenant: u32) -> Result<StoredSpan, AllocError> {
-    assert!(rt; is_text(TEXT, b""));
-    let urls = SchemaUrls {
-        resource: Bytes::new(),
-        scope: Bytes::new(),
-    };
-    let numbers = Numbers {
-        resource: 0,
-        scope: 0,
-    };
-    let text = Bytes::copy_from_slice(alloc, TEXT)?;
-    Ok(StoredSpan::of(tenant, None, None, urls, text, numbers))
+/// The texts of a trace's spans, one behind the other, as a body has them.
+fn body(alloc: Global) -> Result<Bytes, AllocError> {
+    let mut bytes = Vec::new(alloc);
+    for _ in 0..SPANS_OF_A_TRACE {
+        bytes.extend_from_slice(TEXT)?;
+    }
+    Ok(Bytes::from_vec(bytes)?)
 }
 
-/// A span comes into the pool, and joins its trace's row or opens it.
-fn come(rt: &impl Abort, alloc: Global, load: &mut Load, span: u64) -> Result<(), AllocError> {
+/// The span of this number in its trace's body, which it shares with the others.
+fn stored(
+    rt: &impl Abort,
+    tenant: u32,
+    body: &Bytes,
+    number: u64,
+) -> Result<KeyedSpan, AllocError> {
+    let start = (number as usize).saturating_mul(TEXT.len());
+    let end = start.saturating_add(TEXT.len());
+    assert!(rt; start <= end && end <= body.len());
+    Ok(KeyedSpan::of(tenant, NO_KEYS, body.slice(start..end)?))
+}
+
+/// A span of a body comes into the pool, and joins its trace's row or opens it.
+fn come(
+    rt: &impl Abort,
+    alloc: Global,
+    load: &mut Load,
+    body: &Bytes,
+    span: u64,
+) -> Result<(), AllocError> {
     let trace = span / SPANS_OF_A_TRACE;
     let (tenant, number) = place(load, trace);
-    let key = load.pool.put(stored(rt, alloc, tenant)?)?;
+    let stored = stored(rt, tenant, body, span % SPANS_OF_A_TRACE)?;
+    let key = load.pool.put(stored)?;
     if let Some(seat) = load.table.seat(tenant, trace_id(trace)) {
         let note = match load.table.row(tenant, seat) {
             Some(row) => row.note.max(span),
@@ -88,7 +109,7 @@ fn leave(alloc: Global, load: &mut Load, trace: u64) -> u64 {
     keys.as_slice().len() as u64
 }
 
-/// The spans of a trace come.
+/// The spans of a trace come, in one body.
 fn trace_comes(
     rt: &impl Abort,
     alloc: Global,
@@ -96,8 +117,9 @@ fn trace_comes(
     trace: u64,
 ) -> Result<(), AllocError> {
     let first = trace.saturating_mul(SPANS_OF_A_TRACE);
+    let body = body(alloc)?;
     for span in 0..SPANS_OF_A_TRACE {
-        come(rt, alloc, load, first.saturating_add(span))?;
+        come(rt, alloc, load, &body, first.saturating_add(span))?;
     }
     Ok(())
 }

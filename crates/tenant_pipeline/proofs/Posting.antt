@@ -362,6 +362,10 @@ ended moment invalid valid taken keys spans index journal0 journal own0 own own'
 
 -- ---- answers that may be refused
 
+pub on_ok : {T E : Type 0} {P : Type 0} (r : Result T E) → P → OnOk r P
+on_ok (Ok x) p = p
+on_ok (Err e) p = tt
+
 pub on_err : {T E : Type 0} {P : Type 0} (r : Result T E) → P → OnErr r P
 on_err (Ok x) p = tt
 on_err (Err e) p = p

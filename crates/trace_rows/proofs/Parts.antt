@@ -1,17 +1,19 @@
 -- What a change of a map does to each tenant's part.
-use Rattle.std.proofs.Common.{◌≡◌, ◌≢◌, ℕ, refl, sym, ap, ◌∙◌, arith, Bool, true, false, Option, Some, None, eqb, nat_eq, bytes_eq, cond, if◌then◌else◌, ◌&&◌, Ordering, Less, Equal, Greater}
+use Rattle.std.proofs.Common.{◌≡◌, ◌≢◌, ℕ, refl, sym, ap, ◌∙◌, arith, List, Bool, true, false, Option, Some, None, eqb, nat_eq, bytes_eq, cond, if◌then◌else◌, ◌&&◌, Ordering, Less, Equal, Greater}
 use Rattle.std.proofs.lemmas.Bool.Decides.{nat_tests}
+use Rattle.std.proofs.lemmas.Slice.Eq.{bytes_eq-Decides}
 use Rattle.std.proofs.Math.Path.{fun_ext}
 use Rattle.std.specs.Ordering.{nat_cmp, ordering_then, is_eq}
 use Rattle.std.specs.declared.cmp.Reverse.{Reverse}
 use Rattle.std.specs.Cmp.{unsigned_ties, nat_eq_equiv}
-use Rattle.std.specs.Cmp.Lexicographic.{slice_cmp, texts_ties, nat_list_eq_equiv}
+use Rattle.std.specs.Int.{w128, from_be_bytes}
 use Rattle.std.specs.BTreeMap.{BTreeMap}
 use Rattle.std.specs.BTreeMap as tree
-use Rattle.trace_rows.specs.Part.{pair_cmp, latest_cmp, with_at, at}
+use Rattle.trace_rows.specs.Part.{pair_cmp, latest_cmp, with_at, with_seat, at, is_id, by_id}
+use Rattle.trace_rows.proofs.Ids.{same_of_numbers}
 
 -- a test tells which keys an order takes for equal
-pub record Tells {J : Type 0} (cmp : J → J → Ordering) (same : J → J → Bool) : Type 0 where
+record Tells {J : Type 0} (cmp : J → J → Ordering) (same : J → J → Bool) : Type 0 where
   pub told : (x y : J) → is_eq (cmp x y) ≡ same y x
 
 abbrev same_number : Reverse ℕ → Reverse ℕ → Bool
@@ -20,11 +22,11 @@ same_number x y = nat_eq x.0 y.0
 numbers : Tells latest_cmp same_number
 numbers = record { told = λ x y. sym (unsigned_ties y.0 x.0) }
 
-pub traces : Tells (slice_cmp nat_cmp) bytes_eq
-traces = record { told = λ x y. sym (texts_ties x y) ∙ nat_list_eq_equiv.symm x y }
+ids : Tells nat_cmp nat_eq
+ids = record { told = λ x y. sym (unsigned_ties x y) ∙ nat_eq_equiv.symm x y }
 
--- `with_at` and `with_seat`, at any keys
-abbrev pub put : {J X : Type 0} → (J → J → Bool) → J → Option X → (J → Option X) → J → Option X
+-- `with_at`, at any keys
+abbrev put : {J X : Type 0} → (J → J → Bool) → J → Option X → (J → Option X) → J → Option X
 put same key slot slots other = if same other key then slot else slots other
 
 then_is : (o p : Ordering) → is_eq (ordering_then o p) ≡ (is_eq o && is_eq p)
@@ -44,7 +46,7 @@ here {J} {cmp} {same} tells t k j = then_is (nat_cmp t t) (cmp k j) ∙ (ap (λ 
 elsewhere : {J : Type 0} (cmp : J → J → Ordering) (t u : ℕ) (k j : J) → u ≢ t → is_eq (pair_cmp cmp (t, k) (u, j)) ≡ false
 elsewhere cmp t u k j ne = then_is (nat_cmp t u) (cmp k j) ∙ ap (λ (b : Bool). b && is_eq (cmp k j)) (other_tenant t u ne)
 
-pub at_put : {J X : Type 0} {cmp : J → J → Ordering} {same : J → J → Bool} → Tells cmp same → (m n : BTreeMap (ℕ × J) X) (t : ℕ) (k : J) (w : Option X) → tree.Updates (pair_cmp cmp) m n (t, k) w → at cmp t n.entries ≡ put same k w (at cmp t m.entries)
+at_put : {J X : Type 0} {cmp : J → J → Ordering} {same : J → J → Bool} → Tells cmp same → (m n : BTreeMap (ℕ × J) X) (t : ℕ) (k : J) (w : Option X) → tree.Updates (pair_cmp cmp) m n (t, k) w → at cmp t n.entries ≡ put same k w (at cmp t m.entries)
 at_put {J} {X} {cmp} {same} tells m n t k w h = fun_ext (λ j. one j)
   where
     one : (j : J) → at cmp t n.entries j ≡ put same k w (at cmp t m.entries) j
@@ -52,13 +54,56 @@ at_put {J} {X} {cmp} {same} tells m n t k w h = fun_ext (λ j. one j)
         let first : at cmp t n.entries j ≡ cond (is_eq (pair_cmp cmp (t, k) (t, j))) w (at cmp t m.entries j) = h.0 (t, j) in
         first ∙ ap (λ (b : Bool). cond b w (at cmp t m.entries j)) (here tells t k j)
 
-pub at_put_other : {J X : Type 0} {cmp : J → J → Ordering} {same : J → J → Bool} → Tells cmp same → (m n : BTreeMap (ℕ × J) X) (t : ℕ) (k : J) (u : ℕ) (w : Option X) → tree.Updates (pair_cmp cmp) m n (t, k) w → u ≢ t → at cmp u n.entries ≡ at cmp u m.entries
+at_put_other : {J X : Type 0} {cmp : J → J → Ordering} {same : J → J → Bool} → Tells cmp same → (m n : BTreeMap (ℕ × J) X) (t : ℕ) (k : J) (u : ℕ) (w : Option X) → tree.Updates (pair_cmp cmp) m n (t, k) w → u ≢ t → at cmp u n.entries ≡ at cmp u m.entries
 at_put_other {J} {X} {cmp} {same} tells m n t k u w h ne = fun_ext (λ j. one j)
   where
     one : (j : J) → at cmp u n.entries j ≡ at cmp u m.entries j
     one j =
         let first : at cmp u n.entries j ≡ cond (is_eq (pair_cmp cmp (t, k) (u, j))) w (at cmp u m.entries j) = h.0 (u, j) in
         first ∙ ap (λ (b : Bool). cond b w (at cmp u m.entries j)) (elsewhere cmp t u k j ne)
+
+-- at what is no id there is nothing
+no_id : {X : Type 0} (f : ℕ → Option X) (trace : List ℕ) → is_id trace ≡ false → by_id f trace ≡ None
+no_id f trace none = ap (λ (b : Bool). if b then f (from_be_bytes w128 trace) else None) none
+
+pub at_id : {X : Type 0} (f : ℕ → Option X) (trace : List ℕ) → is_id trace ≡ true → by_id f trace ≡ f (from_be_bytes w128 trace)
+at_id f trace is = ap (λ (b : Bool). if b then f (from_be_bytes w128 trace) else None) is
+
+-- two ids are one where their numbers are
+same_id : (other trace : List ℕ) → is_id other ≡ true → is_id trace ≡ true → nat_eq (from_be_bytes w128 other) (from_be_bytes w128 trace) ≡ bytes_eq other trace
+same_id other trace is_other is = decide (nat_eq (from_be_bytes w128 other) (from_be_bytes w128 trace)) (bytes_eq other trace) refl refl
+  where
+    decide : (a b : Bool) → nat_eq (from_be_bytes w128 other) (from_be_bytes w128 trace) ≡ a → bytes_eq other trace ≡ b → a ≡ b
+    decide true true one two = refl
+    decide false false one two = refl
+    decide true false one two =
+        let numbers : from_be_bytes w128 other ≡ from_be_bytes w128 trace = grind (arith, nat_tests, one) in
+        sym ((bytes_eq-Decides other trace).1 (same_of_numbers other trace is_other is numbers)) ∙ two
+    decide false true one two =
+        let same : other ≡ trace = (bytes_eq-Decides other trace).0 two in
+        let numbers : from_be_bytes w128 other ≡ from_be_bytes w128 trace = ap (from_be_bytes w128) same in
+        grind (arith, nat_tests, one, numbers)
+
+-- an id is put where its number is
+by_id_put : (f : ℕ → Option ℕ) (trace : List ℕ) (w : Option ℕ) → is_id trace ≡ true → by_id (put nat_eq (from_be_bytes w128 trace) w f) ≡ with_seat trace w (by_id f)
+by_id_put f trace w is = fun_ext (λ other. one other (is_id other) (bytes_eq other trace) refl refl)
+  where
+    one : (other : List ℕ) (a b : Bool) → is_id other ≡ a → bytes_eq other trace ≡ b → by_id (put nat_eq (from_be_bytes w128 trace) w f) other ≡ with_seat trace w (by_id f) other
+    one other false false none differs = no_id (put nat_eq (from_be_bytes w128 trace) w f) other none ∙ (sym (no_id f other none) ∙ ap (λ (b : Bool). if b then w else by_id f other) (sym differs))
+    one other false true none same =
+        let is_other : is_id other ≡ true = ap is_id ((bytes_eq-Decides other trace).0 same) ∙ is in
+        absurd (cc)
+    one other true b is_other e =
+        at_id (put nat_eq (from_be_bytes w128 trace) w f) other is_other
+        ∙ (ap (λ (b : Bool). if b then w else f (from_be_bytes w128 other)) (same_id other trace is_other is)
+        ∙ ap (λ (slot : Option ℕ). if bytes_eq other trace then w else slot) (sym (at_id f other is_other)))
+
+pub seats_put : (m n : BTreeMap (ℕ × ℕ) ℕ) (t : ℕ) (trace : List ℕ) (k : ℕ) (w : Option ℕ) → is_id trace ≡ true → k ≡ from_be_bytes w128 trace → tree.Updates (pair_cmp nat_cmp) m n (t, k) w → by_id (at nat_cmp t n.entries) ≡ with_seat trace w (by_id (at nat_cmp t m.entries))
+seats_put m n t trace k w is number h =
+    ap by_id (at_put ids m n t k w h) ∙ (ap (λ (j : ℕ). by_id (put nat_eq j w (at nat_cmp t m.entries))) number ∙ by_id_put (at nat_cmp t m.entries) trace w is)
+
+pub seats_put_other : (m n : BTreeMap (ℕ × ℕ) ℕ) (t k u : ℕ) (w : Option ℕ) → tree.Updates (pair_cmp nat_cmp) m n (t, k) w → u ≢ t → by_id (at nat_cmp u n.entries) ≡ by_id (at nat_cmp u m.entries)
+seats_put_other m n t k u w h ne = ap by_id (at_put_other ids m n t k u w h ne)
 
 module _ {X : Type 0} where
   -- the same of rows, whose numbers are in order with the greatest first

@@ -6,9 +6,9 @@ use Rattle.drop_ledger.specs.Ledger.{counted, most_counted}
 use Rattle.span_pool.specs.declared.keys.TextKeys.{TextKeys}
 use Rattle.tail_policy.specs.declared.note.TraceNote.{TraceNote}
 use Rattle.tenant_rules.specs.Answers.{reply_of}
-use Rattle.tenant_rules.specs.Arrivals.{Arrival}
+use Rattle.tenant_rules.specs.Arrivals.{Arrival, valid}
 use Rattle.tenant_rules.specs.Intake.{Verdict}
-use Rattle.tenant_rules.specs.Machine.{post_verdict}
+use Rattle.tenant_rules.specs.Machine.{all_come, posted, post_verdict}
 use Rattle.tenant_rules.specs.State.{State}
 use Rattle.tenant_stores.specs.Part.{Part, part}
 use Rattle.tenant_stores.specs.Trail.{HoldsAll}
@@ -18,28 +18,38 @@ use Rattle.tenant_pipeline.specs.Held.{IsHeldAt}
 use Rattle.tenant_pipeline.specs.Posts.{all_text_keys, arrivals_at, IsTaken, verdict_after}
 use Rattle.tenant_pipeline.specs.Prepared.{arrivals_of}
 use Rattle.tenant_pipeline.specs.StateIn.{counts_in, part_in, state_in, state_of}
-use Rattle.tenant_pipeline.proofs.Posting.{Body, body_is, body_left, on_err, on_ok_both, on_err_then}
+use Rattle.tenant_pipeline.proofs.Posting.{Body, body_is, body_left, on_ok, on_err, on_ok_both, on_err_then}
 use Rattle.tenant_pipeline.proofs.Taking.{size_is, verdict_taken, post_taken, verdict_limited}
 use Rattle.tenant_pipeline.proofs.Sweeping.{swept_either}
 use Rattle.tenant_pipeline.proofs.pipeline.Pipeline.take_post.Goals as goal
 
 -- ---- refused whole
 
-pub returns-then-not-fits-clause-told : goal.returns-then-not-fits-clause-told
-returns-then-not-fits-clause-told c =
+-- more would be counted than may be
+over : (c : goal.After-refusal-then-not-fits) → most_counted < counted c.args.self.now.ledger + length (arrivals_of c.args.prepared.now)
+over c =
     let own = c.args.self.now in
-    let s = state_in own c.args.stores.now in
     let d = c.args.prepared.now in
-    let arrivals = arrivals_of d in
     let test : nat_le (counted own.ledger + c.saturating_add.result) most_counted ≡ false = sym c.fits.ensures ∙ c.if-not-fits.true in
-    let over : most_counted < counted own.ledger + c.saturating_add.result = grind (arith, nat_tests, test) in
+    let more : most_counted < counted own.ledger + c.saturating_add.result = grind (arith, nat_tests, test) in
     let sum = c.saturating_add.ensures in
     let invalid = c.invalid-invalid.ensures in
     let spans = ap length c.parts.ensures.arrivals in
     let same = length-map c.parts.result.1.now (arrival_in c.parts.result.0.now) in
     let size = size_is d.arrivals d.invalid in
-    let more : most_counted < counted own.ledger + length arrivals = omega (arith, over, sum, invalid, spans, same, size) in
-    subst (λ (v : Verdict). IfOk c.refusal-then-not-fits.result (λ reply. reply ≡ reply_of v)) (sym (verdict_limited c.args.moment arrivals s c.if-self.false more)) c.refusal-then-not-fits.ensures
+    omega (arith, more, sum, invalid, spans, same, size)
+
+pub returns-then-not-fits-clause-ok : goal.returns-then-not-fits-clause-ok
+returns-then-not-fits-clause-ok c =
+    let s = state_in c.args.self.now c.args.stores.now in
+    let arrivals = arrivals_of c.args.prepared.now in
+    let m = c.args.moment in
+    on_ok c.refusal-then-not-fits.result (sym (ap (λ (v : Verdict). posted v (at m s) (all_come m (valid arrivals) (at m s))) (verdict_limited m arrivals s c.if-self.false (over c))))
+
+pub returns-then-not-fits-clause-told : goal.returns-then-not-fits-clause-told
+returns-then-not-fits-clause-told c =
+    let s = state_in c.args.self.now c.args.stores.now in
+    subst (λ (v : Verdict). IfOk c.refusal-then-not-fits.result (λ reply. reply ≡ reply_of v)) (sym (verdict_limited c.args.moment (arrivals_of c.args.prepared.now) s c.if-self.false (over c))) c.refusal-then-not-fits.ensures
 
 -- ---- the origins are held
 
