@@ -36,7 +36,8 @@ def ended(arguments, script=b"", **how):
 def usage():
     wrong = ([], ["replay"], ["help"], ["-h"], ["--help", "more"], ["replay", SETTINGS, "more"], ["check"],
              ["check", SETTINGS, "more"], ["serve"], ["serve", SETTINGS, "more"], ["serve", "--audit", SETTINGS],
-             ["serve", SETTINGS, "--audit", "more"], ["replay", SETTINGS, "--audit"],
+             ["serve", SETTINGS, "--audit", "more"], ["replay", SETTINGS, "--audit"], ["replay", SETTINGS, "--verbose"],
+             ["serve", SETTINGS, "--verbose", "--verbose"], ["serve", SETTINGS, "--audit", "--verbose", "more"],
              [b"replay", b"\xff"], [b"\xff"], [b"--help", b"\xc3("])
     for arguments in wrong:
         check(arguments, ended(arguments), (2, b"", USAGE))
@@ -274,8 +275,38 @@ def answers_at_once():
         check("its status", run.wait(10), 0)
 
 
+def course():
+    """Only with --verbose is standard error told of a service's course; what is told on standard output is the same."""
+    counts = ("accepted", "undecided", "pending", "queued", "active", "exported", "not_sampled", "too_early", "queue_full",
+              "retry_exhausted", "back_end_refused", "back_end_rejected", "invalid", "over_budget")
+    report = ("report a " + " ".join(f"{name}=0" for name in counts) + "\n").encode()
+    stages = (b"serving at 127.0.0.1:PORT\ndraining: tenants take no more spans, and send what they hold\n"
+              b"closing: all is sent, waiting for open connections\nended: all threads are done\n")
+    with tempfile.TemporaryDirectory() as folder:
+        file = Path(folder, "settings.toml")
+        file.write_text('[global]\nlisten = "127.0.0.1:0"\n' + TENANT)
+
+        def served(*options, **how):
+            status, out, err = ended(["serve", str(file), *options], b"report a\n", **how)
+            return status, re.sub(rb"audit 0 \d+", b"audit 0 N", out), err and re.sub(rb":[1-9]\d*\n", b":PORT\n", err)
+
+        audit = b"audit 0 N\n"
+        check("a quiet service", served(), (0, report * 2, b""))
+        check("one that is audited", served("--audit"), (0, report * 2 + audit, b""))
+        check("one that tells", served("--verbose"), (0, report * 2, stages))
+        for options in (("--audit", "--verbose"), ("--verbose", "--audit")):
+            check(options, served(*options), (0, report * 2 + audit, stages))
+        with open("/dev/full", "wb") as full:
+            check("a full disk", served("--verbose", stderr=full), (0, report * 2, None))
+        reader, writer = os.pipe()
+        os.close(reader)
+        check("nobody reads", served("--verbose", stderr=writer), (0, report * 2, None))
+        os.close(writer)
+
+
 usage()
 faults()
+course()
 checks()
 page_of_faults()
 answers_at_once()

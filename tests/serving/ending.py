@@ -66,6 +66,29 @@ def with_clients(folder):
         check("spans", b"".join(back_end.bodies()).count(b"\x0a\x10"), taken)
 
 
+def told_of(folder):
+    """With --verbose standard error is told where the service listens, and at its end what it waits for: a tenant's
+    spans, and then a client."""
+    with BackEnd() as back_end, BackEnd(None) as slow:
+        with Service(folder, [tenant("a", back_end), tenant("b", slow)], "--verbose") as service:
+            check("where", told(service), f"serving at 127.0.0.1:{service.port}\n")
+            with service.connect() as kept:
+                check("a post", service.post("b", body(1, 1), kept), (200, b""))
+                service.run.stdin.close()
+                check("its end", told(service), "draining: tenants take no more spans, and send what they hold\n")
+                check("for whom", told(service), "sending: waiting until b holds no spans\n")
+                wait_for(lambda: slow.posts, "it is sent")
+                slow.release()
+                check("for clients", told(service), "closing: all is sent, waiting for open connections\n")
+                check("reports", (service.hear(), service.hear()), (line_of("a"), line_of("b", accepted=1, exported=1)))
+            check("the end", service.end(), (0, "", b"ended: all threads are done\n"))
+
+
+def told(service):
+    """The next line of its standard error."""
+    return service.run.stderr.readline().decode()
+
+
 def failing_output(folder):
     """Where a report can't be printed the service ends as at the end of its input, and then says what was wrong."""
     fault = (1, b"input or output fault\n")
@@ -127,4 +150,4 @@ def port_below(process):
         return None
 
 
-TESTS = (drained, giving_up, with_clients, failing_output, started_by_a_script)
+TESTS = (drained, giving_up, with_clients, told_of, failing_output, started_by_a_script)

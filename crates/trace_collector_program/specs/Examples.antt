@@ -36,12 +36,17 @@ pub record Arguments : Type 0 where
   pub one_word_more : task_of (command ∷ path ∷ path ∷ []) ≡ None
   pub no_path : task_of (command ∷ []) ≡ None
   pub none : task_of [] ≡ None
-  pub served : task_of (codes "serve" ∷ path ∷ []) ≡ Some (serve path false)
-  pub audited : task_of (codes "serve" ∷ path ∷ codes "--audit" ∷ []) ≡ Some (serve path true)
+  pub served : task_of (codes "serve" ∷ path ∷ []) ≡ Some (serve path false false)
+  pub audited : task_of (codes "serve" ∷ path ∷ codes "--audit" ∷ []) ≡ Some (serve path true false)
   pub serve_alone : task_of (codes "serve" ∷ []) ≡ None
   pub serve_two : task_of (codes "serve" ∷ path ∷ path ∷ []) ≡ None
   pub audit_first : task_of (codes "serve" ∷ codes "--audit" ∷ path ∷ []) ≡ None
   pub audited_and_more : task_of (codes "serve" ∷ path ∷ codes "--audit" ∷ path ∷ []) ≡ None
+  pub verbose : task_of (codes "serve" ∷ path ∷ codes "--verbose" ∷ []) ≡ Some (serve path false true)
+  pub both : task_of (codes "serve" ∷ path ∷ codes "--audit" ∷ codes "--verbose" ∷ []) ≡ Some (serve path true true)
+  pub other_way_round : task_of (codes "serve" ∷ path ∷ codes "--verbose" ∷ codes "--audit" ∷ []) ≡ Some (serve path true true)
+  pub twice : task_of (codes "serve" ∷ path ∷ codes "--verbose" ∷ codes "--verbose" ∷ []) ≡ None
+  pub both_and_more : task_of (codes "serve" ∷ path ∷ codes "--audit" ∷ codes "--verbose" ∷ path ∷ []) ≡ None
   pub replay_audited : task_of (command ∷ path ∷ codes "--audit" ∷ []) ≡ None
   pub other_command : task_of (codes "run" ∷ path ∷ []) ≡ None
   pub capital : task_of (codes "Replay" ∷ path ∷ []) ≡ None

@@ -15,7 +15,6 @@ abbrev pub of_service : ServiceFault → ProgramFault
 of_service service.OutOfMemory = Replay replay.OutOfMemory
 of_service service.NoThread = Replay replay.OutOfMemory
 of_service service.Line = Replay replay.Line
-of_service service.CallersMissing = Replay replay.Line
 
 -- of files, input and output only the want of memory is told apart
 pub record IsOfFile (kind : ErrorKind) (fault : ProgramFault) : Type 0 where

@@ -127,7 +127,7 @@ fn ended(rt: &impl Eprint, end: Result<End, ProgramFault>) -> ExitCode
 
 fn run<R>(rt: &R) -> Result<End, ProgramFault>
 where
-    R: Env + Files + Input + Print + AllocGlobal + Clock + Threads + Wait + Sync,
+    R: Env + Files + Input + Print + Eprint + AllocGlobal + Clock + Threads + Wait + Sync,
     R: Net<Listener = TcpListener, Stream = TcpStream>,
 {
     let args = match env::args(rt) {
@@ -140,7 +140,13 @@ where
     }
     match asked_task(words.as_slice()) {
         Some(Task::Replay { settings }) => replay_file(rt, settings)?,
-        Some(Task::Serve { settings, audit }) => serve_file(rt, settings, audit)?,
+        Some(
+            Task::Serve {
+                settings,
+                audit,
+                verbose,
+            },
+        ) => serve_file(rt, settings, audit, verbose)?,
         Some(Task::Check { settings }) => return check_file(rt, settings),
         Some(Task::Help) => rt.println(HELP)?,
         Some(Task::Version) => rt.println(VERSION)?,

@@ -14,7 +14,7 @@ use std::time::Clock;
 use std::{fs, io};
 use tail_settings::{Settings, load};
 use trace_collector::ReplayFault;
-use trace_service::{ServiceFault, run_service};
+use trace_service::{Observer, ServiceFault, Stage, run_service};
 
 impl From<ServiceFault> for ProgramFault {
     ghost from_gives = { λ fault given. given ≡ of_service fault };
@@ -24,18 +24,56 @@ impl From<ServiceFault> for ProgramFault {
             ServiceFault::OutOfMemory => ProgramFault::Replay(ReplayFault::OutOfMemory),
             // What a thread is started with is memory too.
             ServiceFault::NoThread => ProgramFault::Replay(ReplayFault::OutOfMemory),
-            ServiceFault::Line | ServiceFault::CallersMissing => {
-                ProgramFault::Replay(ReplayFault::Line)
+            ServiceFault::Line => ProgramFault::Replay(ReplayFault::Line),
+        }
+    }
+}
+
+/// Tells the service's course on standard error, a line a stage, where that is asked for. What can't be written is left
+/// out, and nothing else changes.
+#[derive(Drop)]
+struct Course<'r, 's, R> {
+    rt: &'r R,
+    listener: &'r TcpListener,
+    settings: &'s Settings,
+    is_verbose: bool,
+}
+
+impl<R: Eprint> Observer for Course<'_, '_, R> {
+    fn observe(&mut self, stage: Stage) {
+        if self.is_verbose {
+            let _ = self.tell(stage);
+        }
+    }
+}
+
+impl<R: Eprint> Course<'_, '_, R> {
+    fn tell(&self, stage: Stage) -> io::Result<()> {
+        match stage {
+            Stage::Serving => {
+                let address = self.listener.local_addr()?;
+                eprintln!(self.rt; "serving at {address}")
             }
+            Stage::Draining => self.rt.eprintln(
+                "draining: tenants take no more spans, and send what they hold",
+            ),
+            Stage::Sending { tenant } => {
+                let name = self.settings.name(tenant).unwrap_or("");
+                eprintln!(self.rt; "sending: waiting until {name} holds no spans")
+            }
+            Stage::Closing => self
+                .rt
+                .eprintln("closing: all is sent, waiting for open connections"),
+            Stage::Ended => self.rt.eprintln("ended: all threads are done"),
         }
     }
 }
 
 /// Serves under the settings in a file, until standard input ends and all is sent. Reports, and with `audit` the
-/// lengths of the logs, are written to standard output.
-pub fn serve_file<R>(rt: &R, path: &str, audit: bool) -> Result<(), ProgramFault>
+/// lengths of the logs, are written to standard output, and where it is `verbose` its course to standard error.
+pub fn serve_file<R>(rt: &R, path: &str, audit: bool, verbose: bool) -> Result<(), ProgramFault>
 where
-    R: Files + Input + Print + AllocGlobal + Clock + Threads + Wait + Sync,
+    R: Files + Input + Print + Eprint + AllocGlobal + Clock + Threads + Wait + Sync,
     R: Net<Listener = TcpListener, Stream = TcpStream>,
 {
     let text = settings_text(fs::read(rt, path)?)?;
@@ -44,6 +82,12 @@ where
     let listener = TcpListener::bind(rt, settings.global.listen.as_str())?;
     let mut input = BufReader::with_capacity(alloc, READ_SIZE, rt.reader())?;
     let mut output = io::writer(rt);
+    let mut course = Course {
+        rt,
+        listener: &listener,
+        settings: &settings,
+        is_verbose: verbose,
+    };
     run_service(
         rt,
         alloc,
@@ -51,6 +95,7 @@ where
         &listener,
         &mut input,
         &mut output,
+        &mut course,
         audit,
     )?;
     Ok(())

@@ -1,14 +1,14 @@
 //! What the arguments ask for.
 
 ghost use Rattle.std.specs.Prelude.{◌≡◌, map, option_map, string_bytes};
-ghost use Rattle.trace_collector_program.specs.Task.{option_of, on_file, task_of, task_view, with_option};
+ghost use Rattle.trace_collector_program.specs.Task.{are_both, option_of, on_file, task_of, task_view, with_both, with_option};
 
 /// What `--help` prints.
 pub const HELP: &str =
     "trace_collector is a collector of OTLP traces that many tenants share. It serves, or replays scripts of what
 happens to it.
 
-usage: trace_collector replay SETTINGS | serve SETTINGS [--audit]
+usage: trace_collector replay SETTINGS | serve SETTINGS [--audit] [--verbose]
        trace_collector check SETTINGS
 
   replay SETTINGS  does the script on standard input, a command a line, under the settings in that
@@ -16,7 +16,8 @@ usage: trace_collector replay SETTINGS | serve SETTINGS [--audit]
   serve SETTINGS   receives bodies over HTTP and sends what is kept to the tenants' back ends, until
                    standard input ends and all is sent; a line `report NAME` there prints that
                    tenant's counters, and at the end all are printed; with --audit also a line
-                   `audit SHARD ENTRIES` for each shard's log, which is kept in memory then
+                   `audit SHARD ENTRIES` for each shard's log, which is kept in memory then; with
+                   --verbose standard error is told where it listens and what its end waits for
   check SETTINGS   says what is wrong with that TOML file, or prints the settings in force; warns of
                    keys that no setting has
   --help           prints this text
@@ -45,11 +46,20 @@ pub const VERSION: &str = "trace_collector 0.1.0";
 #[derive(Clone, Copy, Debug, PartialEq, Eq)]
 pub enum Task<'a> {
     /// The script on standard input is replayed under the settings in this file.
-    Replay { settings: &'a str },
-    /// The collector serves under the settings in this file. With `audit` its logs keep all.
-    Serve { settings: &'a str, audit: bool },
+    Replay {
+        settings: &'a str,
+    },
+    /// The collector serves under the settings in this file. With `audit` its logs keep all, and `verbose` it tells of
+    /// its course.
+    Serve {
+        settings: &'a str,
+        audit: bool,
+        verbose: bool,
+    },
     /// The settings in this file are checked.
-    Check { settings: &'a str },
+    Check {
+        settings: &'a str,
+    },
     /// The help is printed.
     Help,
     /// The version is printed.
@@ -64,6 +74,12 @@ pub fn asked_task(args: &[String]) -> Option<Task<'_>>
         [word] => option(word.as_str()),
         [command, path] => on_file(command.as_str(), path.as_str()),
         [command, path, word] => with_option(command.as_str(), path.as_str(), word.as_str()),
+        [command, path, word, last] => with_both(
+            command.as_str(),
+            path.as_str(),
+            word.as_str(),
+            last.as_str(),
+        ),
         _ => None,
     }
 }
@@ -78,6 +94,7 @@ fn on_file<'a>(command: &str, path: &'a str) -> Option<Task<'a>>
         Some(Task::Serve {
             settings: path,
             audit: false,
+            verbose: false,
         })
     } else if command == "check" {
         Some(Task::Check { settings: path })
@@ -90,14 +107,46 @@ fn on_file<'a>(command: &str, path: &'a str) -> Option<Task<'a>>
 fn with_option<'a>(command: &str, path: &'a str, word: &str) -> Option<Task<'a>>
     ensures { option_map task_view result ≡ with_option command.now path.now word.now }
 {
-    if command == "serve" && word == "--audit" {
+    if command != "serve" {
+        return None;
+    }
+    if word == "--audit" {
         Some(Task::Serve {
             settings: path,
             audit: true,
+            verbose: false,
+        })
+    } else if word == "--verbose" {
+        Some(Task::Serve {
+            settings: path,
+            audit: false,
+            verbose: true,
         })
     } else {
         None
     }
+}
+
+/// What a command with two options asks for of the file of this path.
+fn with_both<'a>(command: &str, path: &'a str, word: &str, last: &str) -> Option<Task<'a>>
+    ensures { option_map task_view result ≡ with_both command.now path.now word.now last.now }
+{
+    if command == "serve" && are_both(word, last) {
+        Some(Task::Serve {
+            settings: path,
+            audit: true,
+            verbose: true,
+        })
+    } else {
+        None
+    }
+}
+
+/// Whether they are `--audit` and `--verbose`, one way round or the other.
+fn are_both(word: &str, last: &str) -> bool
+    ensures { result ≡ are_both word.now last.now }
+{
+    word == "--audit" && last == "--verbose" || word == "--verbose" && last == "--audit"
 }
 
 /// What a word alone asks for.

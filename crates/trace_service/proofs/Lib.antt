@@ -1,1 +1,3 @@
 pub mod Addresses
+pub mod Places
+pub mod Written

@@ -1,4 +1,6 @@
 pub mod Post
 pub mod Work
+pub mod Staff
+pub mod Told
 pub mod Audit
 pub mod Fault

@@ -1,10 +1,15 @@
 //! Who reads the input, and ends the service.
 
+ghost use Rattle.std.specs.Prelude.{length, OnOk, IfNone};
+ghost use Rattle.tail_settings.specs.Settings.{settings_view};
+ghost use Rattle.trace_service.specs.Told.{AreEmptyOn, IsDrained, IsReported};
+
 use crate::beat::ServiceBeat;
+use crate::course::{Observer, Stage};
 use crate::crew::all_arrive;
 use crate::input::{asked_report, next_line};
 use crate::naming::Naming;
-use crate::reports::write_report;
+use crate::reports::write_outcome;
 use crate::service::ServiceFault;
 use crate::station::Station;
 use export_edge::Beat;
@@ -14,7 +19,7 @@ use std::net::{Net, TcpListener, TcpStream};
 use std::sync::Wait;
 use std::time::Clock;
 use tail_settings::Settings;
-use tenant_shard::{Outcome, Step};
+use tenant_shard::Step;
 
 /// Who reads the input: its station, and how it reaches the listener.
 #[derive(Drop)]
@@ -34,21 +39,25 @@ where
 {
     /// Once all threads are there reads the input to its end, has every tenant send what it holds, and prints the
     /// reports. Whatever comes of it, the other threads are told that the work is over.
-    pub fn direct<I: BufRead, O: Write>(
+    pub fn direct<I: BufRead, O: Write, L: Observer>(
         &mut self,
         input: &mut I,
         output: &mut O,
+        observer: &mut L,
         threads: usize,
     ) -> Result<(), ServiceFault> {
         if !all_arrive(&mut self.beat, threads) {
             return Err(ServiceFault::NoThread);
         }
+        observer.observe(Stage::Serving);
         let heard = self.hear(input, output);
+        observer.observe(Stage::Draining);
         self.drain_all();
         self.beat.signals().close();
         self.wake_receivers();
-        self.await_empty();
+        self.await_empty(observer);
         let told = self.tell_all(output);
+        observer.observe(Stage::Closing);
         self.beat.signals().end();
         heard?;
         told
@@ -73,13 +82,15 @@ where
     }
 
     /// Prints a tenant's report.
-    fn tell<O: Write>(&mut self, output: &mut O, tenant: u32) -> Result<(), ServiceFault> {
+    fn tell<O: Write>(&mut self, output: &mut O, tenant: u32) -> Result<(), ServiceFault>
+        ensures told { OnOk result (IsReported (settings_view self.old.settings.now) self.old.station.caller
+            self.new.station.caller (length self.old.station.hub.now) tenant
+            (O.contents output.old) (O.contents output.new)) }
+    {
         let now = self.beat.now();
         let step = Step::Report { tenant, now };
         let outcome = self.station.step(tenant, step)?;
-        if let (Outcome::Report(_, counters), Some(name)) = (outcome, self.settings.name(tenant)) {
-            write_report(self.alloc, output, name, counters.as_slice())?;
-        }
+        write_outcome(self.alloc, output, self.settings.name(tenant), &outcome)?;
         Ok(())
     }
 
@@ -99,15 +110,18 @@ where
     }
 
     /// Drains a tenant: again, after a pause, where memory was refused.
-    fn drain(&mut self, tenant: u32) {
-        for _ in self.rt.forever() {
+    fn drain(&mut self, tenant: u32)
+        ensures drained { IsDrained self.new.station.caller (length self.old.station.hub.now) tenant }
+    {
+        'attempts: for _ in self.rt.forever() {
             let now = self.beat.now();
             let step = Step::Drain { tenant, now };
-            if self.station.step(tenant, step).is_ok() {
+            if let Ok(_drained) = self.station.step(tenant, step) {
                 return;
             }
             self.beat.pause();
         }
+        unreachable!()
     }
 
     /// Makes a connection for each receiver to the listener's own address, so that none waits for one.
@@ -121,22 +135,30 @@ where
     }
 
     /// Waits until no tenant holds a span.
-    fn await_empty(&mut self) {
+    fn await_empty<L: Observer>(&mut self, observer: &mut L) {
+        let mut awaited = None;
         for _ in self.rt.forever() {
-            if self.are_empty() {
+            let Some(tenant) = self.first_held() else {
                 return;
+            };
+            if awaited != Some(tenant) {
+                awaited = Some(tenant);
+                observer.observe(Stage::Sending { tenant });
             }
             self.beat.pause();
         }
     }
 
-    /// Whether no tenant holds a span.
-    fn are_empty(&mut self) -> bool {
+    /// The first tenant that holds a span, or None where none does.
+    fn first_held(&mut self) -> Option<u32>
+        ensures none { IfNone result (AreEmptyOn self.old.station.caller (length self.old.station.hub.now)
+            (length (settings_view self.old.settings.now).tenants)) }
+    {
         for tenant in 0..self.settings.tenants_len() {
             if !self.station.is_empty(tenant) {
-                return false;
+                return Some(tenant);
             }
         }
-        true
+        None
     }
 }

@@ -45,6 +45,8 @@ impl<'h, 'a, J: Naming, R: Wait + Clock> Worker<'h, 'a, J, R> {
     /// A thread's things, before its work.
     pub fn new(role: Role, station: Station<'h, 'a, J, R>, seat: LaneSeat) -> Worker<'h, 'a, J, R>
         requires { seat.lane ≡ J.lane }
+        ensures role { result.role ≡ role }
+        ensures shard { result.station.shard ≡ station.entry.shard }
     {
         Worker {
             role,

@@ -1,5 +1,9 @@
 //! What the input asks for.
 
+ghost use Rattle.std.specs.Prelude.{IfSome, IfNone};
+ghost use Rattle.tail_settings.specs.Settings.{settings_view};
+ghost use Rattle.trace_service.specs.Told.{Asks, AsksNobody};
+
 use std::io::{BufRead, ErrorKind};
 use std::sync::Wait;
 use std::{io, str};
@@ -18,7 +22,10 @@ enum Part {
 
 /// The number of the tenant whose counters a line asks for: `report`, a space and its name. None where the line is any
 /// other.
-pub(crate) fn asked_report(settings: &Settings, line: &[u8]) -> Option<u32> {
+pub(crate) fn asked_report(settings: &Settings, line: &[u8]) -> Option<u32>
+    ensures asked { IfSome result (Asks (settings_view settings.now) line.now) }
+    ensures none { IfNone result (AsksNobody (settings_view settings.now) line.now) }
+{
     let name = line.strip_prefix(b"report ".as_slice())?;
     match str::from_utf8(name) {
         Ok(name) => settings.number(name),

@@ -12,6 +12,7 @@
 
 mod beat;
 mod control;
+mod course;
 mod crew;
 mod input;
 mod naming;
@@ -22,5 +23,6 @@ mod shared;
 mod staff;
 mod station;
 
+pub use crate::course::{Observer, Stage};
 pub use crate::post::post_body;
 pub use crate::service::{ServiceFault, run_service};

@@ -1,18 +1,40 @@
 //! What the service prints.
 
-ghost use Rattle.std.specs.Prelude.{◌≡◌, ◌++◌, OnOk};
+ghost use Rattle.std.specs.Prelude.{◌≡◌, ◌++◌, OnOk, option_map};
 ghost use Rattle.std.specs.Io.KnownBytes.{Appends};
 ghost use Rattle.replay_script.specs.Answer.{report_text};
 ghost use Rattle.trace_service.specs.Audit.{audit_line, audit_text};
+ghost use Rattle.trace_service.specs.Told.{report_line};
 
 use replay_script::put_report;
 use shared_hub::ShardLog;
 use std::alloc::{AllocError, Global};
 use std::io;
 use std::io::Write;
+use tenant_shard::Outcome;
+
+/// Writes what a tenant's report came to: its counters as a line. Any other outcome is none.
+#[tactic(auto, using(crate::proofs::Written::appends_nothing))]
+pub(crate) fn write_outcome<W: Write>(
+    alloc: Global,
+    output: &mut W,
+    name: Option<&str>,
+    outcome: &Outcome,
+) -> io::Result<()>
+    ensures { OnOk result (Appends (W.contents output.old) (W.contents output.new)
+        (report_line (option_map (λ n. n.now) name.entry) outcome.now)) }
+{
+    let Some(name) = name else {
+        return Ok(());
+    };
+    match outcome {
+        Outcome::Report(_, counters) => write_report(alloc, output, name, counters.as_slice()),
+        _ => Ok(()),
+    }
+}
 
 /// Writes a tenant's counters as a line.
-pub(crate) fn write_report<W: Write>(
+fn write_report<W: Write>(
     alloc: Global,
     output: &mut W,
     name: &str,

@@ -1,6 +1,6 @@
 //! The service, from its start to its end.
 
-ghost use Rattle.std.specs.Prelude.{◌≡◌, List, map, string_bytes, All, IfOk, OnOk, IsTrue};
+ghost use Rattle.std.specs.Prelude.{◌≡◌, ◌<◌, ◌≤◌, List, map, string_bytes, All, IfOk, OnOk, IsTrue, vec_len};
 ghost use Rattle.std.specs.Io.KnownBytes.{Appends};
 ghost use Rattle.std.specs.IoError.{error_kind};
 ghost use Rattle.std.specs.Thread.{IsSync};
@@ -16,6 +16,7 @@ ghost use Rattle.trace_service.specs.declared.service.ServiceFault.TheVariants a
 
 use crate::beat::{ServiceBeat, Signals};
 use crate::control::Control;
+use crate::course::{Observer, Stage};
 use crate::crew::{Worker, work_all};
 use crate::naming::Naming;
 use crate::reports::write_audit;
@@ -46,9 +47,6 @@ pub enum ServiceFault {
     /// A thread couldn't be started.
     #[error("no thread")]
     NoThread,
-    /// Not all callers came back: nothing is told of the logs.
-    #[error("callers missing")]
-    CallersMissing,
 }
 
 impl From<AllocError> for ServiceFault {
@@ -87,33 +85,36 @@ impl From<HubFault> for ServiceFault {
 /// Serves until the input ends and all tenants have sent what they held: as many receivers and senders as the settings
 /// say, a turner for each shard, and one lane. A line `report NAME` of the input prints that tenant's counters, and all
 /// reports are printed at the end; with `audit` also how many entries each shard's log has. After a fault of the input
-/// or the output the service ends as it does at the input's end, and then says so.
-pub fn run_service<R, I, O>(
+/// or the output the service ends as it does at the input's end, and then says so. The observer is told of its course.
+pub fn run_service<R, I, O, L>(
     rt: &R,
     alloc: Global,
     settings: &Settings,
     listener: &TcpListener,
     input: &mut I,
     output: &mut O,
+    observer: &mut L,
     audit: bool,
 ) -> Result<(), ServiceFault>
 where
     R: Net<Listener = TcpListener, Stream = TcpStream> + Threads + Wait + Clock + Sync,
     I: BufRead,
     O: Write,
+    L: Observer,
     ensures audit { OnOk result (IsTrue audit → IsAudited (settings_view settings.now) (O.contents output.new)) }
 {
     let global = &settings.global;
     let threads = global.shards as usize + global.senders as usize + global.receivers as usize + 1;
     let (hub, keeper, callers) = SharedHub::open(rt, alloc, settings, threads, audit)?;
     let (lane, _keeper, seats) = Lane::open(alloc, global.lane_size as usize, threads)?;
-    run_named::<Brand, R, I, O>(
-        rt, alloc, settings, listener, hub, keeper, callers, &lane, seats, input, output, audit,
+    run_named::<Brand, R, I, O, L>(
+        rt, alloc, settings, listener, hub, keeper, callers, &lane, seats, input, output, observer,
+        audit,
     )
 }
 
 /// The same, with a hub and a lane that have a name.
-fn run_named<'a, J, R, I, O>(
+fn run_named<'a, J, R, I, O, L>(
     rt: &R,
     alloc: Global,
     settings: &'a Settings,
@@ -125,6 +126,7 @@ fn run_named<'a, J, R, I, O>(
     seats: Vec<LaneSeat>,
     input: &mut I,
     output: &mut O,
+    observer: &mut L,
     audit: bool,
 ) -> Result<(), ServiceFault>
 where
@@ -132,17 +134,22 @@ where
     R: Net<Listener = TcpListener, Stream = TcpStream> + Threads + Wait + Clock + Sync,
     I: BufRead,
     O: Write,
+    L: Observer,
     requires hub { hub ≡ J.slots }
     requires keeper { keeper.slots ≡ hub }
     requires callers { AreCallersOf J.slots callers.items }
     requires lane { lane.now.name ≡ J.lane }
     requires seats { All (λ s. s.lane ≡ J.lane) seats.items }
     requires opened { AreOpened (settings_view settings.now) keeper.homes }
+    requires some { 0 < vec_len callers }
+    requires all { vec_len callers ≡ keeper.callers }
+    requires enough { vec_len callers ≤ vec_len seats }
     ensures audit { OnOk result (IsTrue audit → IsAudited (settings_view settings.now) (O.contents output.new)) }
 {
-    let (callers, ended) = at_work::<J, R, I, O>(
-        rt, alloc, settings, listener, &hub, callers, lane, seats, input, output,
+    let (callers, ended) = at_work::<J, R, I, O, L>(
+        rt, alloc, settings, listener, &hub, callers, lane, seats, input, output, observer,
     )?;
+    observer.observe(Stage::Ended);
     if audit {
         write_logs(rt, alloc, hub, keeper, callers, output)?;
     }
@@ -160,6 +167,7 @@ fn write_logs<'a, R: Wait, O: Write>(
 ) -> Result<(), ServiceFault>
     requires keeper { keeper.slots ≡ hub }
     requires callers { AreCallersOf hub callers.items }
+    requires all { vec_len callers ≡ keeper.callers }
     ensures lines { OnOk result ((shards : List LoggedShard)
         × AreShardRuns WordedDoes keeper.entry.homes callers.entry.items shards
         × Appends (O.contents output.old) (O.contents output.new) (audit_text shards)) }
@@ -167,14 +175,14 @@ fn write_logs<'a, R: Wait, O: Write>(
         IsAudited table (O.contents output.new)) }
 {
     let Ok(shards) = hub.close(rt, keeper, callers) else {
-        return Err(ServiceFault::CallersMissing);
+        unreachable!()
     };
     write_audit(alloc, output, shards.as_slice())?;
     Ok(())
 }
 
 /// All threads' work, to its end: the callers, and how the input and the output fared.
-fn at_work<'a, J, R, I, O>(
+fn at_work<'a, J, R, I, O, L>(
     rt: &R,
     alloc: Global,
     settings: &'a Settings,
@@ -185,17 +193,22 @@ fn at_work<'a, J, R, I, O>(
     seats: Vec<LaneSeat>,
     input: &mut I,
     output: &mut O,
+    observer: &mut L,
 ) -> Result<(Vec<Caller<'a>>, Result<(), ServiceFault>), ServiceFault>
 where
     J: Naming + Send + Sync,
     R: Net<Listener = TcpListener, Stream = TcpStream> + Threads + Wait + Clock + Sync,
     I: BufRead,
     O: Write,
+    L: Observer,
     requires hub { hub.now ≡ J.slots }
     requires callers { AreCallersOf J.slots callers.items }
     requires lane { lane.now.name ≡ J.lane }
     requires seats { All (λ s. s.lane ≡ J.lane) seats.items }
-    ensures { IfOk result (λ r. AreCallersOf J.slots r.0.items) }
+    requires some { 0 < vec_len callers }
+    requires enough { vec_len callers ≤ vec_len seats }
+    ensures theirs { IfOk result (λ r. AreCallersOf J.slots r.0.items) }
+    ensures all { IfOk result (λ r. vec_len r.0 ≡ vec_len callers.entry) }
 {
     let signals = Signals::new();
     let start = Instant::now(rt)?;
@@ -211,32 +224,37 @@ where
         beat: ServiceBeat::new(rt, &signals, start),
         threads: callers.len(),
     };
-    work_on::<J, R, I, O>(&shared, callers, seats, input, output)
+    work_on::<J, R, I, O, L>(&shared, callers, seats, input, output, observer)
 }
 
 /// The same, with what is shared.
-fn work_on<'h, 'a, J, R, I, O>(
+fn work_on<'h, 'a, J, R, I, O, L>(
     shared: &Shared<'h, 'a, R>,
     mut callers: Vec<Caller<'a>>,
     seats: Vec<LaneSeat>,
     input: &mut I,
     output: &mut O,
+    observer: &mut L,
 ) -> Result<(Vec<Caller<'a>>, Result<(), ServiceFault>), ServiceFault>
 where
     J: Naming + Send + Sync,
     R: Net<Listener = TcpListener, Stream = TcpStream> + Threads + Wait + Clock + Sync,
     I: BufRead,
     O: Write,
+    L: Observer,
     requires hub { shared.now.hub.now ≡ J.slots }
     requires callers { AreCallersOf J.slots callers.items }
     requires lane { shared.now.lane.now.name ≡ J.lane }
     requires seats { All (λ s. s.lane ≡ J.lane) seats.items }
-    ensures { IfOk result (λ r. AreCallersOf J.slots r.0.items) }
+    requires some { 0 < vec_len callers }
+    requires enough { vec_len callers ≤ vec_len seats }
+    ensures theirs { IfOk result (λ r. AreCallersOf J.slots r.0.items) }
+    ensures all { IfOk result (λ r. vec_len r.0 ≡ vec_len callers.entry) }
 {
     let shards = shared.hub.shards();
     prove!(0 < shards);
     let Some(own) = callers.pop() else {
-        return Err(ServiceFault::CallersMissing);
+        unreachable!()
     };
     let mut control = Control {
         rt: shared.rt,
@@ -247,24 +265,33 @@ where
         beat: shared.beat.again(),
     };
     let mut crew = staff::<J, R>(shared, callers, seats)?;
-    let ended = work_beside(shared, crew.as_mut_slice(), &mut control, input, output);
+    let ended = work_beside(
+        shared,
+        crew.as_mut_slice(),
+        &mut control,
+        input,
+        output,
+        observer,
+    );
     let own = control.station.into_caller();
     Ok((dismiss(shared.alloc, crew, own)?, ended))
 }
 
 /// The crew's work, with that of who reads the input beside it: how the input and the output fared.
-fn work_beside<'h, 'a, J, R, I, O>(
+fn work_beside<'h, 'a, J, R, I, O, L>(
     shared: &Shared<'h, 'a, R>,
     crew: &mut [Worker<'h, 'a, J, R>],
     control: &mut Control<'h, 'a, J, R>,
     input: &mut I,
     output: &mut O,
+    observer: &mut L,
 ) -> Result<(), ServiceFault>
 where
     J: Naming + Send + Sync,
     R: Net<Listener = TcpListener, Stream = TcpStream> + Threads + Wait + Clock + Sync,
     I: BufRead,
     O: Write,
+    L: Observer,
     requires { shared.now.lane.now.name ≡ J.lane }
 {
     let ((), ended) = join(
@@ -272,7 +299,7 @@ where
         ||
             requires { IsSync R.row × (shared.now.lane.now.name ≡ J.lane) }
         { work_all(shared, crew) },
-        || control.direct(input, output, shared.threads),
+        || control.direct(input, output, observer, shared.threads),
     );
     ended
 }

@@ -38,6 +38,7 @@ impl<'h, 'a, R: Wait + Clock> Shared<'h, 'a, R> {
         requires hub { self.now.hub.now ≡ J.slots }
         requires mine { slots_of caller ≡ J.slots }
         requires shard { shard < length J.slots }
+        ensures shard { result.shard ≡ shard }
     {
         Station::new(
             self.rt,

@@ -1,7 +1,8 @@
 //! Who works at what.
 
-ghost use Rattle.std.specs.Prelude.{◌≡◌, ◌<◌, length, All, IfOk, vec_len};
+ghost use Rattle.std.specs.Prelude.{◌≡◌, ◌<◌, ◌≤◌, ◌+◌, length, map, All, IfOk, vec_len};
 ghost use Rattle.machine_hub.specs.Hub.{AreCallersOf, slots_of};
+ghost use Rattle.trace_service.specs.Staff.{place_of, places};
 
 use crate::crew::{Role, Worker};
 use crate::naming::Naming;
@@ -12,7 +13,7 @@ use std::alloc::{AllocError, Global};
 use std::sync::Wait;
 use std::time::Clock;
 
-/// A worker for each caller that has a seat: turners first, one for each shard, then senders, then receivers.
+/// A worker for each caller: turners first, one for each shard, then senders, then receivers.
 pub(crate) fn staff<'h, 'a, J: Naming, R: Wait + Clock>(
     shared: &Shared<'h, 'a, R>,
     mut callers: Vec<Caller<'a>>,
@@ -21,13 +22,17 @@ pub(crate) fn staff<'h, 'a, J: Naming, R: Wait + Clock>(
     requires hub { shared.now.hub.now ≡ J.slots }
     requires callers { AreCallersOf J.slots callers.items }
     requires seats { All (λ s. s.lane ≡ J.lane) seats.items }
+    requires enough { vec_len callers ≤ vec_len seats }
+    ensures places { IfOk result (λ crew. map (λ w. (w.role, w.station.shard)) crew.items
+        ≡ places (length shared.now.hub.now) shared.now.settings.now.global.senders (vec_len callers.entry)) }
+    ensures count { IfOk result (λ crew. vec_len crew ≡ vec_len callers.entry) }
 {
     let shards = shared.hub.shards();
     let senders = shared.settings.global.senders as usize;
     let mut crew = Vec::new(shared.alloc);
     while let Some(caller) = callers.pop() {
         let Some(seat) = seats.pop() else {
-            return Ok(crew);
+            unreachable!()
         };
         let (role, shard) = place(crew.len(), shards, senders);
         crew.push(Worker::new(role, shared.station::<J>(caller, shard), seat))?;
@@ -38,7 +43,8 @@ pub(crate) fn staff<'h, 'a, J: Naming, R: Wait + Clock>(
 /// What the worker of this number does, and at which shard's station.
 fn place(number: usize, shards: usize, senders: usize) -> (Role, usize)
     requires { 0 < shards }
-    ensures { result.1 < shards }
+    ensures place { result ≡ place_of shards senders number }
+    ensures shard { result.1 < shards }
 {
     if number < shards {
         (Role::Turner, number)
@@ -56,7 +62,8 @@ pub(crate) fn dismiss<'h, 'a, J: Naming, R: Wait + Clock>(
     own: Caller<'a>,
 ) -> Result<Vec<Caller<'a>>, AllocError>
     requires { slots_of own ≡ J.slots }
-    ensures { IfOk result (λ all. AreCallersOf J.slots all.items) }
+    ensures theirs { IfOk result (λ all. AreCallersOf J.slots all.items) }
+    ensures all { IfOk result (λ all. vec_len all ≡ 1 + vec_len crew.entry) }
 {
     let mut callers = Vec::new(alloc);
     callers.push(own)?;

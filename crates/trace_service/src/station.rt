@@ -92,6 +92,7 @@ impl<'h, 'a, J: Naming, R: Wait + Clock> Station<'h, 'a, J, R> {
             × IsStepOn self.old.caller self.new.caller (tenant % length self.old.hub.now) step.entry outcome receipt) }
         ensures refused { OnErr result (IsRefusedOn self.old.caller self.new.caller
             (tenant % length self.old.hub.now)) }
+        ensures hub { self.new.hub ≡ self.old.hub }
     {
         let shard = tenant as usize % self.hub.shards();
         let (outcome, _receipt) = self
@@ -104,6 +105,7 @@ impl<'h, 'a, J: Naming, R: Wait + Clock> Station<'h, 'a, J, R> {
     pub fn is_empty(&mut self, tenant: u32) -> bool
         ensures empty { IsEmptyOn self.old.caller (tenant % length self.old.hub.now) tenant result }
         ensures same { self.new.caller ≡ self.old.caller }
+        ensures hub { self.new.hub ≡ self.old.hub }
     {
         self.hub.empty(self.rt, &mut self.caller, tenant)
     }

@@ -1,9 +1,12 @@
-use Rattle.std.proofs.Common.{vec_len}
+use Rattle.std.proofs.Common.{◌≡◌, ◌+◌, vec_len}
 use Rattle.machine_hub.specs.Hub.{AreCallersOf}
 use Rattle.trace_service.proofs.staff.dismiss.Given as goal
 
 abbrev pub invariant-loop-worker : goal.invariant-loop-worker
-invariant-loop-worker g l = AreCallersOf g.J.Naming.slots l.callers.items
+invariant-loop-worker g l = record {
+  theirs : AreCallersOf g.J.Naming.slots l.callers.items;
+  count : vec_len l.callers + vec_len l.crew ≡ 1 + vec_len l.fn.crew;
+}
 
 abbrev pub decreases-loop-worker : goal.decreases-loop-worker
 decreases-loop-worker g l = vec_len l.crew
