@@ -1,6 +1,7 @@
 //! The log of a shard.
 
-ghost use Rattle.std.specs.Prelude.{◌≡◌, ◌++◌, ◌∷◌, [], map, true, false, IfOk, OnErr};
+ghost use Rattle.std.specs.Prelude.{◌≡◌, ◌<◌, ◌+◌, ◌^◌, ◌++◌, ◌∷◌, [], map, length, true, false, IfOk, OnOk, OnErr};
+ghost use Rattle.std.specs.Prelude.{vec_len, vec_capacity};
 ghost use Rattle.std.specs.Arc.{arc_value};
 
 use shared_machine::{Entry, StepLog};
@@ -41,7 +42,12 @@ impl<'a> StepLog<WordedShard<'a>> for OptionalLog<'a> {
         self.keeps
     }
 
-    fn room(&mut self, _alloc: Global, _number: u32) -> Result<(), AllocError> {
+    fn room(&mut self, _alloc: Global, _number: u32) -> Result<(), AllocError>
+        ensures same { (map arc_value self.new.kept.items ≡ map arc_value self.old.kept.items)
+            × (self.new.keeps ≡ self.old.keeps) }
+        ensures room { OnOk result (length (map arc_value self.new.kept.items) + 1 < 2 ^ 64) }
+        ensures grown { OnOk result ((self.old.keeps ≡ true) → vec_len self.new.kept < vec_capacity self.new.kept) }
+    {
         if !self.keeps {
             return Ok(());
         }
