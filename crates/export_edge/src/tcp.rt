@@ -4,7 +4,7 @@ ghost use Rattle.std.specs.Prelude.{◌≡◌};
 use crate::dial::{Dial, DialingBackEnd};
 use http_line::StreamLine;
 use std::alloc::Global;
-use std::net::{Net, TcpStream};
+use std::net::{Net, OpenStream, TcpStream};
 
 /// Makes connections over TCP.
 #[derive(Drop)]
@@ -20,7 +20,11 @@ impl<R: Net> Dial for TcpDialer<'_, R> {
 
     fn dial(&mut self, address: &str) -> Option<StreamLine<R::Stream>> {
         match TcpStream::connect(self.net, address) {
-            Ok(stream) => Some(StreamLine::new(stream)),
+            Ok(stream) => {
+                // A post is two writes, and the second isn't to wait until the first has been acknowledged.
+                let _delays_at_worst = stream.set_nodelay(true);
+                Some(StreamLine::new(stream))
+            }
             Err(_) => None,
         }
     }

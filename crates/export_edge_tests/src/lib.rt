@@ -1,8 +1,10 @@
-//! Tests of `export_edge`: posts over lines in memory, cut and broken off at every byte and at every call; posts over a
-//! connection to this machine; and what turners and senders did, seen from a source, a sink and a back end that take
-//! notes.
+//! Tests of `export_edge`: posts over lines in memory, cut and broken off at every byte and at every call; jobs over
+//! lines in memory, which are asked for by address; posts over a connection to this machine; and what turners and
+//! senders did, seen from a source, a sink and a back end that take notes.
 #![tactic(auto)]
 
+#[cfg(test)]
+mod dial_tests;
 #[cfg(test)]
 mod notes;
 #[cfg(test)]
