@@ -17,12 +17,14 @@ test: checks
 
 # Seconds, with Python alone: the definitions that docs/ quotes stand so in their
 # files, each public definition has its comment, want of memory is made only where
-# it is known to be, no value is forgotten, and no line is too long.
+# it is known to be, no value is forgotten, what derive writes is left to it, and no line
+# is too long.
 .PHONY: checks
 checks:
 	@python3 tests/quotes.py
 	@python3 tests/refusals.py
 	@python3 tests/forgotten.py
+	@python3 tests/by_hand.py
 	@python3 tests/widths.py
 
 # Builds the program, makes a script of a body that is stored as a file, which is posted

@@ -77,3 +77,28 @@ fn no_answer_comes_where_a_read_fails(rt: HostRuntime) -> Result<(), Fail> {
     }
     Ok(())
 }
+
+/// Pieces of two and three bytes and then the rest, and a fourth call that fails.
+#[test]
+fn a_line_in_memory_is_cut_and_fails_where_it_is_told(rt: HostRuntime) -> Result<(), Fail> {
+    let alloc = rt.alloc();
+    let mut pieces = Vec::new(alloc);
+    pieces.push(2usize)?;
+    pieces.push(3usize)?;
+    let input = Vec::from_slice(alloc, b"abcdefghi")?;
+    let mut line = MemoryLine::new(input, pieces, Vec::new(alloc), 4);
+    let mut room = [0u8; 9];
+    assert!(rt; line.read_some(&mut room).unwrap_or(9) == 2);
+    assert!(rt; room.starts_with(b"ab"));
+    assert!(rt; line.read_some(&mut room).unwrap_or(9) == 3);
+    assert!(rt; room.starts_with(b"cde"));
+    assert!(rt; line.write_some(b"x").unwrap_or(9) == 1);
+    assert!(rt; line.read_some(&mut room).is_err());
+    assert!(rt; line.write_some(b"y").unwrap_or(9) == 1);
+    assert!(rt; line.read_some(&mut room).unwrap_or(9) == 4);
+    assert!(rt; room.starts_with(b"fghi"));
+    assert!(rt; line.read_some(&mut room).unwrap_or(9) == 0);
+    assert!(rt; line.failures() == 1);
+    assert!(rt; line.output() == b"xy".as_slice());
+    Ok(())
+}

@@ -80,6 +80,38 @@ fn what_is_interrupted_is_tried_again(rt: HostRuntime) {
     assert!(rt; line.failures() == 2);
 }
 
+/// A stream that takes no byte and gives none.
+#[derive(Drop)]
+struct Shut;
+
+impl Read for Shut {
+    fn read(&mut self, _buf: &mut [u8]) -> io::Result<usize> {
+        Ok(0)
+    }
+}
+
+impl Write for Shut {
+    fn write(&mut self, _buf: &[u8]) -> io::Result<usize> {
+        Ok(0)
+    }
+
+    fn flush(&mut self) -> io::Result<()> {
+        Ok(())
+    }
+}
+
+#[test]
+fn a_stream_that_takes_no_byte_has_failed(rt: HostRuntime) {
+    let mut line = StreamLine::new(Shut);
+    let mut room = [0u8; 2];
+    assert!(rt; line.read_some(&mut room).unwrap_or(9) == 0);
+    assert!(rt; line.failures() == 0);
+    assert!(rt; line.write_some(b"a").is_err());
+    assert!(rt; line.write_some(b"a").is_err());
+    assert!(rt; line.failures() == 2);
+    assert!(rt; line.write_some(b"").unwrap_or(9) == 0);
+}
+
 /// A client that sends one byte over and over, and never waits for an answer. It breaks off after so many reads.
 #[derive(Drop)]
 struct Endless<'a> {
