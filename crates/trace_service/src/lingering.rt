@@ -14,7 +14,7 @@ const SILENCE: u64 = 1;
 /// For so many milliseconds bytes are read at most.
 const LONGEST: u64 = 10_000;
 
-/// So many bytes are read at most: a third more than the longest body that is taken.
+/// So many bytes are read at most, which is more than the longest body that is taken.
 const MOST_BYTES: usize = 33_554_432;
 
 /// So many bytes are read at once.
