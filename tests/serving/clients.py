@@ -7,7 +7,7 @@ import threading
 import time
 
 from replay.make_script import piece
-from serving.loopback import CHUNKED, HEAD, REPLY
+from serving.loopback import CHUNKED, HEAD, REPLY, refused
 from serving.talk import ERRORS, MOST, BackEnd, Service, body, check, in_threads, line_of, read_message, tenant, wait_for
 
 LENGTH = HEAD + b"Content-Length: 34\r\n\r\n" + body(18, 34)
@@ -91,6 +91,56 @@ def half_a_request(folder):
         check("the end", service.end(), (0, done, b""))
 
 
+def sends_all_first(folder):
+    """A client that sends all of a request that is refused before it reads gets its reply to the byte, and then the
+    end: of a body whose length is too great, as stated and in a chunk, of a head with too many fields, and of none."""
+    gone = "Connection: close\r\n"
+    much = bytes(24_000_000)
+    too_long = refused(413, "Content Too Large", "body too large", gone)
+    talks = [
+        (HEAD + b"Content-Length: 24000000\r\n\r\n", too_long),
+        (HEAD + b"Transfer-Encoding: chunked\r\n\r\n16e3600\r\n", too_long),
+        (HEAD + b"X: y\r\n" * 65 + b"\r\n", refused(431, "Request Header Fields Too Large", "too many header fields", gone)),
+        (HEAD + b"no field\r\n\r\n", refused(400, "Bad Request", "bad request", gone)),
+    ]
+    with BackEnd() as back_end, Service(folder, [tenant("a", back_end)], receivers=1) as service:
+        for text, wanted in talks:
+            with service.connect() as peer:
+                peer.sendall(text + much)
+                check(text[:300], read_message(peer.recv), wanted)
+                check("the end after it", peer.recv(1), b"")
+        check("the next client", service.post("a", body(17, 2)), (200, b""))
+        check("the end", service.end(), (0, line_of("a", accepted=1, exported=1), b""))
+
+
+def never_stops(folder):
+    """Who sends on without an end after a reply that closes is let go after so many bytes, and who only stays, within
+    seconds: neither keeps the receiver, nor the service at its end."""
+    with BackEnd() as back_end, Service(folder, [tenant("a", back_end)], receivers=1) as service:
+        with service.connect() as peer:
+            check("much", sent_until_cut(peer, HEAD + b"Content-Length: 24000000\r\n\r\n") < 100_000_000, True)
+        check("the next client", service.post("a", body(17, 2)), (200, b""))
+        with service.connect() as peer:
+            peer.sendall(HEAD + b"Content-Length: 24000000\r\n\r\n")
+            check("a reply", read_message(peer.recv)[:12], b"HTTP/1.1 413")
+            start = time.monotonic()
+            check("the end", service.end(), (0, line_of("a", accepted=1, exported=1), b""))
+            check("it came soon", time.monotonic() - start < 10, True)
+
+
+def sent_until_cut(peer, text):
+    """How many bytes a client sends behind a text until its connection breaks, up to as many as nobody reads."""
+    count = 0
+    try:
+        peer.sendall(text)
+        while count < 1_000_000_000:
+            peer.sendall(bytes(1_000_000))
+            count += 1_000_000
+    except OSError:
+        pass
+    return count
+
+
 def many_connections(folder):
     """Two hundred clients at once: each is answered, and each span arrives once."""
     statuses = []
@@ -148,4 +198,4 @@ def posts_beside(service, trace):
     return sum(start < first and last < start + (end - start) * 3 / 4 for first, last in times["b"])
 
 
-TESTS = (cut, gone, in_pieces, half_a_request, many_connections, a_long_step)
+TESTS = (cut, gone, in_pieces, half_a_request, sends_all_first, never_stops, many_connections, a_long_step)

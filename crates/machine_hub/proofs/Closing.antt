@@ -272,6 +272,7 @@ module _ {M S O : Type 0} (steps : M → S → O → M → Type 0) where
         rising = rises;
         blank = λ keeps some. w.blank (ap (λ (y : Home M). y.keeps) home ∙ keeps) (omega (arith, bare, some));
         blame = λ on. omega (arith, refused, w.blame on);
+        stops = λ some. w.stops (omega (arith, refused, some));
       }
 
   pub shard_runs : (slots : List TableId) (n m : ℕ) (all rest : List (List (SeatState M S O))) (old now : List (KeeperState M S O)) (homes : List (Home M)) (ss : List (Standing M S O))

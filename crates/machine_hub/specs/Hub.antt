@@ -87,16 +87,18 @@ IsToldOn {M} {S} {O} steps is_so callers shard question answer =
     (seat : SeatState M S O) × (slice_get callers shard ≡ Some seat) × WasTold steps is_so seat question answer
 
 module _ {M S O : Type 0} (steps : M → S → O → M → Type 0) where
-  -- what all callers' calls at a shard tell of it at the end. Its log is a run from what it was at first. Each entry is
-  -- one call's, and each call with a receipt is there: so there are as many entries as receipts, no two receipts are
-  -- equal, and each has its call's step and outcome. Of each caller they rise. A call without one came only where the
-  -- log was stopped, and the log is stopped only where a call was refused memory
+  -- what all callers' calls at a shard tell of it at the end. What it did is a run from what it was at first, which is
+  -- its log where it keeps. Each entry is one call's, and each call with a receipt is there: so there are as many
+  -- entries as receipts, no two receipts are equal, and each has its call's step and outcome. Of each caller they rise.
+  -- A call without one came only where the log was stopped or keeps nothing, and the log is stopped just where a call
+  -- was refused memory
   pub record IsShardRun (home : Home M) (seats : List (SeatState M S O)) (s : Standing M S O) : Type 0 where
     pub run : IsAtHome steps home s
     pub each : AreAllOf s.entries (flat_map (λ x. x.calls) seats)
     pub rising : EachRises seats
     pub blank : home.keeps ≡ true → 0 < sum_by (λ x. x.bare) seats → s.stopped ≡ true
     pub blame : s.stopped ≡ true → 0 < sum_by (λ x. x.refused) seats
+    pub stops : 0 < sum_by (λ x. x.refused) seats → s.stopped ≡ true
 
   -- the same of each shard
   pub record AreShardRuns (homes : List (Home M)) (callers : List (List (SeatState M S O)))

@@ -1,5 +1,5 @@
 -- What the logs are at the end.
-use Rattle.std.proofs.Common.{◌≡◌, ℕ, zero, suc, ◌<◌, List, [], ◌∷◌, length, Some, refl, sym, ap, ◌∙◌, arith}
+use Rattle.std.proofs.Common.{◌≡◌, ℕ, zero, suc, ◌<◌, List, [], ◌∷◌, ◌++◌, length, Bool, true, false, Option, Some, ◌⊎◌, inl, inr, refl, sym, ap, ◌∙◌, subst, arith}
 use Rattle.std.specs.Prelude.{slice_get, option_map}
 use Rattle.std.proofs.lemmas.Option.{slice_get_within}
 use Rattle.tail_settings.specs.Section.{SectionData}
@@ -9,12 +9,16 @@ use Rattle.tenant_shard.specs.Alone.{OwnStepsDecide}
 use Rattle.tenant_shard.specs.Run.{Run}
 use Rattle.tenant_shard.specs.Table.{opened}
 use Rattle.shared_machine.specs.declared.view.Home.{Home}
-use Rattle.shared_machine.specs.Runs.{Runs}
-use Rattle.machine_hub.specs.Hub.{AreShardRuns}
-use Rattle.worded_machine.specs.Worded.{Worded, WordedDoes}
+use Rattle.shared_machine.specs.Runs.{entry, Runs}
+use Rattle.shared_machine.proofs.Kept.{runs_push}
+use Rattle.tenant_shard.specs.declared.step.Outcome.{Outcome}
+use Rattle.machine_hub.specs.declared.receipt.Receipt.{Receipt}
+use Rattle.machine_hub.specs.Hub.{IsCallOn, AreShardRuns}
+use Rattle.worded_machine.specs.declared.step.Call.{Call}
+use Rattle.worded_machine.specs.Worded.{Worded, AsksFor, WordedDoes}
 use Rattle.worded_machine.specs.Run.{Logged, steps_of, outcomes_of, RunsAreShardRuns, WordsAreInOrder}
 use Rattle.shared_hub.specs.Shards.{members_of, IsFresh, AreOpened}
-use Rattle.shared_hub.specs.Logs.{Seats, LoggedShard, IsLogOf, AreLogged, LogsTellByOwnSteps}
+use Rattle.shared_hub.specs.Logs.{Seats, LoggedShard, IsLogOf, EndsARun, EachCallEndsARun, AreLogged, LogsTellByOwnSteps}
 use Rattle.shared_hub.proofs.Telling.{run_of, stands_at_end, told_alone}
 use Rattle.shared_hub.proofs.Drawing.{none_drawn}
 
@@ -39,11 +43,38 @@ log_of shard_runs in_order table members first last entries fresh run =
     }
 
 pub are_logged : RunsAreShardRuns → WordsAreInOrder → (table : SettingsData) (homes : List (Home Worded)) (callers : List Seats) (shards : List LoggedShard) → AreShardRuns WordedDoes homes callers shards → AreOpened table homes → AreLogged table shards
-are_logged shard_runs in_order table homes callers shards runs opens shard s at keeps =
+are_logged shard_runs in_order table homes callers shards runs opens shard s at =
     let here = found homes shard (omega (arith, slice_get_within shards shard s at, runs.count)) in
-    let run = runs.each shard here.0 s here.1 at in
-    let from = run.run.2 (sym run.run.1 ∙ keeps) in
-    (from.middle, log_of shard_runs in_order table (members_of table shard) here.0.start from.middle s.entries (opens.each shard here.0 here.1).1 from.run, from.now_is)
+    let home = (runs.each shard here.0 s here.1 at).run in
+    let did = home.2 in
+    record {
+      entries = did.entries;
+      last = did.from.middle;
+      log = log_of shard_runs in_order table (members_of table shard) here.0.start did.from.middle did.entries (opens.each shard here.0 here.1).1 did.from.run;
+      kept = λ keeps. did.kept (sym home.1 ∙ keeps);
+      now_is = did.from.now_is;
+    }
+
+pub ends_a_run : RunsAreShardRuns → WordsAreInOrder → EachCallEndsARun
+ends_a_run shard_runs in_order table members old new shard call outcome receipt made fresh = by made.made.0.stopped refl
+  where
+    by : (b : Bool) → made.made.0.stopped ≡ b → (made.made.0.stopped ≡ true) ⊎ EndsARun table members call outcome
+    by true off = inl off
+    by false on =
+        let was = made.made.0 in
+        let now = made.made.1 in
+        let did = made.made.2.2 in
+        let step = made.made.4 in
+        let e : Logged = entry step.0 outcome in
+        let first = made.seat.home.start in
+        let end : WordedDoes did.from.middle e.step e.outcome now.machine = subst (λ m. WordedDoes m e.step e.outcome now.machine) (sym (did.from.now_is on)) step.2 in
+        inr (record {
+          step = step.0;
+          asked = step.1;
+          before = did.entries;
+          last = now.machine;
+          log = log_of shard_runs in_order table members first now.machine (did.entries ++ e ∷ []) fresh (runs_push WordedDoes first did.entries e did.from.middle now.machine did.from.run end);
+        })
 
 pub told_by_own_steps : OwnStepsDecide → LogsTellByOwnSteps
 told_by_own_steps decide section steps =

@@ -1,5 +1,5 @@
 -- What contracts say of calls, and of the logs at the end.
-use Rattle.std.specs.Prelude.{◌≡◌, ℕ, List, [], map, length, Bool, true, false, Option, Some, None, slice_get}
+use Rattle.std.specs.Prelude.{◌≡◌, ◌⊎◌, ℕ, List, [], ◌∷◌, ◌++◌, map, length, Bool, true, false, Option, Some, None, slice_get}
 use Rattle.send_retry.specs.declared.answer.Answer.{Answer}
 use Rattle.send_retry.specs.Class.{answer_view}
 use Rattle.tail_settings.specs.Section.{SectionData}
@@ -16,9 +16,11 @@ use Rattle.tenant_shard.specs.Outcomes.{OwnStep, Answer as Answered, named}
 use Rattle.tenant_shard.specs.Alone.{alone, own_steps, told_to}
 use Rattle.tenant_shard.specs.Table.{section_of, opened}
 use Rattle.shared_machine.specs.declared.view.Standing.{Standing}
+use Rattle.shared_machine.specs.Runs.{entry}
 use Rattle.shared_machine.specs.Seats.{SeatState}
 use Rattle.machine_hub.specs.declared.receipt.Receipt.{Receipt}
 use Rattle.machine_hub.specs.Hub.{IsCallOn, IsToldOn}
+use Rattle.worded_machine.specs.declared.step.Call.{Call}
 use Rattle.worded_machine.specs.declared.step.Call.TheVariants as calls
 use Rattle.worded_machine.specs.declared.step.WordedStep.{WordedStep}
 use Rattle.worded_machine.specs.Worded.{Worded, AsksFor, WordedDoes}
@@ -69,15 +71,36 @@ pub record IsLogOf (table : SettingsData) (members : List ℕ) (entries : List L
       drawn_for tenant entries ≡ first_words (length (drawn_for tenant entries)) (start section.seed)
   pub nobodys : (tenant : ℕ) → section_of table members tenant ≡ None → drawn_for tenant entries ≡ []
 
--- the log of this shard, where it keeps, is such a run. Unless it is stopped, the run leaves what the shard is now
-abbrev pub IsLogged : SettingsData → ℕ → LoggedShard → Type 0
-IsLogged table shard s =
-    (last : Worded) × IsLogOf table (members_of table shard) s.entries last × (s.stopped ≡ false → last ≡ s.machine)
+-- a step that the call asked for was the last of such a run, with this outcome
+pub record EndsARun (table : SettingsData) (members : List ℕ) (call : Call) (outcome : Outcome) : Type 0 where
+  pub step : WordedStep
+  pub asked : AsksFor call step
+  pub before : List Logged
+  pub last : Worded
+  pub log : IsLogOf table members (before ++ entry step outcome ∷ []) last
+
+-- whether or not a log keeps it, the step of a call that answered is the last of such a run, so what is answered
+-- follows from the own steps of that run alone; but for a shard that was refused memory before
+abbrev pub EachCallEndsARun : Type 0
+EachCallEndsARun = (table : SettingsData) (members : List ℕ) (old new : Seats) (shard : ℕ) (call : Call)
+    (outcome : Outcome) (receipt : Option Receipt)
+    (made : IsCallOn AsksFor WordedDoes old new shard call outcome receipt) →
+    IsFresh table members made.seat.home.start →
+    (made.made.0.stopped ≡ true) ⊎ EndsARun table members call outcome
+
+-- what this shard did is such a run, and where its log keeps, that run is the log. Unless it was refused memory, the
+-- run leaves what the shard is now
+pub record IsLogged (table : SettingsData) (shard : ℕ) (s : LoggedShard) : Type 0 where
+  pub entries : List Logged
+  pub last : Worded
+  pub log : IsLogOf table (members_of table shard) entries last
+  pub kept : s.keeps ≡ true → entries ≡ s.entries
+  pub now_is : s.stopped ≡ false → last ≡ s.machine
 
 -- so it is of each shard
 abbrev pub AreLogged : SettingsData → List LoggedShard → Type 0
-AreLogged table shards = (shard : ℕ) (s : LoggedShard) → slice_get shards shard ≡ Some s → s.keeps ≡ true →
-    IsLogged table shard s
+AreLogged table shards =
+    (shard : ℕ) (s : LoggedShard) → slice_get shards shard ≡ Some s → IsLogged table shard s
 
 -- what a tenant is told follows from its section and its own steps alone, whichever log it is, whatever the other
 -- tenants' sections and steps, and whatever threads did

@@ -10,7 +10,7 @@
 //! `tail_settings` for the tenants. Its rules come from no public text.
 #![tactic(auto)]
 
-ghost use Rattle.shared_hub.specs.Logs.{LogsTellByOwnSteps};
+ghost use Rattle.shared_hub.specs.Logs.{EachCallEndsARun, LogsTellByOwnSteps};
 ghost use Rattle.shared_hub.specs.Shards.{EachInItsShard};
 
 mod copy;
@@ -42,6 +42,14 @@ pub type ShardLog<'a> = shared_machine::LoggedMachine<WordedShard<'a>, OptionalL
 pub fn each_tenant_is_in_its_shard()
     ensures { EachInItsShard }
 {}
+
+/// What a call answers, log or not, is the last outcome of a run of a shard of its tenants: a law over calls.
+pub fn each_call_ends_a_run()
+    ensures { EachCallEndsARun }
+{
+    worded_machine::runs_are_shard_runs();
+    worded_machine::words_are_in_order();
+}
 
 /// What the logs of any hubs tell a tenant follows from its section and its own steps alone: a law over logs.
 pub fn logs_tell_by_own_steps()

@@ -21,4 +21,5 @@ module _ {M S O : Type 0} (steps : M → S → O → M → Type 0) where
         each = whole.each;
         blank = t.3 (omega (arith, all));
         blame = whole.blame;
+        stops = whole.stops;
       }

@@ -1,4 +1,4 @@
-mod Kept
+pub mod Kept
 mod Moves
 mod Stepping
 mod Ending

@@ -16,7 +16,7 @@ use Rattle.shared_machine.specs.declared.view.SlotView.{SlotView}
 use Rattle.shared_machine.specs.declared.view.Standing.{Standing}
 use Rattle.shared_machine.specs.Runs.{entry}
 use Rattle.shared_machine.specs.Slot.{all_parts, seat_view, home_of, no_standing, maker, spent_view, held_count, without_part, newcomer, both_views, Opened, Logged, Passed, Stopped, Returned, IsOut, IsIn, IsAtHome, IsState, AreStates, Fits, IsSlot, Taken}
-use Rattle.shared_machine.proofs.Kept.{runs_none, runs_push, runs_stop}
+use Rattle.shared_machine.proofs.Kept.{run_none, run_logged, run_passed, run_stopped}
 
 module _ {M S O : Type 0} (steps : M → S → O → M → Type 0) where
   abbrev parts_of : SlotView M S O → ℕ
@@ -60,10 +60,11 @@ module _ {M S O : Type 0} (steps : M → S → O → M → Type 0) where
       → IsAtHome steps home x
       → (AreAllOf h.entries (flat_map calls_of views) → h.entries ≡ old.entries → AreAllOf x.entries (flat_map calls_of (set views i (seat_view v.parts home None calls bare refused))))
       → (home.keeps ≡ true → (0 < v.bare → old.stopped ≡ true) → 0 < bare → x.stopped ≡ true)
-      → (home.keeps ≡ true → old.stopped ≡ true → x.stopped ≡ true)
+      → (old.stopped ≡ true → x.stopped ≡ true)
+      → ((0 < v.refused → old.stopped ≡ true) → 0 < refused → x.stopped ≡ true)
       → (x.stopped ≡ true → ((old.stopped ≡ true) × (v.refused ≤ refused)) ⊎ (v.refused < refused))
       → IsSlot steps (items ++ x ∷ []) (set views i (seat_view v.parts home None calls bare refused))
-  give items views h i v old x home calls bare refused at has some_part homes keeps is grows bares stays blames =
+  give items views h i v old x home calls bare refused at has some_part homes keeps is grows bares stays lost blames =
       let w = seat_view v.parts home None calls bare refused in
       let out = holding items views h i v old at has in
       let mine = h.fits i v at in
@@ -85,12 +86,14 @@ module _ {M S O : Type 0} (steps : M → S → O → M → Type 0) where
               homed = λ _. refl;
               out = tt;
               blank = λ k. bares k (λ b. out.state.2 ∙ mine.blank (keeps k) b);
+              stops = lost (λ some. out.state.2 ∙ mine.stops some);
               idle = λ none. absurd (omega arith);
             })
             (λ j u apart there. let f = h.fits j u there in record {
               homed = homes j u apart there;
               out = subst (λ o. IfSome o (IsState steps home x.entries x.stopped)) (sym (out.others j u apart there)) tt;
-              blank = λ k b. stays k (out.state.2 ∙ f.blank (keeps k) b);
+              blank = λ k b. stays (out.state.2 ∙ f.blank (keeps k) b);
+              stops = λ some. stays (out.state.2 ∙ f.stops some);
               idle = f.idle;
             });
       }
@@ -116,12 +119,13 @@ module _ {M S O : Type 0} (steps : M → S → O → M → Type 0) where
       let home = at_home items views h i v old at has some_part in (
         w,
         give items views h i v old x v.home calls v.bare v.refused at has some_part (homes_stay items views h i v at some_part) (keeps_stay items views h i v at some_part)
-            (same.0 ∙ home.0, same.1 ∙ home.1, λ k. rw (grows, now) (runs_push steps v.home.start old.entries e false old.machine x.machine (rw was at home.2 k) refl stepped))
+            (same.0 ∙ home.0, same.1 ∙ home.1, run_logged steps v.home old x e home.2 grows was stepped)
             (λ all is. subst (λ l. AreAllOf l (flat_map calls_of (set views i w))) (sym grows)
             (holder_adds calls_of old.entries e views i v w at refl (subst (λ l. AreAllOf l (flat_map calls_of views)) is all)))
             (λ _ bare b. absurd (true≢false (sym (bare b) ∙ was)))
-            (λ _ on. absurd (true≢false (sym on ∙ was)))
-            (λ on. absurd (true≢false (sym on ∙ now))),
+            (λ off. absurd (true≢false (sym off ∙ was)))
+            (λ mine some. absurd (true≢false (sym (mine some) ∙ was)))
+            (λ off. absurd (true≢false (sym off ∙ now))),
         (old, e, has, grows, refl),
       )
 
@@ -131,19 +135,20 @@ module _ {M S O : Type 0} (steps : M → S → O → M → Type 0) where
   same_calls views i v w es old now at same is all was =
       subst (λ l. AreAllOf l (flat_map calls_of (set views i w))) (was ∙ sym is) (holder_keeps calls_of es views i v w at same all)
 
-  pub passes : (n i : ℕ) (v : SlotView M S O) (old x : Standing M S O) → 0 < v.parts → v.held ≡ Some old → (x.number ≡ old.number) × (x.keeps ≡ old.keeps)
-      → x.entries ≡ old.entries → x.stopped ≡ old.stopped → (old.keeps ≡ true → old.stopped ≡ true) → fifo.Pushes (IsSlot steps) n i v x (Passed v x)
-  passes n i v old x some_part has same keeps_entries stays why items views room h at =
+  pub passes : (n i : ℕ) (v : SlotView M S O) (old x : Standing M S O) (step : S) (outcome : O) → 0 < v.parts → v.held ≡ Some old → (x.number ≡ old.number) × (x.keeps ≡ old.keeps)
+      → x.entries ≡ old.entries → x.stopped ≡ old.stopped → (old.keeps ≡ true → old.stopped ≡ true) → steps old.machine step outcome x.machine → fifo.Pushes (IsSlot steps) n i v x (Passed v x)
+  passes n i v old x step outcome some_part has same keeps_entries stays why stepped items views room h at =
       let w = seat_view v.parts v.home None v.calls (v.bare + 1) v.refused in
       let home = at_home items views h i v old at has some_part in
       let off : v.home.keeps ≡ true → old.stopped ≡ true = λ k. why (home.1 ∙ k) in (
         w,
         give items views h i v old x v.home v.calls (v.bare + 1) v.refused at has some_part (homes_stay items views h i v at some_part) (keeps_stay items views h i v at some_part)
-            (same.0 ∙ home.0, same.1 ∙ home.1, λ k. rw (keeps_entries, stays ∙ off k) (runs_stop steps v.home.start old.entries old.stopped old.machine x.machine (home.2 k)))
+            (same.0 ∙ home.0, same.1 ∙ home.1, run_passed steps v.home old x (entry step outcome) home.2 keeps_entries stays off stepped)
             (same_calls views i v w h.entries old.entries x.entries at refl keeps_entries)
             (λ k _ _. stays ∙ off k)
-            (λ _ on. stays ∙ on)
-            (λ on. inl (sym stays ∙ on, omega arith)),
+            (λ was. stays ∙ was)
+            (λ mine some. stays ∙ mine some)
+            (λ now. inl (sym stays ∙ now, omega arith)),
         refl,
       )
 
@@ -154,9 +159,10 @@ module _ {M S O : Type 0} (steps : M → S → O → M → Type 0) where
       let home = at_home items views h i v old at has some_part in (
         w,
         give items views h i v old x v.home v.calls v.bare (v.refused + 1) at has some_part (homes_stay items views h i v at some_part) (keeps_stay items views h i v at some_part)
-            (same.0 ∙ home.0, same.1 ∙ home.1, λ k. rw (keeps_entries, now) (runs_stop steps v.home.start old.entries old.stopped old.machine x.machine (home.2 k)))
+            (same.0 ∙ home.0, same.1 ∙ home.1, run_stopped steps v.home old x home.2 keeps_entries now)
             (same_calls views i v w h.entries old.entries x.entries at refl keeps_entries)
             (λ _ _ _. now)
+            (λ _. now)
             (λ _ _. now)
             (λ _. inr (omega arith)),
         refl,
@@ -170,7 +176,8 @@ module _ {M S O : Type 0} (steps : M → S → O → M → Type 0) where
             (at_home items views h i v x at has some_part)
             (same_calls views i v w h.entries x.entries x.entries at refl refl)
             (λ k was. was)
-            (λ _ on. on)
+            (λ off. off)
+            (λ mine. mine)
             (λ on. inl (on, omega arith)),
         refl,
       )
@@ -182,11 +189,12 @@ module _ {M S O : Type 0} (steps : M → S → O → M → Type 0) where
         give items views h i (maker m) (no_standing m) x (home_of x) [] 0 0 at refl (omega arith)
             (λ j u apart there some_part. absurd (omega (arith, two_parts parts_of views i j (maker m) u at there apart, h.parts, some_part)))
             (λ _. keeps_stay items views h i (maker m) at (omega arith) refl)
-            (refl, refl, λ _. rw (none, fresh) (runs_none steps x.machine))
+            (refl, refl, run_none steps (home_of x) x refl none)
             (same_calls views i (maker m) w h.entries [] x.entries at refl none)
             (λ _ _ b. absurd (omega arith))
-            (λ _ on. absurd (true≢false (sym on)))
-            (λ on. absurd (true≢false (sym on ∙ fresh))),
+            (λ off. absurd (true≢false (sym off)))
+            (λ _ some. absurd (omega arith))
+            (λ off. absurd (true≢false (sym off ∙ fresh))),
         refl,
       )
 
@@ -207,7 +215,7 @@ module _ {M S O : Type 0} (steps : M → S → O → M → Type 0) where
           calls = holder_keeps calls_of h.entries views i v w at refl h.calls;
           blame = λ on. omega (arith, sum-set refused_of views i v w at, h.blame on);
           fits = each_set (Fits steps h.home h.entries h.stopped) views i w
-              (record { homed = mine.homed; out = is; blank = mine.blank; idle = λ none. absurd (omega arith) })
+              (record { homed = mine.homed; out = is; blank = mine.blank; stops = mine.stops; idle = λ none. absurd (omega arith) })
               (λ j u _ there. h.fits j u there);
         },
         (
@@ -221,13 +229,14 @@ module _ {M S O : Type 0} (steps : M → S → O → M → Type 0) where
               record {
                 each = subst (λ l. AreAllOf l v.calls) (sym is.1) (subst (AreAllOf h.entries) mine_all h.calls);
                 blame = λ on. omega (arith, sum-only parts_of refused_of views i v at whole (λ j u there none. ((h.fits j u there).idle none).3), h.blame (sym is.2 ∙ on));
+                stops = λ some. is.2 ∙ mine.stops some;
               },
         ),
       )
 
   -- a seat with nothing
   blank_seat : (home h : Home M) (entries : List (Entry S O)) (stopped : Bool) (k : ℕ) → home ≡ h → Fits steps h entries stopped (seat_view k home None [] 0 0)
-  blank_seat home h entries stopped k is = record { homed = λ _. is; out = tt; blank = λ _ b. absurd (omega arith); idle = λ _. (refl, refl, refl, refl) }
+  blank_seat home h entries stopped k is = record { homed = λ _. is; out = tt; blank = λ _ b. absurd (omega arith); stops = λ b. absurd (omega arith); idle = λ _. (refl, refl, refl, refl) }
 
   pub forks : (i n : ℕ) (home : Home M) (v : SlotView M S O) → v ≡ seat_view n home None [] 0 0 → 0 < n → fifo.Forks (IsSlot steps) i v (without_part v) (newcomer v)
   forks i n home v is some_part = subst (λ (y : SlotView M S O). fifo.Forks (IsSlot steps) i y (without_part y) (newcomer y)) (sym is) fork
@@ -277,12 +286,13 @@ module _ {M S O : Type 0} (steps : M → S → O → M → Type 0) where
         calls = holder_takes_in calls_of h.entries views i other v u both spent at two at' refl refl h.calls;
         blame = λ on. omega (arith, sum-set refused_of views i v both at, sum-set refused_of vs other u spent at', h.blame on);
         fits = each_set (Fits steps h.home h.entries h.stopped) vs other spent
-            (record { homed = λ b. absurd (omega arith); out = tt; blank = λ _ b. absurd (omega arith); idle = λ _. (refl, refl, refl, refl) })
+            (record { homed = λ b. absurd (omega arith); out = tt; blank = λ _ b. absurd (omega arith); stops = λ b. absurd (omega arith); idle = λ _. (refl, refl, refl, refl) })
             (λ j y _ there. each_set (Fits steps h.home h.entries h.stopped) views i both
             (record {
               homed = λ _. mine.homed some_part;
               out = mine.out;
               blank = λ k b. blanks v.bare u.bare h.stopped (mine.blank k) (theirs.blank k) b;
+              stops = blanks v.refused u.refused h.stopped mine.stops theirs.stops;
               idle = λ none. absurd (omega (arith, none, some_part));
             })
             (λ k z _ here. h.fits k z here) j y there);
@@ -317,7 +327,7 @@ module _ {M S O : Type 0} (steps : M → S → O → M → Type 0) where
   }
     where
       first : Fits steps (home_of (nowhere m)) [] false (maker m)
-      first = record { homed = λ _. refl; out = ((refl, refl, λ _. runs_none steps m), refl, refl); blank = λ _ b. absurd (omega arith); idle = λ none. absurd (omega arith) }
+      first = record { homed = λ _. refl; out = ((refl, refl, run_none steps (home_of (nowhere m)) (nowhere m) refl refl), refl, refl); blank = λ _ b. absurd (omega arith); stops = λ b. absurd (omega arith); idle = λ none. absurd (omega arith) }
 
       only : (j : ℕ) (u : SlotView M S O) → get_elem? (maker m ∷ []) j ≡ some u → Fits steps (home_of (nowhere m)) [] false u
       only zero u at = subst (Fits steps (home_of (nowhere m)) [] false) (some-injective (maker m) u at) first

@@ -43,16 +43,19 @@ module _ {M S O : Type 0} (steps : M → S → O → M → Type 0) where
       }
 
   pub passed_by : {C : Type 0} (asks : C → S → Type 0) (call : C) (v u : SlotView M S O) (before s : Standing M S O) (outcome : O) → Taken steps v before u → v.parts ≡ 1
-      → (s.number ≡ before.number) × (s.keeps ≡ before.keeps) → IsMade asks steps call before s outcome None → IsPassedBy u s
+      → (s.number ≡ before.number) × (s.keeps ≡ before.keeps) → IsMade asks steps call before s outcome None → IsPassedBy steps u s
   passed_by asks call v u before s outcome taken part same made =
       let has = held_by v u before taken part in record {
         old = before;
+        step = made.0;
+        outcome = outcome;
         part = has.0;
         held = has.1;
         same = same;
         entries = made.3.0;
         stays = made.3.1;
         why = made.3.2;
+        stepped = made.2;
       }
 
   pub stopped_by : (v u : SlotView M S O) (before s : Standing M S O) → Taken steps v before u → v.parts ≡ 1

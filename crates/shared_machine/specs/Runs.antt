@@ -1,6 +1,7 @@
 -- Runs of a state machine, as its log has them.
 use Rattle.std.specs.Prelude.{◌≡◌, ℕ, List, [], ◌∷◌, ◌++◌, length, Bool, true, false, Option, Some, None}
 use Rattle.shared_machine.specs.declared.entry.Entry.{Entry}
+use Rattle.shared_machine.specs.declared.view.Home.{Home}
 use Rattle.shared_machine.specs.declared.view.Standing.{Standing}
 
 -- an entry of a log
@@ -22,6 +23,12 @@ pub record RunsFrom {M S O : Type 0} (steps : M → S → O → M → Type 0)
   pub middle : M
   pub run : Runs steps start entries middle
   pub now_is : stopped ≡ false → middle ≡ now
+
+-- a run from its home's start is what this machine did. Where its log keeps, that run is its entries
+pub record HasRun {M S O : Type 0} (steps : M → S → O → M → Type 0) (home : Home M) (s : Standing M S O) : Type 0 where
+  pub entries : List (Entry S O)
+  pub from : RunsFrom steps home.start entries s.stopped s.machine
+  pub kept : home.keeps ≡ true → entries ≡ s.entries
 
 -- what a step leaves in the log, and what is given of it: its entry, which is the last, with its position; or none,
 -- where the log keeps nothing or was stopped before

@@ -90,12 +90,13 @@ WasTold {M} {S} {O} steps is_so seat question answer =
     (s : Standing M S O) × IsAtHome steps seat.home s × AreFrom s.entries seat.calls
     × (answer ≡ is_so s.machine question)
 
--- what the calls of all seats tell of the machine at its end: its log is a run from what it was at first, each entry is
--- one call's and each call with an entry is there, a call without one came only where the log was stopped, and the log
--- is stopped only where a call was refused memory
+-- what the calls of all seats tell of the machine at its end: what it did is a run from what it was at first, each
+-- entry is one call's and each call with an entry is there, a call without one came only where the log was stopped or
+-- keeps nothing, and the log is stopped just where a call was refused memory
 pub record IsWholeRun {M S O : Type 0} (steps : M → S → O → M → Type 0)
     (k : KeeperState M S O) (s : Standing M S O) : Type 0 where
   pub run : IsAtHome steps k.home s
   pub each : AreAllOf s.entries k.calls
   pub blank : k.home.keeps ≡ true → 0 < k.bare → s.stopped ≡ true
   pub blame : s.stopped ≡ true → 0 < k.refused
+  pub stops : 0 < k.refused → s.stopped ≡ true

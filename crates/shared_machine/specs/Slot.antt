@@ -8,7 +8,7 @@ use Rattle.shared_machine.specs.declared.entry.Entry.{Entry}
 use Rattle.shared_machine.specs.declared.view.Home.{Home}
 use Rattle.shared_machine.specs.declared.view.SlotView.{SlotView}
 use Rattle.shared_machine.specs.declared.view.Standing.{Standing}
-use Rattle.shared_machine.specs.Runs.{RunsFrom}
+use Rattle.shared_machine.specs.Runs.{HasRun}
 
 -- more parts than a slot can have seats
 abbrev pub all_parts : ℕ
@@ -83,17 +83,16 @@ module _ {M S O : Type 0} where
   abbrev pub IsIn : SlotView M S O → List (Standing M S O) → Type 0
   IsIn v items = v.parts ≡ all_parts → v.held ≡ None → length items ≡ 1
 
-  -- these are all calls: each entry is one call's, and the log is stopped only where memory was refused
+  -- these are all calls: each entry is one call's, and the log is stopped just where memory was refused
   pub record IsWhole (v : SlotView M S O) (s : Standing M S O) : Type 0 where
     pub each : AreAllOf s.entries v.calls
     pub blame : s.stopped ≡ true → 0 < v.refused
+    pub stops : 0 < v.refused → s.stopped ≡ true
 
 module _ {M S O : Type 0} (steps : M → S → O → M → Type 0) where
-  -- it is the machine of this home, and where its log keeps, its entries are a run from the home's start
+  -- it is the machine of this home: what it did is a run from the home's start
   abbrev pub IsAtHome : Home M → Standing M S O → Type 0
-  IsAtHome home s =
-      (s.number ≡ home.number) × (s.keeps ≡ home.keeps)
-      × (home.keeps ≡ true → RunsFrom steps home.start s.entries s.stopped s.machine)
+  IsAtHome home s = (s.number ≡ home.number) × (s.keeps ≡ home.keeps) × HasRun steps home s
 
   -- it has these entries
   abbrev pub IsState : Home M → List (Entry S O) → Bool → Standing M S O → Type 0
@@ -109,6 +108,7 @@ module _ {M S O : Type 0} (steps : M → S → O → M → Type 0) where
     pub homed : 0 < v.parts → v.home ≡ home
     pub out : IfSome v.held (IsState home entries stopped)
     pub blank : home.keeps ≡ true → 0 < v.bare → stopped ≡ true
+    pub stops : 0 < v.refused → stopped ≡ true
     pub idle : v.parts ≡ 0 → (v.held ≡ None) × (v.calls ≡ []) × (v.bare ≡ 0) × (v.refused ≡ 0)
 
   -- the rule
@@ -123,7 +123,7 @@ module _ {M S O : Type 0} (steps : M → S → O → M → Type 0) where
     pub blame : stopped ≡ true → 0 < sum_by (λ v. v.refused) views
     pub fits : (i : ℕ) (v : SlotView M S O) → get_elem? views i ≡ some v → Fits home entries stopped v
 
-  -- the machine went out. Its log has all calls of this seat, and is a run
+  -- the machine went out. Its log has all calls of this seat, and what it did is a run
   abbrev pub Taken : SlotView M S O → Standing M S O → SlotView M S O → Type 0
   Taken v s w =
       (w ≡ seat_view v.parts v.home (Some s) v.calls v.bare v.refused)
@@ -144,17 +144,20 @@ module _ {M S O : Type 0} (steps : M → S → O → M → Type 0) where
     pub now : s.stopped ≡ false
     pub stepped : steps old.machine step outcome s.machine
 
-module _ {M S O : Type 0} where
   -- the machine that this seat has out, after a step without an entry
   pub record IsPassedBy (v : SlotView M S O) (s : Standing M S O) : Type 0 where
     pub old : Standing M S O
+    pub step : S
+    pub outcome : O
     pub part : 0 < v.parts
     pub held : v.held ≡ Some old
     pub same : (s.number ≡ old.number) × (s.keeps ≡ old.keeps)
     pub entries : s.entries ≡ old.entries
     pub stays : s.stopped ≡ old.stopped
     pub why : old.keeps ≡ true → old.stopped ≡ true
+    pub stepped : steps old.machine step outcome s.machine
 
+module _ {M S O : Type 0} where
   -- the machine that this seat has out, after it was refused memory
   pub record IsStoppedBy (v : SlotView M S O) (s : Standing M S O) : Type 0 where
     pub old : Standing M S O

@@ -270,7 +270,7 @@ fn put_passed<M: Machine, L: StepLog<M>, R: Wait>(
     machine: LoggedMachine<M, L>,
 )
     requires pass { IsPassOf cell.now pass.old × (ruled_capacity cell.now ≡ 1) }
-    requires machine { IsPassedBy (known pass.old) machine }
+    requires machine { IsPassedBy M.steps (known pass.old) machine }
     ensures { IsSamePass pass.old pass.new × Passed (known pass.old) machine (known pass.new) }
 {
     let Ok(()) = cell.push_as::<Passes, R>(rt, pass, machine) else {

@@ -1,6 +1,6 @@
 //! The generators of several tenants.
 
-ghost use Rattle.std.specs.Prelude.{◌≡◌, [], OnOk};
+ghost use Rattle.std.specs.Prelude.{◌≡◌, [], OnOk, OnErr};
 ghost use Rattle.tenant_words.specs.Words.{IsDraw, IsSeeded};
 
 use rand_core::SeedableRng;
@@ -35,9 +35,11 @@ impl Words {
         }
     }
 
-    /// Gives a tenant a generator, which starts from its seed, unless it has one.
+    /// Gives a tenant a generator, which starts from its seed, unless it has one. Where memory is refused, nothing
+    /// changes.
     pub fn seed(&mut self, tenant: u32, seed: u64) -> Result<(), AllocError>
-        ensures { OnOk result (IsSeeded tenant seed self.old self.new) }
+        ensures seeded { OnOk result (IsSeeded tenant seed self.old self.new) }
+        ensures refused { OnErr result (self.new ≡ self.old) }
     {
         if !self.generators.contains_key(&tenant) {
             self.generators

@@ -1,8 +1,10 @@
 -- The faults that end the program, by what they come from.
-use Rattle.std.specs.Prelude.{◌≡◌, ◌≢◌, ℕ, List}
+use Rattle.std.specs.Prelude.{◌≡◌, ◌≢◌, ℕ, List, Err, Some}
 use Rattle.std.specs.Str.{IsUtf8}
 use Rattle.std.specs.declared.io.ErrorKind.{ErrorKind}
 use Rattle.std.specs.declared.io.ErrorKind.TheVariants as kinds
+use Rattle.tail_settings.specs.Fault.{FaultData, fault_view}
+use Rattle.tail_settings.specs.Settings.{settings_of}
 use Rattle.tail_settings.specs.declared.fault.SettingsFault.TheVariants as settings
 use Rattle.trace_collector.specs.declared.engine.ReplayFault.TheVariants as replay
 use Rattle.trace_service.specs.declared.service.ServiceFault.{ServiceFault}
@@ -30,3 +32,20 @@ pub record IsOfArguments (kind : ErrorKind) (fault : ProgramFault) : Type 0 wher
 pub record IsOfText (bytes : List ℕ) (fault : ProgramFault) : Type 0 where
   pub unspelled : IsUtf8 bytes → ⊥
   pub told : fault ≡ Replay (replay.Settings settings.NotToml)
+
+-- it is the fault of the settings that the text has, or the want of memory
+abbrev pub IsOfSettings : List ℕ → ProgramFault → Type 0
+IsOfSettings text Usage = ⊥
+IsOfSettings text (Replay replay.OutOfMemory) = Unit {0}
+IsOfSettings text (Replay replay.Line) = ⊥
+IsOfSettings text (Replay (replay.Script line)) = ⊥
+IsOfSettings text (Replay (replay.Settings fault)) =
+    (f : FaultData) × (fault_view fault ≡ Some f) × (settings_of text ≡ Err f)
+
+-- a fault of the memory, or of files, input and output, and none of the arguments, the settings or the script
+abbrev pub IsOutside : ProgramFault → Type 0
+IsOutside Usage = ⊥
+IsOutside (Replay replay.OutOfMemory) = Unit {0}
+IsOutside (Replay replay.Line) = Unit {0}
+IsOutside (Replay (replay.Script line)) = ⊥
+IsOutside (Replay (replay.Settings fault)) = ⊥

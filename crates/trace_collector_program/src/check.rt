@@ -1,8 +1,9 @@
 //! The word `check`.
 
-ghost use Rattle.std.specs.Prelude.{ℕ, List, IfOk};
+ghost use Rattle.std.specs.Prelude.{ℕ, List, IfOk, IfErr};
 ghost use Rattle.std.specs.Io.KnownBytes.{Appends};
 ghost use Rattle.trace_collector_program.specs.Check.{IsChecked};
+ghost use Rattle.trace_collector_program.specs.Fault.{IsOutside};
 
 use crate::ProgramFault;
 use settings_check::check;
@@ -32,9 +33,10 @@ pub fn check_file(
 
 /// Checks the settings in a file's bytes, and writes what is to be said of them.
 fn check_into<W: Write>(alloc: Global, settings: &[u8], writer: &mut W) -> Result<End, ProgramFault>
-    ensures { IfOk result (λ end. (report : List ℕ)
+    ensures told { IfOk result (λ end. (report : List ℕ)
         × Appends (W.contents writer.old) (W.contents writer.new) report
         × IsChecked settings.now report end) }
+    ensures fault { IfErr result IsOutside }
 {
     let report = check(alloc, settings)?;
     writer.write_all(report.text.as_bytes())?;

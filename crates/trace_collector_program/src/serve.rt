@@ -1,7 +1,8 @@
 //! The word `serve`.
 
-ghost use Rattle.std.specs.Prelude.{◌≡◌};
-ghost use Rattle.trace_collector_program.specs.Fault.{of_service};
+ghost use Rattle.std.specs.Prelude.{◌≡◌, IfOk, IfErr, Ok};
+ghost use Rattle.tail_settings.specs.Settings.{settings_of, settings_view};
+ghost use Rattle.trace_collector_program.specs.Fault.{of_service, IsOfSettings};
 
 use crate::{ProgramFault, READ_SIZE, settings_text};
 use std::alloc::Global;
@@ -102,7 +103,10 @@ where
 }
 
 /// The settings that a text means.
-fn settings_in(alloc: Global, text: &str) -> Result<Settings, ProgramFault> {
+fn settings_in(alloc: Global, text: &str) -> Result<Settings, ProgramFault>
+    ensures ok { IfOk result (λ settings. settings_of text.now ≡ Ok (settings_view settings)) }
+    ensures fault { IfErr result (IsOfSettings text.now) }
+{
     match load(alloc, text) {
         Ok(settings) => Ok(settings),
         Err(fault) => Err(ProgramFault::Replay(ReplayFault::from(fault))),

@@ -3,9 +3,8 @@ use Rattle.std.proofs.Common.{◌≡◌, ◌∙◌, ℕ, suc, ◌+◌, ◌*◌, 
 use Rattle.std.proofs.lemmas.Bool.Decides.{nat_tests}
 use Rattle.std.proofs.lemmas.Nat.{same_from_place, mul-le}
 use Rattle.std.proofs.Math.Nat.{pow-succ'}
-use Rattle.std.specs.Int.{w128, from_be_bytes}
 use Rattle.std.specs.List.{list_all}
-use Rattle.trace_rows.specs.Part.{is_id}
+use Rattle.trace_rows.specs.Maps.{is_id, halves}
 
 abbrev is_byte : ℕ → Bool
 is_byte byte = nat_lt byte 256
@@ -15,7 +14,7 @@ abbrev worth : List ℕ → ℕ
 worth [] = 0
 worth (byte ∷ bytes) = byte * 256 ^ length bytes + worth bytes
 
-both : (a b : Bool) → (a && b) ≡ true → (a ≡ true) × (b ≡ true)
+pub both : (a b : Bool) → (a && b) ≡ true → (a ≡ true) × (b ≡ true)
 both true true e = (refl, refl)
 both true false e = absurd (cc)
 both false b e = absurd (cc)
@@ -42,8 +41,8 @@ same_of_worth (x ∷ xs) (y ∷ ys) same all_a all_b e =
     let parts = same_from_place x (worth xs) y (worth ys) (256 ^ length xs) (below xs in_a.1) (subst (λ n. worth ys < 256 ^ n) (sym long) (below ys in_b.1)) e' in
     λ i. parts.0 i ∷ same_of_worth xs ys long in_a.1 in_b.1 parts.1 i
 
--- sixteen bytes are the number that they are read as
-number_is : (bytes : List ℕ) → length bytes ≡ 16 → from_be_bytes w128 bytes ≡ worth bytes
+-- sixteen bytes are the number of their halves
+number_is : (bytes : List ℕ) → length bytes ≡ 16 → (halves bytes).0 * 18446744073709551616 + (halves bytes).1 ≡ worth bytes
 number_is (a ∷ b ∷ c ∷ d ∷ e ∷ f ∷ g ∷ h ∷ i ∷ j ∷ k ∷ l ∷ m ∷ n ∷ o ∷ p ∷ []) long = omega arith
 number_is [] long = absurd (omega (arith, long))
 number_is (a ∷ []) long = absurd (omega (arith, long))
@@ -63,13 +62,14 @@ number_is (a ∷ b ∷ c ∷ d ∷ e ∷ f ∷ g ∷ h ∷ i ∷ j ∷ k ∷ l �
 number_is (a ∷ b ∷ c ∷ d ∷ e ∷ f ∷ g ∷ h ∷ i ∷ j ∷ k ∷ l ∷ m ∷ n ∷ o ∷ []) long = absurd (omega (arith, long))
 number_is (a ∷ b ∷ c ∷ d ∷ e ∷ f ∷ g ∷ h ∷ i ∷ j ∷ k ∷ l ∷ m ∷ n ∷ o ∷ p ∷ q ∷ bytes) long = absurd (omega (arith, long))
 
-pub same_of_numbers : (a b : List ℕ) → is_id a ≡ true → is_id b ≡ true → from_be_bytes w128 a ≡ from_be_bytes w128 b → a ≡ b
-same_of_numbers a b is_a is_b e =
+pub same_of_halves : (a b : List ℕ) → is_id a ≡ true → is_id b ≡ true → (halves a).0 ≡ (halves b).0 → (halves a).1 ≡ (halves b).1 → a ≡ b
+same_of_halves a b is_a is_b high low =
     let in_a = both (length a == 16) (list_all is_byte a) is_a in
     let in_b = both (length b == 16) (list_all is_byte b) is_b in
     let long_a : length a ≡ 16 = grind (arith, nat_tests, in_a.0) in
     let long_b : length b ≡ 16 = grind (arith, nat_tests, in_b.0) in
-    same_of_worth a b (long_a ∙ sym long_b) in_a.1 in_b.1 (sym (number_is a long_a) ∙ (e ∙ number_is b long_b))
+    let numbers = ap (λ n. n * 18446744073709551616 + (halves a).1) high ∙ ap (λ n. (halves b).0 * 18446744073709551616 + n) low in
+    same_of_worth a b (long_a ∙ sym long_b) in_a.1 in_b.1 (sym (number_is a long_a) ∙ (numbers ∙ number_is b long_b))
 
 pub all_bytes : (bytes : List ℕ) → ((i : ℕ) → get_or bytes i 0 < 256) → list_all is_byte bytes ≡ true
 all_bytes [] small = refl

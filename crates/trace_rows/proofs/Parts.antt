@@ -6,11 +6,11 @@ use Rattle.std.proofs.Math.Path.{fun_ext}
 use Rattle.std.specs.Ordering.{nat_cmp, ordering_then, is_eq}
 use Rattle.std.specs.declared.cmp.Reverse.{Reverse}
 use Rattle.std.specs.Cmp.{unsigned_ties, nat_eq_equiv}
-use Rattle.std.specs.Int.{w128, from_be_bytes}
 use Rattle.std.specs.BTreeMap.{BTreeMap}
 use Rattle.std.specs.BTreeMap as tree
-use Rattle.trace_rows.specs.Part.{pair_cmp, latest_cmp, with_at, with_seat, at, is_id, by_id}
-use Rattle.trace_rows.proofs.Ids.{same_of_numbers}
+use Rattle.trace_rows.specs.Maps.{pair_cmp, latest_cmp, at, is_id, halves, by_id, seats_of}
+use Rattle.trace_rows.specs.Part.{with_at, with_seat}
+use Rattle.trace_rows.proofs.Ids.{both, same_of_halves}
 
 -- a test tells which keys an order takes for equal
 record Tells {J : Type 0} (cmp : J → J → Ordering) (same : J → J → Bool) : Type 0 where
@@ -22,9 +22,6 @@ same_number x y = nat_eq x.0 y.0
 numbers : Tells latest_cmp same_number
 numbers = record { told = λ x y. sym (unsigned_ties y.0 x.0) }
 
-ids : Tells nat_cmp nat_eq
-ids = record { told = λ x y. sym (unsigned_ties x y) ∙ nat_eq_equiv.symm x y }
-
 -- `with_at`, at any keys
 abbrev put : {J X : Type 0} → (J → J → Bool) → J → Option X → (J → Option X) → J → Option X
 put same key slot slots other = if same other key then slot else slots other
@@ -33,6 +30,22 @@ then_is : (o p : Ordering) → is_eq (ordering_then o p) ≡ (is_eq o && is_eq p
 then_is Less p = refl
 then_is Equal p = refl
 then_is Greater p = refl
+
+abbrev same_halves : ℕ × ℕ → ℕ × ℕ → Bool
+same_halves x y = nat_eq x.0 y.0 && nat_eq x.1 y.1
+
+is_tie : (n k : ℕ) → is_eq (nat_cmp n k) ≡ nat_eq k n
+is_tie n k = sym (unsigned_ties n k) ∙ nat_eq_equiv.symm n k
+
+ids : Tells (pair_cmp nat_cmp) same_halves
+ids = record {
+  told = λ x y.
+      then_is (nat_cmp x.0 y.0) (nat_cmp x.1 y.1)
+      ∙ (ap (λ (b : Bool). b && is_eq (nat_cmp x.1 y.1)) (is_tie x.0 y.0) ∙ ap (λ (b : Bool). nat_eq y.0 x.0 && b) (is_tie x.1 y.1));
+}
+
+is_same : (x : ℕ × ℕ) → same_halves x x ≡ true
+is_same x = ap (λ (b : Bool). b && nat_eq x.1 x.1) (nat_eq_equiv.refl x.0) ∙ nat_eq_equiv.refl x.1
 
 same_tenant : (t : ℕ) → is_eq (nat_cmp t t) ≡ true
 same_tenant t = sym (unsigned_ties t t) ∙ nat_eq_equiv.refl t
@@ -63,46 +76,54 @@ at_put_other {J} {X} {cmp} {same} tells m n t k u w h ne = fun_ext (λ j. one j)
         first ∙ ap (λ (b : Bool). cond b w (at cmp u m.entries j)) (elsewhere cmp t u k j ne)
 
 -- at what is no id there is nothing
-no_id : {X : Type 0} (f : ℕ → Option X) (trace : List ℕ) → is_id trace ≡ false → by_id f trace ≡ None
-no_id f trace none = ap (λ (b : Bool). if b then f (from_be_bytes w128 trace) else None) none
+no_id : {X : Type 0} (f : ℕ × ℕ → Option X) (trace : List ℕ) → is_id trace ≡ false → by_id f trace ≡ None
+unfolding by_id
+no_id f trace none = ap (λ (b : Bool). if b then f (halves trace) else None) none
 
-pub at_id : {X : Type 0} (f : ℕ → Option X) (trace : List ℕ) → is_id trace ≡ true → by_id f trace ≡ f (from_be_bytes w128 trace)
-at_id f trace is = ap (λ (b : Bool). if b then f (from_be_bytes w128 trace) else None) is
+pub at_id : {X : Type 0} (f : ℕ × ℕ → Option X) (trace : List ℕ) → is_id trace ≡ true → by_id f trace ≡ f (halves trace)
+unfolding by_id
+at_id f trace is = ap (λ (b : Bool). if b then f (halves trace) else None) is
 
--- two ids are one where their numbers are
-same_id : (other trace : List ℕ) → is_id other ≡ true → is_id trace ≡ true → nat_eq (from_be_bytes w128 other) (from_be_bytes w128 trace) ≡ bytes_eq other trace
-same_id other trace is_other is = decide (nat_eq (from_be_bytes w128 other) (from_be_bytes w128 trace)) (bytes_eq other trace) refl refl
+-- two ids are one where their halves are
+same_id : (other trace : List ℕ) → is_id other ≡ true → is_id trace ≡ true → same_halves (halves other) (halves trace) ≡ bytes_eq other trace
+same_id other trace is_other is = decide (same_halves (halves other) (halves trace)) (bytes_eq other trace) refl refl
   where
-    decide : (a b : Bool) → nat_eq (from_be_bytes w128 other) (from_be_bytes w128 trace) ≡ a → bytes_eq other trace ≡ b → a ≡ b
+    decide : (a b : Bool) → same_halves (halves other) (halves trace) ≡ a → bytes_eq other trace ≡ b → a ≡ b
     decide true true one two = refl
     decide false false one two = refl
     decide true false one two =
-        let numbers : from_be_bytes w128 other ≡ from_be_bytes w128 trace = grind (arith, nat_tests, one) in
-        sym ((bytes_eq-Decides other trace).1 (same_of_numbers other trace is_other is numbers)) ∙ two
+        let each = both (nat_eq (halves other).0 (halves trace).0) (nat_eq (halves other).1 (halves trace).1) one in
+        let high : (halves other).0 ≡ (halves trace).0 = grind (arith, nat_tests, each.0) in
+        let low : (halves other).1 ≡ (halves trace).1 = grind (arith, nat_tests, each.1) in
+        sym ((bytes_eq-Decides other trace).1 (same_of_halves other trace is_other is high low)) ∙ two
     decide false true one two =
-        let same : other ≡ trace = (bytes_eq-Decides other trace).0 two in
-        let numbers : from_be_bytes w128 other ≡ from_be_bytes w128 trace = ap (from_be_bytes w128) same in
-        grind (arith, nat_tests, one, numbers)
+        sym one ∙ (ap (λ (bytes : List ℕ). same_halves (halves bytes) (halves trace)) ((bytes_eq-Decides other trace).0 two) ∙ is_same (halves trace))
 
--- an id is put where its number is
-by_id_put : (f : ℕ → Option ℕ) (trace : List ℕ) (w : Option ℕ) → is_id trace ≡ true → by_id (put nat_eq (from_be_bytes w128 trace) w f) ≡ with_seat trace w (by_id f)
+-- an id is put where its halves are
+by_id_put : (f : ℕ × ℕ → Option ℕ) (trace : List ℕ) (w : Option ℕ) → is_id trace ≡ true → by_id (put same_halves (halves trace) w f) ≡ with_seat trace w (by_id f)
 by_id_put f trace w is = fun_ext (λ other. one other (is_id other) (bytes_eq other trace) refl refl)
   where
-    one : (other : List ℕ) (a b : Bool) → is_id other ≡ a → bytes_eq other trace ≡ b → by_id (put nat_eq (from_be_bytes w128 trace) w f) other ≡ with_seat trace w (by_id f) other
-    one other false false none differs = no_id (put nat_eq (from_be_bytes w128 trace) w f) other none ∙ (sym (no_id f other none) ∙ ap (λ (b : Bool). if b then w else by_id f other) (sym differs))
+    one : (other : List ℕ) (a b : Bool) → is_id other ≡ a → bytes_eq other trace ≡ b → by_id (put same_halves (halves trace) w f) other ≡ with_seat trace w (by_id f) other
+    one other false false none differs = no_id (put same_halves (halves trace) w f) other none ∙ (sym (no_id f other none) ∙ ap (λ (b : Bool). if b then w else by_id f other) (sym differs))
     one other false true none same =
         let is_other : is_id other ≡ true = ap is_id ((bytes_eq-Decides other trace).0 same) ∙ is in
         absurd (cc)
     one other true b is_other e =
-        at_id (put nat_eq (from_be_bytes w128 trace) w f) other is_other
-        ∙ (ap (λ (b : Bool). if b then w else f (from_be_bytes w128 other)) (same_id other trace is_other is)
+        at_id (put same_halves (halves trace) w f) other is_other
+        ∙ (ap (λ (b : Bool). if b then w else f (halves other)) (same_id other trace is_other is)
         ∙ ap (λ (slot : Option ℕ). if bytes_eq other trace then w else slot) (sym (at_id f other is_other)))
 
-pub seats_put : (m n : BTreeMap (ℕ × ℕ) ℕ) (t : ℕ) (trace : List ℕ) (k : ℕ) (w : Option ℕ) → is_id trace ≡ true → k ≡ from_be_bytes w128 trace → tree.Updates (pair_cmp nat_cmp) m n (t, k) w → by_id (at nat_cmp t n.entries) ≡ with_seat trace w (by_id (at nat_cmp t m.entries))
-seats_put m n t trace k w is number h =
-    ap by_id (at_put ids m n t k w h) ∙ (ap (λ (j : ℕ). by_id (put nat_eq j w (at nat_cmp t m.entries))) number ∙ by_id_put (at nat_cmp t m.entries) trace w is)
+-- what is at a key is at one of the same parts
+pub here_of : (entries : List ((ℕ × (ℕ × ℕ)) × ℕ)) (t u : ℕ) (k j : ℕ × ℕ) (slot : Option ℕ) → t ≡ u → k.0 ≡ j.0 → k.1 ≡ j.1 → at (pair_cmp nat_cmp) t entries k ≡ slot → at (pair_cmp nat_cmp) u entries j ≡ slot
+here_of entries t u k j slot tenant high low had =
+    let id : k ≡ j = λ i. (high i, low i) in
+    sym (ap (λ (n : ℕ). at (pair_cmp nat_cmp) n entries j) tenant) ∙ (sym (ap (at (pair_cmp nat_cmp) t entries) id) ∙ had)
 
-pub seats_put_other : (m n : BTreeMap (ℕ × ℕ) ℕ) (t k u : ℕ) (w : Option ℕ) → tree.Updates (pair_cmp nat_cmp) m n (t, k) w → u ≢ t → by_id (at nat_cmp u n.entries) ≡ by_id (at nat_cmp u m.entries)
+pub seats_put : (m n : BTreeMap (ℕ × (ℕ × ℕ)) ℕ) (t : ℕ) (trace : List ℕ) (k : ℕ × ℕ) (w : Option ℕ) → is_id trace ≡ true → k ≡ halves trace → tree.Updates (pair_cmp (pair_cmp nat_cmp)) m n (t, k) w → seats_of t n.entries ≡ with_seat trace w (seats_of t m.entries)
+seats_put m n t trace k w is number h =
+    ap by_id (at_put ids m n t k w h) ∙ (ap (λ (j : ℕ × ℕ). by_id (put same_halves j w (at (pair_cmp nat_cmp) t m.entries))) number ∙ by_id_put (at (pair_cmp nat_cmp) t m.entries) trace w is)
+
+pub seats_put_other : (m n : BTreeMap (ℕ × (ℕ × ℕ)) ℕ) (t : ℕ) (k : ℕ × ℕ) (u : ℕ) (w : Option ℕ) → tree.Updates (pair_cmp (pair_cmp nat_cmp)) m n (t, k) w → u ≢ t → seats_of u n.entries ≡ seats_of u m.entries
 seats_put_other m n t k u w h ne = ap by_id (at_put_other ids m n t k u w h ne)
 
 module _ {X : Type 0} where

@@ -1,41 +1,16 @@
 -- One tenant's part of the table, as functions of its own row numbers and traces: this project's own rule.
-use Rattle.std.specs.Prelude.{◌≡◌, ℕ, Bool, false, take, length, ◌-◌, List, [], ◌∷◌, ◌++◌, Option, Some, None, if◌then◌else◌, ◌==◌, ◌&&◌, nat_lt, bytes_eq}
-use Rattle.std.specs.Int.{w128, from_be_bytes}
-use Rattle.std.specs.List.{list_all}
-use Rattle.std.specs.Ordering.{nat_cmp, ordering_then, is_eq}
-use Rattle.std.specs.Map.{lookup}
-use Rattle.std.specs.declared.cmp.Ordering.{Ordering}
-use Rattle.std.specs.declared.cmp.Reverse.{Reverse}
+use Rattle.std.specs.Prelude.{◌≡◌, ℕ, Bool, false, take, length, ◌-◌, List, [], ◌∷◌, ◌++◌, Option, Some, None, if◌then◌else◌, ◌==◌, bytes_eq}
+use Rattle.trace_rows.specs.Maps.{at, latest_cmp, seats_of}
 use Rattle.trace_rows.specs.declared.table.Row.{Row}
 use Rattle.trace_rows.specs.declared.table.TraceRows.{TraceRows}
-
--- pairs of a tenant and a key in order: by tenant, then by key
-abbrev pub pair_cmp : {J : Type 0} → (J → J → Ordering) → ℕ × J → ℕ × J → Ordering
-pair_cmp cmp x y = ordering_then (nat_cmp x.0 y.0) (cmp x.1 y.1)
-
--- a tenant's part of a map's entries, by the key
-abbrev pub at : {J X : Type 0} → (J → J → Ordering) → ℕ → List ((ℕ × J) × X) → J → Option X
-at cmp tenant es key = lookup (λ q. is_eq (pair_cmp cmp (tenant, key) q)) es
-
--- numbers in order, the greatest first
-abbrev pub latest_cmp : Reverse ℕ → Reverse ℕ → Ordering
-latest_cmp x y = nat_cmp y.0 x.0
 
 -- a tenant's rows, by number
 abbrev pub rows_part : {N : Type 0} → ℕ → TraceRows N → ℕ → Option (Row N)
 rows_part tenant table = λ number. at latest_cmp tenant table.rows.entries (record { 0 = number })
 
--- sixteen bytes
-abbrev pub is_id : List ℕ → Bool
-is_id trace = (length trace == 16) && list_all (λ byte. nat_lt byte 256) trace
-
--- what is at each id's number, which its bytes are with the most significant first; nothing at what is no id
-abbrev pub by_id : {X : Type 0} → (ℕ → Option X) → List ℕ → Option X
-by_id numbers trace = if is_id trace then numbers (from_be_bytes w128 trace) else None
-
 -- the number of the latest row of each of a tenant's traces, by the trace's id
 abbrev pub seats_part : {N : Type 0} → ℕ → TraceRows N → List ℕ → Option ℕ
-seats_part tenant table = by_id (at nat_cmp tenant table.seats.entries)
+seats_part tenant table = seats_of tenant table.seats
 
 -- the same rows with another one, or none, at one number
 abbrev pub with_at : {X : Type 0} → ℕ → Option X → (ℕ → Option X) → ℕ → Option X

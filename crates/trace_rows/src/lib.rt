@@ -16,6 +16,7 @@
 #![tactic(auto)]
 
 mod keys;
+mod seats;
 mod table;
 
 pub use keys::Keys;

@@ -1,10 +1,10 @@
 //! The table of rows.
 
 ghost use Rattle.std.specs.Prelude.{◌≡◌, ◌≢◌, ℕ, IfOk, OnOk, OnErr, Some, None, true, option_copied};
-ghost use Rattle.std.specs.Int.{w128, from_be_bytes};
-ghost use Rattle.trace_rows.specs.Part.{rows_part, seats_part, with_at, with_seat, joined, unjoined, is_id, settled, unseated, keys_of, note_of, trace_in, IsSame};
+ghost use Rattle.trace_rows.specs.Part.{rows_part, seats_part, with_at, with_seat, joined, unjoined, settled, unseated, keys_of, note_of, trace_in, IsSame};
 
 use crate::keys::Keys;
+use crate::seats::Seats;
 use std::alloc::{AllocError, Global};
 use std::cmp::Reverse;
 use std::collections::BTreeMap;
@@ -30,17 +30,7 @@ pub struct TraceRows<N> {
     // By tenant and row number, the latest first: a look-up goes through the keys of a node from the first one on, and
     // most are for the latest rows.
     rows: BTreeMap<(u32, Reverse<u64>), Row<N>>,
-    // By tenant and trace id, the number of the row that opened last. Ids are compared as numbers, which takes as long
-    // however many bytes two of them share.
-    seats: BTreeMap<(u32, u128), u64>,
-}
-
-/// The number that an id's bytes are, the most significant first.
-fn number_of(trace: [u8; 16]) -> u128
-    ensures number { result ≡ from_be_bytes w128 trace }
-    ensures id { is_id trace ≡ true }
-{
-    u128::from_be_bytes(trace)
+    seats: Seats,
 }
 
 impl<N: Drop> TraceRows<N> {
@@ -51,7 +41,7 @@ impl<N: Drop> TraceRows<N> {
     {
         TraceRows {
             rows: BTreeMap::new(alloc),
-            seats: BTreeMap::new(alloc),
+            seats: Seats::new(alloc),
         }
     }
 
@@ -59,7 +49,7 @@ impl<N: Drop> TraceRows<N> {
     pub fn seat(&self, tenant: u32, trace: [u8; 16]) -> Option<u64>
         ensures { result ≡ seats_part tenant self.now trace }
     {
-        self.seats.get(&(tenant, number_of(trace))).copied()
+        self.seats.get(tenant, trace)
     }
 
     /// The tenant's row of this number, where there is one.
@@ -85,11 +75,11 @@ impl<N: Drop> TraceRows<N> {
     {
         let trace = row.trace;
         self.rows.insert((tenant, Reverse(number)), row)?;
-        match self.seats.insert((tenant, number_of(trace)), number) {
+        match self.seats.put(tenant, trace, number) {
             Ok(earlier) => Ok(earlier),
-            Err(failed) => {
+            Err(refused) => {
                 self.rows.remove(&(tenant, Reverse(number)));
-                Err(failed.into())
+                Err(refused)
             }
         }
     }
@@ -136,15 +126,7 @@ impl<N: Drop> TraceRows<N> {
         ensures others { (other : ℕ) → other ≢ tenant → IsSame other self.old self.new }
     {
         self.rows.remove(&(tenant, Reverse(number)));
-        let id = number_of(trace);
-        let Some(earlier) = earlier else {
-            self.seats.remove(&(tenant, id));
-            return;
-        };
-        let Some(seat) = self.seats.get_mut(&(tenant, id)) else {
-            return;
-        };
-        *seat = earlier;
+        self.seats.restore(tenant, trace, earlier);
     }
 
     /// The row is decided: it keeps the verdict, and the answer is the keys that it had. It takes no memory.
@@ -186,7 +168,7 @@ impl<N: Drop> TraceRows<N> {
         ensures others { (other : ℕ) → other ≢ tenant → seats_part other self.new ≡ seats_part other self.old }
     {
         if self.seat(tenant, trace) == Some(number) {
-            self.seats.remove(&(tenant, number_of(trace)));
+            self.seats.remove(tenant, trace);
         }
     }
 }

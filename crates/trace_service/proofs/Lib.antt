@@ -1,3 +1,6 @@
 pub mod Addresses
+pub mod Audited
+pub mod Lines
+pub mod Unread
 pub mod Places
 pub mod Written

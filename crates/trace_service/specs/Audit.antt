@@ -1,5 +1,5 @@
 -- What the service prints of its shards' logs.
-use Rattle.std.specs.Prelude.{◌≡◌, ℕ, List, [], ◌∷◌, ◌++◌, codes, length, Option}
+use Rattle.std.specs.Prelude.{◌≡◌, ℕ, List, [], ◌∷◌, ◌++◌, codes, length, true, Option, Some, slice_get, All}
 use Rattle.std.specs.Fmt.{decimal}
 use Rattle.std.specs.Io.KnownBytes.{Appends}
 use Rattle.shared_hub.specs.Logs.{LoggedShard, AreLogged}
@@ -14,10 +14,13 @@ abbrev pub audit_text : List LoggedShard → List ℕ
 audit_text [] = []
 audit_text (s ∷ ss) = audit_line s.number (length s.entries) ++ audit_text ss
 
--- what was written last are the lines of logs of all shards, each of which is a run of that shard's tenants
+-- what was written last are the lines of the logs of all shards, each under its place among them; all logs keep, and
+-- each is a run of that shard's tenants
 pub record IsAudited (table : SettingsData) (written : Option (List ℕ)) : Type 0 where
   pub shards : List LoggedShard
   pub count : length shards ≡ table.global.shards
+  pub numbered : (k : ℕ) (s : LoggedShard) → slice_get shards k ≡ Some s → s.number ≡ k
+  pub kept : All (λ s. s.keeps ≡ true) shards
   pub logged : AreLogged table shards
   pub before : Option (List ℕ)
   pub lines : Appends before written (audit_text shards)

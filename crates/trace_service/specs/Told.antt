@@ -1,5 +1,6 @@
 -- What the input asks for, and what is done for it and at its end.
-use Rattle.std.specs.Prelude.{◌≡◌, ℕ, zero, suc, ◌%◌, List, [], ◌++◌, codes, true, Option, Some, None, option_map, position, slice_get}
+use Rattle.std.specs.Prelude.{◌≡◌, ℕ, zero, suc, ◌%◌, ◌<◌, List, [], ◌++◌, length, codes, Bool, true, false, Option, Some, None, option_map, position, slice_get}
+use Rattle.std.specs.Io.BufRead.{first_piece, drop_through}
 use Rattle.std.specs.Str.{IsUtf8, bytes_eq}
 use Rattle.std.specs.Io.KnownBytes.{Appends}
 use Rattle.machine_hub.specs.declared.receipt.Receipt.{Receipt}
@@ -25,6 +26,12 @@ abbrev pub AsksNobody : SettingsData → List ℕ → Type 0
 AsksNobody settings line =
     (name : List ℕ) → IsUtf8 name → line ≡ codes "report " ++ name → number_of settings name ≡ None
 
+-- the text's first line was taken, without its line feed, and what stands behind that is left; or there is no text
+abbrev pub TakesLine : List ℕ → Option (List ℕ) → List ℕ → Bool → Type 0
+TakesLine text after line true =
+    (0 < length text) × (line ≡ first_piece 10 text) × (after ≡ Some (drop_through 10 text))
+TakesLine text after line false = text ≡ []
+
 -- the name of the tenant of this number
 abbrev pub name_at : SettingsData → ℕ → Option (List ℕ)
 name_at settings tenant = option_map (λ t. t.name) (slice_get settings.tenants tenant)
@@ -46,6 +53,13 @@ pub record IsReported (settings : SettingsData) (old new : Seats) (shards tenant
   pub outcome : Outcome
   pub made : IsMade old new shards tenant (λ now. steps.Report tenant now) outcome
   pub line : Appends before written (report_line (name_at settings tenant) outcome)
+
+-- the first tenants, so many of them, were reported so, one after the other
+abbrev pub AreReported : SettingsData → Seats → Seats → ℕ → Option (List ℕ) → Option (List ℕ) → ℕ → Type 0
+AreReported settings old new shards before written zero = (new ≡ old) × (written ≡ before)
+AreReported settings old new shards before written (suc n) =
+    (mid : Seats) × (so_far : Option (List ℕ)) × AreReported settings old mid shards before so_far n
+    × IsReported settings mid new shards n so_far written
 
 -- the tenant was drained by one step at its shard, after calls that were refused memory
 pub record IsDrained (new : Seats) (shards tenant : ℕ) : Type 0 where

@@ -1,8 +1,8 @@
 //! Who reads the input, and ends the service.
 
-ghost use Rattle.std.specs.Prelude.{length, OnOk, IfNone};
+ghost use Rattle.std.specs.Prelude.{◌≡◌, length, OnOk, IfNone};
 ghost use Rattle.tail_settings.specs.Settings.{settings_view};
-ghost use Rattle.trace_service.specs.Told.{AreEmptyOn, IsDrained, IsReported};
+ghost use Rattle.trace_service.specs.Told.{AreEmptyOn, AreReported, IsDrained, IsReported};
 
 use crate::beat::ServiceBeat;
 use crate::course::{Observer, Stage};
@@ -71,7 +71,7 @@ where
     ) -> Result<(), ServiceFault> {
         let mut line = Vec::new(self.alloc);
         for _ in self.rt.forever() {
-            if !next_line(self.rt, input, &mut line)? {
+            if !next_line(input, &mut line)? {
                 return Ok(());
             }
             if let Some(tenant) = asked_report(self.settings, &line) {
@@ -86,6 +86,8 @@ where
         ensures told { OnOk result (IsReported (settings_view self.old.settings.now) self.old.station.caller
             self.new.station.caller (length self.old.station.hub.now) tenant
             (O.contents output.old) (O.contents output.new)) }
+        ensures settings { self.new.settings ≡ self.old.settings }
+        ensures hub { self.new.station.hub ≡ self.old.station.hub }
     {
         let now = self.beat.now();
         let step = Step::Report { tenant, now };
@@ -95,7 +97,11 @@ where
     }
 
     /// Prints the reports of all tenants, in their order.
-    fn tell_all<O: Write>(&mut self, output: &mut O) -> Result<(), ServiceFault> {
+    fn tell_all<O: Write>(&mut self, output: &mut O) -> Result<(), ServiceFault>
+        ensures told { OnOk result (AreReported (settings_view self.old.settings.now) self.old.station.caller
+            self.new.station.caller (length self.old.station.hub.now) (O.contents output.old) (O.contents output.new)
+            (length (settings_view self.old.settings.now).tenants)) }
+    {
         for tenant in 0..self.settings.tenants_len() {
             self.tell(output, tenant)?;
         }

@@ -4,6 +4,7 @@ ghost use Rattle.std.specs.Prelude.{◌≡◌};
 ghost use Rattle.std.specs.Thread.{IsSync};
 
 use crate::beat::ServiceBeat;
+use crate::lingering::linger;
 use crate::naming::Naming;
 use crate::shared::Shared;
 use crate::station::Station;
@@ -154,7 +155,7 @@ where
         match shared.listener.accept() {
             Ok((stream, _peer)) => {
                 if !signals.is_closing() {
-                    receive(shared, stream, station);
+                    receive(shared, &stream, station, beat);
                 }
             }
             Err(_) => beat.pause(),
@@ -163,12 +164,19 @@ where
 }
 
 /// Serves a connection to its end. Its faults are nobody's but its own.
-fn receive<J, R>(shared: &Shared<'_, '_, R>, stream: TcpStream, station: &mut Station<'_, '_, J, R>)
+fn receive<J, R>(
+    shared: &Shared<'_, '_, R>,
+    stream: &TcpStream,
+    station: &mut Station<'_, '_, J, R>,
+    beat: &mut ServiceBeat<'_, R>,
+)
 where
     J: Naming,
     R: Threads + Wait + Clock + Sync,
 {
     let mut line = StreamLine::new(stream);
     // A connection that failed is given up, and what was posted over it stands.
-    let _served = serve(shared.rt, shared.alloc, &mut line, station);
+    if serve(shared.rt, shared.alloc, &mut line, station).is_ok() {
+        linger(stream, beat);
+    }
 }

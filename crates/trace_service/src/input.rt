@@ -1,24 +1,13 @@
 //! What the input asks for.
 
-ghost use Rattle.std.specs.Prelude.{IfSome, IfNone};
+ghost use Rattle.std.specs.Prelude.{◌≡◌, IfSome, IfNone, IfOk};
+ghost use Rattle.std.specs.Io.BufRead.{strip_last};
 ghost use Rattle.tail_settings.specs.Settings.{settings_view};
-ghost use Rattle.trace_service.specs.Told.{Asks, AsksNobody};
+ghost use Rattle.trace_service.specs.Told.{Asks, AsksNobody, TakesLine};
 
-use std::io::{BufRead, ErrorKind};
-use std::sync::Wait;
+use std::io::BufRead;
 use std::{io, str};
 use tail_settings::Settings;
-
-/// What came behind a part of a line.
-#[derive(Clone, Copy, PartialEq, Eq, Debug)]
-enum Part {
-    /// The line may go on.
-    More,
-    /// The line's end, which is read too.
-    LineEnd,
-    /// The end of the input.
-    InputEnd,
-}
 
 /// The number of the tenant whose counters a line asks for: `report`, a space and its name. None where the line is any
 /// other.
@@ -34,48 +23,22 @@ pub(crate) fn asked_report(settings: &Settings, line: &[u8]) -> Option<u32>
 }
 
 /// Reads the next line, without its end. False where there is none.
-pub(crate) fn next_line<I: BufRead, R: Wait>(
-    rt: &R,
-    input: &mut I,
-    line: &mut Vec<u8>,
-) -> io::Result<bool> {
+pub(crate) fn next_line<I: BufRead>(input: &mut I, line: &mut Vec<u8>) -> io::Result<bool>
+    ensures { IfOk result (λ found. IfSome (I.remaining input.old)
+        (λ text. TakesLine text (I.remaining input.new) line.new.items found)) }
+{
     line.clear();
-    for _ in rt.forever() {
-        match take_part(input, line)? {
-            Part::More => {}
-            Part::LineEnd => return Ok(true),
-            Part::InputEnd => return Ok(!line.is_empty()),
-        }
-    }
-    unreachable!()
+    let read = input.read_until(b'\n', line)?;
+    cut_end(line);
+    Ok(read > 0)
 }
 
-/// Joins what one read gives of the line to it.
-fn take_part<I: BufRead>(input: &mut I, line: &mut Vec<u8>) -> io::Result<Part> {
-    let shown = match input.fill_buf() {
-        Ok(shown) => shown,
-        Err(error) => {
-            return if error.kind() == ErrorKind::Interrupted {
-                Ok(Part::More)
-            } else {
-                Err(error)
-            };
-        }
-    };
-    if shown.is_empty() {
-        return Ok(Part::InputEnd);
-    }
-    match shown.iter().position(|byte| *byte == b'\n') {
-        Some(at) => {
-            line.extend_from_slice(&shown[..at])?;
-            input.consume(at + 1);
-            Ok(Part::LineEnd)
-        }
-        None => {
-            let len = shown.len();
-            line.extend_from_slice(shown)?;
-            input.consume(len);
-            Ok(Part::More)
-        }
+/// Takes off the line feed at the end, if there is one.
+fn cut_end(line: &mut Vec<u8>)
+    ensures { line.new.items ≡ strip_last 10 line.old.items }
+{
+    let len = line.len();
+    if len > 0 && line[len - 1] == b'\n' {
+        line.truncate(len - 1);
     }
 }

@@ -7,7 +7,8 @@
 //! bytes are read, bodies are read, notes are made or payloads are sent.
 //!
 //! It stands on `shared_hub` for the shards, on `export_edge` and `job_lane` for jobs, on `http_edge`, `otlp_front` and
-//! `otlp_prepare` for bodies. How it starts and ends is this project's own.
+//! `otlp_prepare` for bodies, on `http_line` for connections, on `tail_settings` for what it serves under, and on
+//! `replay_script` for how a report is spelled. How it starts and ends is this project's own.
 #![tactic(auto)]
 
 mod beat;
@@ -15,6 +16,7 @@ mod control;
 mod course;
 mod crew;
 mod input;
+mod lingering;
 mod naming;
 mod post;
 mod reports;

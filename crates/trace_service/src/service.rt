@@ -1,12 +1,12 @@
 //! The service, from its start to its end.
 
-ghost use Rattle.std.specs.Prelude.{◌≡◌, ◌<◌, ◌≤◌, List, map, string_bytes, All, IfOk, OnOk, IsTrue, vec_len};
+ghost use Rattle.std.specs.Prelude.{◌≡◌, ◌<◌, ◌≤◌, List, map, string_bytes, All, IfOk, OnOk, IsTrue, true, replicate, vec_len};
 ghost use Rattle.std.specs.Io.KnownBytes.{Appends};
 ghost use Rattle.std.specs.IoError.{error_kind};
 ghost use Rattle.std.specs.Thread.{IsSync};
 ghost use Rattle.machine_hub.specs.Hub.{AreCallersOf, AreShardRuns};
 ghost use Rattle.shared_hub.specs.Logs.{LoggedShard};
-ghost use Rattle.shared_hub.specs.Shards.{AreOpened};
+ghost use Rattle.shared_hub.specs.Shards.{AreOpened, kept};
 ghost use Rattle.tail_settings.specs.Settings.{SettingsData, settings_view};
 ghost use Rattle.worded_machine.specs.Worded.{WordedDoes};
 ghost use Rattle.shared_hub.specs.declared.fault.HubFault.TheVariants as hub_faults;
@@ -141,6 +141,7 @@ where
     requires lane { lane.now.name ≡ J.lane }
     requires seats { All (λ s. s.lane ≡ J.lane) seats.items }
     requires opened { AreOpened (settings_view settings.now) keeper.homes }
+    requires keeps { kept keeper.homes ≡ replicate settings.now.global.shards audit }
     requires some { 0 < vec_len callers }
     requires all { vec_len callers ≡ keeper.callers }
     requires enough { vec_len callers ≤ vec_len seats }
@@ -172,7 +173,7 @@ fn write_logs<'a, R: Wait, O: Write>(
         × AreShardRuns WordedDoes keeper.entry.homes callers.entry.items shards
         × Appends (O.contents output.old) (O.contents output.new) (audit_text shards)) }
     ensures audit { OnOk result ((table : SettingsData) → AreOpened table keeper.entry.homes →
-        IsAudited table (O.contents output.new)) }
+        kept keeper.entry.homes ≡ replicate table.global.shards true → IsAudited table (O.contents output.new)) }
 {
     let Ok(shards) = hub.close(rt, keeper, callers) else {
         unreachable!()

@@ -5,8 +5,8 @@ use Rattle.tenant_words.specs.Words.{IsSeeded}
 use Rattle.tenant_words.proofs.Drawing.{at_tenant, seeded, none_of}
 use Rattle.tenant_words.proofs.words.Words.seed.Goals as goal
 
-pub returns-in_ok-insert : goal.returns-in_ok-insert
-returns-in_ok-insert c =
+pub returns-in_ok-insert-clause-seeded : goal.returns-in_ok-insert-clause-seeded
+returns-in_ok-insert-clause-seeded c =
     let old = c.self.inside.generators in
     let new = c.insert.new.self in
     let tenant = c.args.tenant in

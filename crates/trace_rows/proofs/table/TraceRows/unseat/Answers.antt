@@ -1,7 +1,6 @@
 use Rattle.std.proofs.Common.{◌≡◌, ◌∙◌, ap, sym, ℕ, Option, Some, None, refl, true, eqb}
 use Rattle.std.specs.Option.{option_eq}
 use Rattle.trace_rows.specs.Part.{seats_part, is_number}
-use Rattle.trace_rows.proofs.Parts.{seats_put, seats_put_other}
 use Rattle.trace_rows.proofs.table.TraceRows.unseat.Goals as goal
 
 number_is : (n : ℕ) (o : Option ℕ) → option_eq eqb o (Some n) ≡ is_number n o
@@ -11,7 +10,4 @@ number_is n (Some k) = refl
 pub returns-then-eq-clause-seats : goal.returns-then-eq-clause-seats
 returns-then-eq-clause-seats g c =
     let is : is_number c.args.number (seats_part c.args.tenant c.args.self.now c.args.trace) ≡ true = sym (number_is c.args.number (seats_part c.args.tenant c.args.self.now c.args.trace)) ∙ (ap (λ (o : Option ℕ). option_eq eqb o (Some c.args.number)) (sym c.seat.ensures) ∙ (sym c.eq.ensures ∙ c.if-eq.true)) in
-    rw is (seats_put c.args.self.now.seats c.remove.new.self c.args.tenant c.args.trace c.number_of.result None c.number_of.ensures.id c.number_of.ensures.number c.remove.ensures.updates)
-
-pub returns-then-eq-clause-others : goal.returns-then-eq-clause-others
-returns-then-eq-clause-others g c = λ other ne. seats_put_other c.args.self.now.seats c.remove.new.self c.args.tenant c.number_of.result other None c.remove.ensures.updates ne
+    rw is c.remove.ensures.own
