@@ -56,28 +56,35 @@ serve: trace_collector
 BODY = examples/trace.pb
 SCRIPT = $(PROGRAM)/out/script
 STORY = examples/story
-LOG = $(PROGRAM)/out/build.log
 
-# The program's crate and those that it stands on, the lowest first.
-BELOW = $(shell awk -F: '/^[a-z]/ { split($$1, w, " "); uses[w[1]] = $$2 } \
-	function put(c, d, n, i) { if (!(c in uses) || done[c]++) return; n = split(uses[c], d, " "); for (i = 1; i <= n; i++) put(d[i]); print c } \
+# The program's crate and those that it stands on, the lowest first, each with the crates that it uses: NAME:ONE,ANOTHER
+EDGES := $(shell awk -F: '/^[a-z]/ { split($$1, w, " "); uses[w[1]] = $$2 } \
+	function put(c, d, n, i, e) { if (!(c in uses) || done[c]++) return; n = split(uses[c], d, " "); \
+	    for (i = 1; i <= n; i++) { put(d[i]); if (d[i] in uses) e = e "," d[i] } print c ":" e } \
 	END { put("$(notdir $(PROGRAM))") }' crates.txt)
+COMMA = ,
+BELOW := $(foreach edge,$(EDGES),$(firstword $(subst :, ,$(edge))))
 
-.PHONY: trace_collector
-trace_collector:
-	@command -v rt > /dev/null || { echo 'make: there is no command rt: README.md names the toolchain' >&2; exit 1; }
-	@mkdir -p $(PROGRAM)/out
-	@: > $(LOG)
-	@echo 'Proving and building ./trace_collector, $(words $(BELOW)) crates, the lowest first: some 50 processor minutes'
-	@echo 'the first time, and seconds when nothing has changed. What the prover says is in $(LOG).'
-	@n=0; for crate in $(BELOW); do \
-	    n=$$((n + 1)); printf '%2d of %d  %s\n' $$n $(words $(BELOW)) $$crate; \
-	    case $$crate in \
-	        $(notdir $(PROGRAM))) (cd $(PROGRAM) && rt run $(BACKEND) -- replay data/settings.toml < stdin) ;; \
-	        *) (cd crates/$$crate && rt lib) ;; \
-	    esac >> $(LOG) 2>&1 || { tail -n 40 $(LOG); echo "make: $$crate was not built: $(LOG)" >&2; exit 1; }; \
-	done
+# `make -j4 trace_collector` builds up to four crates at a time.
+.PHONY: trace_collector begun
+trace_collector: built-$(notdir $(PROGRAM))
 	@cp $(PROGRAM)/out/$(notdir $(PROGRAM)) $@
+
+begun:
+	@command -v rt > /dev/null || { echo 'make: there is no command rt: README.md names the toolchain' >&2; exit 1; }
+	@echo 'Proving and building ./trace_collector, $(words $(BELOW)) crates, the lowest first: some 50 processor minutes'
+	@echo 'the first time, and seconds when nothing has changed. What the prover says is in out/build.log of each crate.'
+
+# One crate, after those that it uses.
+define built
+.PHONY: built-$(1)
+built-$(1): begun $(addprefix built-,$(subst $(COMMA), ,$(2)))
+	@mkdir -p crates/$(1)/out
+	@(cd crates/$(1) && $(if $(filter $(1),$(notdir $(PROGRAM))),rt run $$(BACKEND) -- replay data/settings.toml < stdin,rt lib)) \
+	    > crates/$(1)/out/build.log 2>&1 || { tail -n 40 crates/$(1)/out/build.log; echo 'make: $(1) was not built' >&2; exit 1; }
+	@echo $(1)
+endef
+$(foreach edge,$(EDGES),$(eval $(call built,$(firstword $(subst :, ,$(edge))),$(word 2,$(subst :, ,$(edge))))))
 
 # Of the two compilers the one whose program replays faster.
 BACKEND = --backend rattle
