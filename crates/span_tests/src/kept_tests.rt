@@ -1,24 +1,24 @@
 //! Spans of two tenants, 7 and 8, in one pool.
 
 use bytes::Bytes;
-use span_pool::{KeyedSpan, NotYours, SpanPool, TextKeys, each_span_has_one_owner};
+use span_pool::{NotYours, SpanPool, StoredSpan, TextKeys, each_span_has_one_owner};
 use std::alloc::AllocError;
 use std::process::Abort;
 use std::test::Fail;
 
 /// A span without a resource, whose text is a name.
-fn span(owner: u32, text: &'static [u8]) -> KeyedSpan {
+fn span(owner: u32, text: &'static [u8]) -> StoredSpan {
     let keys = TextKeys {
         resource: None,
         resource_schema_url: None,
         scope: None,
         scope_schema_url: None,
     };
-    KeyedSpan::of(owner, keys, Bytes::from_static(text))
+    StoredSpan::of(owner, keys, Bytes::from_static(text))
 }
 
 /// The name, 0 where there is no span, and 9 where it is another one.
-fn name(span: Option<&KeyedSpan>) -> u32 {
+fn name(span: Option<&StoredSpan>) -> u32 {
     let Some(span) = span else {
         return 0;
     };
@@ -31,7 +31,7 @@ fn name(span: Option<&KeyedSpan>) -> u32 {
 }
 
 /// What a tenant owns at three keys.
-fn owned(pool: &SpanPool<KeyedSpan>, tenant: u32, keys: [usize; 3]) -> [u32; 3] {
+fn owned(pool: &SpanPool<StoredSpan>, tenant: u32, keys: [usize; 3]) -> [u32; 3] {
     let [first, second, third] = keys;
     [
         name(pool.owned(tenant, first)),
@@ -43,8 +43,8 @@ fn owned(pool: &SpanPool<KeyedSpan>, tenant: u32, keys: [usize; 3]) -> [u32; 3] 
 /// Puts a span. Where memory is refused, what both own is the same, and the span is there to be put again.
 fn put(
     rt: &impl Abort,
-    pool: &mut SpanPool<KeyedSpan>,
-    span: KeyedSpan,
+    pool: &mut SpanPool<StoredSpan>,
+    span: StoredSpan,
 ) -> Result<usize, AllocError> {
     let keys = [0, 1, 2];
     let seven = owned(pool, 7, keys);
@@ -59,7 +59,7 @@ fn put(
 }
 
 /// Three spans: the first and the last are tenant 7's, the other is tenant 8's.
-fn filled(rt: &impl Abort, pool: &mut SpanPool<KeyedSpan>) -> Result<[usize; 3], AllocError> {
+fn filled(rt: &impl Abort, pool: &mut SpanPool<StoredSpan>) -> Result<[usize; 3], AllocError> {
     let first = put(rt, pool, span(7, b"\x2a\x01\x31"))?;
     let second = put(rt, pool, span(8, b"\x2a\x01\x32"))?;
     let third = put(rt, pool, span(7, b"\x2a\x01\x33"))?;
@@ -78,7 +78,7 @@ fn each_tenant_owns_what_it_put(rt: HostRuntime) -> Result<(), Fail> {
 }
 
 /// Whether the tenant is told that the span isn't its own, by the fault's number and text.
-fn is_refused(pool: &mut SpanPool<KeyedSpan>, tenant: u32, key: usize) -> bool {
+fn is_refused(pool: &mut SpanPool<StoredSpan>, tenant: u32, key: usize) -> bool {
     match pool.take(tenant, key) {
         Ok(_) => false,
         Err(refused) => refused == NotYours && refused.number() == 20,
@@ -132,6 +132,6 @@ fn where_memory_is_refused_nothing_has_changed(rt: HostRuntime) -> Result<(), Fa
 fn the_refusal_has_a_text(rt: HostRuntime) -> Result<(), Fail> {
     let text = format!(in rt.alloc(); "{NotYours}")?;
     assert!(rt; text.as_str() == "the tenant owns no span at this key");
-    each_span_has_one_owner::<KeyedSpan>();
+    each_span_has_one_owner::<StoredSpan>();
     Ok(())
 }

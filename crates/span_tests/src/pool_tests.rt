@@ -4,7 +4,7 @@ ghost use Rattle.std.specs.Prelude.{◌≡◌};
 ghost use Rattle.span_tests.specs.Stored.{SameResources, SameScopes, EqualOrigins, ReadSpans, ReadResources};
 
 use bytes::Bytes;
-use span_pool::{KeyedSpan, Owned, TextKeys, read_spans_are_viewed};
+use span_pool::{Owned, StoredSpan, TextKeys, read_spans_are_viewed};
 use std::mem::size_of;
 
 /// A name.
@@ -18,19 +18,19 @@ const KEYS: TextKeys = TextKeys {
     scope_schema_url: None,
 };
 
-fn is_of_seven(span: &KeyedSpan) -> bool {
+fn is_of_seven(span: &StoredSpan) -> bool {
     span.owner() == 7 && span.keys() == KEYS && span.text().as_slice() == NAME
 }
 
 #[test]
 fn what_was_given_is_there(rt: HostRuntime) {
-    let span = KeyedSpan::of(7, KEYS, Bytes::from_static(NAME));
+    let span = StoredSpan::of(7, KEYS, Bytes::from_static(NAME));
     assert!(rt; is_of_seven(&span));
 }
 
 #[test]
 fn a_span_has_80_bytes(rt: HostRuntime) {
-    assert!(rt; size_of::<KeyedSpan>() == 80);
+    assert!(rt; size_of::<StoredSpan>() == 80);
 }
 
 #[test]
