@@ -47,7 +47,11 @@ def copy(root, to, names, lines):
     (to / "crates.txt").write_text("".join(f"{lines[name]}\n" for name in lines if name in names))
     shutil.copyfile(root / "HANDLES", to / "HANDLES")
     for name in names:
-        shutil.copytree(root / "crates" / name, to / "crates" / name, ignore=shutil.ignore_patterns("out", "must-fail"))
+        for part in (root / "crates" / name).iterdir():
+            if part.name not in ("out", "must-fail"):
+                copied = to / "crates" / name / part.name
+                copied.parent.mkdir(parents=True, exist_ok=True)
+                (shutil.copytree if part.is_dir() else shutil.copyfile)(part, copied)
 
 
 def stamp_of(names, lines, file):
