@@ -6,7 +6,7 @@ PROGRAM = crates/trace_collector_program
 # what has passed on this machine as it stands, the edits that must be refused, the tests
 # and the programs; last what the program that was built there prints.
 test: checks
-	@command -v rt > /dev/null || { echo 'make: there is no command rt: README.md names the toolchain' >&2; exit 1; }
+	@command -v rt > /dev/null || { echo 'make: there is no command rt: docs/BUILDING.md names the toolchain' >&2; exit 1; }
 	@rt ci
 	@said=$$(python3 tests/program.py $(PROGRAM)/out/trace_collector_program) || { echo "$$said"; exit 1; }
 	@said=$$(python3 tests/stories.py $(PROGRAM)/out/trace_collector_program) || { echo "$$said"; exit 1; }
@@ -54,37 +54,10 @@ serve: trace_collector
 	@python3 examples/serve.py
 
 BODY = examples/trace.pb
-SCRIPT = $(PROGRAM)/out/script
+SCRIPT = out/script
 STORY = examples/story
 
-# The program's crate and those that it stands on, the lowest first, each with the crates that it uses: NAME:ONE,ANOTHER
-EDGES := $(shell awk -F: '/^[a-z]/ { split($$1, w, " "); uses[w[1]] = $$2 } \
-	function put(c, d, n, i, e) { if (!(c in uses) || done[c]++) return; n = split(uses[c], d, " "); \
-	    for (i = 1; i <= n; i++) { put(d[i]); if (d[i] in uses) e = e "," d[i] } print c ":" e } \
-	END { put("$(notdir $(PROGRAM))") }' crates.txt)
-COMMA = ,
-BELOW := $(foreach edge,$(EDGES),$(firstword $(subst :, ,$(edge))))
-
-# `make -j4 trace_collector` builds up to four crates at a time.
-.PHONY: trace_collector begun
-trace_collector: built-$(notdir $(PROGRAM))
-	@cp $(PROGRAM)/out/$(notdir $(PROGRAM)) $@
-
-begun:
-	@command -v rt > /dev/null || { echo 'make: there is no command rt: README.md names the toolchain' >&2; exit 1; }
-	@echo 'Proving and building ./trace_collector, $(words $(BELOW)) crates, the lowest first: some 50 processor minutes'
-	@echo 'the first time, and seconds when nothing has changed. What the prover says is in out/build.log of each crate.'
-
-# One crate, after those that it uses.
-define built
-.PHONY: built-$(1)
-built-$(1): begun $(addprefix built-,$(subst $(COMMA), ,$(2)))
-	@mkdir -p crates/$(1)/out
-	@(cd crates/$(1) && $(if $(filter $(1),$(notdir $(PROGRAM))),rt run $$(BACKEND) -- replay data/settings.toml < stdin,rt lib)) \
-	    > crates/$(1)/out/build.log 2>&1 || { tail -n 40 crates/$(1)/out/build.log; echo 'make: $(1) was not built' >&2; exit 1; }
-	@echo $(1)
-endef
-$(foreach edge,$(EDGES),$(eval $(call built,$(firstword $(subst :, ,$(edge))),$(word 2,$(subst :, ,$(edge))))))
-
-# Of the two compilers the one whose program replays faster.
-BACKEND = --backend rattle
+# Proves and builds the program and the crates that it stands on, and says how far it is; nothing where nothing has changed.
+.PHONY: trace_collector
+trace_collector:
+	@python3 tests/build.py $(notdir $(PROGRAM)) ./trace_collector
