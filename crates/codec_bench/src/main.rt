@@ -1,7 +1,7 @@
-//! `codec_bench FILE ROUNDS POLICIES`: makes the request body in that file ready so many times for a tenant with so many
-//! policies, as the collector does it, and prints how long that took. `codec_bench FILE ROUNDS`: reads it as a request
-//! and writes that so many times, and prints how much is read, written, and read and written in a second. With no
-//! arguments it reads `request.pb` once, and checks that what it writes is that body. Statuses: 0 done; 1 a faulty
+//! `codec_bench FILE ROUNDS POLICIES`: makes the request body in that file ready so many times for a tenant with so
+//! many policies, as the collector does it, and prints how long that took. `codec_bench FILE ROUNDS`: reads it as a
+//! request and writes that so many times, and prints how much is read, written, and read and written in a second. With
+//! no arguments it reads `request.pb` once, and checks that what it writes is that body. Statuses: 0 done; 1 a faulty
 //! body, or a fault of the file or the output; 2 wrong usage; 3 no memory. A fault is told in one line on standard
 //! error.
 //!
