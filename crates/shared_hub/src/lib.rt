@@ -11,7 +11,6 @@
 #![tactic(auto)]
 
 ghost use Rattle.shared_hub.specs.Logs.{EachCallEndsARun, LogsTellByOwnSteps};
-ghost use Rattle.shared_hub.specs.Shards.{EachInItsShard};
 
 mod copy;
 mod fault;
@@ -37,11 +36,6 @@ pub type HubKeeper<'a> = machine_hub::HubKeeper<WordedShard<'a>, OptionalLog<'a>
 
 /// A shard with its log.
 pub type ShardLog<'a> = machine_hub::LoggedMachine<WordedShard<'a>, OptionalLog<'a>>;
-
-/// Each tenant of a table is in one shard, with its own section: a law over settings.
-pub fn each_tenant_is_in_its_shard()
-    ensures { EachInItsShard }
-{}
 
 /// What a call answers, log or not, is the last outcome of a run of a shard of its tenants: a law over calls.
 pub fn each_call_ends_a_run()
