@@ -15,13 +15,11 @@ ghost use Rattle.shared_hub.specs.Logs.{EachCallEndsARun, LogsTellByOwnSteps};
 mod copy;
 mod fault;
 mod hub;
-mod log;
 mod shards;
 
 pub use fault::{CallersMissing, HubFault};
 pub use hub::SharedHub;
-pub use log::OptionalLog;
-pub use machine_hub::Receipt;
+pub use machine_hub::{OptionalLog, Receipt};
 pub use shard_machine::{Call, WordOf, WordedShard, WordedStep};
 use tenant_shard::Outcome;
 
@@ -29,13 +27,13 @@ use tenant_shard::Outcome;
 pub type Entry<'a> = machine_hub::Entry<WordedStep<'a>, Outcome>;
 
 /// Who calls a hub, one for each thread.
-pub type Caller<'a> = machine_hub::Caller<WordedShard<'a>, OptionalLog<'a>>;
+pub type Caller<'a> = machine_hub::Caller<WordedShard<'a>, OptionalLog<WordedShard<'a>>>;
 
 /// Who opened a hub, and can close it.
-pub type HubKeeper<'a> = machine_hub::HubKeeper<WordedShard<'a>, OptionalLog<'a>>;
+pub type HubKeeper<'a> = machine_hub::HubKeeper<WordedShard<'a>, OptionalLog<WordedShard<'a>>>;
 
 /// A shard with its log.
-pub type ShardLog<'a> = machine_hub::LoggedMachine<WordedShard<'a>, OptionalLog<'a>>;
+pub type ShardLog<'a> = machine_hub::LoggedMachine<WordedShard<'a>, OptionalLog<WordedShard<'a>>>;
 
 /// What a call answers, log or not, is the last outcome of a run of a shard of its tenants: a law over calls.
 pub fn each_call_ends_a_run()
