@@ -11,8 +11,8 @@ ghost use Rattle.shared_hub.specs.declared.fault.HubFault.TheVariants as faults;
 use crate::copy::copy_of;
 use crate::fault::{CallersMissing, HubFault};
 use crate::shards::shards_of;
-use crate::{Caller, HubKeeper, ShardLog};
-use machine_hub::{Hub, OptionalLog, Receipt};
+use crate::{Caller, HubKeeper, OptionalLog, ShardLog};
+use machine_hub::{Hub, Receipt};
 use send_retry::Answer;
 use shard_machine::{Call, WordedShard, runs_are_shard_runs, words_are_in_order};
 use std::alloc::{AllocError, Global};
@@ -25,7 +25,7 @@ use tenant_shard::{Outcome, Step};
 /// number.
 #[derive(Drop)]
 pub struct SharedHub<'a> {
-    hub: Hub<WordedShard<'a>, OptionalLog<WordedShard<'a>>>,
+    hub: Hub<WordedShard<'a>, OptionalLog<'a>>,
 }
 
 impl<'a> Model for SharedHub<'a> {

@@ -19,21 +19,24 @@ mod shards;
 
 pub use fault::{CallersMissing, HubFault};
 pub use hub::SharedHub;
-pub use machine_hub::{OptionalLog, Receipt};
+pub use machine_hub::Receipt;
 pub use shard_machine::{Call, WordOf, WordedShard, WordedStep};
 use tenant_shard::Outcome;
 
 /// A step that was made, and what it gave.
 pub type Entry<'a> = machine_hub::Entry<WordedStep<'a>, Outcome>;
 
+/// What keeps a shard's entries, or nothing.
+pub type OptionalLog<'a> = machine_hub::OptionalLog<WordedShard<'a>>;
+
 /// Who calls a hub, one for each thread.
-pub type Caller<'a> = machine_hub::Caller<WordedShard<'a>, OptionalLog<WordedShard<'a>>>;
+pub type Caller<'a> = machine_hub::Caller<WordedShard<'a>, OptionalLog<'a>>;
 
 /// Who opened a hub, and can close it.
-pub type HubKeeper<'a> = machine_hub::HubKeeper<WordedShard<'a>, OptionalLog<WordedShard<'a>>>;
+pub type HubKeeper<'a> = machine_hub::HubKeeper<WordedShard<'a>, OptionalLog<'a>>;
 
 /// A shard with its log.
-pub type ShardLog<'a> = machine_hub::LoggedMachine<WordedShard<'a>, OptionalLog<WordedShard<'a>>>;
+pub type ShardLog<'a> = machine_hub::LoggedMachine<WordedShard<'a>, OptionalLog<'a>>;
 
 /// What a call answers, log or not, is the last outcome of a run of a shard of its tenants: a law over calls.
 pub fn each_call_ends_a_run()
