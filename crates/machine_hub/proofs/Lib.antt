@@ -5,4 +5,5 @@ mod Ending
 mod Lists
 mod Opens
 mod Closing
+pub mod Ended
 mod Steps

@@ -15,13 +15,13 @@ ghost use Rattle.std.specs.Prelude.{◌≡◌, ◌↔◌, true};
 
 mod caller;
 mod entry;
-mod full;
 mod hub;
 mod keeper;
 mod log;
 mod logged;
 mod machine;
 mod opening;
+mod optional;
 mod receipt;
 mod rule;
 mod slot;
@@ -29,12 +29,12 @@ mod view;
 
 pub use caller::Caller;
 pub use entry::{Entry, EntryOf};
-pub use full::{FullLog, NoLog};
 pub use hub::{CallersMissing, Hub};
 pub use keeper::HubKeeper;
 pub use log::StepLog;
 pub use logged::{Given, LoggedMachine};
 pub use machine::Machine;
+pub use optional::OptionalLog;
 pub use receipt::Receipt;
 pub use slot::{Slot, SlotKeeper, SlotSeat};
 

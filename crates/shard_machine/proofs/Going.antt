@@ -1,7 +1,7 @@
 -- A step with its word.
-use Rattle.std.proofs.Common.{◌≡◌, ℕ, List, ◌⊎◌, inl, inr, Bool, true, false, eqb, Option, Some, None, refl, sym, ap, ◌∙◌, arith}
+use Rattle.std.proofs.Common.{◌≡◌, ℕ, List, ◌⊎◌, inl, inr, Option, Some, None, refl, sym, ap, ◌∙◌}
+use Rattle.std.proofs.lemmas.Bool.{cases_eq}
 use Rattle.std.specs.Prelude.{option_map, ◌≢◌}
-use Rattle.std.proofs.lemmas.Bool.Decides.{nat_tests}
 use Rattle.rand_pcg.specs.Lcg.{Lcg}
 use Rattle.send_retry.specs.declared.answer.Answer.{Answer}
 use Rattle.shard_machine.specs.Words.{next_word, moved, Source, generator_of, IsDraw}
@@ -21,19 +21,12 @@ use Rattle.shard_machine.specs.declared.step.WordedStep.{WordedStep}
 use Rattle.shard_machine.specs.Drawing.{IsReady}
 use Rattle.shard_machine.specs.Worded.{Worded, WordsGoOn, WordedDoes, AreMembers}
 
-same_or_not : (a b : ℕ) → (a ≡ b) ⊎ (a ≢ b)
-same_or_not a b = by (eqb a b) refl
-  where
-    by : (t : Bool) → eqb a b ≡ t → (a ≡ b) ⊎ (a ≢ b)
-    by true e = inl (grind (arith, nat_tests))
-    by false e = inr (λ same. let t : eqb a b ≡ true = grind (arith, nat_tests) in absurd (cc))
-
 -- who is no member stays so
 abbrev StaysNone : List View → List View → Type 0
 StaysNone old new = (tenant : ℕ) → kept_of tenant old ≡ None → kept_of tenant new ≡ None
 
 stays_but : (own : ℕ) (before : State) (old new : List View) → kept_of own old ≡ Some before → ((other : ℕ) → other ≢ own → kept_of other new ≡ kept_of other old) → StaysNone old new
-stays_but own before old new was others tenant none = by (same_or_not tenant own)
+stays_but own before old new was others tenant none = by (cases_eq tenant own)
   where
     by : (tenant ≡ own) ⊎ (tenant ≢ own) → kept_of tenant new ≡ None
     by (inl same) = let there : kept_of tenant old ≡ Some before = ap (λ t. kept_of t old) same ∙ was in absurd (cc)
@@ -57,7 +50,7 @@ unmapped (Some g) e = absurd (cc)
 
 -- who has no generator had none
 draw_none : (own : ℕ) (word : Option ℕ) (old new : List Source) → IsDraw own old word new → (tenant : ℕ) → generator_of tenant new ≡ None → generator_of tenant old ≡ None
-draw_none own word old new d tenant none = by (same_or_not tenant own)
+draw_none own word old new d tenant none = by (cases_eq tenant own)
   where
     by : (tenant ≡ own) ⊎ (tenant ≢ own) → generator_of tenant old ≡ None
     by (inl same) = unmapped (generator_of tenant old) (ap (λ t. option_map moved (generator_of t old)) same ∙ sym d.own ∙ ap (λ t. generator_of t new) (sym same) ∙ none)

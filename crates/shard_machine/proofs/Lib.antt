@@ -1,4 +1,4 @@
-mod Words
+mod Draws
 mod Going
 mod Seeding
 mod Runs

@@ -7,9 +7,9 @@ use Rattle.machine_hub.specs.declared.view.Home.{Home}
 use Rattle.machine_hub.specs.Slot.{home_of}
 use Rattle.machine_hub.specs.Hub.{AreNew, homes_of}
 use Rattle.tenant_shard.specs.Lists.{ShardStands}
-use Rattle.tenant_shard.specs.Table.{opened}
+use Rattle.tenant_shard.specs.Table.{opened, members_of}
 use Rattle.shard_machine.specs.Worded.{Worded, AreSeeded}
-use Rattle.shared_hub.specs.Shards.{members_of, IsFresh, AreOpened, kept}
+use Rattle.shared_hub.specs.Shards.{IsFresh, AreOpened, kept}
 use Rattle.shared_hub.specs.Logs.{LoggedShard}
 
 module _ {X : Type 0} where

@@ -14,7 +14,7 @@ use Rattle.tenant_shard.specs.Run.{Run, after_all}
 use Rattle.tenant_shard.specs.Chain.{ShardRuns}
 use Rattle.tenant_shard.specs.Outcomes.{OwnStep, Answer as Answered, named}
 use Rattle.tenant_shard.specs.Alone.{alone, own_steps, told_to}
-use Rattle.tenant_shard.specs.Table.{section_of, opened}
+use Rattle.tenant_shard.specs.Table.{section_of, opened, members_of}
 use Rattle.machine_hub.specs.declared.view.Standing.{Standing}
 use Rattle.machine_hub.specs.Runs.{entry}
 use Rattle.machine_hub.specs.Seats.{SeatState}
@@ -25,7 +25,7 @@ use Rattle.shard_machine.specs.declared.step.Call.TheVariants as calls
 use Rattle.shard_machine.specs.declared.step.WordedStep.{WordedStep}
 use Rattle.shard_machine.specs.Worded.{Worded, AsksFor, WordedDoes}
 use Rattle.shard_machine.specs.Run.{Logged, steps_of, outcomes_of, drawn_for}
-use Rattle.shared_hub.specs.Shards.{members_of, IsFresh}
+use Rattle.shared_hub.specs.Shards.{IsFresh}
 
 -- a caller, by its seats at the shards
 abbrev pub Seats : Type 0

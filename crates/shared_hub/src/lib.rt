@@ -11,23 +11,23 @@
 #![tactic(auto)]
 
 ghost use Rattle.shared_hub.specs.Logs.{EachCallEndsARun, LogsTellByOwnSteps};
-ghost use Rattle.shared_hub.specs.Shards.{EachInItsShard};
 
 mod copy;
 mod fault;
 mod hub;
-mod log;
 mod shards;
 
 pub use fault::{CallersMissing, HubFault};
 pub use hub::SharedHub;
-pub use log::OptionalLog;
 pub use machine_hub::Receipt;
 pub use shard_machine::{Call, WordOf, WordedShard, WordedStep};
 use tenant_shard::Outcome;
 
 /// A step that was made, and what it gave.
 pub type Entry<'a> = machine_hub::Entry<WordedStep<'a>, Outcome>;
+
+/// What keeps a shard's entries, or nothing.
+pub type OptionalLog<'a> = machine_hub::OptionalLog<WordedShard<'a>>;
 
 /// Who calls a hub, one for each thread.
 pub type Caller<'a> = machine_hub::Caller<WordedShard<'a>, OptionalLog<'a>>;
@@ -37,11 +37,6 @@ pub type HubKeeper<'a> = machine_hub::HubKeeper<WordedShard<'a>, OptionalLog<'a>
 
 /// A shard with its log.
 pub type ShardLog<'a> = machine_hub::LoggedMachine<WordedShard<'a>, OptionalLog<'a>>;
-
-/// Each tenant of a table is in one shard, with its own section: a law over settings.
-pub fn each_tenant_is_in_its_shard()
-    ensures { EachInItsShard }
-{}
 
 /// What a call answers, log or not, is the last outcome of a run of a shard of its tenants: a law over calls.
 pub fn each_call_ends_a_run()

@@ -2,7 +2,7 @@ use Rattle.std.proofs.Common.{◌≡◌, Some, is_some, sym, ap, ◌∙◌, subs
 use Rattle.std.specs.Ordering.{nat_cmp}
 use Rattle.std.specs.BTreeMap as tree
 use Rattle.shard_machine.specs.Words.{IsDraw}
-use Rattle.shard_machine.proofs.Words.{at_tenant, drawn}
+use Rattle.shard_machine.proofs.Draws.{at_tenant, drawn}
 use Rattle.shard_machine.proofs.words.Words.draw.Goals as goal
 
 pub returns : goal.returns

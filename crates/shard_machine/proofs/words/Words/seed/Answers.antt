@@ -2,7 +2,7 @@ use Rattle.std.proofs.Common.{◌≡◌, None, sym, ◌∙◌, subst}
 use Rattle.std.specs.Ordering.{nat_cmp}
 use Rattle.std.specs.BTreeMap as tree
 use Rattle.shard_machine.specs.Words.{IsSeeded}
-use Rattle.shard_machine.proofs.Words.{at_tenant, seeded, none_of}
+use Rattle.shard_machine.proofs.Draws.{at_tenant, seeded, none_of}
 use Rattle.shard_machine.proofs.words.Words.seed.Goals as goal
 
 pub returns-in_ok-insert-clause-seeded : goal.returns-in_ok-insert-clause-seeded

@@ -1,26 +1,26 @@
-//! The log of a shard.
+//! The log that keeps all or nothing.
 
 ghost use Rattle.std.specs.Prelude.{◌≡◌, ◌<◌, ◌+◌, ◌^◌, ◌++◌, ◌∷◌, [], map, length, true, false, IfOk, OnOk, OnErr};
 ghost use Rattle.std.specs.Prelude.{vec_len, vec_capacity};
 ghost use Rattle.std.specs.Arc.{arc_value};
 
-use machine_hub::{Entry, StepLog};
-use shard_machine::{WordedShard, WordedStep};
+use crate::entry::EntryOf;
+use crate::log::StepLog;
+use crate::machine::Machine;
 use std::alloc::{AllocError, Global};
 use std::sync::Arc;
-use tenant_shard::Outcome;
 
 /// Keeps each entry, or nothing, as it was opened.
 #[derive(Drop)]
-pub struct OptionalLog<'a> {
+pub struct OptionalLog<M: Machine> {
     pub keeps: bool,
     /// Empty where it doesn't keep.
-    pub kept: Vec<Arc<Entry<WordedStep<'a>, Outcome>, Global>>,
+    pub kept: Vec<Arc<EntryOf<M>, Global>>,
 }
 
-impl<'a> OptionalLog<'a> {
+impl<M: Machine> OptionalLog<M> {
     /// A log without entries.
-    pub fn new(alloc: Global, keeps: bool) -> OptionalLog<'a>
+    pub fn new(alloc: Global, keeps: bool) -> OptionalLog<M>
         ensures { (result.keeps ≡ keeps) × (map arc_value result.kept.items ≡ []) }
     {
         OptionalLog {
@@ -30,7 +30,7 @@ impl<'a> OptionalLog<'a> {
     }
 }
 
-impl<'a> StepLog<WordedShard<'a>> for OptionalLog<'a> {
+impl<M: Machine> StepLog<M> for OptionalLog<M> {
     ghost use Rattle.std.specs.Prelude.{map};
     ghost use Rattle.std.specs.Arc.{arc_value};
 
@@ -57,12 +57,12 @@ impl<'a> StepLog<WordedShard<'a>> for OptionalLog<'a> {
     fn keep(
         &mut self,
         alloc: Global,
-        entry: Entry<WordedStep<'a>, Outcome>,
-    ) -> Result<Arc<Entry<WordedStep<'a>, Outcome>, Global>, AllocError>
+        entry: EntryOf<M>,
+    ) -> Result<Arc<EntryOf<M>, Global>, AllocError>
         ensures same { self.new.keeps ≡ self.old.keeps }
-        ensures kept { IfOk result (λ kept. (arc_value kept ≡ entry.entry)
+        ensures kept { IfOk result (λ kept. (arc_value kept ≡ entry)
             × ((self.old.keeps ≡ true) →
-            map arc_value self.new.kept.items ≡ map arc_value self.old.kept.items ++ entry.entry ∷ [])) }
+            map arc_value self.new.kept.items ≡ map arc_value self.old.kept.items ++ entry ∷ [])) }
         ensures nothing { (self.old.keeps ≡ false) →
             map arc_value self.new.kept.items ≡ map arc_value self.old.kept.items }
         ensures refused { OnErr result (map arc_value self.new.kept.items ≡ map arc_value self.old.kept.items) }

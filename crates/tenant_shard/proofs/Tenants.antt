@@ -8,20 +8,7 @@ use Rattle.std.proofs.lemmas.Bool.{cases_lt}
 use Rattle.std.proofs.lemmas.Option.{slice_get_past}
 use Rattle.std.proofs.lemmas.List.Folds.{list_any-append}
 use Rattle.tail_settings.specs.Section.{SectionData}
-use Rattle.tenant_shard.specs.Table.{section_at}
-use Rattle.shared_hub.specs.Shards.{members_below, EachInItsShard}
-
-pub members_taken : (shards shard tenant : ℕ) (old new : List ℕ) → old ≡ members_below shards shard tenant → new ≡ old ++ tenant ∷ [] → eqb (tenant % shards) shard ≡ true → new ≡ members_below shards shard (tenant + 1)
-members_taken shards shard tenant old new was is mine =
-    let next : suc tenant ≡ tenant + 1 = omega arith in
-    let taken : old ++ tenant ∷ [] ≡ members_below shards shard (suc tenant) = rw mine (ap (λ l. l ++ tenant ∷ []) was) in
-    is ∙ taken ∙ ap (members_below shards shard) next
-
-pub members_left : (shards shard tenant : ℕ) (old : List ℕ) → old ≡ members_below shards shard tenant → eqb (tenant % shards) shard ≡ false → old ≡ members_below shards shard (tenant + 1)
-members_left shards shard tenant old was other =
-    let next : suc tenant ≡ tenant + 1 = omega arith in
-    let left : old ≡ members_below shards shard (suc tenant) = rw other was in
-    left ∙ ap (members_below shards shard) next
+use Rattle.tenant_shard.specs.Table.{section_at, members_below, EachInItsShard}
 
 -- who is among them
 abbrev is_in : ℕ → List ℕ → Bool
