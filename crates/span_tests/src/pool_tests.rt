@@ -1,6 +1,5 @@
 //! Spans as they are kept.
 
-ghost use Rattle.std.specs.Prelude.{◌≡◌};
 ghost use Rattle.span_tests.specs.Stored.{SameResources, SameScopes, EqualOrigins, ReadSpans, ReadResources};
 
 use bytes::Bytes;

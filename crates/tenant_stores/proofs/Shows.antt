@@ -18,7 +18,7 @@ use Rattle.tenant_stores.proofs.Lists.{count-append, AreOther, range-above, rang
 use Rattle.tenant_stores.proofs.Uses.{one_most, names-append, names-by_count}
 use Rattle.tenant_stores.proofs.Rows.{row_here, keys_in-append}
 use Rattle.tenant_stores.proofs.Shown.{ShowAlike, spans-append, spans-alike, rows-alike, waiting-append, settled-append, waiting-other, settled-other, view_by, waiting_keys, same_view, alike-texts, alike-put, alike-without}
-use Rattle.tenant_stores.proofs.Stays.{held-stays, all-stays, without-stays}
+use Rattle.tenant_stores.proofs.Stays.{all-stays, without-stays}
 use Rattle.tenant_stores.proofs.Seats.{rows_joined, waiting_seat}
 
 module _ {N : Type 0} where

@@ -2,8 +2,6 @@
 use Rattle.std.proofs.Common.{◌≡◌, ◌≢◌, ℕ, zero, suc, ◌+◌, ◌-◌, ◌<◌, ◌≤◌, List, [], ◌∷◌, ◌++◌, refl, sym, ap, ◌∙◌, arith, Bool, true, false, Option, Some, None, subst, add-one}
 use Rattle.span_pool.specs.Stored.{StoredData}
 use Rattle.span_pool.specs.Pool.{with_span, without}
-use Rattle.text_pool.specs.Part.{with_text, released}
-use Rattle.text_pool.specs.Part as texts
 use Rattle.text_pool.specs.declared.pool.Kept.{Kept}
 use Rattle.trace_rows.specs.declared.table.Row.{Row}
 use Rattle.trace_rows.specs.Part.{with_at, with_seat, joined, settled, keys_of, unseated, trace_in}
@@ -14,7 +12,7 @@ use Rattle.tenant_stores.specs.Sound.{one, uses_of, if_of, last_of, seat_in, nam
 use Rattle.tenant_stores.specs.Changes.{texts_without, Joins, Opens, Waits, new_row, Settles, Leaves, Drops, Sweeps}
 use Rattle.tenant_stores.proofs.Parts.{part_by, span_here}
 use Rattle.tenant_stores.proofs.Lists.{count-append, AreOther, range-above, range-below, front_of, last}
-use Rattle.tenant_stores.proofs.Uses.{one_most, one-without, one-put, names-append, names-by_count, names-put, names-without, one_released, one_kept, uses-without, kept-without, one_held, held_kept}
+use Rattle.tenant_stores.proofs.Uses.{one_most, one-without, one-put, names-append, names-by_count, names-put, names-without, uses-without, kept-without}
 use Rattle.tenant_stores.proofs.Rows.{row_here, row_either, row_other, keys_in-append, seat_in-append, keys-other, seat-other, seat-replaced, settled_of, settled_keys, settled_there, joined_of, joined_keys, joined_there, named-replaced, seat_swept, seat_above, seat_opened}
 
 module _ {N : Type 0} where
