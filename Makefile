@@ -10,6 +10,7 @@ test: checks
 	@rt ci
 	@said=$$(python3 tests/program.py $(PROGRAM)/out/trace_collector_program) || { echo "$$said"; exit 1; }
 	@said=$$(python3 tests/stories.py $(PROGRAM)/out/trace_collector_program) || { echo "$$said"; exit 1; }
+	@said=$$(python3 tests/script_lines.py $(PROGRAM)/out/trace_collector_program) || { echo "$$said"; exit 1; }
 	@said=$$(python3 tests/random_scripts.py $(PROGRAM)/out/trace_collector_program) || { echo "$$said"; exit 1; }
 	@said=$$(python3 tests/random_settings.py $(PROGRAM)/out/trace_collector_program) || { echo "$$said"; exit 1; }
 	@said=$$(python3 tests/service.py $(PROGRAM)/out/trace_collector_program) || { echo "$$said"; exit 1; }

@@ -51,7 +51,10 @@ def faults():
     with tempfile.TemporaryDirectory() as folder:
         bad = Path(folder, "settings.toml")
         for text, told in ((b"name =", b"settings fault 10\n"), (b"\xff", b"settings fault 10\n"),
-                           (b"", b"settings fault 11 tenant\n"), (b"tenant = 1", b"settings fault 12 tenant\n")):
+                           (b"", b"settings fault 11 tenant\n"), (b"tenant = 1", b"settings fault 12 tenant\n"),
+                           (TENANT.replace("[[tenant.tail_sampling.policy]]", WAIT % "_ms = 0").encode(),
+                            b"settings fault 13 decision_wait_ms\n"),
+                           (TENANT.encode() + b"[[tenant]]\nname = \"a\"\n", b"settings fault 14 a\n")):
             bad.write_bytes(text)
             check(text, ended(["replay", str(bad)], b"no command\n"), (1, b"", told))
         missing = str(Path(folder, "missing"))
@@ -255,16 +258,16 @@ def page_of_faults():
     check("keys of the page", of_kind, set(re.findall('Key::\\w+ => "(\\w+)"', KEYS.read_text())))
 
 
-def answer(run, line):
-    """What the program prints within ten seconds of a line."""
+def answer(run, line, most=4096):
+    """What the program prints within ten seconds of a line, so many bytes at most."""
     run.stdin.write(line)
     run.stdin.flush()
     ready, _, _ = select.select([run.stdout], [], [], 10)
-    return os.read(run.stdout.fileno(), 4096) if ready else b""
+    return os.read(run.stdout.fileno(), most) if ready else b""
 
 
 def answers_at_once():
-    """Each answer comes before the next line is sent."""
+    """Each answer comes before the next line is sent, or the next piece of one."""
     with subprocess.Popen([PROGRAM, "replay", SETTINGS], stdin=subprocess.PIPE, stdout=subprocess.PIPE) as run:
         check("a post", answer(run, f"post a 0 {SPAN}\n".encode()), b"reply a 200 -\n")
         check("a turn too early", answer(run, b"turn 0 999\ntur"), b"idle 0\n")
@@ -273,6 +276,16 @@ def answers_at_once():
         run.stdin.close()
         check("the last line, without its end", run.stdout.read(), b"idle 0\n")
         check("its status", run.wait(10), 0)
+    pieces = ((b"turn 0 1\n", 1), (b"turn 0 2\ntur", 1), (b"n 0 ", 0), (b"3\nturn 0 4\nturn 0 5\n#", 3), (b" a comment", 0),
+              (b"\n\n", 0), (b"turn 0 6", 0))
+    with subprocess.Popen([PROGRAM, "replay", SETTINGS], stdin=subprocess.PIPE, stdout=subprocess.PIPE) as run:
+        for piece, answers in pieces:
+            run.stdin.write(piece)
+            run.stdin.flush()
+            for _ in range(answers):
+                check(piece, answer(run, b"", 7), b"idle 0\n")
+        run.stdin.close()
+        check("the last of the pieces", run.stdout.read(), b"idle 0\n")
 
 
 def course():

@@ -9,7 +9,8 @@ Collector's `tail_sampling` and `batch` processors and of its `exporterhelper`, 
     post a 0 11.21+12.22 = reply a 200 -
 
 Left of the sign stands a command of `replay`, right of it the line that it prints, but for this: a turn is that of shard 0,
-counters that aren't named are 0, and a body or a payload is written as its spans (see `span` and `body`).
+counters that aren't named are 0, and a body or a payload is written as its spans (see `span` and `body`), or as its name
+in bodies.txt. Of each report the spans that were taken have to be as many as stand in all places that one may be in.
 """
 import re
 import subprocess
@@ -20,6 +21,7 @@ from pathlib import Path
 HERE = Path(__file__).resolve().parent
 COUNTERS = ("accepted undecided pending queued active exported not_sampled too_early queue_full retry_exhausted "
             "back_end_refused back_end_rejected invalid over_budget").split()
+BODIES = dict(line.split(" ") for line in (HERE / "stories/bodies.txt").read_text().splitlines())
 
 
 def field(tag, content):
@@ -41,8 +43,10 @@ def resource(text):
 
 
 def body(text):
-    """Resources with their spans, parted by `/`, in hexadecimal digits, or `-` where there is none."""
-    return "-" if text == "-" else b"".join(field(0x0A, resource(part)) for part in text.split("/")).hex()
+    """The digits of the body of that name, or of resources with their spans, parted by `/`, or `-` where there is none."""
+    if text == "-" or text in BODIES:
+        return BODIES.get(text, text)
+    return b"".join(field(0x0A, resource(part)) for part in text.split("/")).hex()
 
 
 def command(step):
@@ -94,6 +98,12 @@ def told(program, sections, lines):
     return run.stdout.splitlines()
 
 
+def is_counted(line):
+    """Whether each span that was taken is counted in one place, by a report's line."""
+    taken, *places = [int(word.split("=")[1]) for word in line.split(" ")[2:-2]]
+    return taken == sum(places)
+
+
 def main():
     program = str(Path(sys.argv[1] if len(sys.argv) > 1 else HERE.parent / "trace_collector").resolve())
     of, seen, failed = tables(), 0, 0
@@ -102,6 +112,10 @@ def main():
             wanted = [printed(line.split(" = ")[1]) for line in lines]
             found = told(program, [of[section] for section in sections], lines)
             seen += 1
+            for line in found:
+                if line.startswith("report ") and not is_counted(line):
+                    failed += 1
+                    print(f"{file.name}, {name}: spans are counted in no place or in two: {line}")
             if found != wanted:
                 failed += 1
                 at = next((i for i, (one, other) in enumerate(zip(found, wanted)) if one != other), min(len(found), len(wanted)))

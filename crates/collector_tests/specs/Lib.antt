@@ -1,2 +1,4 @@
+pub mod Parts
+pub mod ShardExamples
 pub mod ScriptExamples
 pub mod ReplayExamples

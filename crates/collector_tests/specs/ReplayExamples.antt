@@ -1,21 +1,15 @@
 -- What the definitions give on a small script, worked out by hand, for the tests.
 use Rattle.std.specs.Prelude.{◌≡◌, ℕ, pos, List, [], ◌∷◌, ◌++◌, replicate, codes, Some, None, Ok, Err}
 use Rattle.otlp_trace.specs.Data.{SpanData, RequestData}
-use Rattle.otlp_read.specs.Value.{IsValue}
-use Rattle.tail_settings.specs.Section.{SectionData}
+use Rattle.tail_settings.specs.Fault.{not_toml}
 use Rattle.tail_settings.specs.Examples.{default_global}
 use Rattle.tail_settings.specs.Settings.{SettingsData, TenantData, settings_of}
 use Rattle.tail_settings.specs.declared.fault.SettingsFault.TheVariants.{NotToml, TooMany}
-use Rattle.send_retry.specs.Class.{Http, Failed}
-use Rattle.tenant_rules.specs.Own.{Own}
-use Rattle.tenant_rules.specs.Own as own
-use Rattle.tenant_rules_tests.specs.Parts.{plain, span, body}
-use Rattle.tenant_shard.specs.declared.step.Outcome.TheVariants as outcome
+use Rattle.send_retry.specs.Class.{Failed}
+use Rattle.collector_tests.specs.Parts.{plain, body}
 use Rattle.replay_script.specs.Command.{Post, Turn, Answer, Report, Drain}
 use Rattle.trace_collector.specs.declared.engine.ReplayFault.TheVariants.{Settings, Script, Line, OutOfMemory}
-use Rattle.trace_collector.specs.Outcomes.{name_at, outcome_text, bad_protobuf}
-use Rattle.trace_collector.specs.Answered.{section_in, HasNoValue, IsAnswered}
-use Rattle.trace_collector.specs.Script.{no_steps, ScriptText, BeginsScriptText}
+use Rattle.trace_collector.specs.Script.{ScriptText, BeginsScriptText}
 use Rattle.trace_collector.specs.Own.{lines_for, own_commands}
 use Rattle.trace_collector.specs.Alone.{AnswersAlone}
 use Rattle.trace_collector.specs.Replay.{IsReplay}
@@ -63,49 +57,10 @@ with_shards shards tenants = record {
   tenants = tenants;
 }
 
--- two seconds, to tell the second tenant from the others
-abbrev pub two_seconds : SectionData
-two_seconds = record plain { tail_sampling = record (plain.tail_sampling) { decision_wait = 2000 } }
-
--- tenants 0, 1 and 2 in two shards
-abbrev pub three_tenants : SettingsData
-three_tenants = with_shards 2 (record { name = codes "a"; section = plain }
-    ∷ record { name = codes "b"; section = two_seconds } ∷ record { name = codes "c"; section = plain } ∷ [])
-
--- 0 and 2 leave 0 over where they are divided by 2, and 1 leaves 1; there is no tenant 3
-pub record Members : Type 0 where
-  pub tenant_0 : section_in three_tenants 0 0 ≡ Some plain
-  pub tenant_1 : section_in three_tenants 1 1 ≡ Some two_seconds
-  pub tenant_2 : section_in three_tenants 0 2 ≡ Some plain
-  pub tenant_0_elsewhere : section_in three_tenants 1 0 ≡ None
-  pub tenant_1_elsewhere : section_in three_tenants 0 1 ≡ None
-  pub no_tenant : section_in three_tenants 1 3 ≡ None
-
--- a line names a tenant by its name, and an idle shard by its number. Of `bad protobuf` each letter is spelled in ASCII
-pub record Lines : Type 0 where
-  pub name : name_at three_tenants 1 ≡ codes "b"
-  pub no_name : name_at three_tenants 3 ≡ []
-  pub reply : outcome_text three_tenants 0 (outcome.Reply 2 (record { status = 200; body = [] }))
-      ≡ codes "reply c 200 -\n"
-  pub job : outcome_text three_tenants 1 (outcome.Job 1 12 (10 ∷ 255 ∷ [])) ≡ codes "job b 12 0aff\n"
-  pub worked : outcome_text three_tenants 0 (outcome.Worked 0) ≡ codes "worked a\n"
-  pub idle : outcome_text three_tenants 1 outcome.Idle ≡ codes "idle 1\n"
-  pub done : outcome_text three_tenants 0 (outcome.Done 2) ≡ codes "done c\n"
-  pub report : outcome_text three_tenants 1 (outcome.Report 1 (codes "accepted=0")) ≡ codes "report b accepted=0\n"
-  pub refused : outcome_text three_tenants 0 (outcome.Refused 0 22) ≡ codes "refused a 22\n"
-  pub bad : bad_protobuf ≡ 18 ∷ 12 ∷ 98 ∷ 97 ∷ 100 ∷ 32 ∷ 112 ∷ 114 ∷ 111 ∷ 116 ∷ 111 ∷ 98 ∷ 117 ∷ 102 ∷ []
-
 -- ---- one tenant, whose name is `a`, in one shard
 
--- a second's wait and no batch timer; where batches go, and how many at a time, as the document doesn't say
-abbrev pub at_default : SectionData
-at_default = record plain {
-  endpoint = codes "127.0.0.1:4319";
-  sending_queue = record { queue_size = 1000; num_consumers = 10 };
-}
-
 abbrev pub one_tenant : SettingsData
-one_tenant = with_shards 1 (record { name = codes "a"; section = at_default } ∷ [])
+one_tenant = with_shards 1 (record { name = codes "a"; section = plain } ∷ [])
 
 -- a body of one span, whose trace id is 11 and whose span id is 21 again and again, in hexadecimal digits
 abbrev pub hex : List ℕ
@@ -114,34 +69,6 @@ hex = codes "0a20121e121c0a10111111111111111111111111111111111208212121212121212
 -- the counters before any span came
 abbrev pub counters : List ℕ
 counters = codes "accepted=0 undecided=0 pending=0 queued=0 active=0 exported=0 not_sampled=0 too_early=0 queue_full=0 retry_exhausted=0 back_end_refused=0 back_end_rejected=0 invalid=0 over_budget=0"
-
--- it is answered 200, and is the tenant's own step; 0 is the number of no field, so that two zeros have no value, are
--- answered 400 and are no step
-pub record Posts : Type 0 where
-  pub has_this_value : IsValue (body 17 33) (value 17 33)
-  pub has_none : HasNoValue (0 ∷ 0 ∷ [])
-  pub taken : (later : ℕ → List Own)
-      × IsAnswered one_tenant no_steps (Post (codes "a") 0 (body 17 33)) (Some (codes "reply a 200 -\n")) later
-      × (later 0 ≡ own.Post 0 (span 17 33 ∷ []) ∷ [])
-  pub not_taken : IsAnswered one_tenant no_steps (Post (codes "a") 0 (0 ∷ 0 ∷ []))
-      (Some (codes "reply a 400 120c6261642070726f746f627566\n")) no_steps
-  pub no_tenant : IsAnswered one_tenant no_steps (Post (codes "b") 0 []) None no_steps
-  pub no_shard : IsAnswered one_tenant no_steps (Turn 1 0) None no_steps
-
--- before any step, an answer's ticket names no job; nothing was taken, and nothing is to be sent. `b` is no tenant
-pub record Asked : Type 0 where
-  pub unknown_ticket : (later : ℕ → List Own)
-      × IsAnswered one_tenant no_steps (Answer (codes "a") 5 1 0 (Http 200 None [])) (Some (codes "refused a 21\n")) later
-      × (later 0 ≡ own.Answer 5 1 0 (Http 200 None []) ∷ [])
-  pub counted : (later : ℕ → List Own)
-      × IsAnswered one_tenant no_steps (Report (codes "a") 5) (Some (codes "report a " ++ (counters ++ codes "\n"))) later
-      × (later 0 ≡ own.Report 5 ∷ [])
-  pub drained : (later : ℕ → List Own)
-      × IsAnswered one_tenant no_steps (Drain (codes "a") 5) (Some (codes "done a\n")) later
-      × (later 0 ≡ own.Drain 5 ∷ [])
-  pub no_tenant_answers : IsAnswered one_tenant no_steps (Answer (codes "b") 5 1 0 (Http 200 None [])) None no_steps
-  pub no_tenant_reports : IsAnswered one_tenant no_steps (Report (codes "b") 5) None no_steps
-  pub no_tenant_drains : IsAnswered one_tenant no_steps (Drain (codes "b") 5) None no_steps
 
 -- a post, a turn before its span is due and one just then; the job has the 34 bytes that came
 abbrev pub script : List ℕ
@@ -191,37 +118,31 @@ pub record OwnParts : Type 0 where
 pub record AloneParts : Type 0 where
   pub commands : own_commands (codes "a") script told ≡ Post (codes "a") 0 (body 17 33) ∷ Turn 0 1000 ∷ []
   pub lines : lines_for (codes "a") told ≡ codes "reply a 200 -" ∷ (codes "job a 1 " ++ hex) ∷ []
-  pub alone : AnswersAlone (codes "a") at_default [] (Post (codes "a") 0 (body 17 33) ∷ Turn 0 1000 ∷ [])
+  pub alone : AnswersAlone (codes "a") plain [] (Post (codes "a") 0 (body 17 33) ∷ Turn 0 1000 ∷ [])
       (codes "reply a 200 -" ∷ (codes "job a 1 " ++ hex) ∷ [])
-  pub no_value : AnswersAlone (codes "a") at_default [] (Post (codes "a") 0 (0 ∷ 0 ∷ []) ∷ [])
+  pub no_value : AnswersAlone (codes "a") plain [] (Post (codes "a") 0 (0 ∷ 0 ∷ []) ∷ [])
       (codes "reply a 400 120c6261642070726f746f627566" ∷ [])
-  pub asked : AnswersAlone (codes "a") at_default []
+  pub asked : AnswersAlone (codes "a") plain []
       (Answer (codes "a") 5 1 0 Failed ∷ Drain (codes "a") 6 ∷ Report (codes "a") 7 ∷ [])
       (codes "refused a 21" ∷ codes "done a" ∷ (codes "report a " ++ counters) ∷ [])
-  pub a_line_less : AnswersAlone (codes "a") at_default [] (Turn 0 1000 ∷ []) [] → ⊥
+  pub a_line_less : AnswersAlone (codes "a") plain [] (Turn 0 1000 ∷ []) [] → ⊥
 
 -- ---- replays
 
--- a document that means `one_tenant`
-abbrev pub document : List ℕ
-document = codes "[[tenant]]\nname = \"a\"\n\n[tenant.tail_sampling]\ndecision_wait_ms = 1000\n\n[[tenant.tail_sampling.policy]]\ntype = \"always_sample\"\n\n[tenant.batch]\ntimeout_ms = 0\n"
-
--- a key without a value, which TOML 1.0 calls invalid
-abbrev pub no_document : List ℕ
-no_document = codes "key = # INVALID"
-
--- each end of a replay. Where the settings are faulty, nothing may be written; done is a replay only when all is
--- written
+-- each end of a replay, of a document that means `one_tenant` and of one that is no TOML. Where the settings are
+-- faulty, nothing may be written; done is a replay only when all is written
 pub record Replays : Type 0 where
-  pub means : settings_of document ≡ Ok one_tenant
-  pub done : IsReplay document script told (Ok tt)
-  pub half_done : IsReplay document script begun (Ok tt) → ⊥
-  pub script_fault : IsReplay document faulty_script (codes "idle 0\n") (Err (Script 2))
-  pub failed : IsReplay document script begun (Err Line)
-  pub no_memory : IsReplay document script begun (Err OutOfMemory)
-  pub settings_fault : IsReplay no_document script [] (Err (Settings NotToml))
-  pub other_fault : IsReplay no_document script [] (Err (Settings TooMany)) → ⊥
-  pub written_after_fault : IsReplay no_document script told (Err (Settings NotToml)) → ⊥
-  pub no_fault : IsReplay document script [] (Err (Settings NotToml)) → ⊥
-  pub no_memory_for_settings : IsReplay no_document script [] (Err OutOfMemory)
-  pub written_without_settings : IsReplay no_document script told (Err OutOfMemory) → ⊥
+  pub done : (d : List ℕ) → settings_of d ≡ Ok one_tenant → IsReplay d script told (Ok tt)
+  pub half_done : (d : List ℕ) → settings_of d ≡ Ok one_tenant → IsReplay d script begun (Ok tt) → ⊥
+  pub script_fault : (d : List ℕ) → settings_of d ≡ Ok one_tenant
+      → IsReplay d faulty_script (codes "idle 0\n") (Err (Script 2))
+  pub failed : (d : List ℕ) → settings_of d ≡ Ok one_tenant → IsReplay d script begun (Err Line)
+  pub no_memory : (d : List ℕ) → settings_of d ≡ Ok one_tenant → IsReplay d script begun (Err OutOfMemory)
+  pub settings_fault : (d : List ℕ) → settings_of d ≡ Err not_toml → IsReplay d script [] (Err (Settings NotToml))
+  pub other_fault : (d : List ℕ) → settings_of d ≡ Err not_toml → IsReplay d script [] (Err (Settings TooMany)) → ⊥
+  pub written_after_fault : (d : List ℕ) → settings_of d ≡ Err not_toml
+      → IsReplay d script told (Err (Settings NotToml)) → ⊥
+  pub no_fault : (d : List ℕ) → settings_of d ≡ Ok one_tenant → IsReplay d script [] (Err (Settings NotToml)) → ⊥
+  pub no_memory_for_settings : (d : List ℕ) → settings_of d ≡ Err not_toml → IsReplay d script [] (Err OutOfMemory)
+  pub written_without_settings : (d : List ℕ) → settings_of d ≡ Err not_toml
+      → IsReplay d script told (Err OutOfMemory) → ⊥

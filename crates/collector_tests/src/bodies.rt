@@ -94,28 +94,16 @@ fn wrong_lines(alloc: Global, table: Table, text: &str) -> Result<String, Fail> 
 }
 
 #[test]
-fn vectors(rt: HostRuntime) -> Result<(), Fail> {
-    let text = VECTORS;
-    assert!(rt; text.lines().count() == 195);
-    let wrong = wrong_lines(rt.alloc(), Table::Requests, text)?;
-    assert!(rt; wrong.is_empty(), "{wrong}");
-    Ok(())
-}
-
-#[test]
-fn faults(rt: HostRuntime) -> Result<(), Fail> {
-    let text = FAULTS;
-    assert!(rt; text.lines().count() == 80);
-    let wrong = wrong_lines(rt.alloc(), Table::Faults, text)?;
-    assert!(rt; wrong.is_empty(), "{wrong}");
-    Ok(())
-}
-
-#[test]
-fn responses(rt: HostRuntime) -> Result<(), Fail> {
-    let text = RESPONSES;
-    assert!(rt; text.lines().count() == 11);
-    let wrong = wrong_lines(rt.alloc(), Table::Replies, text)?;
-    assert!(rt; wrong.is_empty(), "{wrong}");
+fn bodies_are_read_as_their_lines_say(rt: HostRuntime) -> Result<(), Fail> {
+    let tables = [
+        (Table::Requests, VECTORS, 195),
+        (Table::Faults, FAULTS, 80),
+        (Table::Replies, RESPONSES, 11),
+    ];
+    for (table, text, lines) in tables {
+        assert!(rt; text.lines().count() == lines);
+        let wrong = wrong_lines(rt.alloc(), table, text)?;
+        assert!(rt; wrong.is_empty(), "{wrong}");
+    }
     Ok(())
 }

@@ -1,25 +1,20 @@
-//! Tests of `replay_script`, `trace_collector`, and the reader and writer of bodies below them, over their public
-//! functions: scripts with their answers written in, readers and writers that fail, bodies of Protocol Buffers' own
-//! libraries (tests/otlp), and what the definitions say of small scripts that were worked out by hand.
+//! Tests of a shard (`tenant_shard`) and its replay (`replay_script`, `trace_collector`), over public functions: what
+//! no script can tell of a shard's members, runs in which memory is refused, readers and writers that fail, bodies of
+//! Protocol Buffers' own libraries (tests/otlp), and what the definitions say of small runs and scripts that were
+//! worked out by hand.
 #![tactic(auto)]
 
 #[cfg(test)]
 mod bodies;
 #[cfg(test)]
-mod checked;
+mod definitions;
 #[cfg(test)]
-mod commands;
+mod lines;
+#[cfg(test)]
+mod members;
 #[cfg(test)]
 mod piecemeal;
 #[cfg(test)]
-mod replay_definitions;
+mod refused;
 #[cfg(test)]
-mod replays;
-#[cfg(test)]
-mod script;
-#[cfg(test)]
-mod script_definitions;
-#[cfg(test)]
-mod stories;
-#[cfg(test)]
-mod texts;
+mod sections;

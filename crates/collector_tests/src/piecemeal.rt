@@ -1,12 +1,12 @@
-//! Readers and writers that do little a call, are interrupted or wait for an answer, and a session that has no memory.
+//! Readers and writers that do little a call, are interrupted or fail, and a session that has no memory.
 
 use replay_script::{AnswerFault, Command, ScriptFault, Session, put_idle, run_script};
-use std::alloc::Global;
-use std::cell::Cell;
+use std::alloc::{AllocError, Global};
 use std::io;
 use std::io::{BufReader, Read, Write};
 use std::test::Fail;
 use std::thread::Threads;
+use trace_collector::{ReplayFault, replay};
 
 /// Answers so many turns by their moments, and has no memory from then on.
 #[derive(Drop)]
@@ -38,11 +38,23 @@ impl Session for Turns {
     }
 }
 
-/// Gives one byte every second call, and is interrupted in each other one.
+/// Gives so many bytes at most every second call, and is interrupted in each other one. Where the text ends it fails or
+/// there is no more.
 #[derive(Drop)]
 struct Drips<'a> {
     text: &'a [u8],
+    most: usize,
+    fails: bool,
     is_next: bool,
+}
+
+fn dripping(text: &[u8], most: usize, fails: bool) -> Drips<'_> {
+    Drips {
+        text,
+        most,
+        fails,
+        is_next: false,
+    }
 }
 
 impl Read for Drips<'_> {
@@ -51,19 +63,23 @@ impl Read for Drips<'_> {
         if self.is_next {
             return Err(io::ErrorKind::Interrupted.into());
         }
-        if self.text.is_empty() || buf.is_empty() {
-            return Ok(0);
+        if self.fails && self.text.is_empty() {
+            return Err(io::ErrorKind::Other.into());
         }
-        buf[0] = self.text[0];
-        self.text = &self.text[1..];
-        Ok(1)
+        let n = self.text.len().min(buf.len()).min(self.most);
+        for i in 0..n {
+            buf[i] = self.text[i];
+        }
+        self.text = &self.text[n..];
+        Ok(n)
     }
 }
 
-/// Takes one byte every second call, and is interrupted in each other one.
+/// Takes a byte every second call, and is interrupted in each other one. It fails once so many are taken.
 #[derive(Drop)]
 struct Sips {
     taken: Vec<u8>,
+    most: usize,
     is_next: bool,
 }
 
@@ -76,6 +92,9 @@ impl Write for Sips {
         if buf.is_empty() {
             return Ok(0);
         }
+        if self.taken.len() >= self.most {
+            return Err(io::ErrorKind::Other.into());
+        }
         self.taken
             .push(buf[0])
             .map_err(|_| io::Error::from(io::ErrorKind::Other))?;
@@ -87,6 +106,28 @@ impl Write for Sips {
     }
 }
 
+/// Whether a script that comes through a buffer of so many bytes ends so, with this text written, of which the writer
+/// takes so many bytes at most.
+fn runs<R: Threads + Sync>(
+    rt: &R,
+    alloc: Global,
+    capacity: usize,
+    drips: Drips<'_>,
+    most: usize,
+    end: Result<(), ScriptFault>,
+    text: &[u8],
+) -> Result<bool, Fail> {
+    let mut reader = BufReader::with_capacity(alloc, capacity, drips)?;
+    let mut writer = Sips {
+        taken: Vec::new(alloc),
+        most,
+        is_next: false,
+    };
+    let mut turns = Turns { left: 10_000 };
+    let told = run_script(rt, alloc, &mut turns, &mut reader, &mut writer);
+    Ok(told == end && writer.taken.as_slice() == text)
+}
+
 /// So many turns, one a line behind this word.
 fn lines_of_turns(alloc: Global, word: &str) -> Result<String, Fail> {
     let mut text = String::new(alloc);
@@ -96,109 +137,65 @@ fn lines_of_turns(alloc: Global, word: &str) -> Result<String, Fail> {
     Ok(text)
 }
 
-/// Whether a script is answered so that comes through a buffer of so many bytes.
-fn drips_and_sips<R: Threads + Sync>(
-    rt: &R,
-    alloc: Global,
-    capacity: usize,
-    script: &str,
-    answers: &str,
-) -> Result<bool, Fail> {
-    let drips = Drips {
-        text: script.as_bytes(),
-        is_next: false,
-    };
-    let mut reader = BufReader::with_capacity(alloc, capacity, drips)?;
-    let mut writer = Sips {
-        taken: Vec::new(alloc),
-        is_next: false,
-    };
-    let mut turns = Turns { left: 10_000 };
-    let told = run_script(rt, alloc, &mut turns, &mut reader, &mut writer);
-    Ok(told == Ok(()) && writer.taken.as_slice() == answers.as_bytes())
-}
-
 #[test]
 fn a_byte_a_call_and_every_second_call_interrupted(rt: HostRuntime) -> Result<(), Fail> {
     let script = lines_of_turns(rt.alloc(), "turn 0")?;
     let answers = lines_of_turns(rt.alloc(), "idle")?;
-    assert!(rt; answers.len() > 100_000);
     for capacity in [1, 8192] {
-        assert!(rt; drips_and_sips(&rt, rt.alloc(), capacity, script.as_str(), answers.as_str())?);
+        let drips = dripping(script.as_bytes(), 1, false);
+        assert!(rt;
+            runs(
+                &rt,
+                rt.alloc(),
+                capacity,
+                drips,
+                120_000,
+                Ok(()),
+                answers.as_bytes()
+            )?
+        );
     }
     Ok(())
 }
 
-/// Gives a piece of a script a call, and none before so many bytes of answers were written and flushed.
-#[derive(Drop)]
-struct Waits<'a> {
-    pieces: &'a [(usize, &'static [u8])],
-    flushed: &'a Cell<usize>,
-}
-
-impl Read for Waits<'_> {
-    fn read(&mut self, buf: &mut [u8]) -> io::Result<usize> {
-        let Some((due, piece)) = self.pieces.first() else {
-            return Ok(0);
-        };
-        if self.flushed.get() != *due || buf.len() < piece.len() {
-            return Err(io::ErrorKind::Other.into());
-        }
-        for i in 0..piece.len() {
-            buf[i] = piece[i];
-        }
-        let len = piece.len();
-        self.pieces = &self.pieces[1..];
-        Ok(len)
-    }
-}
-
-/// Counts the bytes that are written, and tells the count when it is flushed.
-#[derive(Drop)]
-struct Counts<'a> {
-    written: usize,
-    flushed: &'a Cell<usize>,
-}
-
-impl Write for Counts<'_> {
-    fn write(&mut self, buf: &[u8]) -> io::Result<usize> {
-        self.written = self.written.saturating_add(buf.len());
-        Ok(buf.len())
-    }
-
-    fn flush(&mut self) -> io::Result<()> {
-        self.flushed.set(self.written);
-        Ok(())
-    }
-}
-
-/// Each answer is `idle N` and a line end, 7 bytes.
+/// A script that comes so many bytes a call is answered up to its last line, in which the reader fails.
 #[test]
-fn what_was_answered_is_written_before_more_is_read(rt: HostRuntime) -> Result<(), Fail> {
-    let alloc = rt.alloc();
-    let pieces: [(usize, &'static [u8]); 8] = [
-        (0, b"turn 0 1\n"),
-        (7, b"turn 0 2\ntur"),
-        (14, b"n 0 "),
-        (14, b"3\nturn 0 4\nturn 0 5\n#"),
-        (35, b" a comment"),
-        (35, b"\n\n"),
-        (35, b"turn 0 6"),
-        (35, b""),
-    ];
-    let flushed = Cell::new(0usize);
-    let waits = Waits {
-        pieces: pieces.as_slice(),
-        flushed: &flushed,
-    };
-    let mut reader = BufReader::new(alloc, waits)?;
-    let mut writer = Counts {
-        written: 0,
-        flushed: &flushed,
-    };
-    let mut turns = Turns { left: 6 };
-    let told = run_script(&rt, alloc, &mut turns, &mut reader, &mut writer);
-    assert!(rt; told == Ok(()) && flushed.get() == 42);
+fn lines_are_the_same_in_any_pieces(rt: HostRuntime) -> Result<(), Fail> {
+    let answers = b"idle 1\nidle 2\n";
+    for most in [1, 2, 3, 7] {
+        let drips = dripping(b"# six\nturn 0 1\n\nturn 0 2\nturn 0 3", most, true);
+        assert!(rt;
+            runs(
+                &rt,
+                rt.alloc(),
+                5,
+                drips,
+                100,
+                Err(ScriptFault::Line),
+                answers
+            )?
+        );
+    }
+    Ok(())
+}
+
+#[test]
+fn a_writer_that_fails_ends_the_run(rt: HostRuntime) -> Result<(), Fail> {
+    let script = b"turn 0 1\nturn 0 2\n";
+    let few = dripping(script, 100, false);
+    assert!(rt;
+        runs(
+            &rt,
+            rt.alloc(),
+            100,
+            few,
+            9,
+            Err(ScriptFault::Line),
+            b"idle 1\nid"
+        )?
+    );
+    let all = dripping(script, 100, false);
+    assert!(rt; runs(&rt, rt.alloc(), 100, all, 14, Ok(()), b"idle 1\nidle 2\n")?);
     Ok(())
 }
 
@@ -212,5 +209,96 @@ fn without_memory_the_answers_so_far_are_written(rt: HostRuntime) -> Result<(), 
     assert!(rt; told == Err(ScriptFault::OutOfMemory));
     assert!(rt; out.as_slice() == b"idle 1\nidle 2\n".as_slice());
     assert!(rt; reader.starts_with(b"turn 0 4\n"));
+    Ok(())
+}
+
+const SETTINGS: &str = "[[tenant]]
+name = \"a\"
+tail_sampling = { policy = [{ type = \"always_sample\" }] }
+";
+
+/// What a replay ends with, no text where all is done.
+fn words_of(alloc: Global, end: Result<(), ReplayFault>) -> Result<String, AllocError> {
+    match end {
+        Ok(()) => Ok(String::new(alloc)),
+        Err(fault) => fault.to_string(alloc),
+    }
+}
+
+/// Whether a replay under these settings ends so, with this text written, of which the writer takes so many bytes.
+fn replays<R: Threads + Sync>(
+    rt: &R,
+    alloc: Global,
+    settings: &str,
+    drips: Drips<'_>,
+    most: usize,
+    end: &str,
+    text: &[u8],
+) -> Result<bool, Fail> {
+    let mut reader = BufReader::new(alloc, drips)?;
+    let mut writer = Sips {
+        taken: Vec::new(alloc),
+        most,
+        is_next: false,
+    };
+    let told = replay(rt, alloc, settings, &mut reader, &mut writer);
+    Ok(words_of(alloc, told)?.as_str() == end && writer.taken.as_slice() == text)
+}
+
+/// A replay that is done, and those whose reader fails in the last line, whose writer fails, whose third line is no
+/// command, and whose settings are faulty.
+#[test]
+fn replays_end_in_their_words(rt: HostRuntime) -> Result<(), Fail> {
+    let cases: [(&str, &[u8], bool, usize, &str, &[u8]); 5] = [
+        (
+            SETTINGS,
+            b"turn 0 1\nturn 0 2",
+            false,
+            14,
+            "",
+            b"idle 0\nidle 0\n",
+        ),
+        (
+            SETTINGS,
+            b"turn 0 1\nturn 0 2\nturn 0 3",
+            true,
+            100,
+            "input or output fault",
+            b"idle 0\nidle 0\n",
+        ),
+        (
+            SETTINGS,
+            b"turn 0 1\nturn 0 2\nno command\n",
+            false,
+            13,
+            "input or output fault",
+            b"idle 0\nidle 0",
+        ),
+        (
+            SETTINGS,
+            b"turn 0 1\nturn 0 2\nno command\n",
+            false,
+            14,
+            "script fault at line 3",
+            b"idle 0\nidle 0\n",
+        ),
+        (
+            "name =",
+            b"no command\n",
+            false,
+            100,
+            "settings fault 10",
+            b"",
+        ),
+    ];
+    for (settings, text, fails, most, end, answers) in cases {
+        let drips = dripping(text, 1, fails);
+        assert!(rt;
+            replays(&rt, rt.alloc(), settings, drips, most, end, answers)?,
+            "{end}"
+        );
+    }
+    let words = words_of(rt.alloc(), Err(ReplayFault::OutOfMemory))?;
+    assert!(rt; words.as_str() == "out of memory");
     Ok(())
 }

@@ -1,4 +1,8 @@
-//! What tenants' settings say beside their names.
+//! Settings, and what they say of tenants beside their names.
+
+use std::alloc::Global;
+use std::test::Fail;
+use tail_settings::{Settings, load};
 
 /// Every trace is sampled a second after it opened, each group of spans is a batch, and one batch at a time is on its
 /// way.
@@ -20,3 +24,14 @@ pub const NARROW: &str = "tail_sampling = { decision_wait_ms = 1000, num_traces 
 policy = [{ type = \"always_sample\" }] }, batch = { timeout_ms = 0 }, \
 sending_queue = { queue_size = 1, num_consumers = 1 }, \
 retry_on_failure = { initial_interval_ms = 1000, max_elapsed_time_ms = 1500, randomization_factor = 0 }";
+
+/// Settings of tenants a, b and c, or the first of them, each with these tables.
+pub fn settings_of(alloc: Global, tables: &[&str]) -> Result<Settings, Fail> {
+    let mut text = String::from_str(alloc, "tenant = [")?;
+    for (name, table) in ["a", "b", "c"].iter().zip(tables.iter()) {
+        let section = format!(in alloc; "{{ name = \"{name}\", {table} }}, ")?;
+        text.push_str(section.as_str())?;
+    }
+    text.push_str("]")?;
+    Ok(load(alloc, text.as_str())?)
+}

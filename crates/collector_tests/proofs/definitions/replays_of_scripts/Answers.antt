@@ -1,55 +1,29 @@
 use Rattle.std.proofs.Common.{◌≡◌, ◌↔◌, ◌==◌, ◌%◌, ℕ, zero, suc, ◌<◌, Bool, true, false, List, [], ◌∷◌, ◌++◌, Option, Some, None, Ok, Err, is_ok, length, subst, refl, sym, ap, ◌∙◌, arith, inl, inr}
 use Rattle.std.specs.Prelude.{codes, if◌then◌else◌}
-use Rattle.std.specs.Option.{unwrap_or}
 use Rattle.otlp_trace.specs.Data.{RequestData}
 use Rattle.otlp_read.specs.Value.{value_of, IsValue}
 use Rattle.tail_settings.specs.Fault.{FaultData, not_toml, too_many}
 use Rattle.tail_settings.specs.Settings.{SettingsData, settings_of}
-use Rattle.tail_settings.proofs.OnLiterals.{texts_on_literals}
-use Rattle.send_retry.specs.Class.{Http, Failed}
+use Rattle.send_retry.specs.Class.{Failed}
 use Rattle.tenant_rules.specs.Own.{Own}
 use Rattle.tenant_rules.specs.Own as own
-use Rattle.tenant_rules_tests.specs.Parts.{body}
 use Rattle.tenant_shard.specs.declared.step.Outcome.{Outcome}
 use Rattle.tenant_shard.specs.declared.step.Outcome.TheVariants as outcome
-use Rattle.tenant_shard.specs.Outcomes.{OwnStep, plain}
+use Rattle.tenant_shard.specs.Outcomes.{OwnStep, plain as plain_step}
 use Rattle.tenant_shard.specs.Pick.{ready_after, ready_at}
 use Rattle.shard_agenda.specs.Pick.{NotAfter}
-use Rattle.tenant_rules_tests.proofs.OnLiterals.{values_on_literals, pipelines_on_literals}
 use Rattle.replay_script.proofs.OnLiterals.{script_on_literals, answers_on_literals}
 use Rattle.replay_script.specs.Command.{Post, Turn, Answer, Report, Drain}
 use Rattle.replay_script.specs.Line.{lines_of}
 use Rattle.trace_collector.specs.Answered.{lists_of, joined, posted, HasNoValue, IsAnswered}
 use Rattle.trace_collector.specs.Alone.{AnswersAlone}
 use Rattle.trace_collector.specs.Script.{no_steps, ScriptText, BeginsScriptText}
-use Rattle.collector_tests.specs.ReplayExamples.{value, at_default, one_tenant, counters, hex, script, told, begun, faulty_script, document, no_document}
 use Rattle.trace_collector.proofs.One.{told_one, script_answered_one, same_value}
-use Rattle.collector_tests.proofs.replay_definitions.definitions_on_small_replays.Goals as goal
-
-pub returns-clause-members : goal.returns-clause-members
-returns-clause-members c = record {
-  tenant_0 = refl;
-  tenant_1 = refl;
-  tenant_2 = refl;
-  tenant_0_elsewhere = refl;
-  tenant_1_elsewhere = refl;
-  no_tenant = refl;
-}
-
-pub returns-clause-lines : goal.returns-clause-lines
-unfolding answers_on_literals pipelines_on_literals
-returns-clause-lines c = record {
-  name = refl;
-  no_name = refl;
-  reply = refl;
-  job = refl;
-  worked = refl;
-  idle = refl;
-  done = refl;
-  report = refl;
-  refused = refl;
-  bad = refl;
-}
+use Rattle.collector_tests.specs.Parts.{plain, body}
+use Rattle.collector_tests.specs.ReplayExamples.{value, one_tenant, counters, hex, script, told, begun, faulty_script}
+use Rattle.collector_tests.proofs.OnLiterals.{values_on_literals, pipelines_on_literals}
+use Rattle.collector_tests.proofs.Small.{some_same, never}
+use Rattle.collector_tests.proofs.definitions.replays_of_scripts.Goals as goal
 
 -- ---- a body
 
@@ -68,7 +42,7 @@ has_none exact v is = let same : false ≡ true = ap is_ok ((exact (0 ∷ 0 ∷ 
 -- ---- the steps
 
 abbrev the_post : OwnStep
-the_post = posted 0 0 at_default (value 17 33)
+the_post = posted 0 0 plain (value 17 33)
 
 abbrev accepted : Outcome
 accepted = outcome.Reply 0 (record { status = 200; body = [] })
@@ -77,19 +51,13 @@ abbrev after_post : ℕ → List Own
 after_post = joined (Some 0) the_post accepted (lists_of one_tenant no_steps 0)
 
 abbrev idled : ℕ → List Own
-idled = joined None (plain (own.Turn 999)) outcome.Idle (lists_of one_tenant after_post 0)
+idled = joined None (plain_step (own.Turn 999)) outcome.Idle (lists_of one_tenant after_post 0)
 
 abbrev the_job : Outcome
 the_job = outcome.Job 0 1 (body 17 33)
 
 abbrev handed : ℕ → List Own
-handed = joined None (plain (own.Turn 1000)) the_job (lists_of one_tenant idled 0)
-
-some_same : (a b : ℕ) → Some a ≡ Some b → a ≡ b
-some_same a b e = ap (λ o. unwrap_or o a) e
-
-never : (a : ℕ) → None ≡ Some a → ⊥
-never a e = cc
+handed = joined None (plain_step (own.Turn 1000)) the_job (lists_of one_tenant idled 0)
 
 none_either : (b : Bool) (past : List Own) (seen : Option ℕ) → ready_after (if b then None else None) past true seen ≡ None
 none_either true past seen = refl
@@ -101,7 +69,7 @@ no_other pasts n = none_either (suc n % 1 == 0) (pasts (suc n)) None
 
 post_is_answered : Exact → IsAnswered one_tenant no_steps (Post (codes "a") 0 (body 17 33)) (Some (codes "reply a 200 -\n")) after_post
 unfolding pipelines_on_literals answers_on_literals
-post_is_answered exact = inl (at_default, value 17 33, refl, has_this_value exact, (accepted, refl, refl, refl))
+post_is_answered exact = inl (plain, value 17 33, refl, has_this_value exact, (accepted, refl, refl, refl))
 
 idle_before : (tenant moment : ℕ) → ready_at (lists_of one_tenant after_post 0) [] tenant ≡ Some moment → 999 < moment
 unfolding pipelines_on_literals
@@ -123,39 +91,6 @@ job_line = codes "job a 1 " ++ (hex ++ codes "\n")
 turn_hands_out : IsAnswered one_tenant idled (Turn 0 1000) (Some job_line) handed
 unfolding pipelines_on_literals answers_on_literals
 turn_hands_out = (the_job, (Some 0, (1000, refl, omega arith, first_ready), refl), refl, refl)
-
-not_taken : Exact → IsAnswered one_tenant no_steps (Post (codes "a") 0 (0 ∷ 0 ∷ [])) (Some (codes "reply a 400 120c6261642070726f746f627566\n")) no_steps
-unfolding answers_on_literals pipelines_on_literals
-not_taken exact = inr (has_none exact, refl, refl)
-
-pub returns-clause-posts : goal.returns-clause-posts
-unfolding Exact pipelines_on_literals
-returns-clause-posts c =
-    let exact = c.values_or_faults.ensures.exact in
-    record {
-      has_this_value = has_this_value exact;
-      has_none = has_none exact;
-      taken = (after_post, post_is_answered exact, refl);
-      not_taken = not_taken exact;
-      no_tenant = (refl, refl);
-      no_shard = (refl, refl);
-    }
-
--- ---- answers, reports and drains
-
-abbrev asked : Own → Outcome → ℕ → List Own
-asked step told = joined (Some 0) (plain step) told (lists_of one_tenant no_steps 0)
-
-pub returns-clause-asked : goal.returns-clause-asked
-unfolding pipelines_on_literals answers_on_literals
-returns-clause-asked c = record {
-  unknown_ticket = (asked (own.Answer 5 1 0 (Http 200 None [])) (outcome.Refused 0 21), (outcome.Refused 0 21, refl, refl, refl), refl);
-  counted = (asked (own.Report 5) (outcome.Report 0 counters), (outcome.Report 0 counters, refl, refl, refl), refl);
-  drained = (asked (own.Drain 5) (outcome.Done 0), (outcome.Done 0, refl, refl, refl), refl);
-  no_tenant_answers = (refl, refl);
-  no_tenant_reports = (refl, refl);
-  no_tenant_drains = (refl, refl);
-}
 
 -- ---- scripts
 
@@ -198,9 +133,9 @@ second_faulty : ScriptText one_tenant faulty_script (codes "idle 0\n") (Some 2)
 unfolding script_on_literals answers_on_literals
 second_faulty = (
   Some (codes "idle 0\n"),
-  joined None (plain (own.Turn 0)) outcome.Idle (lists_of one_tenant no_steps 0),
+  joined None (plain_step (own.Turn 0)) outcome.Idle (lists_of one_tenant no_steps 0),
   (outcome.Idle, (None, none_ready, refl), refl, refl),
-  ([], refl, (None, joined None (plain (own.Turn 0)) outcome.Idle (lists_of one_tenant no_steps 0), (refl, refl), (refl, refl))),
+  ([], refl, (None, joined None (plain_step (own.Turn 0)) outcome.Idle (lists_of one_tenant no_steps 0), (refl, refl), (refl, refl))),
 )
 
 pub returns-clause-scripts : goal.returns-clause-scripts
@@ -223,15 +158,15 @@ returns-clause-own_parts c = record {
   commands_of_0 = refl;
 }
 
-alone : Exact → AnswersAlone (codes "a") at_default [] (Post (codes "a") 0 (body 17 33) ∷ Turn 0 1000 ∷ []) (codes "reply a 200 -" ∷ (codes "job a 1 " ++ hex) ∷ [])
+alone : Exact → AnswersAlone (codes "a") plain [] (Post (codes "a") 0 (body 17 33) ∷ Turn 0 1000 ∷ []) (codes "reply a 200 -" ∷ (codes "job a 1 " ++ hex) ∷ [])
 unfolding pipelines_on_literals answers_on_literals
 alone exact = (after_post 0, inl (value 17 33, has_this_value exact, (refl, refl)), (own.Turn 1000 ∷ after_post 0, ((1000, refl, omega arith), (refl, refl)), tt))
 
-no_value : Exact → AnswersAlone (codes "a") at_default [] (Post (codes "a") 0 (0 ∷ 0 ∷ []) ∷ []) (codes "reply a 400 120c6261642070726f746f627566" ∷ [])
+no_value : Exact → AnswersAlone (codes "a") plain [] (Post (codes "a") 0 (0 ∷ 0 ∷ []) ∷ []) (codes "reply a 400 120c6261642070726f746f627566" ∷ [])
 unfolding pipelines_on_literals answers_on_literals
 no_value exact = ([], inr (has_none exact, refl, refl), tt)
 
-all_asked : AnswersAlone (codes "a") at_default [] (Answer (codes "a") 5 1 0 Failed ∷ Drain (codes "a") 6 ∷ Report (codes "a") 7 ∷ [])
+all_asked : AnswersAlone (codes "a") plain [] (Answer (codes "a") 5 1 0 Failed ∷ Drain (codes "a") 6 ∷ Report (codes "a") 7 ∷ [])
     (codes "refused a 21" ∷ codes "done a" ∷ (codes "report a " ++ counters) ∷ [])
 unfolding pipelines_on_literals answers_on_literals
 all_asked = (
@@ -252,23 +187,15 @@ returns-clause-alone_parts c =
 
 -- ---- replays
 
-means : settings_of document ≡ Ok one_tenant
-unfolding texts_on_literals
-means = refl
-
-is_no_document : settings_of no_document ≡ Err not_toml
-unfolding texts_on_literals
-is_no_document = refl
-
 -- a document has one meaning
-same_settings : (s : SettingsData) → settings_of document ≡ Ok s → one_tenant ≡ s
-same_settings s e = let same : Ok one_tenant ≡ Ok s = sym means ∙ e in cc
+same_settings : (d : List ℕ) → settings_of d ≡ Ok one_tenant → (s : SettingsData) → settings_of d ≡ Ok s → one_tenant ≡ s
+same_settings d means s e = let same : Ok one_tenant ≡ Ok s = sym means ∙ e in cc
 
-has_settings : (f : FaultData) → settings_of document ≡ Err f → ⊥
-has_settings f e = let same : Ok one_tenant ≡ Err f = sym means ∙ e in cc
+has_settings : (d : List ℕ) → settings_of d ≡ Ok one_tenant → (f : FaultData) → settings_of d ≡ Err f → ⊥
+has_settings d means f e = let same : Ok one_tenant ≡ Err f = sym means ∙ e in cc
 
-has_fault : (s : SettingsData) → settings_of no_document ≡ Ok s → ⊥
-has_fault s e = let same : Err not_toml ≡ Ok s = sym is_no_document ∙ e in cc
+has_fault : (d : List ℕ) → settings_of d ≡ Err not_toml → (s : SettingsData) → settings_of d ≡ Ok s → ⊥
+has_fault d faulty s e = let same : Err not_toml ≡ Ok s = sym faulty ∙ e in cc
 
 some_told : told ≡ [] → ⊥
 some_told none = let lengths : 98 ≡ 0 = ap length none in omega (arith, lengths)
@@ -286,22 +213,21 @@ unfolding Exact
 returns-clause-replays c =
     let exact = c.values_or_faults.ensures.exact in
     record {
-      means = means;
-      done = (one_tenant, means, whole_text exact);
-      half_done = λ is. half_told exact (subst (λ s. ScriptText s script begun None) (sym (same_settings is.0 is.1)) is.2);
-      script_fault = (one_tenant, means, second_faulty);
-      failed = (one_tenant, means, begins exact);
-      no_memory = (
-        λ s e. subst (λ s. BeginsScriptText s script begun) (same_settings s e) (begins exact),
-        λ f e. absurd (has_settings f e),
+      done = λ d means. (one_tenant, means, whole_text exact);
+      half_done = λ d means is. half_told exact (subst (λ s. ScriptText s script begun None) (sym (same_settings d means is.0 is.1)) is.2);
+      script_fault = λ d means. (one_tenant, means, second_faulty);
+      failed = λ d means. (one_tenant, means, begins exact);
+      no_memory = λ d means. (
+        λ s e. subst (λ s. BeginsScriptText s script begun) (same_settings d means s e) (begins exact),
+        λ f e. absurd (has_settings d means f e),
       );
-      settings_fault = (not_toml, refl, is_no_document, refl);
-      other_fault = λ is.
+      settings_fault = λ d faulty. (not_toml, refl, faulty, refl);
+      other_fault = λ d faulty is.
           let told : Some too_many ≡ Some is.0 = is.1 in
-          let meant : Err not_toml ≡ Err is.0 = sym is_no_document ∙ is.2 in
+          let meant : Err not_toml ≡ Err is.0 = sym faulty ∙ is.2 in
           cc;
-      written_after_fault = λ is. some_told is.3;
-      no_fault = λ is. has_settings is.0 is.2;
-      no_memory_for_settings = (λ s e. absurd (has_fault s e), λ f e. refl);
-      written_without_settings = λ is. some_told (is.1 not_toml is_no_document);
+      written_after_fault = λ d faulty is. some_told is.3;
+      no_fault = λ d means is. has_settings d means is.0 is.2;
+      no_memory_for_settings = λ d faulty. (λ s e. absurd (has_fault d faulty s e), λ f e. refl);
+      written_without_settings = λ d faulty is. some_told (is.1 not_toml faulty);
     }

@@ -1,0 +1,2 @@
+pub mod OnLiterals
+mod Small

@@ -1,0 +1,213 @@
+//! Steps and outcomes of a shard as lines of a script say them. Tenants 0, 1 and 2 are `a`, `b` and `c`, and `h` is 7.
+
+use bytes::Bytes;
+use otlp_prepare::prepare;
+use replay_script::{
+    Command, parse_line, put_done, put_idle, put_job, put_refused, put_reply, put_report,
+    put_worked,
+};
+use std::alloc::{AllocError, Global};
+use std::test::Fail;
+use std::thread::Threads;
+use tail_settings::Settings;
+use tenant_shard::{Outcome, Step};
+
+/// Bodies by their spans. A span is the byte of its trace id, which stands there sixteen times, the byte of its own id,
+/// which stands there eight times, and its other fields. Spans of one scope are parted by `+` and resources by `/`, and
+/// a resource's bytes stand before its spans.
+const BODIES: &str = "\
+1001:11.21+11.22/1002:12.23 0a420a021001123c121c0a101111111111111111111111111111111112082121212121212121121c0a1011111\
+111111111111111111111111111120822222222222222220a240a021002121e121c0a101212121212121212121212121212121212082323232323\
+232323
+1001:11.21/12.22 0a240a021001121e121c0a1011111111111111111111111111111111120821212121212121210a20121e121c0a1012121212\
+12121212121212121212121212082222222222222222
+11.21.7a021802+12.22 0a42124012200a1011111111111111111111111111111111120821212121212121217a021802121c0a10121212121212\
+1212121212121212121212082222222222222222
+13.23+14.24 0a3e123c121c0a101313131313131313131313131313131312082323232323232323121c0a1014141414141414141414141414141\
+41412082424242424242424
+1001:11.24+13.25 0a420a021001123c121c0a101111111111111111111111111111111112082424242424242424121c0a101313131313131313\
+131313131313131312082525252525252525
+1001:11.21+11.22+11.24 0a600a021001125a121c0a101111111111111111111111111111111112082121212121212121121c0a101111111111\
+111111111111111111111112082222222222222222121c0a101111111111111111111111111111111112082424242424242424
+12.23.7a021802+11.24 0a42124012200a1012121212121212121212121212121212120823232323232323237a021802121c0a10111111111111\
+1111111111111111111112082424242424242424
+13.23 0a20121e121c0a101313131313131313131313131313131312082323232323232323
+1002:12.23/1001:13.25 0a240a021002121e121c0a1012121212121212121212121212121212120823232323232323230a240a021001121e121\
+c0a101313131313131313131313131313131312082525252525252525
+11.21.7a021802+11.24 0a42124012200a1011111111111111111111111111111111120821212121212121217a021802121c0a10111111111111\
+1111111111111111111112082424242424242424
+14.25 0a20121e121c0a101414141414141414141414141414141412082525252525252525
+13.25.7a021802+14.26 0a42124012200a1013131313131313131313131313131313120825252525252525257a021802121c0a10141414141414\
+1414141414141414141412082626262626262626
+15.27 0a20121e121c0a101515151515151515151515151515151512082727272727272727
+13.25.7a021802 0a24122212200a1013131313131313131313131313131313120825252525252525257a021802
+11.22 0a20121e121c0a101111111111111111111111111111111112082222222222222222
+11.21 0a20121e121c0a101111111111111111111111111111111112082121212121212121";
+
+/// The digits of the body with this name, or the word where it names none.
+fn digits_of<'a>(word: &'a str) -> &'a str {
+    for line in BODIES.lines() {
+        if let Some((name, digits)) = line.split_once(' ') {
+            if name == word {
+                return digits;
+            }
+        }
+    }
+    word
+}
+
+/// The line with its body's digits in place of its name, which is the last word, and this end.
+fn spelled(alloc: Global, line: &str, end: &str) -> Result<String, Fail> {
+    let (first, last) = line.rsplit_once(' ').ok_or("a line of one word")?;
+    Ok(format!(in alloc; "{first} {}{end}", digits_of(last))?)
+}
+
+/// A story's line, which is a command, ` = ` and the line that answers it.
+pub fn parts_of(line: &str) -> Result<(&str, &str), Fail> {
+    Ok(line.split_once(" = ").ok_or("a line without its answer")?)
+}
+
+fn number_of(letter: Option<&u8>) -> u32 {
+    match letter {
+        Some(b'a') => 0,
+        Some(b'b') => 1,
+        Some(b'c') => 2,
+        _ => 7,
+    }
+}
+
+fn name_of(tenant: u32) -> &'static str {
+    match tenant {
+        0 => "a",
+        1 => "b",
+        2 => "c",
+        _ => "h",
+    }
+}
+
+/// The post of a body to the tenant of the name's first letter, prepared for the policies of the one of its last.
+fn post_of<'a, R: Threads + Sync>(
+    rt: &R,
+    alloc: Global,
+    settings: &'a Settings,
+    name: &str,
+    now: u64,
+    body: Vec<u8>,
+) -> Result<Step<'a>, Fail> {
+    let tenant = number_of(name.as_bytes().first());
+    let own = number_of(name.as_bytes().last());
+    let section = settings.section(own).ok_or("no such section")?;
+    let prepared = prepare(rt, alloc, tenant, section, Bytes::from_vec(body)?, 2)?;
+    Ok(Step::Post { now, prepared })
+}
+
+/// The step that a command asks for.
+fn asked<'a, R: Threads + Sync>(
+    rt: &R,
+    alloc: Global,
+    settings: &'a Settings,
+    command: Command<'_>,
+) -> Result<Step<'a>, Fail> {
+    match command {
+        Command::Post { name, moment, body } => post_of(rt, alloc, settings, name, moment, body),
+        Command::Turn { moment, .. } => Ok(Step::Turn { now: moment }),
+        Command::Answer {
+            name,
+            moment,
+            ticket,
+            word,
+            answer,
+        } => Ok(Step::Answer {
+            tenant: number_of(name.as_bytes().first()),
+            now: moment,
+            ticket,
+            word,
+            answer,
+        }),
+        Command::Report { name, moment } => Ok(Step::Report {
+            tenant: number_of(name.as_bytes().first()),
+            now: moment,
+        }),
+        Command::Drain { name, moment } => Ok(Step::Drain {
+            tenant: number_of(name.as_bytes().first()),
+            now: moment,
+        }),
+    }
+}
+
+/// The step of a line.
+pub fn step_of<'a, R: Threads + Sync>(
+    rt: &R,
+    alloc: Global,
+    settings: &'a Settings,
+    line: &str,
+) -> Result<Step<'a>, Fail> {
+    let line = spelled(alloc, line, "")?;
+    match parse_line(alloc, line.as_bytes())? {
+        Some(command) => asked(rt, alloc, settings, command),
+        None => Err(Fail::new("no command")),
+    }
+}
+
+/// The steps of a story.
+pub fn steps_of<'a, R: Threads + Sync>(
+    rt: &R,
+    alloc: Global,
+    settings: &'a Settings,
+    story: &str,
+) -> Result<Vec<Step<'a>>, Fail> {
+    let mut steps = Vec::new(alloc);
+    for line in story.lines() {
+        let (step, _) = parts_of(line)?;
+        steps.push(step_of(rt, alloc, settings, step)?)?;
+    }
+    Ok(steps)
+}
+
+/// Appends the line of an outcome.
+fn put(alloc: Global, out: &mut Vec<u8>, outcome: &Outcome) -> Result<(), AllocError> {
+    match outcome {
+        Outcome::Reply(tenant, reply) => put_reply(
+            alloc,
+            out,
+            name_of(*tenant),
+            reply.status,
+            reply.body.as_slice(),
+        ),
+        Outcome::Job(tenant, ticket, payload) => {
+            put_job(alloc, out, name_of(*tenant), *ticket, payload.as_slice())
+        }
+        Outcome::Worked(tenant) => put_worked(alloc, out, name_of(*tenant)),
+        Outcome::Idle => put_idle(alloc, out, 0),
+        Outcome::Done(tenant) => put_done(alloc, out, name_of(*tenant)),
+        Outcome::Report(tenant, report) => {
+            put_report(alloc, out, name_of(*tenant), report.as_slice())
+        }
+        Outcome::Refused(tenant, number) => put_refused(alloc, out, name_of(*tenant), *number),
+    }
+}
+
+/// Appends the lines of outcomes.
+pub fn put_all(alloc: Global, out: &mut Vec<u8>, outcomes: &[Outcome]) -> Result<(), AllocError> {
+    for outcome in outcomes {
+        put(alloc, out, outcome)?;
+    }
+    Ok(())
+}
+
+/// Whether this line tells the outcome.
+pub fn is_told(alloc: Global, outcome: &Outcome, line: &str) -> Result<bool, Fail> {
+    let mut out = Vec::new(alloc);
+    put(alloc, &mut out, outcome)?;
+    Ok(out.as_slice() == spelled(alloc, line, "\n")?.as_bytes())
+}
+
+/// The lines that answer a story's commands.
+pub fn answers_of(alloc: Global, story: &str) -> Result<String, Fail> {
+    let mut text = String::new(alloc);
+    for line in story.lines() {
+        let (_, answer) = parts_of(line)?;
+        text.push_str(spelled(alloc, answer, "\n")?.as_str())?;
+    }
+    Ok(text)
+}

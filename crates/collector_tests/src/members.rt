@@ -1,0 +1,137 @@
+//! Stories of one shard that no script of `replay` can tell: bodies for other policies, strangers, and when a member is
+//! empty.
+
+use crate::lines::{answers_of, is_told, parts_of, put_all, step_of, steps_of};
+use crate::sections::{BASE, ERRORS, settings_of};
+use std::alloc::Global;
+use std::test::Fail;
+use std::thread::Threads;
+use tail_settings::Settings;
+use tenant_shard::Shard;
+
+/// A turn that finds no job says so once, and then nothing is due. Spans of no error are dropped. A body for other
+/// policies, and any step of a stranger, change nothing.
+const REFUSED: &str = "post a 0 11.21 = reply a 200 -
+post a.b 5000 11.22 = refused a 23
+post h.b 5000 11.22 = refused h 22
+answer h 5000 1 0 200 - - = refused h 22
+report h 5000 = refused h 22
+drain h 5000 = refused h 22
+report a 999 = report a accepted=1 undecided=1 pending=0 queued=0 active=0 \
+exported=0 not_sampled=0 too_early=0 queue_full=0 \
+retry_exhausted=0 back_end_refused=0 back_end_rejected=0 invalid=0 over_budget=0
+turn 0 1000 = worked a
+turn 0 1000 = idle 0
+report a 1000 = report a accepted=1 undecided=0 pending=0 queued=0 active=0 \
+exported=0 not_sampled=1 too_early=0 queue_full=0 \
+retry_exhausted=0 back_end_refused=0 back_end_rejected=0 invalid=0 over_budget=0";
+
+/// Equal policies of another section are the tenant's policies.
+const EQUAL: &str = "post a.b 0 11.21 = reply a 200 -
+turn 0 1000 = job a 1 11.21";
+
+/// A tenant alone is told the same as with another one, whatever its number is.
+const ALONE: &str = "post b 0 11.21 = reply b 200 -
+turn 0 1000 = job b 1 11.21
+report b 1000 = report b accepted=1 undecided=0 pending=0 queued=0 active=1 \
+exported=0 not_sampled=0 too_early=0 queue_full=0 \
+retry_exhausted=0 back_end_refused=0 back_end_rejected=0 invalid=0 over_budget=0";
+
+/// What the steps of a story are told in one run of a new shard with these members.
+fn told<R: Threads + Sync>(
+    rt: &R,
+    alloc: Global,
+    settings: &Settings,
+    members: &[u32],
+    story: &str,
+) -> Result<Vec<u8>, Fail> {
+    let steps = steps_of(rt, alloc, settings, story)?;
+    let mut shard = Shard::open(alloc, settings, members)?;
+    let outcomes = shard.run(steps.as_slice())?;
+    let mut out = Vec::new(alloc);
+    put_all(alloc, &mut out, outcomes.as_slice())?;
+    Ok(out)
+}
+
+/// Whether the story comes true of a shard with these members, of two tenants of which the first has this table.
+fn is_true<R: Threads + Sync>(
+    rt: &R,
+    alloc: Global,
+    table: &str,
+    members: &[u32],
+    story: &str,
+) -> Result<bool, Fail> {
+    let settings = settings_of(alloc, &[table, BASE])?;
+    let told = told(rt, alloc, &settings, members, story)?;
+    Ok(told.as_slice() == answers_of(alloc, story)?.as_bytes())
+}
+
+#[test]
+fn members_are_told_their_own(rt: HostRuntime) -> Result<(), Fail> {
+    let both: &[u32] = &[1, 0, 7, 0];
+    let second: &[u32] = &[1];
+    let cases = [
+        (ERRORS, both, REFUSED),
+        (BASE, both, EQUAL),
+        (BASE, both, ALONE),
+        (BASE, second, ALONE),
+    ];
+    for (table, members, story) in cases {
+        assert!(rt; is_true(&rt, rt.alloc(), table, members, story)?, "{story}");
+    }
+    Ok(())
+}
+
+/// Whether a member alone holds spans after each step. A moment that is past counts as the latest one, so that the span
+/// waits from 100 on; a batch that failed is sent again after half of the first interval.
+const HELD: &str = "empty post a.b 0 11.21 = refused a 23
+empty report a 100 = report a accepted=0 undecided=0 pending=0 queued=0 active=0 \
+exported=0 not_sampled=0 too_early=0 queue_full=0 \
+retry_exhausted=0 back_end_refused=0 back_end_rejected=0 invalid=0 over_budget=0
+holds post a 0 11.21 = reply a 200 -
+holds turn 0 1099 = idle 0
+holds turn 0 1100 = job a 1 11.21
+holds answer a 1100 1 0 failed - - = done a
+holds report a 0 = report a accepted=1 undecided=0 pending=0 queued=0 active=1 \
+exported=0 not_sampled=0 too_early=0 queue_full=0 \
+retry_exhausted=0 back_end_refused=0 back_end_rejected=0 invalid=0 over_budget=0
+holds turn 0 3599 = idle 0
+holds turn 0 3600 = job a 2 11.21
+holds answer a 3600 1 0 200 - - = refused a 21
+empty answer a 3600 2 0 200 - - = done a
+empty drain a 3600 = done a
+empty turn 0 3600 = idle 0
+empty report a 3600 = report a accepted=1 undecided=0 pending=0 queued=0 active=0 \
+exported=1 not_sampled=0 too_early=0 queue_full=0 \
+retry_exhausted=0 back_end_refused=0 back_end_rejected=0 invalid=0 over_budget=0";
+
+/// Whether the step of a line gives what the line says, and leaves the member with spans or without. The second tenant
+/// is no member.
+fn is_left<R: Threads + Sync>(
+    rt: &R,
+    alloc: Global,
+    settings: &Settings,
+    shard: &mut Shard,
+    line: &str,
+) -> Result<bool, Fail> {
+    let (step, wanted) = parts_of(line)?;
+    let (holds, step) = step.split_once(' ').ok_or("a line of one word")?;
+    let step = step_of(rt, alloc, settings, step)?;
+    let outcome = shard.step(&step)?;
+    let is_empty = holds == "empty";
+    Ok(shard.is_empty(0) == is_empty && !shard.is_empty(1) && is_told(alloc, &outcome, wanted)?)
+}
+
+#[test]
+fn a_member_is_empty_once_its_batches_are_answered(rt: HostRuntime) -> Result<(), Fail> {
+    let settings = settings_of(rt.alloc(), &[BASE, ERRORS])?;
+    let mut shard = Shard::open(rt.alloc(), &settings, &[0])?;
+    assert!(rt; shard.is_empty(0));
+    for line in HELD.lines() {
+        assert!(rt;
+            is_left(&rt, rt.alloc(), &settings, &mut shard, line)?,
+            "{line}"
+        );
+    }
+    Ok(())
+}

@@ -1,0 +1,177 @@
+//! A run over three tenants in which memory is refused. Each run with one allocation refused has to end well, too.
+
+use crate::lines::{answers_of, is_told, parts_of, put_all, step_of, steps_of};
+use crate::sections::{ERRORS, NARROW, TWO_OR_THREE, settings_of};
+use std::alloc::{AllocError, Global};
+use std::process::Abort;
+use std::test::Fail;
+use std::thread::Threads;
+use tail_settings::Settings;
+use tenant_shard::{Outcome, Shard, Step, Stopped};
+
+/// Tenant a has batches of two or three spans, b has room for two traces and one batch, and c samples errors.
+const TABLES: [&str; 3] = [TWO_OR_THREE, NARROW, ERRORS];
+
+/// Spans join, come late and are evicted, batches are sent again and given up, are taken, rejected and refused, a queue
+/// is full, and tenants are drained.
+const STORY: &str = "post a 0 1001:11.21+11.22/1002:12.23 = reply a 200 -
+post b 0 1001:11.21/12.22 = reply b 200 -
+post c 0 11.21.7a021802+12.22 = reply c 200 -
+post b 100 13.23+14.24 = reply b 200 -
+post a 500 1001:11.24+13.25 = reply a 200 -
+turn 0 1000 = job a 1 1001:11.21+11.22+11.24
+turn 0 1000 = worked c
+post c 1000 12.23.7a021802+11.24 = reply c 200 -
+turn 0 1100 = job b 1 13.23
+answer b 1100 1 0 503 - - = done b
+turn 0 1500 = job a 2 1002:12.23/1001:13.25
+answer a 1600 1 0 200 - 0a020801 = done a
+turn 0 2000 = job c 1 11.21.7a021802+11.24
+turn 0 2100 = job b 2 13.23
+answer b 2100 2 0 503 - - = done b
+post b 2100 14.25 = reply b 200 -
+post c 2100 13.25.7a021802+14.26 = reply c 200 -
+drain c 2200 = done c
+post c 2200 15.27 = reply c 503 120d7368757474696e6720646f776e
+turn 0 2200 = job b 3 14.25
+answer c 2300 1 0 400 - - = done c
+turn 0 2300 = job c 2 13.25.7a021802
+answer c 2300 2 0 200 - - = done c
+answer c 2300 2 0 200 - - = refused c 21
+answer b 2300 3 0 200 - - = done b
+drain a 2300 = done a
+drain b 2300 = done b
+answer a 2300 2 0 200 - - = done a
+report a 2300 = report a accepted=5 undecided=0 pending=0 queued=0 \
+active=0 exported=4 not_sampled=0 too_early=0 queue_full=0 \
+retry_exhausted=0 back_end_refused=0 back_end_rejected=1 invalid=0 over_budget=0
+report b 2300 = report b accepted=5 undecided=0 pending=0 queued=0 \
+active=0 exported=1 not_sampled=0 too_early=2 queue_full=1 \
+retry_exhausted=1 back_end_refused=0 back_end_rejected=0 invalid=0 over_budget=0
+report c 2300 = report c accepted=6 undecided=0 pending=0 queued=0 \
+active=0 exported=1 not_sampled=3 too_early=0 queue_full=0 \
+retry_exhausted=0 back_end_refused=2 back_end_rejected=0 invalid=0 over_budget=0
+turn 0 999999 = idle 0";
+
+/// The outcomes of a run, up to where it stopped.
+fn outcomes_of(shard: &mut Shard, steps: &[Step<'_>]) -> Vec<Outcome> {
+    match shard.run(steps) {
+        Ok(outcomes) => outcomes,
+        Err(Stopped { outcomes }) => outcomes,
+    }
+}
+
+/// The counters of all tenants. Where memory is refused they are asked for again. Reports of the first moment run no
+/// timer that hasn't run.
+fn reports(shard: &mut Shard) -> Result<Vec<Outcome>, Stopped> {
+    let steps = [
+        Step::Report { tenant: 0, now: 0 },
+        Step::Report { tenant: 1, now: 0 },
+        Step::Report { tenant: 2, now: 0 },
+    ];
+    match shard.run(&steps) {
+        Ok(outcomes) => Ok(outcomes),
+        Err(_) => shard.run(&steps),
+    }
+}
+
+/// Whose step it was.
+fn tenant_of(outcome: &Outcome) -> Option<u32> {
+    match outcome {
+        Outcome::Reply(tenant, _) => Some(*tenant),
+        Outcome::Job(tenant, _, _) => Some(*tenant),
+        Outcome::Worked(tenant) => Some(*tenant),
+        Outcome::Idle => None,
+        Outcome::Done(tenant) => Some(*tenant),
+        Outcome::Report(tenant, _) => Some(*tenant),
+        Outcome::Refused(tenant, _) => Some(*tenant),
+    }
+}
+
+/// Whether the reports of all tenants but this one are as before.
+fn are_others_same(own: Option<u32>, before: &[Outcome], after: &[Outcome]) -> bool {
+    for (one, other) in before.iter().zip(after.iter()) {
+        if one != other && tenant_of(one) != own {
+            return false;
+        }
+    }
+    before.len() == 3 && after.len() == 3
+}
+
+/// What a step gives, after it was refused memory where it is. The counters of all tenants but the one whose step it
+/// was are then as before.
+fn given_at_last(rt: &impl Abort, shard: &mut Shard, step: &Step<'_>) -> Result<Outcome, Fail> {
+    let before = reports(shard)?;
+    if let Ok(outcome) = shard.step(step) {
+        return Ok(outcome);
+    }
+    let after = reports(shard)?;
+    let outcome = shard.step(step)?;
+    assert!(rt; are_others_same(tenant_of(&outcome), before.as_slice(), after.as_slice()));
+    Ok(outcome)
+}
+
+/// The step of a line gives what the line says.
+fn line_is_given<R: Threads + Sync + Abort>(
+    rt: &R,
+    alloc: Global,
+    settings: &Settings,
+    shard: &mut Shard,
+    line: &str,
+) -> Result<(), Fail> {
+    let (step, wanted) = parts_of(line)?;
+    let step = step_of(rt, alloc, settings, step)?;
+    let outcome = given_at_last(rt, shard, &step)?;
+    assert!(rt;
+        is_told(alloc, &outcome, wanted)?,
+        "{outcome:?} in place of {wanted}"
+    );
+    Ok(())
+}
+
+fn each_is_given<R: Threads + Sync + Abort>(
+    rt: &R,
+    alloc: Global,
+    settings: &Settings,
+) -> Result<(), Fail> {
+    let mut shard = Shard::open(alloc, settings, &[0, 1, 2])?;
+    for line in STORY.lines() {
+        line_is_given(rt, alloc, settings, &mut shard, line)?;
+    }
+    Ok(())
+}
+
+#[test]
+fn a_refused_step_is_done_again(rt: HostRuntime) -> Result<(), Fail> {
+    let settings = settings_of(rt.alloc(), &TABLES)?;
+    each_is_given(&rt, rt.alloc(), &settings)
+}
+
+/// What a run tells that stops where memory is refused, with the outcomes so far, and goes on with the refused step.
+fn told_at_last(alloc: Global, shard: &mut Shard, steps: &[Step<'_>]) -> Result<Vec<u8>, Fail> {
+    let mut out = Vec::new(alloc);
+    let done = outcomes_of(shard, steps);
+    put_all(alloc, &mut out, done.as_slice())?;
+    let left = steps.get(done.len()..).ok_or("more outcomes than steps")?;
+    let rest = shard.run(left)?;
+    put_all(alloc, &mut out, rest.as_slice())?;
+    Ok(out)
+}
+
+fn story_goes_on<R: Threads + Sync>(
+    rt: &R,
+    alloc: Global,
+    settings: &Settings,
+) -> Result<bool, Fail> {
+    let steps = steps_of(rt, alloc, settings, STORY)?;
+    let mut shard = Shard::open(alloc, settings, &[0, 1, 2])?;
+    let told = told_at_last(alloc, &mut shard, steps.as_slice())?;
+    Ok(told.as_slice() == answers_of(alloc, STORY)?.as_bytes())
+}
+
+#[test]
+fn a_run_goes_on_where_it_stopped(rt: HostRuntime) -> Result<(), Fail> {
+    let settings = settings_of(rt.alloc(), &TABLES)?;
+    assert!(rt; story_goes_on(&rt, rt.alloc(), &settings)?);
+    Ok(())
+}
