@@ -1,8 +1,6 @@
-//! Lines over streams of std.
+//! Lines over streams of std, and a line in memory, call by call.
 
-use crate::echo::Echo;
-use http_edge::serve;
-use http_line::{Line, StreamLine};
+use http_line::{Line, MemoryLine, StreamLine};
 use std::collections::VecDeque;
 use std::io;
 use std::io::{ErrorKind, Read, Write};
@@ -21,12 +19,14 @@ fn what_is_written_to_a_queue_is_read_from_it(rt: HostRuntime) {
     assert!(rt; line.failures() == 0);
 }
 
-/// A stream that is interrupted in so many calls before each that isn't, and fails in so many that are not.
+/// A stream that is interrupted in so many calls before each that isn't. So many of these take or give a byte, and then
+/// they fail, or neither take nor give any.
 #[derive(Drop)]
 struct Fits {
     pauses: u32,
     paused: u32,
     calls: u32,
+    fails: bool,
 }
 
 impl Fits {
@@ -37,7 +37,11 @@ impl Fits {
         }
         self.paused = 0;
         if self.calls == 0 {
-            return Err(ErrorKind::Other.into());
+            return if self.fails {
+                Err(ErrorKind::Other.into())
+            } else {
+                Ok(0)
+            };
         }
         self.calls -= 1;
         Ok(1)
@@ -68,6 +72,7 @@ fn what_is_interrupted_is_tried_again(rt: HostRuntime) {
         pauses: 5,
         paused: 0,
         calls: 4,
+        fails: true,
     });
     let mut room = [0u8; 2];
     assert!(rt; line.read_some(&mut room).unwrap_or(9) == 1);
@@ -80,29 +85,14 @@ fn what_is_interrupted_is_tried_again(rt: HostRuntime) {
     assert!(rt; line.failures() == 2);
 }
 
-/// A stream that takes no byte and gives none.
-#[derive(Drop)]
-struct Shut;
-
-impl Read for Shut {
-    fn read(&mut self, _buf: &mut [u8]) -> io::Result<usize> {
-        Ok(0)
-    }
-}
-
-impl Write for Shut {
-    fn write(&mut self, _buf: &[u8]) -> io::Result<usize> {
-        Ok(0)
-    }
-
-    fn flush(&mut self) -> io::Result<()> {
-        Ok(())
-    }
-}
-
 #[test]
 fn a_stream_that_takes_no_byte_has_failed(rt: HostRuntime) {
-    let mut line = StreamLine::new(Shut);
+    let mut line = StreamLine::new(Fits {
+        pauses: 0,
+        paused: 0,
+        calls: 0,
+        fails: false,
+    });
     let mut room = [0u8; 2];
     assert!(rt; line.read_some(&mut room).unwrap_or(9) == 0);
     assert!(rt; line.failures() == 0);
@@ -112,49 +102,25 @@ fn a_stream_that_takes_no_byte_has_failed(rt: HostRuntime) {
     assert!(rt; line.write_some(b"").unwrap_or(9) == 0);
 }
 
-/// A client that sends one byte over and over, and never waits for an answer. It breaks off after so many reads.
-#[derive(Drop)]
-struct Endless<'a> {
-    byte: u8,
-    reads: &'a std::cell::Cell<u32>,
-}
-
-impl Read for Endless<'_> {
-    fn read(&mut self, buf: &mut [u8]) -> io::Result<usize> {
-        let reads = self.reads.get();
-        if reads >= 1000 {
-            return Err(ErrorKind::Other.into());
-        }
-        self.reads.set(reads + 1);
-        for i in 0..buf.len() {
-            buf[i] = self.byte;
-        }
-        Ok(buf.len())
-    }
-}
-
-impl Write for Endless<'_> {
-    fn write(&mut self, buf: &[u8]) -> io::Result<usize> {
-        Ok(buf.len())
-    }
-
-    fn flush(&mut self) -> io::Result<()> {
-        Ok(())
-    }
-}
-
-/// 65,536 bytes come in some sixteen reads or more.
+/// Pieces of two and three bytes and then the rest, and a fourth call that fails.
 #[test]
-fn a_head_without_an_end_is_refused_while_it_comes(rt: HostRuntime) -> Result<(), Fail> {
-    for byte in [b'a', b'\n'] {
-        let reads = std::cell::Cell::new(0u32);
-        let mut line = StreamLine::new(Endless {
-            byte,
-            reads: &reads,
-        });
-        let mut handler = Echo::new(rt.alloc(), 200);
-        assert!(rt; serve(&rt, rt.alloc(), &mut line, &mut handler).is_ok());
-        assert!(rt; reads.get() < 1000);
-    }
+fn a_line_in_memory_is_cut_and_fails_where_it_is_told(rt: HostRuntime) -> Result<(), Fail> {
+    let alloc = rt.alloc();
+    let pieces = Vec::from_slice(alloc, &[2usize, 3])?;
+    let input = Vec::from_slice(alloc, b"abcdefghi")?;
+    let mut line = MemoryLine::new(input, pieces, Vec::new(alloc), 4);
+    let mut room = [0u8; 9];
+    assert!(rt; line.read_some(&mut room).unwrap_or(9) == 2);
+    assert!(rt; room.starts_with(b"ab"));
+    assert!(rt; line.read_some(&mut room).unwrap_or(9) == 3);
+    assert!(rt; room.starts_with(b"cde"));
+    assert!(rt; line.write_some(b"x").unwrap_or(9) == 1);
+    assert!(rt; line.read_some(&mut room).is_err());
+    assert!(rt; line.write_some(b"y").unwrap_or(9) == 1);
+    assert!(rt; line.read_some(&mut room).unwrap_or(9) == 4);
+    assert!(rt; room.starts_with(b"fghi"));
+    assert!(rt; line.read_some(&mut room).unwrap_or(9) == 0);
+    assert!(rt; line.failures() == 1);
+    assert!(rt; line.output() == b"xy".as_slice());
     Ok(())
 }
