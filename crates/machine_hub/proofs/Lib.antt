@@ -1,4 +1,9 @@
+pub mod Kept
+mod Moves
+mod Stepping
+mod Ending
 mod Lists
 mod Opens
 mod Closing
+pub mod Ended
 mod Steps

@@ -1,51 +1,47 @@
 -- What the logs are at the end.
-use Rattle.std.proofs.Common.{◌≡◌, ℕ, zero, suc, ◌<◌, List, [], ◌∷◌, ◌++◌, length, Bool, true, false, Option, Some, ◌⊎◌, inl, inr, refl, sym, ap, ◌∙◌, subst, arith}
+use Rattle.std.proofs.Common.{◌≡◌, ℕ, List, [], ◌∷◌, ◌++◌, Bool, true, false, Option, Some, ◌⊎◌, inl, inr, refl, sym, ap, ◌∙◌, subst}
 use Rattle.std.specs.Prelude.{slice_get, option_map}
-use Rattle.std.proofs.lemmas.Option.{slice_get_within}
 use Rattle.tail_settings.specs.Section.{SectionData}
 use Rattle.tail_settings.specs.Settings.{SettingsData}
-use Rattle.tenant_words.specs.Words.{start}
+use Rattle.shard_machine.specs.Words.{start}
 use Rattle.tenant_shard.specs.Alone.{OwnStepsDecide}
-use Rattle.tenant_shard.specs.Run.{Run}
-use Rattle.tenant_shard.specs.Table.{opened}
-use Rattle.shared_machine.specs.declared.view.Home.{Home}
-use Rattle.shared_machine.specs.Runs.{entry, Runs}
-use Rattle.shared_machine.proofs.Kept.{runs_push}
+use Rattle.tenant_shard.specs.Table.{opened, members_of}
+use Rattle.tenant_shard.proofs.Wholes.{by_own_steps, stands_after, each_alone}
+use Rattle.machine_hub.specs.declared.view.Home.{Home}
+use Rattle.machine_hub.specs.Runs.{entry, Runs}
+use Rattle.machine_hub.proofs.Kept.{runs_push}
+use Rattle.machine_hub.proofs.Ended.{shard_run}
 use Rattle.tenant_shard.specs.declared.step.Outcome.{Outcome}
 use Rattle.machine_hub.specs.declared.receipt.Receipt.{Receipt}
 use Rattle.machine_hub.specs.Hub.{IsCallOn, AreShardRuns}
-use Rattle.worded_machine.specs.declared.step.Call.{Call}
-use Rattle.worded_machine.specs.Worded.{Worded, AsksFor, WordedDoes}
-use Rattle.worded_machine.specs.Run.{Logged, steps_of, outcomes_of, RunsAreShardRuns, WordsAreInOrder}
-use Rattle.shared_hub.specs.Shards.{members_of, IsFresh, AreOpened}
+use Rattle.shard_machine.specs.declared.step.Call.{Call}
+use Rattle.shard_machine.specs.Worded.{Worded, AsksFor, WordedDoes}
+use Rattle.shard_machine.specs.Run.{Logged, steps_of, outcomes_of, RunsAreShardRuns, WordsAreInOrder}
+use Rattle.shared_hub.specs.Shards.{IsFresh, AreOpened}
 use Rattle.shared_hub.specs.Logs.{Seats, LoggedShard, IsLogOf, EndsARun, EachCallEndsARun, AreLogged, LogsTellByOwnSteps}
-use Rattle.shared_hub.proofs.Telling.{run_of, stands_at_end, told_alone}
 use Rattle.shared_hub.proofs.Drawing.{none_drawn}
-
-found : {X : Type 0} (xs : List X) (k : ℕ) → k < length xs → (x : X) × (slice_get xs k ≡ Some x)
-found [] k within = absurd (omega arith)
-found (x ∷ xs) zero within = (x, refl)
-found (x ∷ xs) (suc k) within = found xs k (omega arith)
 
 log_of : RunsAreShardRuns → WordsAreInOrder → (table : SettingsData) (members : List ℕ) (first last : Worded) (entries : List Logged) → IsFresh table members first → Runs WordedDoes first entries last → IsLogOf table members entries last
 log_of shard_runs in_order table members first last entries fresh run =
     let chain = shard_runs first last entries run in
-    let by_own : Run (opened table members) (steps_of entries) (outcomes_of entries) = run_of (steps_of entries) first.views (outcomes_of entries) last.views chain (opened table members) fresh.stands (λ tenant. refl) in
+    let steps = steps_of entries in
+    let outcomes = outcomes_of entries in
+    let lists = opened table members in
     record {
       first = first;
       fresh = fresh;
       runs = chain;
-      by_own_steps = by_own;
-      each_alone = λ tenant section at. told_alone (steps_of entries) (outcomes_of entries) (opened table members) tenant section (λ other. refl) by_own at;
-      stands = stands_at_end (steps_of entries) first.views (outcomes_of entries) last.views chain (opened table members) fresh.stands;
+      by_own_steps = by_own_steps steps first.views outcomes last.views chain lists fresh.stands (λ tenant. refl);
+      each_alone = λ tenant section at. each_alone steps first.views outcomes last.views chain lists fresh.stands tenant section at refl;
+      stands = stands_after steps first.views outcomes last.views chain lists fresh.stands;
       words = λ tenant section at. in_order tenant first last entries (start section.seed) run (fresh.words tenant ∙ ap (option_map (λ (s : SectionData). start s.seed)) at);
       nobodys = λ tenant at. none_drawn tenant first last entries run (fresh.words tenant ∙ ap (option_map (λ (s : SectionData). start s.seed)) at);
     }
 
 pub are_logged : RunsAreShardRuns → WordsAreInOrder → (table : SettingsData) (homes : List (Home Worded)) (callers : List Seats) (shards : List LoggedShard) → AreShardRuns WordedDoes homes callers shards → AreOpened table homes → AreLogged table shards
 are_logged shard_runs in_order table homes callers shards runs opens shard s at =
-    let here = found homes shard (omega (arith, slice_get_within shards shard s at, runs.count)) in
-    let home = (runs.each shard here.0 s here.1 at).run in
+    let here = shard_run WordedDoes homes callers shards runs shard s at in
+    let home = here.2.run in
     let did = home.2 in
     record {
       entries = did.entries;

@@ -1,5 +1,3 @@
-mod Members
 mod Building
-mod Telling
 mod Drawing
 mod Closing

@@ -3,14 +3,14 @@
 ghost use Rattle.std.specs.Prelude.{◌≡◌, replicate, IfOk, vec_len};
 ghost use Rattle.tail_settings.specs.Settings.{settings_view};
 ghost use Rattle.machine_hub.specs.Hub.{AreNew, homes_of};
-ghost use Rattle.shared_hub.specs.Shards.{members_of, AreOpened, kept};
+ghost use Rattle.shared_hub.specs.Shards.{AreOpened, kept};
 
 use crate::ShardLog;
-use crate::log::OptionalLog;
-use shared_machine::LoggedMachine;
+use machine_hub::{LoggedMachine, OptionalLog};
+use shard_machine::WordedShard;
 use std::alloc::{AllocError, Global};
 use tail_settings::Settings;
-use worded_machine::WordedShard;
+use tenant_shard::members_of;
 
 /// The shards of the settings in the order of their numbers, each with a log that keeps all or nothing.
 pub(crate) fn shards_of<'a>(
@@ -33,17 +33,4 @@ pub(crate) fn shards_of<'a>(
         shards.push(machine)?;
     }
     Ok(shards)
-}
-
-/// The numbers of a shard's tenants.
-fn members_of(alloc: Global, settings: &Settings, shard: u32) -> Result<Vec<u32>, AllocError>
-    ensures { IfOk result (λ members. members.items ≡ members_of (settings_view settings.now) shard) }
-{
-    let mut members = Vec::new(alloc);
-    for tenant in 0..settings.tenants_len() {
-        if tenant % settings.global.shards == shard {
-            members.push(tenant)?;
-        }
-    }
-    Ok(members)
 }

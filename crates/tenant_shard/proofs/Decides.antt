@@ -1,5 +1,6 @@
 -- What is kept before a run decides what it tells and what it leaves.
 use Rattle.std.proofs.Common.{◌≡◌, ℕ, List, [], ◌∷◌, refl, sym, subst, ap, ◌∙◌, arith, true, false, Option, Some, None, inl, inr}
+use Rattle.std.proofs.lemmas.Bool.{cases_eq}
 use Rattle.std.specs.Prelude.{option_and_then}
 use Rattle.std.specs.Option.{unwrap_or}
 use Rattle.tenant_rules.specs.Own.{moment_of}
@@ -16,7 +17,6 @@ use Rattle.shard_agenda.specs.Pick.{NotAfter, IsPick}
 use Rattle.tenant_shard.specs.Refusal.{Reaches, ReachesNone, IsFor, IsStepFor, IsForNone, IsNobodys}
 use Rattle.tenant_shard.specs.GoesOn.{refusal_number, told_of_none, told_of_nobodys, MemberGoesOn, ShardGoesOn}
 use Rattle.tenant_shard.specs.Chain.{KeepSame, KeptDecides}
-use Rattle.tenant_shard.proofs.Frame.{same_or_other}
 use Rattle.tenant_shard.proofs.Runs.{IsPick-same, not_both}
 
 -- one tenant alone is picked
@@ -82,7 +82,7 @@ module _ (step : Step) (old old' : List View) (o o' : Outcome) (new new' : List 
   member_decides : (o' ≡ o) × KeepSame new new'
   member_decides = (
     is'.outcome_is ∙ (ap (λ x. named x (Answered is'.said)) whom ∙ (ap (λ x. named t (Answered x)) said ∙ sym is.outcome_is)),
-    λ x. elim (same_or_other x t) [
+    λ x. elim (cases_eq x t) [
       | inl e ↦ ap (λ y. kept_of y new') (e ∙ sym whom) ∙ (is'.is_now ∙ (ap Some left ∙ (sym is.is_now ∙ ap (λ y. kept_of y new) (sym e))))
       | inr other ↦ is'.others x (λ e. other (e ∙ whom)) ∙ (same x ∙ sym (is.others x other))
     ],

@@ -1,5 +1,6 @@
 -- What a step of one member leaves of the others, and what always holds after it.
-use Rattle.std.proofs.Common.{◌≡◌, ◌≢◌, ℕ, zero, suc, ◌≤◌, List, [], ◌∷◌, refl, sym, ap, ◌∙◌, arith, Bool, true, false, Option, Some, None, eqb, cond, set, subst, get_or, inl, inr, ◌⊎◌}
+use Rattle.std.proofs.Common.{◌≡◌, ◌≢◌, ℕ, zero, suc, ◌≤◌, List, [], ◌∷◌, refl, sym, ap, ◌∙◌, arith, Bool, true, false, Option, Some, None, eqb, cond, set, subst, get_or, inl, inr}
+use Rattle.std.proofs.lemmas.Bool.{cases_eq}
 use Rattle.std.specs.Prelude.{is_some, option_and_then, IfSome, ◌||◌}
 use Rattle.std.specs.List.{insert}
 use Rattle.std.proofs.lemmas.Bool.Decides.{nat_tests}
@@ -22,13 +23,6 @@ use Rattle.tenant_shard.specs.Pick.{ready_in}
 use Rattle.tenant_shard.specs.Steps.{IsChangeOf}
 use Rattle.tenant_shard.specs.Whole.{AllHeld, AllSwept, IsWhole, AllCounted}
 use Rattle.tenant_shard.proofs.Places.{AreInOrder-set, AreInOrder-insert}
-
-pub same_or_other : (a b : ℕ) → (a ≡ b) ⊎ (a ≢ b)
-same_or_other a b = by_test (eqb a b) refl
-  where
-    by_test : (r : Bool) → eqb a b ≡ r → (a ≡ b) ⊎ (a ≢ b)
-    by_test true e = inl (grind (arith, nat_tests))
-    by_test false e = inr (grind (arith, nat_tests))
 
 -- a member whose part is the same is seen the same, and what holds of it holds
 state_same : (old new : Stores TraceNote) (m : Pipeline) → part m.tenant new ≡ part m.tenant old → state_in m new ≡ state_in m old
@@ -171,7 +165,7 @@ whole_set t old new es es' ms i m whole p same others held swept at members = re
   order = AreInOrder-set t ms i m p same whole.order;
   held = held_set t old new ms i m p others whole.order whole.held held;
   swept = swept_set ms i m whole.swept swept;
-  strangers = λ u none. elim (same_or_other u t) [
+  strangers = λ u none. elim (cases_eq u t) [
     | inl is ↦
         let some : kept_of u (views new (set ms i m)) ≡ Some (state_in m new) = subst (λ (v : ℕ). kept_of v (views new (set ms i m)) ≡ Some (state_in m new)) (sym is) (kept_own t new ms i m p same) in
         absurd (cc)
@@ -184,7 +178,7 @@ whole_set t old new es es' ms i m whole p same others held swept at members = re
 }
   where
     by_listed : (u : ℕ) → is_some (kept_of u (views old ms)) ≡ is_some (kept_of u (views new (set ms i m)))
-    by_listed u = elim (same_or_other u t) [
+    by_listed u = elim (cases_eq u t) [
       | inl is ↦ subst (λ (v : ℕ). is_some (kept_of v (views old ms)) ≡ is_some (kept_of v (views new (set ms i m)))) (sym is) (ap is_some (kept_at t old ms i m p) ∙ sym (ap is_some (kept_own t new ms i m p same)))
       | inr other ↦ ap is_some (sym (kept_other t u old new ms i m p same others other))
     ]
@@ -216,7 +210,7 @@ whole_insert stores es es' ms i m whole gap held swept at members = record {
   order = AreInOrder-insert ms i m gap whole.order;
   held = held_insert stores ms i m gap whole.held held;
   swept = swept_insert ms i m gap whole.swept swept;
-  strangers = λ u none. elim (same_or_other m.tenant u) [
+  strangers = λ u none. elim (cases_eq m.tenant u) [
     | inl is ↦
         let some : kept_of u (views stores (insert ms i m)) ≡ Some (state_in m stores) = subst (λ (v : ℕ). kept_of v (views stores (insert ms i m)) ≡ Some (state_in m stores)) is (kept_insert stores ms i m gap) in
         absurd (cc)

@@ -1,5 +1,6 @@
 -- From what a step does to what is kept to what it is for all own steps that the shard stands for.
 use Rattle.std.proofs.Common.{◌≡◌, ℕ, ◌<◌, List, [], ◌∷◌, refl, sym, ap, ◌∙◌, arith, Bool, true, false, eqb, Option, Some, None, inl, inr}
+use Rattle.std.proofs.lemmas.Bool.{cases_eq}
 use Rattle.std.proofs.lemmas.Bool.Decides.{nat_tests}
 use Rattle.std.specs.Prelude.{option_and_then, min, if◌then◌else◌}
 use Rattle.std.specs.Option.{unwrap_or}
@@ -23,7 +24,6 @@ use Rattle.tenant_shard.specs.Run.{IsTakenOrNot, IsAnswered, IsAnswerTo, IsOutco
 use Rattle.tenant_shard.specs.Refusal.{IsStepFor, IsNobodys, Reaches, ReachesNone, ShardRefuses}
 use Rattle.tenant_shard.specs.GoesOn.{ShardGoesOn}
 use Rattle.tenant_shard.specs.Steps.{IsStepOf, IsLossOf}
-use Rattle.tenant_shard.proofs.Frame.{same_or_other}
 
 -- what is kept of a member says its section
 keeps_section : (section : SectionData) (past : List Own) (known : Bool) (kept : State) → MemberStands (Some section) past known (Some kept) → kept.section ≡ section
@@ -58,7 +58,7 @@ all_stand : (t : ℕ) (s : Step) (old new : List View) (outcome : Outcome) (list
 all_stand t s old new outcome lists whose is takes_it stands =
     let own = own_answer t (lists.sections t) (lists.pasts t) (lists.known t) (kept_of t old) (own_step s) is.before is.after is.said (stands t) is.change.was takes_it is.answers is.change.section in (
       rw is.outcome_is own.0,
-      λ u. elim (same_or_other t u) [
+      λ u. elim (cases_eq t u) [
         | inl same ↦ let test : is_own u s outcome ≡ true = whose u ∙ grind (arith, nat_tests) in rw test (rw (← same) (rw is.change.is_now own.1))
         | inr other ↦ let test : is_own u s outcome ≡ false = whose u ∙ grind (arith, nat_tests) in rw test (rw (is.change.others u (λ e. other (sym e))) (stands u))
       ],
@@ -132,7 +132,7 @@ named_steps t s old new outcome name reaches is = done s old outcome new all (ot
 
 -- a step that names a tenant and reaches no pipeline: nothing changes, and nothing is recorded
 unmoved : (lists : Lists) (t : ℕ) (s : Step) (o : Outcome) (old : List View) → named_in s ≡ Some t → ((section : SectionData) → lists.sections t ≡ Some section → is_taken section (own_step s) ≡ false) → ShardStands lists old → ShardStands (after s o lists) old
-unmoved lists t s o old name none stands = λ u. elim (same_or_other t u) [
+unmoved lists t s o old name none stands = λ u. elim (cases_eq t u) [
   | inl same ↦
       let test : is_own u s o ≡ true = ap (λ w. is_tenant u (whose w o)) name ∙ grind (arith, nat_tests) in
       rw test (rw (← same) (by_section (lists.sections t) none (stands t)))
@@ -297,7 +297,7 @@ loss_refuses t step old new whose is = (
     is_now = is.change.is_now;
     front = is.front;
     others = is.change.others;
-    stands = λ lists stands u. elim (same_or_other u t) [
+    stands = λ lists stands u. elim (cases_eq u t) [
       | inl same ↦
           let test : eqb u t ≡ true = grind (arith, nat_tests) in
           rw test (rw same (rw is.change.is_now (lost_stands (lists.sections t) (lists.pasts t) (lists.known t) (kept_of t old) is.before is.after (stands t) is.change.was is.change.section)))

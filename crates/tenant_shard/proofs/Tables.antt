@@ -1,7 +1,7 @@
 -- One more number in the list of members.
-use Rattle.std.proofs.Common.{◌≡◌, ◌≢◌, ℕ, List, [], ◌∷◌, ◌++◌, refl, sym, ◌∙◌, arith, Bool, true, false, eqb, cond, Option, Some, None, inl, inr, ◌⊎◌}
-use Rattle.std.specs.List.{list_any, insert}
-use Rattle.std.proofs.lemmas.Bool.Decides.{nat_tests}
+use Rattle.std.proofs.Common.{◌≡◌, ℕ, List, [], ◌∷◌, ◌++◌, refl, sym, ◌∙◌, true, Option, Some, None, inl, inr, ◌⊎◌}
+use Rattle.std.proofs.lemmas.Bool.{cases_eq}
+use Rattle.std.specs.List.{insert}
 use Rattle.tail_settings.specs.Section.{SectionData}
 use Rattle.tail_settings.specs.Settings.{SettingsData}
 use Rattle.tail_policy.specs.declared.note.TraceNote.{TraceNote}
@@ -14,32 +14,12 @@ use Rattle.tenant_shard.specs.View.{View, kept_of}
 use Rattle.tenant_shard.specs.Lists.{MemberStands, ShardStands}
 use Rattle.tenant_shard.specs.Members.{views, IsGapFor}
 use Rattle.tenant_shard.specs.Table.{section_at, section_of, opened}
-use Rattle.tenant_shard.proofs.Frame.{same_or_other, kept_insert, kept_insert_other}
-
-any-push_other : (E : List ℕ) (t u : ℕ) → t ≢ u → list_any (λ m. eqb m u) (E ++ t ∷ []) ≡ list_any (λ m. eqb m u) E
-any-push_other [] t u other = grind (arith, nat_tests)
-any-push_other (x ∷ E) t u other = grind (arith, nat_tests, any-push_other E t u other)
-
-any-push_same : (E : List ℕ) (t : ℕ) → list_any (λ m. eqb m t) (E ++ t ∷ []) ≡ true
-any-push_same [] t = grind (arith, nat_tests)
-any-push_same (x ∷ E) t = grind (arith, nat_tests, any-push_same E t)
-
-section_of-push_other : (s : SettingsData) (E : List ℕ) (t u : ℕ) → t ≢ u → section_of s (E ++ t ∷ []) u ≡ section_of s E u
-section_of-push_other s E t u other = rw (any-push_other E t u other) refl
-
-section_of-push_same : (s : SettingsData) (E : List ℕ) (t : ℕ) → section_of s (E ++ t ∷ []) t ≡ section_at s t
-section_of-push_same s E t = rw (any-push_same E t) refl
-
-section_of-is : (s : SettingsData) (E : List ℕ) (u : ℕ) → (section_of s E u ≡ None) ⊎ (section_of s E u ≡ section_at s u)
-section_of-is s E u = by_test (list_any (λ m. eqb m u) E)
-  where
-    by_test : (b : Bool) → (cond b (section_at s u) None ≡ None) ⊎ (cond b (section_at s u) None ≡ section_at s u)
-    by_test true = inr refl
-    by_test false = inl refl
+use Rattle.tenant_shard.proofs.Frame.{kept_insert, kept_insert_other}
+use Rattle.tenant_shard.proofs.Sections.{section_of-push_other, section_of-push_same, section_of-is}
 
 pub opened_more : (s : SettingsData) (E : List ℕ) (stores : Stores TraceNote) (ms : List Pipeline) (i : ℕ) (m : Pipeline) (section : SectionData) → section_at s m.tenant ≡ Some section → StandsFor section [] (state_in m stores) → IsGapFor m.tenant ms i →
     ShardStands (opened s E) (views stores ms) → ShardStands (opened s (E ++ m.tenant ∷ [])) (views stores (insert ms i m))
-opened_more s E stores ms i m section found new gap stands = λ u. elim (same_or_other m.tenant u) [
+opened_more s E stores ms i m section found new gap stands = λ u. elim (cases_eq m.tenant u) [
   | inl same ↦
       let at : section_of s (E ++ m.tenant ∷ []) m.tenant ≡ Some section = section_of-push_same s E m.tenant ∙ found in
       rw (← same) (rw (at, kept_insert stores ms i m gap) new)
@@ -47,7 +27,7 @@ opened_more s E stores ms i m section found new gap stands = λ u. elim (same_or
 ]
 
 pub opened_none : (s : SettingsData) (E : List ℕ) (t : ℕ) (vs : List View) → section_at s t ≡ None → kept_of t vs ≡ None → ShardStands (opened s E) vs → ShardStands (opened s (E ++ t ∷ [])) vs
-opened_none s E t vs missing none stands = λ u. elim (same_or_other t u) [
+opened_none s E t vs missing none stands = λ u. elim (cases_eq t u) [
   | inl same ↦
       let at : section_of s (E ++ t ∷ []) t ≡ None = section_of-push_same s E t ∙ missing in
       rw (← same) (rw (at, none) tt)
@@ -61,7 +41,7 @@ must_be (Some w) other kept there stands (inl e) = absurd (cc)
 must_be section other kept there stands (inr e) = e
 
 pub opened_again : (s : SettingsData) (E : List ℕ) (t : ℕ) (vs : List View) → ¬ (kept_of t vs ≡ None) → ShardStands (opened s E) vs → ShardStands (opened s (E ++ t ∷ [])) vs
-opened_again s E t vs there stands = λ u. elim (same_or_other t u) [
+opened_again s E t vs there stands = λ u. elim (cases_eq t u) [
   | inl same ↦
       let is = must_be (section_of s E t) (section_at s t) (kept_of t vs) there (stands t) (section_of-is s E t) in
       rw (← same) (rw (section_of-push_same s E t ∙ sym is) (stands t))

@@ -1,5 +1,5 @@
--- The members of a shard, by the settings and a list of numbers.
-use Rattle.std.specs.Prelude.{ℕ, true, List, [], Option, None, if◌then◌else◌, ◌==◌, option_map, slice_get}
+-- The members of a shard, by the settings and a list of numbers, and which numbers stand in which shard's.
+use Rattle.std.specs.Prelude.{◌≡◌, ℕ, zero, suc, ◌%◌, ◌==◌, true, List, [], ◌∷◌, ◌++◌, length, Option, None, if◌then◌else◌, option_map, slice_get}
 use Rattle.std.specs.List.{list_any}
 use Rattle.tail_settings.specs.Section.{SectionData}
 use Rattle.tail_settings.specs.Settings.{SettingsData}
@@ -21,3 +21,21 @@ opened settings members = record {
   pasts = λ tenant. [];
   known = λ tenant. true;
 }
+
+-- of the numbers below a count, those that leave a shard's number over when divided by the number of shards
+abbrev pub members_below : ℕ → ℕ → ℕ → List ℕ
+members_below shards shard zero = []
+members_below shards shard (suc tenant) =
+    if tenant % shards == shard then members_below shards shard tenant ++ tenant ∷ []
+    else members_below shards shard tenant
+
+-- the numbers of a shard's tenants
+abbrev pub members_of : SettingsData → ℕ → List ℕ
+members_of table shard = members_below table.global.shards shard (length table.tenants)
+
+-- each tenant of the table is in one shard, with its own section: in that whose number its own leaves over. Nobody else
+-- is in any
+abbrev pub EachInItsShard : Type 0
+EachInItsShard = (table : SettingsData) (shard tenant : ℕ) →
+    section_of table (members_of table shard) tenant
+    ≡ (if tenant % table.global.shards == shard then section_at table tenant else None)

@@ -22,11 +22,14 @@
 ghost use Rattle.std.specs.Prelude.{◌≡◌, ◌↔◌, true};
 ghost use Rattle.tenant_shard.specs.Alone.{OwnStepsDecide};
 ghost use Rattle.tenant_shard.specs.Chain.{KeptDecides};
+ghost use Rattle.tenant_shard.specs.Table.{EachInItsShard};
 
 mod member;
+mod members;
 mod shard;
 mod step;
 
+pub use members::members_of;
 pub use shard::{Shard, Stopped};
 pub use step::{Outcome, Step, equal_steps_are_the_same};
 
@@ -40,6 +43,11 @@ pub fn own_steps_decide()
 /// memory: a law over runs.
 pub fn what_is_kept_decides()
     ensures { KeptDecides }
+{}
+
+/// Each tenant of a table is in one shard, with its own section: a law over settings.
+pub fn each_tenant_is_in_its_shard()
+    ensures { EachInItsShard }
 {}
 
 /// Outcomes are equal exactly where contracts see the same: a law over `==`.

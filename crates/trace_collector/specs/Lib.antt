@@ -4,7 +4,6 @@ pub mod Answered
 pub mod Script
 pub mod Standing
 pub mod Replay
-pub mod Members
 pub mod Law
 pub mod Own
 pub mod Alone

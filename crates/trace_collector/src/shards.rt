@@ -2,7 +2,6 @@
 
 ghost use Rattle.std.specs.Prelude.{◌≡◌, ℕ, ◌%◌, List, Option, Some, None, length, ◌++◌, IfOk, OnOk, OnErr};
 ghost use Rattle.tail_settings.specs.Settings.{settings_view};
-ghost use Rattle.trace_collector.specs.Members.{AreMembers};
 
 use crate::lines::put_bad_request;
 use crate::steps::step_and_put;
@@ -12,7 +11,7 @@ use replay_script::AnswerFault;
 use std::alloc::{AllocError, Global};
 use std::thread::Threads;
 use tail_settings::Settings;
-use tenant_shard::{Shard, Step};
+use tenant_shard::{Shard, Step, members_of};
 
 /// One shard for each number below the count that the settings have. Tenant i is in shard i mod that count.
 #[derive(Drop)]
@@ -193,18 +192,4 @@ fn shared(body: Vec<u8>) -> Result<Bytes, AllocError>
     ensures { IfOk result (λ bytes. bytes ≡ body.items) }
 {
     Ok(Bytes::from_vec(body)?)
-}
-
-/// The numbers of a shard's tenants.
-fn members_of(alloc: Global, settings: &Settings, shard: u32) -> Result<Vec<u32>, AllocError>
-    ensures { IfOk result (λ members. AreMembers (length (settings_view settings.now).tenants)
-        (settings_view settings.now).global.shards shard members.items) }
-{
-    let mut members = Vec::new(alloc);
-    for tenant in 0..settings.tenants_len() {
-        if tenant % settings.global.shards == shard {
-            members.push(tenant)?;
-        }
-    }
-    Ok(members)
 }

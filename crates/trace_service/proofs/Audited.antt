@@ -1,19 +1,14 @@
 -- The shards whose logs are told at the end.
-use Rattle.std.proofs.Common.{◌≡◌, ℕ, zero, suc, ◌<◌, List, [], ◌∷◌, length, replicate, true, Some, All, refl, sym, ap, ◌∙◌, arith}
+use Rattle.std.proofs.Common.{◌≡◌, ℕ, zero, suc, List, [], ◌∷◌, replicate, true, Some, All, refl, sym, ap, ◌∙◌}
 use Rattle.std.specs.Prelude.{slice_get}
 use Rattle.std.proofs.lemmas.List.Elements.{All-nil, All-cons}
-use Rattle.std.proofs.lemmas.Option.{slice_get_within}
 use Rattle.tail_settings.specs.Settings.{SettingsData}
-use Rattle.shared_machine.specs.declared.view.Home.{Home}
+use Rattle.machine_hub.specs.declared.view.Home.{Home}
 use Rattle.machine_hub.specs.Hub.{AreShardRuns}
-use Rattle.worded_machine.specs.Worded.{Worded, WordedDoes}
+use Rattle.machine_hub.proofs.Ended.{shard_run}
+use Rattle.shard_machine.specs.Worded.{Worded, WordedDoes}
 use Rattle.shared_hub.specs.Logs.{Seats, LoggedShard}
 use Rattle.shared_hub.specs.Shards.{AreOpened, kept}
-
-found : {X : Type 0} (xs : List X) (k : ℕ) → k < length xs → (x : X) × (slice_get xs k ≡ Some x)
-found [] k within = absurd (omega arith)
-found (x ∷ xs) zero within = (x, refl)
-found (x ∷ xs) (suc k) within = found xs k (omega arith)
 
 keeps_at : (homes : List (Home Worded)) (n k : ℕ) (home : Home Worded) → kept homes ≡ replicate n true → slice_get homes k ≡ Some home → home.keeps ≡ true
 keeps_at [] n k home all at = absurd (cc)
@@ -33,10 +28,10 @@ all_from_each P (x ∷ xs) each = All-cons P x xs (each zero x refl) (all_from_e
 module _ (table : SettingsData) (homes : List (Home Worded)) (callers : List Seats) (shards : List LoggedShard) (runs : AreShardRuns WordedDoes homes callers shards) where
   pub are_numbered : AreOpened table homes → (k : ℕ) (s : LoggedShard) → slice_get shards k ≡ Some s → s.number ≡ k
   are_numbered opens k s at =
-      let here = found homes k (omega (arith, slice_get_within shards k s at, runs.count)) in
-      (runs.each k here.0 s here.1 at).run.0 ∙ (opens.each k here.0 here.1).0
+      let here = shard_run WordedDoes homes callers shards runs k s at in
+      here.2.run.0 ∙ (opens.each k here.0 here.1).0
 
   pub are_kept : (n : ℕ) → kept homes ≡ replicate n true → All (λ s. s.keeps ≡ true) shards
   are_kept n all = all_from_each (λ s. s.keeps ≡ true) shards (λ k s at.
-      let here = found homes k (omega (arith, slice_get_within shards k s at, runs.count)) in
-      (runs.each k here.0 s here.1 at).run.1 ∙ keeps_at homes n k here.0 all here.1)
+      let here = shard_run WordedDoes homes callers shards runs k s at in
+      here.2.run.1 ∙ keeps_at homes n k here.0 all here.1)

@@ -1,0 +1,4 @@
+mod Draws
+mod Going
+mod Seeding
+mod Runs
