@@ -93,14 +93,18 @@ def half_a_request(folder):
 
 def sends_all_first(folder):
     """A client that sends all of a request that is refused before it reads gets its reply to the byte, and then the
-    end: of a body whose length is too great, as stated and in a chunk, of a head with too many fields, and of none."""
+    end: of a body whose length is too great, as stated and in a chunk, of a head with too many fields, of one without an
+    end, of empty lines without one, and of a line that is no field."""
     gone = "Connection: close\r\n"
     much = bytes(24_000_000)
     too_long = refused(413, "Content Too Large", "body too large", gone)
+    too_many = refused(431, "Request Header Fields Too Large", "too many header fields", gone)
     talks = [
         (HEAD + b"Content-Length: 24000000\r\n\r\n", too_long),
         (HEAD + b"Transfer-Encoding: chunked\r\n\r\n16e3600\r\n", too_long),
-        (HEAD + b"X: y\r\n" * 65 + b"\r\n", refused(431, "Request Header Fields Too Large", "too many header fields", gone)),
+        (HEAD + b"X: y\r\n" * 65 + b"\r\n", too_many),
+        (b"a" * 70_000, too_many),
+        (b"\n" * 70_000, too_many),
         (HEAD + b"no field\r\n\r\n", refused(400, "Bad Request", "bad request", gone)),
     ]
     with BackEnd() as back_end, Service(folder, [tenant("a", back_end)], receivers=1) as service:

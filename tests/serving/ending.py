@@ -4,6 +4,7 @@ import os
 import re
 import signal
 import socket
+import struct
 import subprocess
 from pathlib import Path
 
@@ -37,13 +38,22 @@ def drained(folder):
 
 
 def giving_up(folder):
-    """With an end to retries the service ends though a back end never takes a batch."""
+    """With an end to retries the service ends though a back end never takes a batch, or its address is none."""
     elapsed = "max_elapsed_time_ms = 100\n"
-    with BackEnd(BUSY) as busy, Service(folder, [tenant("a", busy) + elapsed]) as service:
-        check("a post", service.post("a", body(1, 1)), (200, b""))
+    with BackEnd(BUSY) as busy, Service(folder, [tenant("a", busy) + elapsed, nowhere("b", busy) + elapsed]) as service:
+        for name in "ab":
+            check("a post", service.post(name, body(1, 1)), (200, b""))
         wait_for(lambda: busy.posts, "it is sent")
-        check("the end", service.end(), (0, line_of("a", accepted=1, retry_exhausted=1), b""))
+        done = "".join(line_of(name, accepted=1, retry_exhausted=1) for name in "ab")
+        check("the end", service.end(), (0, done, b""))
         check("within that time, 20 milliseconds apart", len(busy.posts) <= 6, True)
+
+
+def nowhere(name, back_end):
+    """A tenant whose back end's address is no address."""
+    section = tenant(name, back_end).replace(f"127.0.0.1:{back_end.port}", "127.0.0.1:x")
+    check("the address", "127.0.0.1:x" in section, True)
+    return section
 
 
 def with_clients(folder):
@@ -106,6 +116,25 @@ def failing_output(folder):
         check("a full disk", (done.returncode, done.stderr), fault)
 
 
+def failing_input(folder):
+    """Where the input can't be read any more the service ends as at its end, and then says what was wrong. What was read
+    of a line that has no end counts for nothing."""
+    with BackEnd() as back_end, socket.create_server(("127.0.0.1", 0)) as listener:
+        Path(folder, "settings.toml").write_text(globals_of() + tenant("a", back_end) + tenant("b", back_end))
+        with socket.create_connection(listener.getsockname()) as peer:
+            line, _ = listener.accept()
+            with line, subprocess.Popen([talk.program, "serve", str(Path(folder, "settings.toml"))], stdin=line,
+                                        stdout=subprocess.PIPE, stderr=subprocess.PIPE) as run:
+                peer.sendall(b"report b\nreport a")
+                check("a report", run.stdout.readline().decode(), line_of("b"))
+                # It goes with a reset, which fails the next read.
+                peer.setsockopt(socket.SOL_SOCKET, socket.SO_LINGER, struct.pack("ii", 1, 0))
+                peer.close()
+                out, err = run.communicate(timeout=talk.MOST)
+                check("the end", (run.returncode, out.decode(), err),
+                      (1, line_of("a") + line_of("b"), b"input or output fault\n"))
+
+
 def started_by_a_script(folder):
     """The script of docs/OPERATING.md holds the input open, passes lines on, and ends the service in order when it is
     told to stop."""
@@ -150,4 +179,4 @@ def port_below(process):
         return None
 
 
-TESTS = (drained, giving_up, with_clients, told_of, failing_output, started_by_a_script)
+TESTS = (drained, giving_up, with_clients, told_of, failing_output, failing_input, started_by_a_script)

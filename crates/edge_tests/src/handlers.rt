@@ -1,0 +1,76 @@
+//! Who answers in talks.
+ghost use Rattle.std.specs.Prelude.{ℕ};
+
+use http_edge::{Handler, HttpMessage, Reply};
+use otlp_front::{Route, route};
+use std::alloc::{AllocError, Global};
+use std::str;
+use std::thread::Threads;
+use tail_settings::Settings;
+
+/// Answers each message with the body that it was sent, and with the status that its target says.
+#[derive(Drop)]
+pub struct Echo {
+    pub alloc: Global,
+}
+
+impl Handler for Echo {
+    ghost answers = { λ _ _ _ _. Unit {0} };
+
+    fn handle<T: Threads + Sync>(&mut self, _rt: &T, message: &HttpMessage) -> Reply {
+        match Vec::from_slice(self.alloc, &message.body) {
+            Ok(body) => Reply {
+                status: status_of(&message.target),
+                body,
+            },
+            Err(_) => no_memory(self.alloc),
+        }
+    }
+}
+
+/// The number behind a target's slash, 200 where there is none.
+fn status_of(target: &[u8]) -> u16 {
+    let [b'/', digits @ ..] = target else {
+        return 200;
+    };
+    let Ok(text) = str::from_utf8(digits) else {
+        return 200;
+    };
+    text.parse().unwrap_or(200)
+}
+
+/// Says 200 of each message that is routed to a tenant, whatever its body is, and refuses the others.
+#[derive(Drop)]
+pub struct Front<'a> {
+    pub alloc: Global,
+    pub settings: &'a Settings,
+}
+
+impl Handler for Front<'_> {
+    ghost answers = { λ _ _ _ _. Unit {0} };
+
+    fn handle<T: Threads + Sync>(&mut self, _rt: &T, message: &HttpMessage) -> Reply {
+        match routed(self.alloc, self.settings, message) {
+            Ok(reply) => reply,
+            Err(_) => no_memory(self.alloc),
+        }
+    }
+}
+
+fn routed(alloc: Global, settings: &Settings, message: &HttpMessage) -> Result<Reply, AllocError> {
+    match route(settings, message) {
+        Route::Post { .. } => Ok(Reply {
+            status: 200,
+            body: Vec::new(alloc),
+        }),
+        Route::Refuse(refusal) => refusal.reply(alloc),
+    }
+}
+
+/// The reply that takes no memory.
+fn no_memory(alloc: Global) -> Reply {
+    Reply {
+        status: 503,
+        body: Vec::new(alloc),
+    }
+}

@@ -1,0 +1,105 @@
+//! Talks and connections, in each way.
+
+use crate::connections::CONNECTIONS;
+use crate::handlers::{Echo, Front};
+use crate::names::NAMES;
+use crate::notation::names_of;
+use crate::talks::{LONG_TALKS, TALKS};
+use crate::ways::{Way, walk};
+use http_edge::{Reply, reply_bytes};
+use std::alloc::{AllocError, Global};
+use std::test::Fail;
+use std::thread::Threads;
+use tail_settings::{Settings, load};
+
+/// Two tenants that keep every trace.
+const SETTINGS: &str = "
+[[tenant]]
+name = \"a\"
+tail_sampling = { policy = [{ type = \"always_sample\" }] }
+
+[[tenant]]
+name = \"b\"
+tail_sampling = { policy = [{ type = \"always_sample\" }] }
+";
+
+/// How many talks with the echo are as they have to be, and the first that isn't.
+fn echoed<R: Threads + Sync>(
+    rt: &R,
+    alloc: Global,
+    talks: &'static str,
+    way: Way,
+) -> Result<(u32, &'static str), AllocError> {
+    let names = names_of(alloc, NAMES)?;
+    walk(rt, alloc, &mut Echo { alloc }, &names, talks, way)
+}
+
+/// The same of the connections to a front.
+fn routed<R: Threads + Sync>(
+    rt: &R,
+    alloc: Global,
+    settings: &Settings,
+    way: Way,
+) -> Result<(u32, &'static str), AllocError> {
+    let names = names_of(alloc, NAMES)?;
+    let mut front = Front { alloc, settings };
+    walk(rt, alloc, &mut front, &names, CONNECTIONS, way)
+}
+
+#[test]
+fn talks_cut_at_each_byte(rt: HostRuntime) -> Result<(), Fail> {
+    assert_eq!(rt; echoed(&rt, rt.alloc(), TALKS, Way::Cut)?, (216, ""));
+    Ok(())
+}
+
+#[test]
+fn talks_that_break_off(rt: HostRuntime) -> Result<(), Fail> {
+    assert_eq!(rt; echoed(&rt, rt.alloc(), TALKS, Way::Failing)?, (216, ""));
+    Ok(())
+}
+
+/// What is looked at anew stays in proportion to what comes, so this takes seconds at most.
+#[test]
+fn long_talks(rt: HostRuntime) -> Result<(), Fail> {
+    assert_eq!(rt; echoed(&rt, rt.alloc(), LONG_TALKS, Way::Long)?, (18, ""));
+    Ok(())
+}
+
+#[test]
+fn talks_with_or_without_memory(rt: HostRuntime) -> Result<(), Fail> {
+    assert_eq!(rt; echoed(&rt, rt.alloc(), TALKS, Way::Refused)?, (216, ""));
+    Ok(())
+}
+
+#[test]
+fn connections_cut_at_each_byte(rt: HostRuntime) -> Result<(), Fail> {
+    let settings = load(rt.alloc(), SETTINGS)?;
+    assert_eq!(rt; routed(&rt, rt.alloc(), &settings, Way::Cut)?, (83, ""));
+    Ok(())
+}
+
+#[test]
+fn connections_that_break_off(rt: HostRuntime) -> Result<(), Fail> {
+    let settings = load(rt.alloc(), SETTINGS)?;
+    assert_eq!(rt; routed(&rt, rt.alloc(), &settings, Way::Failing)?, (83, ""));
+    Ok(())
+}
+
+#[test]
+fn connections_with_or_without_memory(rt: HostRuntime) -> Result<(), Fail> {
+    let settings = load(rt.alloc(), SETTINGS)?;
+    assert_eq!(rt; routed(&rt, rt.alloc(), &settings, Way::Refused)?, (83, ""));
+    Ok(())
+}
+
+/// The bytes of a reply without a body and of one with the body `a`.
+#[test]
+fn replies_as_bytes(rt: HostRuntime) -> Result<(), Fail> {
+    let alloc = rt.alloc();
+    let body = Vec::from_slice(alloc, b"a")?;
+    let bytes = reply_bytes(alloc, &Reply { status: 200, body }, true)?;
+    let want =
+        b"HTTP/1.1 200 OK\r\nContent-Type: application/x-protobuf\r\nConnection: close\r\nContent-Length: 1\r\n\r\na";
+    assert_eq!(rt; bytes.as_slice(), want.as_slice());
+    Ok(())
+}

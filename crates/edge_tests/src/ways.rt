@@ -1,0 +1,167 @@
+//! The ways in which a talk is gone through.
+
+use crate::notation::{Name, unfolded};
+use http_edge::{EdgeFault, Handler, serve};
+use http_line::{Line, MemoryLine};
+use std::alloc::{AllocError, Global};
+use std::thread::Threads;
+
+/// A way in which a talk is gone through.
+#[derive(Clone, Copy)]
+pub enum Way {
+    /// Whole, cut at each byte, and byte by byte.
+    Cut,
+    /// Whole, and byte by byte where it has at most 200,000 bytes.
+    Long,
+    /// Over a line that fails at its first call, at its second and so on.
+    Failing,
+    /// Whole, where memory may be refused.
+    Refused,
+}
+
+/// What is read, and what is to be written.
+#[derive(Drop)]
+struct Talk {
+    input: Vec<u8>,
+    want: Vec<u8>,
+}
+
+/// Goes through the talks of a text, a line each, up to the first that isn't as it has to be. How many were, and that
+/// one.
+pub fn walk<R: Threads + Sync, H: Handler>(
+    rt: &R,
+    alloc: Global,
+    handler: &mut H,
+    names: &[Name],
+    lines: &'static str,
+    way: Way,
+) -> Result<(u32, &'static str), AllocError> {
+    let mut count = 0u32;
+    for line in lines.lines() {
+        if let Some((input, want)) = line.split_once(" -> ") {
+            let input = unfolded(alloc, names, input)?;
+            let want = unfolded(alloc, names, want)?;
+            if !is_told(rt, alloc, handler, &Talk { input, want }, way)? {
+                return Ok((count, line));
+            }
+            count = count.saturating_add(1);
+        }
+    }
+    Ok((count, ""))
+}
+
+fn is_told<R: Threads + Sync, H: Handler>(
+    rt: &R,
+    alloc: Global,
+    handler: &mut H,
+    talk: &Talk,
+    way: Way,
+) -> Result<bool, AllocError> {
+    match way {
+        Way::Cut => is_told_cut(rt, alloc, handler, talk),
+        Way::Long => is_told_long(rt, alloc, handler, talk),
+        Way::Failing => breaks_off(rt, alloc, handler, talk),
+        Way::Refused => is_told_or_refused(rt, alloc, handler, talk),
+    }
+}
+
+/// Whether that is written where the input comes in pieces of these lengths and then as it is.
+fn is_told_in<R: Threads + Sync, H: Handler>(
+    rt: &R,
+    alloc: Global,
+    handler: &mut H,
+    talk: &Talk,
+    pieces: Vec<usize>,
+) -> Result<bool, AllocError> {
+    let input = Vec::from_slice(alloc, &talk.input)?;
+    let mut line = MemoryLine::new(input, pieces, Vec::new(alloc), 0);
+    Ok(serve(rt, alloc, &mut line, handler).is_ok() && line.output() == talk.want.as_slice())
+}
+
+fn is_told_cut<R: Threads + Sync, H: Handler>(
+    rt: &R,
+    alloc: Global,
+    handler: &mut H,
+    talk: &Talk,
+) -> Result<bool, AllocError> {
+    for cut in 0..=talk.input.len() {
+        if !is_told_in(rt, alloc, handler, talk, Vec::from_slice(alloc, &[cut])?)? {
+            return Ok(false);
+        }
+    }
+    is_told_singly(rt, alloc, handler, talk)
+}
+
+fn is_told_singly<R: Threads + Sync, H: Handler>(
+    rt: &R,
+    alloc: Global,
+    handler: &mut H,
+    talk: &Talk,
+) -> Result<bool, AllocError> {
+    let single = vec![in alloc; 1usize; talk.input.len()]?;
+    is_told_in(rt, alloc, handler, talk, single)
+}
+
+fn is_told_long<R: Threads + Sync, H: Handler>(
+    rt: &R,
+    alloc: Global,
+    handler: &mut H,
+    talk: &Talk,
+) -> Result<bool, AllocError> {
+    if !is_told_in(rt, alloc, handler, talk, Vec::new(alloc))? {
+        return Ok(false);
+    }
+    if talk.input.len() > 200_000 {
+        return Ok(true);
+    }
+    is_told_singly(rt, alloc, handler, talk)
+}
+
+/// Whether over a line that fails at its first call, its second and so on a beginning of what is to be written is
+/// written, up to the first line that doesn't fail.
+fn breaks_off<R: Threads + Sync, H: Handler>(
+    rt: &R,
+    alloc: Global,
+    handler: &mut H,
+    talk: &Talk,
+) -> Result<bool, AllocError> {
+    for fuse in 1..1000u64 {
+        let mut line = failing_line(alloc, &talk.input, fuse)?;
+        match serve(rt, alloc, &mut line, handler) {
+            Ok(()) => return Ok(line.output() == talk.want.as_slice() && line.failures() == 0),
+            Err(EdgeFault::OutOfMemory) => return Ok(false),
+            Err(_) => if !talk.want.starts_with(line.output()) || line.failures() != 1 {
+                return Ok(false);
+            },
+        }
+    }
+    Ok(false)
+}
+
+/// A line whose input comes in pieces of nine bytes, and whose call number `fuse` fails.
+fn failing_line(alloc: Global, input: &[u8], fuse: u64) -> Result<MemoryLine, AllocError> {
+    let pieces = vec![in alloc; 9usize; 100]?;
+    let input = Vec::from_slice(alloc, input)?;
+    Ok(MemoryLine::new(input, pieces, Vec::new(alloc), fuse))
+}
+
+/// Whether a talk is as it has to be, is answered with 503 where the handler had no memory, or is broken off for want
+/// of memory after a beginning of what is to be written.
+fn is_told_or_refused<R: Threads + Sync, H: Handler>(
+    rt: &R,
+    alloc: Global,
+    handler: &mut H,
+    talk: &Talk,
+) -> Result<bool, AllocError> {
+    let input = Vec::from_slice(alloc, &talk.input)?;
+    let mut line = MemoryLine::new(input, Vec::new(alloc), Vec::new(alloc), 0);
+    Ok(match serve(rt, alloc, &mut line, handler) {
+        Ok(()) => line.output() == talk.want.as_slice() || tells_of_memory(line.output()),
+        Err(EdgeFault::ReadFailed) => false,
+        Err(_) => talk.want.starts_with(line.output()),
+    })
+}
+
+fn tells_of_memory(output: &[u8]) -> bool {
+    output.windows(12).any(|w| w == b"HTTP/1.1 503".as_slice())
+}

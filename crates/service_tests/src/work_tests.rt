@@ -1,0 +1,76 @@
+//! What a turner did, and what a sender did.
+
+use crate::notes::{Answers, FewRounds, Tickets, Turns, job};
+use export_edge::{run_sender, run_turner};
+use job_lane::{Job, Lane};
+use std::alloc::Global;
+use std::sync::Wait;
+
+fn ticket(job: Option<Job>) -> u64 {
+    match job {
+        Some(job) => job.ticket,
+        None => 0,
+    }
+}
+
+/// The tickets of the job that a turner held at the end, and of the jobs in the lane, 0 where there is none; how often
+/// it paused, how many turns it made, and how many jobs it pushed.
+fn turned<R: Wait>(rt: &R, alloc: Global) -> Option<([u64; 4], u32, u64, u128)> {
+    let (lane, keeper, mut seats) = Lane::open(alloc, 2, 1).ok()?;
+    let mut seat = seats.pop()?;
+    let mut source = Turns { made: 0 };
+    let mut beat = FewRounds {
+        rounds: 9,
+        moment: 0,
+        pauses: 0,
+    };
+    let held = run_turner(rt, &lane, &mut seat, &mut source, &mut beat);
+    let tickets = [
+        ticket(held),
+        ticket(lane.pop(rt, &mut seat)),
+        ticket(lane.pop(rt, &mut seat)),
+        ticket(lane.pop(rt, &mut seat)),
+    ];
+    seats.push(seat).ok()?;
+    let pushed = lane.close(rt, keeper, seats).pushed;
+    Some((tickets, beat.pauses, source.made, pushed))
+}
+
+/// Nine rounds at a lane of two: a turn and a push for the first job, a turn that worked, a turn and a push for the
+/// second, a turn with nothing to do, a turn for the third, and two pushes at a lane that is full.
+#[test]
+fn jobs_are_pushed_in_order_and_kept_where_the_lane_is_full(rt: HostRuntime) {
+    assert_eq!(rt; turned(&rt, rt.alloc()), Some(([3, 1, 2, 0], 3, 5, 2)));
+}
+
+/// Which tickets a sender posted, which answers it handed in, how often it paused, and how many jobs it took.
+fn sent<R: Wait>(rt: &R, alloc: Global) -> Option<(u64, u64, u32, u128)> {
+    let (lane, keeper, mut seats) = Lane::open(alloc, 2, 1).ok()?;
+    let mut seat = seats.pop()?;
+    let _ = lane.push(rt, &mut seat, job(7, 200));
+    let _ = lane.push(rt, &mut seat, job(8, 503));
+    let mut back_end = Tickets { alloc, posted: 0 };
+    let mut sink = Answers {
+        refusals: 2,
+        count: 0,
+        taken: 0,
+    };
+    let mut beat = FewRounds {
+        rounds: 3,
+        moment: 0,
+        pauses: 0,
+    };
+    run_sender(rt, &lane, &mut seat, &mut back_end, &mut sink, &mut beat);
+    seats.push(seat).ok()?;
+    let taken = lane.close(rt, keeper, seats).taken;
+    Some((back_end.posted, sink.taken, beat.pauses, taken))
+}
+
+/// Two jobs of two tenants. The first answer is refused twice, and handed in at the third moment.
+#[test]
+fn jobs_are_posted_once_and_their_answers_handed_in(rt: HostRuntime) {
+    assert_eq!(rt;
+        sent(&rt, rt.alloc()),
+        Some((200_503, 73_200_200_84_503_503, 3, 2))
+    );
+}

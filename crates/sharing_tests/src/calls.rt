@@ -1,0 +1,110 @@
+//! The calls of a story's lines.
+
+ghost use Rattle.std.specs.Prelude.{◌≡◌};
+ghost use Rattle.machine_hub.specs.Hub.{slots_of};
+
+use crate::story::Line;
+use bytes::Bytes;
+use otlp_prepare::{Prepared, prepare};
+use send_retry::Answer;
+use shared_hub::{Caller, Receipt, SharedHub};
+use std::alloc::Global;
+use std::sync::Wait;
+use std::thread::Threads;
+use tail_settings::Settings;
+use tenant_shard::{Outcome, Step};
+
+/// What a call gives.
+pub type Made = (Outcome, Option<Receipt>);
+
+/// A body that came to a tenant, by its digits.
+fn prepared_of<'a, R: Threads + Sync>(
+    rt: &R,
+    alloc: Global,
+    settings: &'a Settings,
+    tenant: u32,
+    digits: &str,
+) -> Option<Prepared<'a>> {
+    let section = settings.section(tenant)?;
+    let body = Bytes::from_vec(hex::decode(alloc, digits).ok()?).ok()?;
+    prepare(rt, alloc, tenant, section, body, 1).ok()
+}
+
+/// A step that the caller hands in.
+fn step_of<'a, R: Threads + Sync>(
+    rt: &R,
+    alloc: Global,
+    settings: &'a Settings,
+    line: &Line<'_>,
+) -> Option<Step<'a>> {
+    let (tenant, now) = (line.tenant, line.now);
+    match line.kind {
+        "turn" => Some(Step::Turn { now }),
+        "report" => Some(Step::Report { tenant, now }),
+        "drain" => Some(Step::Drain { tenant, now }),
+        _ => {
+            let prepared = prepared_of(rt, alloc, settings, tenant, line.first)?;
+            Some(Step::Post { now, prepared })
+        }
+    }
+}
+
+/// A step at a shard.
+pub fn stepped<'a, R: Wait>(
+    rt: &R,
+    alloc: Global,
+    hub: &SharedHub<'a>,
+    me: &mut Caller<'a>,
+    shard: usize,
+    step: Step<'a>,
+) -> Option<Made>
+    requires { slots_of me.old ≡ hub.now }
+    ensures { slots_of me.new ≡ hub.now }
+{
+    if shard >= hub.shards() {
+        return None;
+    }
+    hub.step(rt, alloc, me, shard, step).ok()
+}
+
+/// A back end's answer, without a body.
+fn answered<'a, R: Wait>(
+    rt: &R,
+    alloc: Global,
+    hub: &SharedHub<'a>,
+    me: &mut Caller<'a>,
+    line: &Line<'_>,
+) -> Option<Made>
+    requires { slots_of me.old ≡ hub.now }
+    ensures { slots_of me.new ≡ hub.now }
+{
+    let answer = Answer::Http {
+        status: line.first.parse().unwrap_or(0),
+        retry_after: line.second.parse().ok(),
+        body: Vec::new(alloc),
+    };
+    hub.answer(rt, alloc, me, line.tenant, line.now, line.ticket, &answer)
+        .ok()
+}
+
+/// The call of a line.
+pub fn made<'a, R: Threads + Wait + Sync>(
+    rt: &R,
+    alloc: Global,
+    settings: &'a Settings,
+    hub: &SharedHub<'a>,
+    me: &mut Caller<'a>,
+    line: &Line<'_>,
+) -> Option<Made>
+    requires { slots_of me.old ≡ hub.now }
+    ensures { slots_of me.new ≡ hub.now }
+{
+    if line.kind == "answer" {
+        return answered(rt, alloc, hub, me, line);
+    }
+    let shard = line.shard.parse().unwrap_or(usize::MAX);
+    match step_of(rt, alloc, settings, line) {
+        Some(step) => stepped(rt, alloc, hub, me, shard, step),
+        None => None,
+    }
+}

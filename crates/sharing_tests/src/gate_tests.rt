@@ -1,0 +1,67 @@
+//! Two threads at two shards at once.
+
+ghost use Rattle.std.specs.Prelude.{◌≡◌, ◌<◌, [], length, false, IfSome};
+ghost use Rattle.machine_hub.specs.Hub.{slots_of};
+
+use crate::counter::Counter;
+use crate::holding::HoldingLog;
+use machine_hub::{Caller, Hub, LoggedMachine};
+use std::alloc::Global;
+use std::sync::atomic::{AtomicU64, Ordering};
+use std::sync::{Arc, Wait};
+use std::thread::{Threads, join};
+
+/// A counter from 0 with a log that holds steps.
+fn held(
+    returned: &Arc<AtomicU64, Global>,
+    number: u32,
+) -> Option<LoggedMachine<Counter, HoldingLog>>
+    ensures { IfSome result (λ machine. (machine.entries ≡ []) × (machine.stopped ≡ false)) }
+{
+    let returned = Arc::try_clone(returned).ok()?;
+    Some(LoggedMachine::new(Counter { count: 0 }, HoldingLog { returned }, number))
+}
+
+/// A call at a shard, after which `returned` counts one more. Gives what `returned` was when the call had its answer.
+fn call<R: Wait>(
+    rt: &R,
+    alloc: Global,
+    hub: &Hub<Counter, HoldingLog>,
+    mut caller: Caller<Counter, HoldingLog>,
+    shard: usize,
+    returned: &AtomicU64,
+) -> u64
+    requires shard { shard < length hub.now }
+    requires mine { slots_of caller ≡ hub.now }
+{
+    let _ = hub.step(rt, alloc, &mut caller, shard, 1);
+    returned.fetch_add(1, Ordering::SeqCst)
+}
+
+/// The call at shard 0 is held until the one at shard 1 has returned. How many calls had returned before each.
+fn two_threads<R: Threads + Wait + Sync>(rt: &R, alloc: Global) -> Option<(u64, u64)> {
+    let returned = Arc::new(alloc, AtomicU64::new(0)).ok()?;
+    let mut machines = Vec::new(alloc);
+    machines.push(held(&returned, 0)?).ok()?;
+    machines.push(held(&returned, 1)?).ok()?;
+    let (hub, _keeper, mut callers) = Hub::open(rt, alloc, machines, 2).ok()?;
+    let one = callers.pop()?;
+    let two = callers.pop()?;
+    let shared = &hub;
+    let counter = &*returned;
+    Some(join(
+        rt,
+        move || -> u64
+            requires { (0 < length shared.now) × (slots_of one ≡ shared.now) }
+        { call(rt, alloc, shared, one, 0, counter) },
+        move || -> u64
+            requires { (1 < length shared.now) × (slots_of two ≡ shared.now) }
+        { call(rt, alloc, shared, two, 1, counter) },
+    ))
+}
+
+/// A step on shard 0 that waits for one on shard 1 doesn't keep it from being made.
+#[test]
+fn shards_are_stepped_at_once(rt: HostRuntime) {
+    assert_eq!(rt; two_threads(&rt, rt.alloc()), Some((1, 0)));
+}

@@ -1,0 +1,114 @@
+//! Two threads at one shard.
+
+ghost use Rattle.std.specs.Prelude.{◌≡◌, ◌<◌, [], false, length};
+ghost use Rattle.machine_hub.specs.Hub.{slots_of};
+
+use crate::counter::Counter;
+use machine_hub::{Caller, Hub, LoggedMachine, OptionalLog};
+use std::alloc::Global;
+use std::sync::Wait;
+use std::thread::{Threads, join};
+
+/// A caller, and the positions of its three calls.
+#[derive(Drop)]
+struct Took {
+    caller: Caller<Counter, OptionalLog<Counter>>,
+    positions: [u64; 3],
+}
+
+/// A counter from 0 with an empty log that keeps all.
+fn logged(alloc: Global) -> LoggedMachine<Counter, OptionalLog<Counter>>
+    ensures { (result.entries ≡ []) × (result.stopped ≡ false) }
+{
+    LoggedMachine::new(Counter { count: 0 }, OptionalLog::new(alloc, true), 0)
+}
+
+/// Three calls at shard 0. Each adds one, so that what it gives, the count before, is its entry's position; 99 where
+/// that isn't so.
+fn three_calls<R: Wait>(
+    rt: &R,
+    alloc: Global,
+    hub: &Hub<Counter, OptionalLog<Counter>>,
+    mut caller: Caller<Counter, OptionalLog<Counter>>,
+) -> Took
+    requires shard { 0 < length hub.now }
+    requires mine { slots_of caller ≡ hub.now }
+    ensures { slots_of result.caller ≡ hub.now }
+{
+    let mut positions = [99u64; 3];
+    for i in 0..3usize {
+        if let Ok((before, Some(receipt))) = hub.step(rt, alloc, &mut caller, 0, 1)
+            && receipt.position == before
+        {
+            positions[i] = before;
+        }
+    }
+    Took { caller, positions }
+}
+
+/// Six calls of two threads on one shard: how many entries its log has, and the positions of each thread's calls.
+fn two_threads<R: Threads + Wait + Sync>(
+    rt: &R,
+    alloc: Global,
+) -> Option<(u64, [u64; 3], [u64; 3])> {
+    let mut machines = Vec::new(alloc);
+    machines.push(logged(alloc)).ok()?;
+    let (hub, keeper, mut callers) = Hub::open(rt, alloc, machines, 2).ok()?;
+    let one = callers.pop()?;
+    let two = callers.pop()?;
+    let shared = &hub;
+    let (one, two) = join(
+        rt,
+        move || -> Took
+            requires { (0 < length shared.now) × (slots_of one ≡ shared.now) }
+            ensures { slots_of result.caller ≡ shared.entry.now }
+        { three_calls(rt, alloc, shared, one) },
+        move || -> Took
+            requires { (0 < length shared.now) × (slots_of two ≡ shared.now) }
+            ensures { slots_of result.caller ≡ shared.entry.now }
+        { three_calls(rt, alloc, shared, two) },
+    );
+    let Took {
+        caller,
+        positions: ones,
+    } = one;
+    callers.push(caller).ok()?;
+    let Took {
+        caller,
+        positions: others,
+    } = two;
+    callers.push(caller).ok()?;
+    let mut shards = hub.close(rt, keeper, callers).ok()?;
+    let shard = shards.pop()?;
+    Some((shard.made(), ones, others))
+}
+
+/// A bit for each of the first six positions.
+fn bits(positions: [u64; 3]) -> u64 {
+    let mut sum = 0u64;
+    for position in positions {
+        sum |= match position {
+            0 => 1,
+            1 => 2,
+            2 => 4,
+            3 => 8,
+            4 => 16,
+            5 => 32,
+            _ => 0,
+        };
+    }
+    sum
+}
+
+fn rise(positions: [u64; 3]) -> bool {
+    positions[0] < positions[1] && positions[1] < positions[2]
+}
+
+/// Six calls of two threads are six entries, and nobody's receipts are another's.
+#[test]
+fn each_call_has_its_entry(rt: HostRuntime) {
+    let (entries, ones, others) = two_threads(&rt, rt.alloc()).unwrap_or((0, [0; 3], [0; 3]));
+    assert_eq!(rt; entries, 6);
+    assert!(rt; rise(ones) && rise(others));
+    assert_eq!(rt; bits(ones) | bits(others), 63);
+}

@@ -1,0 +1,86 @@
+//! Outcomes and entries beside the lines of a story.
+
+use crate::story::{Line, cut};
+use shared_hub::{Entry, WordOf};
+use std::alloc::Global;
+use tenant_shard::{Outcome, Step};
+
+/// An outcome's kind, tenant, number and text.
+fn parts_of(outcome: &Outcome) -> (&'static str, u32, u64, &[u8]) {
+    match outcome {
+        Outcome::Reply(tenant, reply) => {
+            (
+                "reply",
+                *tenant,
+                u64::from(reply.status),
+                reply.body.as_slice(),
+            )
+        }
+        Outcome::Job(tenant, ticket, payload) => ("job", *tenant, *ticket, payload.as_slice()),
+        Outcome::Report(tenant, counters) => ("report", *tenant, 0, counters.as_slice()),
+        Outcome::Worked(tenant) => ("worked", *tenant, 0, b""),
+        Outcome::Idle => ("idle", 0, 0, b""),
+        Outcome::Done(tenant) => ("done", *tenant, 0, b""),
+        Outcome::Refused(tenant, number) => ("refused", *tenant, u64::from(*number), b""),
+    }
+}
+
+/// Whether an outcome is what a line says.
+pub fn is_outcome(alloc: Global, outcome: &Outcome, line: &str) -> bool {
+    let (kind, tenant, number, bytes) = parts_of(outcome);
+    let (said, rest) = cut(line);
+    let (of, rest) = cut(rest);
+    let (figure, text) = cut(rest);
+    said == kind
+        && of.parse().ok() == Some(tenant)
+        && figure.parse().ok() == Some(number)
+        && is_text(alloc, kind, bytes, text)
+}
+
+fn is_text(alloc: Global, kind: &str, bytes: &[u8], text: &str) -> bool {
+    if kind == "report" {
+        return text.as_bytes() == bytes;
+    }
+    match hex::encode(alloc, bytes) {
+        Ok(digits) => digits.as_str() == text,
+        Err(_) => false,
+    }
+}
+
+/// A step's kind, tenant, moment, ticket and word.
+fn columns_of(step: &Step<'_>) -> (&'static str, u32, u64, u64, u32) {
+    match step {
+        Step::Post { now, prepared } => ("post", prepared.tenant(), *now, 0, 0),
+        Step::Turn { now } => ("turn", 0, *now, 0, 0),
+        Step::Answer {
+            tenant,
+            now,
+            ticket,
+            word,
+            answer: _,
+        } => ("answer", *tenant, *now, *ticket, *word),
+        Step::Report { tenant, now } => ("report", *tenant, *now, 0, 0),
+        Step::Drain { tenant, now } => ("drain", *tenant, *now, 0, 0),
+    }
+}
+
+/// Where a word is from.
+fn source_of(word: WordOf) -> &'static str {
+    match word {
+        WordOf::Caller => "caller",
+        WordOf::Generator => "drawn",
+        WordOf::Nobody => "nobody",
+    }
+}
+
+/// Whether an entry is that of a line's call.
+pub fn is_entry(alloc: Global, entry: &Entry<'_>, line: &Line<'_>) -> bool {
+    let (kind, tenant, now, ticket, word) = columns_of(&entry.step.step);
+    kind == line.kind
+        && tenant == line.tenant
+        && now == line.now
+        && ticket == line.ticket
+        && word == line.word
+        && source_of(entry.step.word) == line.word_of
+        && is_outcome(alloc, &entry.outcome, line.outcome)
+}

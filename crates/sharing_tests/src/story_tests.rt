@@ -1,0 +1,194 @@
+//! A story of three tenants in two shards, called by one thread.
+
+ghost use Rattle.std.specs.Prelude.{◌≡◌, IfSome};
+ghost use Rattle.machine_hub.specs.Hub.{slots_of};
+
+use crate::calls::{made, stepped};
+use crate::outcomes::{is_entry, is_outcome};
+use crate::story::{Line, SETTINGS, STORY, line_of};
+use shared_hub::{Caller, Entry, HubKeeper, Receipt, ShardLog, SharedHub};
+use std::alloc::Global;
+use std::sync::{Arc, Wait};
+use std::test::Fail;
+use std::thread::Threads;
+use tail_settings::{Settings, load};
+use tenant_shard::{Outcome, Step};
+
+/// Whether a receipt is that of the next entry of its shard; there is none where nothing is kept.
+fn is_next(receipt: Option<Receipt>, next: &mut [u64; 2], keeps: bool) -> bool {
+    let Some(receipt) = receipt else {
+        return !keeps;
+    };
+    if receipt.shard >= 2 || receipt.position != next[receipt.shard] {
+        return false;
+    }
+    next[receipt.shard] = receipt.position.saturating_add(1);
+    keeps
+}
+
+/// Whether the call of a line is told what stands there.
+fn is_told<'a, R: Threads + Wait + Sync>(
+    rt: &R,
+    alloc: Global,
+    settings: &'a Settings,
+    hub: &SharedHub<'a>,
+    me: &mut Caller<'a>,
+    next: &mut [u64; 2],
+    keeps: bool,
+    line: &Line<'_>,
+) -> bool
+    requires { slots_of me.old ≡ hub.now }
+    ensures { slots_of me.new ≡ hub.now }
+{
+    if line.shard == "-" {
+        return hub.empty(rt, me, line.tenant) == (line.outcome == "yes");
+    }
+    match made(rt, alloc, settings, hub, me, line) {
+        Some((outcome, receipt)) => {
+            is_outcome(alloc, &outcome, line.outcome) && is_next(receipt, next, keeps)
+        }
+        None => false,
+    }
+}
+
+/// Makes the calls of the story, up to the first that isn't told what stands there. How many were, and that one.
+fn follow<'a, R: Threads + Wait + Sync>(
+    rt: &R,
+    alloc: Global,
+    settings: &'a Settings,
+    hub: &SharedHub<'a>,
+    me: &mut Caller<'a>,
+    next: &mut [u64; 2],
+    keeps: bool,
+) -> (u32, &'static str)
+    requires { slots_of me.old ≡ hub.now }
+    ensures { slots_of me.new ≡ hub.now }
+{
+    let mut count = 0u32;
+    for text in STORY.lines() {
+        if !is_told(rt, alloc, settings, hub, me, next, keeps, &line_of(text)) {
+            return (count, text);
+        }
+        count = count.saturating_add(1);
+    }
+    (count, "")
+}
+
+/// Whether a log has the story's calls at this shard, in their order, and no others.
+fn has_calls(alloc: Global, kept: &[Arc<Entry<'_>, Global>], shard: &str) -> bool {
+    let mut next = 0;
+    for text in STORY.lines() {
+        let line = line_of(text);
+        if line.shard == shard {
+            if next >= kept.len() || !is_entry(alloc, &kept[next], &line) {
+                return false;
+            }
+            next += 1;
+        }
+    }
+    next == kept.len()
+}
+
+/// Whether a shard's log has as many entries as receipts were given, and where it has any, the story's calls.
+fn is_logged(alloc: Global, shard: ShardLog<'_>, next: &[u64; 2]) -> bool {
+    let made = shard.made();
+    let name = if shard.number() == 0 { "0" } else { "1" };
+    let given = if shard.number() == 0 {
+        next[0]
+    } else {
+        next[1]
+    };
+    let (_machine, log) = shard.into_parts();
+    made == given && (made == 0 && log.kept.is_empty() || has_calls(alloc, &log.kept, name))
+}
+
+/// The same of both shards.
+fn are_logged(alloc: Global, mut logs: Vec<ShardLog<'_>>, next: &[u64; 2]) -> bool {
+    if logs.len() != 2 {
+        return false;
+    }
+    while let Some(shard) = logs.pop() {
+        if !is_logged(alloc, shard, next) {
+            return false;
+        }
+    }
+    true
+}
+
+/// Opens a hub, makes the calls of the story, closes it and looks at its logs.
+fn run_story<'a, R: Threads + Wait + Sync>(
+    rt: &R,
+    alloc: Global,
+    settings: &'a Settings,
+    keeps: bool,
+) -> Option<(u32, &'static str, bool)> {
+    let (hub, keeper, mut callers) = SharedHub::open(rt, alloc, settings, 1, keeps).ok()?;
+    let mut me = callers.pop()?;
+    let mut next = [0u64; 2];
+    let (count, wrong) = follow(rt, alloc, settings, &hub, &mut me, &mut next, keeps);
+    callers.push(me).ok()?;
+    let logs = hub.close(rt, keeper, callers).ok()?;
+    Some((count, wrong, are_logged(alloc, logs, &next)))
+}
+
+/// Each call is told what stands in the story, and the logs have each with its outcome, its word and its receipt.
+#[test]
+fn each_call_has_its_entry(rt: HostRuntime) -> Result<(), Fail> {
+    let settings = load(rt.alloc(), SETTINGS)?;
+    assert_eq!(rt;
+        run_story(&rt, rt.alloc(), &settings, true),
+        Some((37, "", true))
+    );
+    Ok(())
+}
+
+/// Where the logs keep nothing each call is told the same, and has no receipt.
+#[test]
+fn calls_are_told_the_same_without_logs(rt: HostRuntime) -> Result<(), Fail> {
+    let settings = load(rt.alloc(), SETTINGS)?;
+    assert_eq!(rt;
+        run_story(&rt, rt.alloc(), &settings, false),
+        Some((37, "", true))
+    );
+    Ok(())
+}
+
+/// The hub, which isn't closed without its caller.
+fn kept_open<'a, R: Wait>(
+    rt: &R,
+    alloc: Global,
+    hub: SharedHub<'a>,
+    keeper: HubKeeper<'a>,
+) -> Option<SharedHub<'a>>
+    requires { keeper.slots ≡ hub }
+    ensures { IfSome result (λ back. back ≡ hub.entry) }
+{
+    match hub.close(rt, keeper, Vec::new(alloc)) {
+        Ok(_shards) => None,
+        Err(missing) => Some(missing.hub),
+    }
+}
+
+/// The first call of a hub that wasn't closed, since its caller was missing.
+fn call_after_all<R: Wait>(
+    rt: &R,
+    alloc: Global,
+    settings: &Settings,
+) -> Option<(Outcome, Option<Receipt>)> {
+    let (hub, keeper, mut callers) = SharedHub::open(rt, alloc, settings, 1, true).ok()?;
+    let mut away = callers.pop()?;
+    let hub = kept_open(rt, alloc, hub, keeper)?;
+    stepped(rt, alloc, &hub, &mut away, 1, Step::Turn { now: 0 })
+}
+
+#[test]
+fn a_missing_caller_keeps_the_hub_open(rt: HostRuntime) -> Result<(), Fail> {
+    let settings = load(rt.alloc(), SETTINGS)?;
+    let receipt = Receipt {
+        shard: 1,
+        position: 0,
+    };
+    let wanted = Some((Outcome::Idle, Some(receipt)));
+    assert!(rt; call_after_all(&rt, rt.alloc(), &settings) == wanted);
+    Ok(())
+}
