@@ -9,7 +9,7 @@ use Rattle.tail_settings.specs.declared.fault.SettingsFault.TheVariants.{NotToml
 use Rattle.send_retry.specs.Class.{Http, Failed}
 use Rattle.tenant_rules.specs.Own.{Own}
 use Rattle.tenant_rules.specs.Own as own
-use Rattle.tenant_rules_tests.specs.Parts.{plain, span, body}
+use Rattle.processor_tests.specs.Parts.{plain, span, body}
 use Rattle.tenant_shard.specs.declared.step.Outcome.TheVariants as outcome
 use Rattle.replay_script.specs.Command.{Post, Turn, Answer, Report, Drain}
 use Rattle.trace_collector.specs.declared.engine.ReplayFault.TheVariants.{Settings, Script, Line, OutOfMemory}

@@ -8,7 +8,7 @@ use Rattle.send_retry.specs.Class.{Failed}
 use Rattle.tenant_rules.specs.declared.told.Told.TheVariants as tell
 use Rattle.tenant_rules.specs.Own as own
 use Rattle.tenant_rules.specs.State.{State, state}
-use Rattle.tenant_rules_tests.specs.Parts.{plain as one_second, span, body}
+use Rattle.processor_tests.specs.Parts.{plain as one_second, span, body}
 use Rattle.otlp_prepare.specs.Prepared.{PreparedData}
 use Rattle.tenant_shard.specs.declared.step.Step.{Step}
 use Rattle.tenant_shard.specs.declared.step.Step.TheVariants.{Post, Turn, Report, Drain}

@@ -9,13 +9,13 @@ use Rattle.tail_settings.proofs.OnLiterals.{texts_on_literals}
 use Rattle.send_retry.specs.Class.{Http, Failed}
 use Rattle.tenant_rules.specs.Own.{Own}
 use Rattle.tenant_rules.specs.Own as own
-use Rattle.tenant_rules_tests.specs.Parts.{body}
+use Rattle.processor_tests.specs.Parts.{body}
 use Rattle.tenant_shard.specs.declared.step.Outcome.{Outcome}
 use Rattle.tenant_shard.specs.declared.step.Outcome.TheVariants as outcome
 use Rattle.tenant_shard.specs.Outcomes.{OwnStep, plain}
 use Rattle.tenant_shard.specs.Pick.{ready_after, ready_at}
 use Rattle.shard_agenda.specs.Pick.{NotAfter}
-use Rattle.tenant_rules_tests.proofs.OnLiterals.{values_on_literals, pipelines_on_literals}
+use Rattle.processor_tests.proofs.OnLiterals.{values_on_literals, pipelines_on_literals}
 use Rattle.replay_script.proofs.OnLiterals.{script_on_literals, answers_on_literals}
 use Rattle.replay_script.specs.Command.{Post, Turn, Answer, Report, Drain}
 use Rattle.replay_script.specs.Line.{lines_of}

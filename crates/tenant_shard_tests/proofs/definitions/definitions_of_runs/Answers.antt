@@ -1,7 +1,7 @@
 use Rattle.std.proofs.Common.{◌≡◌, ℕ, zero, suc, ◌<◌, ◌≤◌, true, false, List, [], ◌∷◌, Option, Some, None, refl, sym, ap, arith, inl, inr}
 use Rattle.tail_settings.specs.Global.{GlobalData}
 use Rattle.tenant_rules.specs.Own as own
-use Rattle.tenant_rules_tests.specs.Parts.{body}
+use Rattle.processor_tests.specs.Parts.{body}
 use Rattle.tenant_shard.specs.declared.step.Outcome.TheVariants.{Job, Idle}
 use Rattle.tenant_shard.specs.declared.step.Step.TheVariants.{Turn}
 use Rattle.tenant_shard.specs.Lists.{Lists, ShardStands}
@@ -11,7 +11,7 @@ use Rattle.tenant_shard.specs.Pick.{ready_at}
 use Rattle.shard_agenda.specs.Pick.{NotAfter, IsPick}
 use Rattle.tenant_shard.specs.Run.{IsTurned, IsNext, after}
 use Rattle.tenant_shard_tests.specs.Examples.{view, fresh, table, both_at_1000, second_first, posted}
-use Rattle.tenant_rules_tests.proofs.OnLiterals.{pipelines_on_literals}
+use Rattle.processor_tests.proofs.OnLiterals.{pipelines_on_literals}
 use Rattle.tenant_shard_tests.proofs.Small.{some_same, never, above_1, not_before, later, is_refusal}
 use Rattle.tenant_shard_tests.proofs.definitions.definitions_of_runs.Goals as goal
 
