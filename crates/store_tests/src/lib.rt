@@ -5,19 +5,15 @@
 #[cfg(test)]
 mod agenda;
 #[cfg(test)]
-mod kept;
-#[cfg(test)]
-mod keyed;
-#[cfg(test)]
 mod load;
 #[cfg(test)]
 mod placed;
 #[cfg(test)]
 mod pool;
 #[cfg(test)]
-mod refused;
-#[cfg(test)]
 mod rows;
+#[cfg(test)]
+mod stores;
 #[cfg(test)]
 mod story;
 #[cfg(test)]

@@ -1,7 +1,8 @@
-//! Spans of two tenants, 7 and 8, and what each of them has. The note of a row is the number of its spans.
+//! Spans of two tenants, 7 and 8, and what each of them has in the stores. The note of a row is the number of its spans.
 
 ghost use Rattle.std.specs.Prelude.{◌≡◌};
 
+use crate::story::Numbers;
 use bytes::Bytes;
 use span_pool::{KeyedSpan, TextKeys};
 use std::alloc::AllocError;
@@ -33,6 +34,16 @@ fn text(bytes: &'static [u8]) -> Text {
 pub fn held(stores: &mut Stores<u64>, tenant: u32) -> Result<TextKeys, AllocError> {
     let (resource, scope) = (text(RESOURCE), text(SCOPE));
     stores.hold_all(tenant, Some(&resource), None, Some(&scope), None)
+}
+
+/// The keys of a scope and of a resource behind it.
+pub fn keys_from(scope: usize) -> TextKeys {
+    TextKeys {
+        resource: Some(scope.saturating_add(1)),
+        resource_schema_url: None,
+        scope: Some(scope),
+        scope_schema_url: None,
+    }
 }
 
 /// A span of the tenant, with these texts.
@@ -100,7 +111,7 @@ pub fn late(
 }
 
 /// Which text this is: 1 to 3 for a span, 4 for the resource, 5 for the scope.
-fn number_of(bytes: &[u8]) -> u8 {
+fn number_of(bytes: &[u8]) -> usize {
     if bytes == A {
         1
     } else if bytes == B {
@@ -117,7 +128,7 @@ fn number_of(bytes: &[u8]) -> u8 {
 }
 
 /// Which span the tenant has at a key, 0 for none.
-fn span_at(stores: &Stores<u64>, tenant: u32, key: usize) -> u8 {
+fn span_at(stores: &Stores<u64>, tenant: u32, key: usize) -> usize {
     match stores.span(tenant, key) {
         Some(span) => number_of(span.text().as_slice()),
         None => 0,
@@ -125,7 +136,7 @@ fn span_at(stores: &Stores<u64>, tenant: u32, key: usize) -> u8 {
 }
 
 /// Which text the tenant has at a key, 0 for none.
-fn text_at(stores: &Stores<u64>, tenant: u32, key: usize) -> u8 {
+fn text_at(stores: &Stores<u64>, tenant: u32, key: usize) -> usize {
     match stores.texts().text(tenant, key) {
         Some(text) => number_of(text.as_slice()),
         None => 0,
@@ -144,7 +155,7 @@ pub fn row_at(stores: &Stores<u64>, tenant: u32, number: u64) -> Told {
 }
 
 /// Which spans the tenant has at the first six keys.
-pub fn spans(stores: &Stores<u64>, tenant: u32) -> [u8; 6] {
+pub fn spans(stores: &Stores<u64>, tenant: u32) -> Numbers {
     [
         span_at(stores, tenant, 0),
         span_at(stores, tenant, 1),
@@ -155,26 +166,33 @@ pub fn spans(stores: &Stores<u64>, tenant: u32) -> [u8; 6] {
     ]
 }
 
-/// Which texts the tenant has at the first four keys.
-pub fn texts(stores: &Stores<u64>, tenant: u32) -> [u8; 4] {
+/// Which texts the tenant has at the first six keys.
+pub fn texts(stores: &Stores<u64>, tenant: u32) -> Numbers {
     [
         text_at(stores, tenant, 0),
         text_at(stores, tenant, 1),
         text_at(stores, tenant, 2),
         text_at(stores, tenant, 3),
+        text_at(stores, tenant, 4),
+        text_at(stores, tenant, 5),
     ]
+}
+
+/// The rows of the two traces.
+pub fn seats(stores: &Stores<u64>, tenant: u32) -> [Option<u64>; 2] {
+    [stores.seat(tenant, TRACE), stores.seat(tenant, OTHER)]
 }
 
 /// What the tenant has: spans, texts, three rows, and the seats of two traces.
 pub fn told(
     stores: &Stores<u64>,
     tenant: u32,
-) -> (([u8; 6], [u8; 4]), [Told; 3], [Option<u64>; 2]) {
+) -> ((Numbers, Numbers), [Told; 3], [Option<u64>; 2]) {
     let rows = [
         row_at(stores, tenant, 1),
         row_at(stores, tenant, 2),
         row_at(stores, tenant, 3),
     ];
-    let seats = [stores.seat(tenant, TRACE), stores.seat(tenant, OTHER)];
+    let seats = seats(stores, tenant);
     ((spans(stores, tenant), texts(stores, tenant)), rows, seats)
 }
