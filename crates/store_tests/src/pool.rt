@@ -1,9 +1,11 @@
 //! Spans of two tenants, 7 and 8, in one pool.
 
+ghost use Rattle.store_tests.specs.Stored.{SameResources, SameScopes, EqualOrigins, ReadSpans, ReadResources};
+
 use crate::story::{Step, one, step_of};
 use bytes::Bytes;
 use span_pool::{
-    KeyedSpan, NotYours, Owned, SpanPool, TextKeys, each_span_has_one_owner, read_spans_are_viewed,
+    NotYours, Owned, SpanPool, StoredSpan, TextKeys, each_span_has_one_owner, read_spans_are_viewed,
 };
 use std::alloc::AllocError;
 use std::mem::size_of;
@@ -24,19 +26,19 @@ const FIRST: &[u8] = b"\x2a\x01\x31";
 const SECOND: &[u8] = b"\x2a\x01\x32";
 
 /// The span of this number.
-fn span(owner: u32, number: usize) -> KeyedSpan {
+fn span(owner: u32, number: usize) -> StoredSpan {
     let name = if number == 1 { FIRST } else { SECOND };
-    KeyedSpan::of(owner, KEYS, Bytes::from_static(name))
+    StoredSpan::of(owner, KEYS, Bytes::from_static(name))
 }
 
 #[test]
 fn what_was_given_is_there_in_80_bytes(rt: HostRuntime) {
     let span = span(7, 1);
     assert!(rt; span.owner() == 7 && span.keys() == KEYS && span.text().as_slice() == FIRST);
-    assert!(rt; size_of::<KeyedSpan>() == 80);
+    assert!(rt; size_of::<StoredSpan>() == 80);
 }
 
-fn number_of(span: Option<&KeyedSpan>) -> usize {
+fn number_of(span: Option<&StoredSpan>) -> usize {
     let Some(span) = span else {
         return 0;
     };
@@ -48,7 +50,7 @@ fn number_of(span: Option<&KeyedSpan>) -> usize {
 }
 
 /// What a tenant owns at four keys.
-fn owned(pool: &SpanPool<KeyedSpan>, tenant: u32) -> [usize; 4] {
+fn owned(pool: &SpanPool<StoredSpan>, tenant: u32) -> [usize; 4] {
     [
         number_of(pool.owned(tenant, 0)),
         number_of(pool.owned(tenant, 1)),
@@ -60,8 +62,8 @@ fn owned(pool: &SpanPool<KeyedSpan>, tenant: u32) -> [usize; 4] {
 /// Puts a span. Where memory is refused, what both own is the same, and the span is there to be put again.
 fn put(
     rt: &impl Abort,
-    pool: &mut SpanPool<KeyedSpan>,
-    span: KeyedSpan,
+    pool: &mut SpanPool<StoredSpan>,
+    span: StoredSpan,
 ) -> Result<usize, AllocError> {
     let before = (owned(pool, 7), owned(pool, 8));
     match pool.put(span) {
@@ -73,7 +75,7 @@ fn put(
     }
 }
 
-fn taken(pool: &mut SpanPool<KeyedSpan>, tenant: u32, key: usize) -> usize {
+fn taken(pool: &mut SpanPool<StoredSpan>, tenant: u32, key: usize) -> usize {
     match pool.take(tenant, key) {
         Ok(span) => number_of(Some(&span)),
         Err(refused) => refused.number() as usize,
@@ -82,7 +84,7 @@ fn taken(pool: &mut SpanPool<KeyedSpan>, tenant: u32, key: usize) -> usize {
 
 fn given(
     rt: &impl Abort,
-    pool: &mut SpanPool<KeyedSpan>,
+    pool: &mut SpanPool<StoredSpan>,
     step: &Step<'_>,
 ) -> Result<usize, AllocError> {
     match step.call {
@@ -153,7 +155,16 @@ fn many_spans_come(rt: HostRuntime) -> Result<(), Fail> {
 fn the_refusal_has_a_text(rt: HostRuntime) -> Result<(), Fail> {
     let text = format!(in rt.alloc(); "{NotYours}")?;
     assert!(rt; text.as_str() == "the tenant owns no span at this key");
-    each_span_has_one_owner::<KeyedSpan>();
+    each_span_has_one_owner::<StoredSpan>();
     read_spans_are_viewed();
     Ok(())
 }
+
+/// The definitions, on small inputs, give what was worked out by hand.
+fn definitions_of_kept_spans()
+    ensures same_resources { SameResources }
+    ensures same_scopes { SameScopes }
+    ensures equal_origins { EqualOrigins }
+    ensures read_spans { ReadSpans }
+    ensures read_resources { ReadResources }
+{}
