@@ -1,5 +1,5 @@
 -- Which small ledgers are sound, worked out by hand.
-use Rattle.std.specs.Prelude.{◌≡◌, ◌^◌}
+use Rattle.std.specs.Prelude.{◌^◌}
 use Rattle.drop_ledger.specs.Ledger.{LedgerData, IsSound, no_places, no_spans}
 
 -- three spans that wait for the decision

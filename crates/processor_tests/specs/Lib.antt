@@ -1,13 +1,7 @@
 pub mod Views
 pub mod Policies
-pub mod Notes
-pub mod Batching
 pub mod BatchTexts
 pub mod Ledgers
-pub mod Retries
-pub mod Queues
+pub mod Senders
 pub mod Parts
 pub mod Rows
-pub mod Batches
-pub mod Jobs
-pub mod Drains

@@ -1,14 +1,12 @@
 -- What the examples are made of: settings, spans, posts and counters.
-use Rattle.std.specs.Prelude.{ℕ, pos, List, [], ◌∷◌, ◌++◌, replicate, Option, Some, None}
-use Rattle.tail_settings.specs.Policy.{always_sample, PolicyData, leaf}
+use Rattle.std.specs.Prelude.{ℕ, pos, List, [], ◌∷◌, ◌++◌, replicate, None}
+use Rattle.tail_settings.specs.Policy.{always_sample, leaf}
 use Rattle.tail_settings.specs.Section.{SectionData}
 use Rattle.drop_ledger.specs.declared.places.Places.{Places}
-use Rattle.drop_ledger.specs.Ledger.{LedgerData, no_places}
-use Rattle.send_retry.specs.Class.{AnswerData, Http}
+use Rattle.drop_ledger.specs.Ledger.{LedgerData}
+use Rattle.send_retry.specs.Class.{Http}
 use Rattle.tenant_rules.specs.Arrivals.{Arrival}
 use Rattle.tenant_rules.specs.Own.{Own, Post, Answer}
-use Rattle.tenant_rules.specs.State.{State, state}
-use Rattle.tenant_rules.specs.Machine.{next}
 
 -- ---- settings
 
@@ -36,33 +34,9 @@ with_rows most = record plain {
   tail_sampling = record { decision_wait = 1000; num_traces = most; policies = leaf always_sample ∷ [] };
 }
 
--- with another policy
-abbrev pub with_policy : PolicyData → SectionData
-with_policy policy = record plain {
-  tail_sampling = record { decision_wait = 1000; num_traces = 50000; policies = policy ∷ [] };
-}
-
 -- so many spans at most
 abbrev pub with_budget : ℕ → SectionData
 with_budget most = record plain { max_spans = most }
-
--- a size that fills a batch, its timeout, and its greatest size
-abbrev pub with_batch : ℕ → ℕ → ℕ → SectionData
-with_batch size timeout most =
-    record plain { batch = record { send_batch_size = size; timeout = timeout; send_batch_max_size = most } }
-
--- one batch waits at most, and attempts end after so many milliseconds
-abbrev pub impatient : ℕ → SectionData
-impatient longest = record plain {
-  sending_queue = record { queue_size = 1; num_consumers = 1 };
-  retry_on_failure = record {
-    initial_interval = 5000;
-    max_interval = 30000;
-    max_elapsed_time = longest;
-    multiplier = 1500;
-    randomization_factor = 500;
-  };
-}
 
 -- ---- spans
 
@@ -70,28 +44,20 @@ impatient longest = record plain {
 abbrev pub text : ℕ → ℕ → List ℕ
 text trace id = 10 ∷ 16 ∷ (replicate 16 trace ++ (18 ∷ 8 ∷ replicate 8 id))
 
--- that span, under a schema URL of its resource, with a status code
-abbrev pub span_with : List ℕ → ℕ → ℕ → ℕ → Arrival
-span_with url status trace id = record {
+-- that span, without resource and scope
+abbrev pub span : ℕ → ℕ → Arrival
+span trace id = record {
   facts = record {
     trace_id = replicate 16 trace;
     span_id = replicate 8 id;
     start_time_unix_nano = 0;
     end_time_unix_nano = 0;
-    status = pos status;
+    status = pos 0;
     attributes = [];
   };
   text = text trace id;
-  origin = record { resource = None; resource_schema_url = url; scope = None; scope_schema_url = [] };
+  origin = record { resource = None; resource_schema_url = []; scope = None; scope_schema_url = [] };
 }
-
--- without either
-abbrev pub span : ℕ → ℕ → Arrival
-span trace id = span_with [] 0 trace id
-
--- whose status is ERROR
-abbrev pub failed : ℕ → ℕ → Arrival
-failed trace id = span_with [] 2 trace id
 
 -- a request with that span alone
 abbrev pub body : ℕ → ℕ → List ℕ
@@ -100,11 +66,6 @@ body trace id = 10 ∷ 32 ∷ 18 ∷ 30 ∷ 18 ∷ 28 ∷ text trace id
 -- a request with two spans of one scope
 abbrev pub body_of_two : List ℕ → List ℕ → List ℕ
 body_of_two one other = 10 ∷ 62 ∷ 18 ∷ 60 ∷ 18 ∷ 28 ∷ (one ++ (18 ∷ 28 ∷ other))
-
--- a request with three
-abbrev pub body_of_three : List ℕ → List ℕ → List ℕ → List ℕ
-body_of_three one other last =
-    10 ∷ 92 ∷ 18 ∷ 90 ∷ 18 ∷ 28 ∷ (one ++ (18 ∷ 28 ∷ (other ++ (18 ∷ 28 ∷ last))))
 
 -- a post of one span
 abbrev pub one : ℕ → ℕ → ℕ → Own
@@ -119,10 +80,3 @@ status now ticket word code = Answer now ticket word (Http code None [])
 -- so many spans were taken, and stand in these places
 abbrev pub counts : ℕ → Places → LedgerData
 counts accepted places = record { accepted = accepted; places = places; invalid = 0; over_budget = 0 }
-
--- ---- the machine
-
--- the state that the machine comes to by these steps, the newest first
-abbrev pub by_machine : SectionData → List Own → State
-by_machine section [] = state section []
-by_machine section (step ∷ past) = next step (by_machine section past)

@@ -1,23 +1,14 @@
--- Posts, rows, eviction and budget, on examples that were worked out by hand: what a tenant is told, what is counted,
--- and that the machine comes to the same state.
-use Rattle.std.specs.Prelude.{◌≡◌, ℕ, List, [], ◌∷◌, codes, Option, Some, None}
-use Rattle.tail_settings.specs.Policy.{error, status_code, leaf}
-use Rattle.tail_settings.specs.Section.{SectionData}
-use Rattle.drop_ledger.specs.Ledger.{LedgerData, no_places, no_spans}
+-- Posts, rows, eviction and budget, on examples that were worked out by hand: what a tenant is told, and what is
+-- counted.
+use Rattle.std.specs.Prelude.{◌≡◌, List, [], ◌∷◌, codes, Some, None}
+use Rattle.drop_ledger.specs.Ledger.{no_places, no_spans}
 use Rattle.drop_ledger.specs.Report.{report_text}
 use Rattle.tenant_rules.specs.declared.told.Told.TheVariants as tell
-use Rattle.tenant_rules.specs.Own.{Own, Post, Turn, Answer, Report}
+use Rattle.tenant_rules.specs.Own.{Own, Post, Turn, Report}
 use Rattle.tenant_rules.specs.State.{state, ledger}
 use Rattle.tenant_rules.specs.Answers.{answer}
 use Rattle.tenant_rules.specs.Ready.{ready}
-use Rattle.processor_tests.specs.Parts.{by_machine, plain, with_rows, with_policy, with_budget, span, failed, body, body_of_two, text, one, status, counts}
-
--- an empty body is taken, and there is nothing to do for it
-pub record EmptyBody : Type 0 where
-  pub reply : answer plain [] (Post 0 []) ≡ tell.Reply (record { status = 200; body = [] })
-  pub counted : ledger plain (Post 0 [] ∷ []) ≡ no_spans
-  pub never_ready : ready (state plain (Post 0 [] ∷ [])) ≡ None
-  pub by_steps : state plain (Post 0 [] ∷ []) ≡ by_machine plain (Post 0 [] ∷ [])
+use Rattle.processor_tests.specs.Parts.{plain, with_rows, with_budget, span, body, body_of_two, text, one, status, counts}
 
 -- a span leaves a second after it came, and is exported; before, nothing is counted
 pub record OneSpan : Type 0 where
@@ -33,21 +24,6 @@ pub record OneSpan : Type 0 where
       tell.UnknownTicket
   pub report : answer plain (status 1000 1 0 200 ∷ Turn 1000 ∷ one 0 17 33 ∷ []) (Report 1000) ≡
       tell.Report (report_text (counts 1 (record no_places { exported = 1 })))
-  pub by_steps : state plain (status 1000 1 0 200 ∷ Turn 1000 ∷ one 0 17 33 ∷ []) ≡
-      by_machine plain (status 1000 1 0 200 ∷ Turn 1000 ∷ one 0 17 33 ∷ [])
-
--- a span with too short a trace id beside a valid one
-pub record OneInvalid : Type 0 where
-  pub reply : answer plain [] (Post 0 (span 0 34 ∷ span 17 33 ∷ [])) ≡
-      tell.Reply (record {
-        status = 200;
-        body = 10 ∷ 38 ∷ 8 ∷ 1 ∷ 18 ∷ 34 ∷ codes "rejected: 1 invalid, 0 over budget";
-      })
-  pub counted : ledger plain (Post 0 (span 0 34 ∷ span 17 33 ∷ []) ∷ []) ≡
-      record (counts 1 (record no_places { undecided = 1 })) { invalid = 1 }
-  pub leaves : answer plain (Post 0 (span 0 34 ∷ span 17 33 ∷ []) ∷ []) (Turn 1000) ≡ tell.Job 1 (body 17 33)
-  pub by_steps : state plain (Post 0 (span 0 34 ∷ span 17 33 ∷ []) ∷ []) ≡
-      by_machine plain (Post 0 (span 0 34 ∷ span 17 33 ∷ []) ∷ [])
 
 -- a span a millisecond before the decision leaves with the first, one at the decision leaves alone, once the only
 -- consumer is free
@@ -58,31 +34,8 @@ pub record Boundary : Type 0 where
   pub both : answer plain boundary (Turn 1000) ≡ tell.Job 1 (body_of_two (text 17 33) (text 17 34))
   pub no_consumer : ready (state plain (Turn 1000 ∷ boundary)) ≡ None
   pub done : answer plain (Turn 1000 ∷ boundary) (status 1000 1 0 200) ≡ tell.Done
-  pub by_steps : state plain (Turn 1000 ∷ boundary) ≡ by_machine plain (Turn 1000 ∷ boundary)
   pub alone : answer plain (status 1000 1 0 200 ∷ Turn 1000 ∷ one 1000 17 35 ∷ one 0 17 33 ∷ []) (Turn 1000) ≡
       tell.Job 2 (body 17 35)
-
--- where only failed traces are sampled, a failed span that comes after the decision changes nothing
-abbrev pub errors_alone : SectionData
-errors_alone = with_policy (leaf (status_code (error ∷ [])))
-
-pub record LateFailure : Type 0 where
-  pub counted : ledger errors_alone (Turn 5000 ∷ Post 3000 (failed 17 34 ∷ []) ∷ one 0 17 33 ∷ []) ≡
-      counts 2 (record no_places { not_sampled = 2 })
-  pub not_ready : ready (state errors_alone (Post 3000 (failed 17 34 ∷ []) ∷ one 0 17 33 ∷ [])) ≡ None
-  pub by_steps : state errors_alone (Turn 5000 ∷ Post 3000 (failed 17 34 ∷ []) ∷ one 0 17 33 ∷ []) ≡
-      by_machine errors_alone (Turn 5000 ∷ Post 3000 (failed 17 34 ∷ []) ∷ one 0 17 33 ∷ [])
-
--- two rows at most: the third one evicts the first, and the first one's trace then opens a fourth
-abbrev pub three_traces : List Own
-three_traces = one 0 19 35 ∷ one 0 18 34 ∷ one 0 17 33 ∷ []
-
-pub record Evicted : Type 0 where
-  pub once : ledger (with_rows 2) three_traces ≡ counts 3 (record no_places { undecided = 2; too_early = 1 })
-  pub twice : ledger (with_rows 2) (one 0 17 36 ∷ three_traces) ≡
-      counts 4 (record no_places { undecided = 2; too_early = 2 })
-  pub by_steps : state (with_rows 2) (one 0 17 36 ∷ three_traces) ≡
-      by_machine (with_rows 2) (one 0 17 36 ∷ three_traces)
 
 -- one row at most: three traces in one post evict each other
 pub record EvictedInOnePost : Type 0 where
@@ -90,8 +43,6 @@ pub record EvictedInOnePost : Type 0 where
       counts 3 (record no_places { undecided = 1; too_early = 2 })
   pub last_leaves : answer (with_rows 1) (Post 0 (span 17 33 ∷ span 18 34 ∷ span 17 35 ∷ []) ∷ []) (Turn 1000) ≡
       tell.Job 1 (body 17 35)
-  pub by_steps : state (with_rows 1) (Post 0 (span 17 33 ∷ span 18 34 ∷ span 17 35 ∷ []) ∷ []) ≡
-      by_machine (with_rows 1) (Post 0 (span 17 33 ∷ span 18 34 ∷ span 17 35 ∷ []) ∷ [])
 
 -- one row at most: a late span, then a row that evicts one that was decided, then one that evicts one that wasn't
 abbrev pub mixed : List Own
@@ -99,24 +50,6 @@ mixed = Turn 9000 ∷ Post 1500 (span 18 35 ∷ span 17 36 ∷ []) ∷ one 1000 
 
 pub record EvictedAfterDecision : Type 0 where
   pub counted : ledger (with_rows 1) mixed ≡ counts 4 (record no_places { queued = 2; active = 1; too_early = 1 })
-  pub by_steps : state (with_rows 1) mixed ≡ by_machine (with_rows 1) mixed
-
--- two spans at most are held
-abbrev pub two_and_one : List Own
-two_and_one = Post 0 (span 17 33 ∷ span 17 34 ∷ span 17 35 ∷ []) ∷ []
-
-pub record OverBudget : Type 0 where
-  pub partly : answer (with_budget 2) [] (Post 0 (span 17 33 ∷ span 17 34 ∷ span 17 35 ∷ [])) ≡
-      tell.Reply (record {
-        status = 200;
-        body = 10 ∷ 38 ∷ 8 ∷ 1 ∷ 18 ∷ 34 ∷ codes "rejected: 0 invalid, 1 over budget";
-      })
-  pub not_at_all : answer (with_budget 2) two_and_one (one 0 18 36) ≡
-      tell.Reply (record { status = 429; body = 18 ∷ 21 ∷ codes "span budget exhausted" })
-  pub counted : ledger (with_budget 2) (one 0 18 36 ∷ two_and_one) ≡
-      record (counts 2 (record no_places { undecided = 2 })) { over_budget = 1 }
-  pub by_steps : state (with_budget 2) (one 0 18 36 ∷ two_and_one) ≡
-      by_machine (with_budget 2) (one 0 18 36 ∷ two_and_one)
 
 -- one span at most is held: late spans leave at once, and go past the budget of those that wait
 abbrev pub late_and_new : List Own
@@ -130,7 +63,6 @@ pub record LatePastBudget : Type 0 where
       tell.Reply (record { status = 429; body = 18 ∷ 21 ∷ codes "span budget exhausted" })
   pub late_is_full_too : answer (with_budget 1) late_and_new (one 1000 17 36) ≡
       tell.Reply (record { status = 429; body = 18 ∷ 21 ∷ codes "span budget exhausted" })
-  pub by_steps : state (with_budget 1) late_and_new ≡ by_machine (with_budget 1) late_and_new
 
 -- one span at most is held: a turn in between changes no reply but by its moment, and where that is later than the
 -- post's, time has gone on and the row is decided

@@ -7,9 +7,9 @@ use Rattle.pb_wire.specs.Grammar.{Varint, Bytes}
 use Rattle.otlp_trace.specs.Data.{KeyValueData, KindData, any_value, bare_key, key_value, ResourceData, SpanData}
 use Rattle.otlp_trace.specs.Data as otlp
 use Rattle.otlp_read.specs.Value.{no_span}
-use Rattle.span_view.specs.Facts.{unset, string, boolean, int, double, array, kvlist, bytes, ValueFact}
+use Rattle.span_view.specs.Facts.{unset, string, boolean, array, bytes, ValueFact}
 use Rattle.span_view.specs.Facts.{AttributeFact, SpanFacts, facts, AreText}
-use Rattle.span_view.specs.Reading.{value_in, facts_of}
+use Rattle.span_view.specs.Reading.{facts_of}
 use Rattle.span_view.specs.Canonical.{NotInSpan, IsSpanText, IsResourceText}
 
 abbrev pub attribute : List ℕ → ValueFact → AttributeFact
@@ -104,35 +104,10 @@ pub record Told : Type 0 where
   pub of_texts : facts_of small_span_text small_resource_text ≡ small_facts
   -- neither status nor resource
   pub of_none : facts no_span None ≡ nothing
-  pub of_no_bytes : facts_of [] [] ≡ nothing
   -- a status with a message alone, and one of minus two
-  pub no_code : facts_of (0x7a ∷ 0x03 ∷ 0x12 ∷ 0x01 ∷ 0x6d ∷ []) [] ≡ nothing
-  pub negative : facts_of (0x7a ∷ 0x0b ∷ 0x18 ∷ minus_two) [] ≡ record nothing { status = negsuc 1 }
   -- an array tells nothing of its members
   pub of_array : facts span_of_array None ≡ record nothing { attributes = attribute (codes "a") array ∷ [] }
   -- the first of two trace ids, behind the number 1 as a varint; and nothing behind a place where no field begins
-  pub first : facts_of (0x08 ∷ 0x09 ∷ 0x0a ∷ 0x01 ∷ 0x01 ∷ 0x0a ∷ 0x01 ∷ 0x02 ∷ []) [] ≡ one_byte_id
-  pub up_to_no_field : facts_of (0x0a ∷ 0x01 ∷ 0x01 ∷ 0x00 ∷ 0x12 ∷ 0x01 ∷ 0x03 ∷ []) [] ≡ one_byte_id
-
--- ---- values
-
--- 1.0
-abbrev pub one_point_zero : List ℕ
-one_point_zero = 0x00 ∷ 0x00 ∷ 0x00 ∷ 0x00 ∷ 0x00 ∷ 0x00 ∷ 0xf0 ∷ 0x3f ∷ []
-
-pub record Members : Type 0 where
-  pub no_member : value_in [] ≡ unset
-  pub empty_string : value_in (0x0a ∷ 0x00 ∷ []) ≡ string []
-  pub of_bool : value_in (0x10 ∷ 0x01 ∷ []) ≡ boolean true
-  pub negative : value_in (0x18 ∷ minus_two) ≡ int (negsuc 1)
-  pub of_double : value_in (0x21 ∷ one_point_zero) ≡ double one_point_zero
-  -- [7], and no keys
-  pub of_array : value_in (0x2a ∷ 0x04 ∷ 0x0a ∷ 0x02 ∷ 0x18 ∷ 0x07 ∷ []) ≡ array
-  pub of_list : value_in (0x32 ∷ 0x00 ∷ []) ≡ kvlist
-  pub of_bytes : value_in (0x3a ∷ 0x02 ∷ 0xff ∷ 0x00 ∷ []) ≡ bytes (0xff ∷ 0x00 ∷ [])
-  -- the first field tells; here it is 7 of the member int, and here a field that no value has
-  pub first : value_in (0x18 ∷ 0x07 ∷ 0x10 ∷ 0x01 ∷ []) ≡ int (pos 7)
-  pub unknown : value_in (0x40 ∷ 0x01 ∷ 0x10 ∷ 0x01 ∷ []) ≡ unset
 
 -- ---- canonical texts
 

@@ -6,11 +6,15 @@
 #![tactic(auto)]
 
 #[cfg(test)]
+mod answers;
+#[cfg(test)]
 mod batch_text;
 #[cfg(test)]
 mod batcher;
 #[cfg(test)]
 mod ledgers;
+#[cfg(test)]
+mod lines;
 #[cfg(test)]
 mod notes;
 #[cfg(test)]
@@ -23,7 +27,5 @@ mod retries;
 mod rules;
 #[cfg(test)]
 mod senders;
-#[cfg(test)]
-mod sending;
 #[cfg(test)]
 mod views;

@@ -1,7 +1,7 @@
 //! Notes of spans, and what is decided by them.
 
-ghost use Rattle.processor_tests.specs.Notes.{Bits, Kept, Joined, Decided};
-
+use crate::lines::{cut, number, words};
+use crate::policies::{RESOURCE, checked, loaded, policies_of, span_of};
 use span_view::{SpanRef, is_text};
 use std::alloc::Global;
 use std::process::Abort;
@@ -9,64 +9,20 @@ use std::test::Fail;
 use tail_policy::{
     AllOf, AnyOf, Policy, PolicyByParts, TenantPolicies, TraceNote, keeps, views_of_parts,
 };
-use tail_settings::{Settings, load};
+use tail_settings::Settings;
 
-/// From 5 to 1,000,000,005, with a status of code 2.
-const ERROR: &[u8] =
-    b"\x39\x05\x00\x00\x00\x00\x00\x00\x00\x41\x05\xca\x9a\x3b\x00\x00\x00\x00\x7a\x02\x18\x02";
-
-/// At 0: attributes `k`, first the string `v`, then the number 7.
-const TWICE: &[u8] = b"\x4a\x08\x0a\x01k\x12\x03\x0a\x01v\x4a\x07\x0a\x01k\x12\x02\x18\x07";
-
-/// From 0 to 2^64 - 1.
-const WHOLE_TIME: &[u8] = b"\x41\xff\xff\xff\xff\xff\xff\xff\xff";
-
-/// From 2^64 - 1 to 0.
-const BACKWARDS: &[u8] = b"\x39\xff\xff\xff\xff\xff\xff\xff\xff";
-
-const NO_RESOURCE: &[u8] = b"";
-
-/// A resource with an attribute `k`, the string `w`.
-const RESOURCE: &[u8] = b"\x0a\x08\x0a\x01k\x12\x03\x0a\x01w";
-
-/// A resource with an attribute `k`, the number 8.
-const EIGHT: &[u8] = b"\x0a\x07\x0a\x01k\x12\x02\x18\x08";
-
-/// One of each kind, and two that are joined. Bits, from the lowest: always, latency, status, text, number; status and
-/// text of the `and`.
-const EACH_KIND: &str = "[{ type = \"always_sample\" }, \
-{ type = \"latency\", threshold_ms = 1000 }, \
-{ type = \"status_code\", status_codes = [\"ERROR\"] }, \
-{ type = \"string_attribute\", key = \"k\", values = [\"v\", \"w\"] }, \
-{ type = \"numeric_attribute\", key = \"k\", min_value = 7, max_value = 8 }, \
-{ type = \"and\", and_sub_policy = [\
-{ type = \"status_code\", status_codes = [\"ERROR\"] }, \
-{ type = \"string_attribute\", key = \"k\", values = [\"v\"] }] }]";
-
-/// The greatest latency, 2^40 milliseconds.
-const LONG: &str = "[{ type = \"latency\", threshold_ms = 1099511627776 }]";
-
-const IS_ERROR: &str = "[{ type = \"status_code\", status_codes = [\"ERROR\"] }]";
-
-const HAS_V: &str = "[{ type = \"string_attribute\", key = \"k\", values = [\"v\"] }]";
-
-const HAS_W: &str = "[{ type = \"string_attribute\", key = \"k\", values = [\"w\"] }]";
-
-/// An error and a text, or a number.
-const SEVERAL: &str = "[{ type = \"and\", and_sub_policy = [\
-{ type = \"status_code\", status_codes = [\"ERROR\"] }, \
-{ type = \"string_attribute\", key = \"k\", values = [\"v\"] }] }, \
-{ type = \"numeric_attribute\", key = \"k\", min_value = 8, max_value = 8 }]";
-
-fn checked<'a>(rt: &impl Abort, span: &'a [u8], resource: &'a [u8]) -> SpanRef<'a> {
-    assert!(rt; is_text(span, resource));
-    SpanRef::of(span, resource)
+/// A resource by a name: with an attribute `k`, the string `w` or the number 8, or without.
+fn resource_of(name: &str) -> &'static [u8] {
+    match name {
+        "w" => RESOURCE,
+        "8" => b"\x0a\x07\x0a\x01k\x12\x02\x18\x08",
+        _ => b"",
+    }
 }
 
-/// The settings of one tenant with the policies of this array in TOML.
-fn loaded(alloc: Global, policies: &str) -> Result<Settings, Fail> {
-    let text = format!(in alloc; "[[tenant]]\nname = \"a\"\ntail_sampling.policy = {policies}\n")?;
-    Ok(load(alloc, text.as_str())?)
+/// A note as three words spell it: which bits are set, and the first start and the last end.
+fn note_of(met: &str, start: &str, end: &str) -> TraceNote {
+    TraceNote::new(number(met), number(start), number(end))
 }
 
 /// Whether these policies keep this of a span, by one view of both texts and by each text alone.
@@ -81,68 +37,56 @@ fn is_noted(
     assert!(rt; is_text(b"", resource));
     let shared = policies.resource_note(resource)?;
     let own = policies.note(&checked(rt, span, b""))?;
-    let by_parts = policies.with_resource(&shared, own);
-    Ok(whole == note && by_parts == note)
+    Ok(whole == note && policies.with_resource(&shared, own) == note)
 }
+
+/// A span, a resource, and their note under one policy of each kind. An error meets both policies of it, and no policy
+/// of time or of always needs a bit; both occurrences of a key count, and the resource's.
+const NOTES: &str = "\
+late-error - = 36 5 1000000005
+late-error w = 44 5 1000000005
+twice - = 88 0 0
+twice 8 = 88 0 0
+whole 8 = 16 0 18446744073709551615
+backwards w = 8 18446744073709551615 0";
 
 #[test]
 fn notes_of_each_kind(rt: HostRuntime) -> Result<(), Fail> {
-    let settings = loaded(rt.alloc(), EACH_KIND)?;
+    let settings = loaded(rt.alloc(), policies_of("each"))?;
     let section = settings.section(0).ok_or("no section")?;
     let policies = TenantPolicies::of(&section.tail_sampling.policies);
-    for (span, resource, note) in [
-        // An error meets both policies of it, and no policy of time or of always needs a bit.
-        (
-            ERROR,
-            NO_RESOURCE,
-            TraceNote::new(0b0100100, 5, 1_000_000_005),
-        ),
-        (ERROR, RESOURCE, TraceNote::new(0b0101100, 5, 1_000_000_005)),
-        // Both occurrences of the key, and the resource's.
-        (TWICE, NO_RESOURCE, TraceNote::new(0b1011000, 0, 0)),
-        (TWICE, EIGHT, TraceNote::new(0b1011000, 0, 0)),
-        // The resource's alone.
-        (
-            WHOLE_TIME,
-            EIGHT,
-            TraceNote::new(0b0010000, 0, 18_446_744_073_709_551_615),
-        ),
-        (
-            BACKWARDS,
-            RESOURCE,
-            TraceNote::new(0b0001000, 18_446_744_073_709_551_615, 0),
-        ),
-    ] {
-        assert!(rt; is_noted(&rt, &policies, span, resource, note)?);
+    for line in NOTES.lines() {
+        let [span, resource, _, met, start, end, _] = words(line);
+        let note = note_of(met, start, end);
+        assert!(rt;
+            is_noted(&rt, &policies, span_of(span), resource_of(resource), note)?,
+            "at {line}"
+        );
     }
     Ok(())
 }
 
+/// Two notes, and theirs together: all bits, the first start and the last end.
+const JOINED: &str = "\
+36 5 9 88 3 7 = 124 3 9
+1 0 0 1 18446744073709551615 18446744073709551615 = 1 0 18446744073709551615
+0 18446744073709551615 0 2 18446744073709551615 0 = 2 18446744073709551615 0
+1 9 5 2 7 6 = 3 7 6";
+
 #[test]
 fn joined_notes_have_all_bits_and_both_ends(rt: HostRuntime) -> Result<(), Fail> {
-    let settings = loaded(rt.alloc(), EACH_KIND)?;
+    let settings = loaded(rt.alloc(), policies_of("each"))?;
     let section = settings.section(0).ok_or("no section")?;
     let policies = TenantPolicies::of(&section.tail_sampling.policies);
-    let last = u64::MAX;
-    for (first, second, whole) in [
-        (
-            TraceNote::new(0b0100100, 5, 9),
-            TraceNote::new(0b1011000, 3, 7),
-            TraceNote::new(0b1111100, 3, 9),
-        ),
-        (
-            TraceNote::new(1, 0, 0),
-            TraceNote::new(1, last, last),
-            TraceNote::new(1, 0, last),
-        ),
-        (
-            TraceNote::new(0, last, 0),
-            TraceNote::new(2, last, 0),
-            TraceNote::new(2, last, 0),
-        ),
-    ] {
-        assert_eq!(rt; policies.join(first, second), whole);
-        assert_eq!(rt; policies.join(second, first), whole);
+    for line in JOINED.lines() {
+        let (two, wanted) = cut(line, " = ");
+        let [met, start, end, other_met, other_start, other_end, _] = words(two);
+        let first = note_of(met, start, end);
+        let second = note_of(other_met, other_start, other_end);
+        let [met, start, end, _, _, _, _] = words(wanted);
+        let whole = note_of(met, start, end);
+        assert!(rt; policies.join(first, second) == whole, "at {line}");
+        assert!(rt; policies.join(second, first) == whole, "at {line}");
     }
     Ok(())
 }
@@ -164,23 +108,57 @@ fn is_sampled(
     Ok(is_sampled)
 }
 
+/// Policies, two spans, and whether their trace is sampled. What is joined may be met by different spans, and another
+/// policy is enough.
+const VERDICTS: &str = "\
+each backwards backwards = yes
+longest whole backwards = yes
+longest backwards backwards = no
+longest twice late-error = no
+error twice late-error = yes
+error twice twice = no
+both-or-8 twice late-error = yes
+both-or-8 late-error late-error = no
+both-or-8 twice twice = no";
+
 #[test]
 fn verdicts_by_notes(rt: HostRuntime) -> Result<(), Fail> {
-    for (policies, first, second, sampled) in [
-        (EACH_KIND, BACKWARDS, BACKWARDS, true),
-        // From 0 to 2^64 - 1, and backwards.
-        (LONG, WHOLE_TIME, BACKWARDS, true),
-        (LONG, BACKWARDS, BACKWARDS, false),
-        (LONG, TWICE, ERROR, false),
-        (IS_ERROR, TWICE, ERROR, true),
-        (IS_ERROR, TWICE, TWICE, false),
-        // What is joined may be met by different spans, and another policy is enough.
-        (SEVERAL, TWICE, ERROR, true),
-        (SEVERAL, ERROR, ERROR, false),
-        (SEVERAL, TWICE, TWICE, false),
-    ] {
-        let spans = [checked(&rt, first, b""), checked(&rt, second, b"")];
-        assert!(rt; is_sampled(&rt, rt.alloc(), policies, &spans)? == sampled);
+    for line in VERDICTS.lines() {
+        let [policies, first, second, _, wanted, _, _] = words(line);
+        let first = checked(&rt, span_of(first), b"");
+        let second = checked(&rt, span_of(second), b"");
+        let sampled = is_sampled(&rt, rt.alloc(), policies_of(policies), &[first, second])?;
+        assert!(rt; sampled == (wanted == "yes"), "at {line}");
+    }
+    Ok(())
+}
+
+/// Whether the policies of this array sample a trace of a note.
+fn is_sampled_by(alloc: Global, policies: &str, note: TraceNote) -> Result<bool, Fail> {
+    let settings = loaded(alloc, policies)?;
+    let section = settings.section(0).ok_or("no section")?;
+    Ok(TenantPolicies::of(&section.tail_sampling.policies).verdict(&note))
+}
+
+/// Policies, a note, and whether its trace is sampled. The bit of a policy of time says nothing.
+const DECIDED: &str = "\
+both-or-8 0 5 9 = no
+both-or-8 4 5 9 = yes
+both-or-8 1 5 9 = no
+both-or-8 2 5 9 = no
+both-or-8 3 5 9 = yes
+each 0 9 5 = yes
+second 1 5 1000000004 = no
+second 0 5 1000000005 = yes
+second 0 1000000005 5 = no";
+
+#[test]
+fn notes_are_decided(rt: HostRuntime) -> Result<(), Fail> {
+    for line in DECIDED.lines() {
+        let [policies, met, start, end, _, wanted, _] = words(line);
+        let note = note_of(met, start, end);
+        let sampled = is_sampled_by(rt.alloc(), policies_of(policies), note)?;
+        assert!(rt; sampled == (wanted == "yes"), "at {line}");
     }
     Ok(())
 }
@@ -201,36 +179,55 @@ fn sixty_four(alloc: Global) -> Result<String, Fail> {
     Ok(text)
 }
 
+/// A span with an attribute `k` of a number.
+fn numbered(name: &str) -> &'static [u8] {
+    match name {
+        "0" => b"\x4a\x07\x0a\x01k\x12\x02\x18\x00",
+        "62" => b"\x4a\x07\x0a\x01k\x12\x02\x18\x3e",
+        "63" => b"\x4a\x07\x0a\x01k\x12\x02\x18\x3f",
+        _ => b"\x4a\x07\x0a\x01k\x12\x02\x18\x40",
+    }
+}
+
+/// A number, and which bits are set.
+const BITS: &str = "\
+0 = 1
+62 = 4611686018427387904
+63 = 9223372036854775808
+64 = 0";
+
 #[test]
 fn sixty_four_policies_have_a_bit_each(rt: HostRuntime) -> Result<(), Fail> {
     let text = sixty_four(rt.alloc())?;
     let settings = loaded(rt.alloc(), text.as_str())?;
     let section = settings.section(0).ok_or("no section")?;
     let policies = TenantPolicies::of(&section.tail_sampling.policies);
-    // An attribute `k` of 0, 62, 63 and 64.
-    for (span, met) in [
-        (b"\x4a\x07\x0a\x01k\x12\x02\x18\x00", 1),
-        (
-            b"\x4a\x07\x0a\x01k\x12\x02\x18\x3e",
-            4_611_686_018_427_387_904,
-        ),
-        (
-            b"\x4a\x07\x0a\x01k\x12\x02\x18\x3f",
-            9_223_372_036_854_775_808,
-        ),
-        (b"\x4a\x07\x0a\x01k\x12\x02\x18\x40", 0),
-    ] {
-        assert!(rt; is_noted(&rt, &policies, span, b"", TraceNote::new(met, 0, 0))?);
+    for line in BITS.lines() {
+        let (name, met) = cut(line, " = ");
+        let note = note_of(met, "0", "0");
+        assert!(rt;
+            is_noted(&rt, &policies, numbered(name), b"", note)?,
+            "at {line}"
+        );
     }
-    // The last policy alone; all of the `and`, none missing, and but one.
-    for (met, sampled) in [
-        (9_223_372_036_854_775_808, true),
-        (9_223_372_036_854_775_807, true),
-        (9_223_372_036_854_775_806, false),
-        (4_611_686_018_427_387_903, false),
-        (0, false),
-    ] {
-        assert!(rt; policies.verdict(&TraceNote::new(met, 0, 0)) == sampled);
+    Ok(())
+}
+
+/// The last policy alone; all of the `and`, none missing, and but one.
+const SIXTY_FOUR_DECIDED: &str = "\
+9223372036854775808 = yes
+9223372036854775807 = yes
+9223372036854775806 = no
+4611686018427387903 = no
+0 = no";
+
+#[test]
+fn sixty_four_policies_are_decided(rt: HostRuntime) -> Result<(), Fail> {
+    let text = sixty_four(rt.alloc())?;
+    for line in SIXTY_FOUR_DECIDED.lines() {
+        let (met, wanted) = cut(line, " = ");
+        let sampled = is_sampled_by(rt.alloc(), text.as_str(), note_of(met, "0", "0"))?;
+        assert!(rt; sampled == (wanted == "yes"), "at {line}");
     }
     Ok(())
 }
@@ -246,6 +243,51 @@ fn verdict_on<P: Policy>(
     Ok(policy.verdict(&policy.join(one, other)))
 }
 
+/// Whether one of two tenants' policies samples the trace of two spans, and whether both do.
+fn by_one_and_by_both(
+    rt: &impl Abort,
+    settings: &Settings,
+    others: &Settings,
+    first: &str,
+    second: &str,
+) -> Result<(bool, bool), Fail> {
+    let section = &settings.section(0).ok_or("no section")?.tail_sampling;
+    let other = &others.section(0).ok_or("no section")?.tail_sampling;
+    let any = AnyOf {
+        first: TenantPolicies::of(&section.policies),
+        second: TenantPolicies::of(&other.policies),
+    };
+    let all = AllOf {
+        first: TenantPolicies::of(&section.policies),
+        second: TenantPolicies::of(&other.policies),
+    };
+    let one = checked(rt, span_of(first), b"");
+    let two = checked(rt, span_of(second), b"");
+    Ok((verdict_on(&any, &one, &two)?, verdict_on(&all, &one, &two)?))
+}
+
+/// Two spans, and whether an error or a text is enough, and whether both are there, be it by different spans.
+const TWO: &str = "\
+late-error twice = yes yes
+late-error late-error = yes no
+twice twice = yes no
+backwards backwards = no no";
+
+#[test]
+fn one_policy_of_two_or_both(rt: HostRuntime) -> Result<(), Fail> {
+    let errors = loaded(rt.alloc(), policies_of("error"))?;
+    let texts = loaded(rt.alloc(), policies_of("has-v"))?;
+    for line in TWO.lines() {
+        let [first, second, _, one, both, _, _] = words(line);
+        let (by_one, by_both) = by_one_and_by_both(&rt, &errors, &texts, first, second)?;
+        assert!(rt;
+            by_one == (one == "yes") && by_both == (both == "yes"),
+            "at {line}"
+        );
+    }
+    Ok(())
+}
+
 /// The verdict on the trace of one span, by a note of its two parts.
 fn verdict_by_parts<P: PolicyByParts>(
     rt: &impl Abort,
@@ -256,72 +298,45 @@ fn verdict_by_parts<P: PolicyByParts>(
     assert!(rt; is_text(b"", resource));
     let shared = policy.resource_note(resource)?;
     let own = policy.note(&checked(rt, span, b""))?;
-    let note = policy.with_resource(&shared, own);
-    Ok(policy.verdict(&note))
+    Ok(policy.verdict(&policy.with_resource(&shared, own)))
 }
 
-#[test]
-fn one_policy_of_two_or_both(rt: HostRuntime) -> Result<(), Fail> {
-    let errors = loaded(rt.alloc(), IS_ERROR)?;
-    let of_errors = &errors.section(0).ok_or("no section")?.tail_sampling;
-    let texts = loaded(rt.alloc(), HAS_V)?;
-    let of_texts = &texts.section(0).ok_or("no section")?.tail_sampling;
-    let any = AnyOf {
-        first: TenantPolicies::of(&of_errors.policies),
-        second: TenantPolicies::of(&of_texts.policies),
-    };
+/// Whether a span with its resource is sampled where the first policies have to, and the second or the first.
+fn is_sampled_in_parts(
+    rt: &impl Abort,
+    settings: &Settings,
+    others: &Settings,
+    span: &str,
+    resource: &str,
+) -> Result<bool, Fail> {
+    let section = &settings.section(0).ok_or("no section")?.tail_sampling;
+    let other = &others.section(0).ok_or("no section")?.tail_sampling;
     let all = AllOf {
-        first: TenantPolicies::of(&of_errors.policies),
-        second: TenantPolicies::of(&of_texts.policies),
+        first: TenantPolicies::of(&section.policies),
+        second: AnyOf {
+            first: TenantPolicies::of(&other.policies),
+            second: TenantPolicies::of(&section.policies),
+        },
     };
-    for (first, second, one_samples, each_samples) in [
-        // By different spans.
-        (ERROR, TWICE, true, true),
-        (ERROR, ERROR, true, false),
-        (TWICE, TWICE, true, false),
-        (BACKWARDS, BACKWARDS, false, false),
-    ] {
-        let one = checked(&rt, first, b"");
-        let other = checked(&rt, second, b"");
-        assert!(rt; verdict_on(&any, &one, &other)? == one_samples);
-        assert!(rt; verdict_on(&all, &one, &other)? == each_samples);
-    }
-    Ok(())
+    verdict_by_parts(rt, &all, span_of(span), resource_of(resource))
 }
+
+/// A span, a resource, and whether they are sampled.
+const PARTS: &str = "\
+late-error w = yes
+late-error 8 = yes
+twice w = no
+backwards 8 = no";
 
 #[test]
 fn what_resources_tell_two_policies(rt: HostRuntime) -> Result<(), Fail> {
-    let errors = loaded(rt.alloc(), IS_ERROR)?;
-    let of_errors = &errors.section(0).ok_or("no section")?.tail_sampling;
-    let texts = loaded(rt.alloc(), HAS_W)?;
-    let of_texts = &texts.section(0).ok_or("no section")?.tail_sampling;
-    let all = AllOf {
-        first: TenantPolicies::of(&of_errors.policies),
-        second: AnyOf {
-            first: TenantPolicies::of(&of_texts.policies),
-            second: TenantPolicies::of(&of_errors.policies),
-        },
-    };
-    for (span, resource, sampled) in [
-        (ERROR, RESOURCE, true),
-        (ERROR, EIGHT, true),
-        (TWICE, RESOURCE, false),
-        (BACKWARDS, EIGHT, false),
-    ] {
-        assert!(rt; verdict_by_parts(&rt, &all, span, resource)? == sampled);
+    let errors = loaded(rt.alloc(), policies_of("error"))?;
+    let texts = loaded(rt.alloc(), policies_of("has-w"))?;
+    for line in PARTS.lines() {
+        let [span, resource, _, wanted, _, _, _] = words(line);
+        let sampled = is_sampled_in_parts(&rt, &errors, &texts, span, resource)?;
+        assert!(rt; sampled == (wanted == "yes"), "at {line}");
     }
+    views_of_parts();
     Ok(())
 }
-
-#[test]
-fn laws_of_notes_can_be_called(_rt: HostRuntime) {
-    views_of_parts();
-}
-
-/// The definitions, on small inputs, give what was worked out by hand.
-fn definitions_of_notes()
-    ensures bits { Bits }
-    ensures kept { Kept }
-    ensures joined { Joined }
-    ensures decided { Decided }
-{}

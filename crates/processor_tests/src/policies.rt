@@ -1,157 +1,240 @@
-//! Sampling policies.
+//! Sampling policies, over whole lists of spans.
 
 ghost use Rattle.std.specs.Prelude.{◌<◌, length};
-ghost use Rattle.processor_tests.specs.Policies.{Durations, Latencies, Statuses, Strings, Numbers, Several};
+ghost use Rattle.processor_tests.specs.Policies.{NoPolicies};
 
+use crate::lines::{cut, words};
 use span_view::{SpanRef, is_text};
 use std::alloc::Global;
 use std::process::Abort;
 use std::test::Fail;
 use tail_policy::keeps;
-use tail_settings::load;
+use tail_settings::{Settings, load};
 
-/// From 5 to 1,000,000,004.
-const NEARLY_A_SECOND: &[u8] =
-    b"\x39\x05\x00\x00\x00\x00\x00\x00\x00\x41\x04\xca\x9a\x3b\x00\x00\x00\x00";
+/// Policies by a name, an array in TOML.
+pub fn policies_of(name: &str) -> &'static str {
+    match name {
+        "second" => "[{ type = \"latency\", threshold_ms = 1000 }]",
+        "longer" => "[{ type = \"latency\", threshold_ms = 1001 }]",
+        "longer-or-any" => {
+            "[{ type = \"latency\", threshold_ms = 1001 }, { type = \"always_sample\" }]"
+        }
+        // The greatest latency, 2^40 milliseconds, and the least.
+        "longest" => "[{ type = \"latency\", threshold_ms = 1099511627776 }]",
+        "shortest" => "[{ type = \"latency\", threshold_ms = 0 }]",
+        _ => policies_of_spans(name),
+    }
+}
 
-/// From 5 to 1,000,000,005.
-const A_SECOND: &[u8] = b"\x39\x05\x00\x00\x00\x00\x00\x00\x00\x41\x05\xca\x9a\x3b\x00\x00\x00\x00";
+fn policies_of_spans(name: &str) -> &'static str {
+    match name {
+        "error" => "[{ type = \"status_code\", status_codes = [\"ERROR\"] }]",
+        "no-error" => "[{ type = \"status_code\", status_codes = [\"OK\", \"UNSET\"] }]",
+        "seven" => {
+            "[{ type = \"numeric_attribute\", key = \"k\", min_value = 7, max_value = 7 }]"
+        }
+        "less" => {
+            "[{ type = \"numeric_attribute\", key = \"k\", min_value = -7, max_value = 6 }]"
+        }
+        "more" => {
+            "[{ type = \"numeric_attribute\", key = \"k\", min_value = 8, max_value = 100 }]"
+        }
+        "exchanged" => {
+            "[{ type = \"numeric_attribute\", key = \"k\", min_value = 8, max_value = 6 }]"
+        }
+        "one" => { "[{ type = \"numeric_attribute\", key = \"k\", min_value = 1, max_value = 1 }]" }
+        _ => policies_of_texts(name),
+    }
+}
 
-/// From 1,000,000,005 to 5.
-const EXCHANGED: &[u8] =
-    b"\x39\x05\xca\x9a\x3b\x00\x00\x00\x00\x41\x05\x00\x00\x00\x00\x00\x00\x00";
+fn policies_of_texts(name: &str) -> &'static str {
+    match name {
+        "has-v" => "[{ type = \"string_attribute\", key = \"k\", values = [\"v\"] }]",
+        "has-x" => "[{ type = \"string_attribute\", key = \"k\", values = [\"other\", \"x\"] }]",
+        "has-w" => "[{ type = \"string_attribute\", key = \"k\", values = [\"w\"] }]",
+        "has-xy" => "[{ type = \"string_attribute\", key = \"k\", values = [\"xy\"] }]",
+        "has-7" => "[{ type = \"string_attribute\", key = \"k\", values = [\"7\"] }]",
+        "has-X" => "[{ type = \"string_attribute\", key = \"k\", values = [\"X\"] }]",
+        "other-key" => "[{ type = \"string_attribute\", key = \"K\", values = [\"x\"] }]",
+        _ => policies_together(name),
+    }
+}
 
-/// From 5 to 6.
-const EARLY: &[u8] = b"\x39\x05\x00\x00\x00\x00\x00\x00\x00\x41\x06\x00\x00\x00\x00\x00\x00\x00";
+/// What is joined: an error, and a first value of `k`.
+fn policies_together(name: &str) -> &'static str {
+    match name {
+        "both" => {
+            "[{ type = \"and\", and_sub_policy = [\
+{ type = \"status_code\", status_codes = [\"ERROR\"] }, \
+{ type = \"string_attribute\", key = \"k\", values = [\"v\"] }] }]"
+        }
+        // Or a number.
+        "both-or-8" => {
+            "[{ type = \"and\", and_sub_policy = [\
+{ type = \"status_code\", status_codes = [\"ERROR\"] }, \
+{ type = \"string_attribute\", key = \"k\", values = [\"v\"] }] }, \
+{ type = \"numeric_attribute\", key = \"k\", min_value = 8, max_value = 8 }]"
+        }
+        // One of each kind, and two that are joined. Bits, from the lowest: always, latency, status, text, number;
+        // status and text of the `and`.
+        _ => {
+            "[{ type = \"always_sample\" }, \
+{ type = \"latency\", threshold_ms = 1000 }, \
+{ type = \"status_code\", status_codes = [\"ERROR\"] }, \
+{ type = \"string_attribute\", key = \"k\", values = [\"v\", \"w\"] }, \
+{ type = \"numeric_attribute\", key = \"k\", min_value = 7, max_value = 8 }, \
+{ type = \"and\", and_sub_policy = [\
+{ type = \"status_code\", status_codes = [\"ERROR\"] }, \
+{ type = \"string_attribute\", key = \"k\", values = [\"v\"] }] }]"
+        }
+    }
+}
 
-/// From 1,000,000,004 to 1,000,000,005.
-const LATE: &[u8] = b"\x39\x04\xca\x9a\x3b\x00\x00\x00\x00\x41\x05\xca\x9a\x3b\x00\x00\x00\x00";
+/// A span by a name: from when to when, in nanoseconds.
+pub fn span_of(name: &str) -> &'static [u8] {
+    match name {
+        // From 5 to 1,000,000,004, and to one more.
+        "nearly" => b"\x39\x05\x00\x00\x00\x00\x00\x00\x00\x41\x04\xca\x9a\x3b\x00\x00\x00\x00",
+        "second" => b"\x39\x05\x00\x00\x00\x00\x00\x00\x00\x41\x05\xca\x9a\x3b\x00\x00\x00\x00",
+        // From 1,000,000,005 to 5.
+        "exchanged" => b"\x39\x05\xca\x9a\x3b\x00\x00\x00\x00\x41\x05\x00\x00\x00\x00\x00\x00\x00",
+        // From 5 to 6, and from 1,000,000,004 to 1,000,000,005.
+        "early" => b"\x39\x05\x00\x00\x00\x00\x00\x00\x00\x41\x06\x00\x00\x00\x00\x00\x00\x00",
+        "late" => b"\x39\x04\xca\x9a\x3b\x00\x00\x00\x00\x41\x05\xca\x9a\x3b\x00\x00\x00\x00",
+        // From 0 to 2^64 - 1, and from there to 0.
+        "whole" => b"\x41\xff\xff\xff\xff\xff\xff\xff\xff",
+        "backwards" => b"\x39\xff\xff\xff\xff\xff\xff\xff\xff",
+        _ => span_with(name),
+    }
+}
 
-/// Attributes `k`: first the string `v`, then the number 7, then the string `x`.
-const THRICE: &[u8] = b"\x4a\x08\x0a\x01k\x12\x03\x0a\x01v\
+/// A span by a name: with a status, or with attributes `k`.
+fn span_with(name: &str) -> &'static [u8] {
+    match name {
+        "unset" => b"\x7a\x02\x18\x00",
+        "ok" => b"\x7a\x02\x18\x01",
+        "error" => b"\x7a\x02\x18\x02",
+        "unknown" => b"\x7a\x02\x18\x03",
+        "negative" => b"\x7a\x0b\x18\xfe\xff\xff\xff\xff\xff\xff\xff\xff\x01",
+        // An error from 5 to 1,000,000,005.
+        "late-error" => {
+            b"\x39\x05\x00\x00\x00\x00\x00\x00\x00\x41\x05\xca\x9a\x3b\x00\x00\x00\x00\x7a\x02\x18\x02"
+        }
+        "seven" => b"\x4a\x07\x0a\x01k\x12\x02\x18\x07",
+        "minus-seven" => b"\x4a\x10\x0a\x01k\x12\x0b\x18\xf9\xff\xff\xff\xff\xff\xff\xff\xff\x01",
+        "true" => b"\x4a\x07\x0a\x01k\x12\x02\x10\x01",
+        "vw" => b"\x4a\x09\x0a\x01k\x12\x04\x0a\x02vw",
+        // The string `v`, and the number 7.
+        "twice" => b"\x4a\x08\x0a\x01k\x12\x03\x0a\x01v\x4a\x07\x0a\x01k\x12\x02\x18\x07",
+        // And the string `x`.
+        _ => {
+            b"\x4a\x08\x0a\x01k\x12\x03\x0a\x01v\
 \x4a\x07\x0a\x01k\x12\x02\x18\x07\
-\x4a\x08\x0a\x01k\x12\x03\x0a\x01x";
+\x4a\x08\x0a\x01k\x12\x03\x0a\x01x"
+        }
+    }
+}
 
 /// A resource with an attribute `k`, the string `w`.
-const RESOURCE: &[u8] = b"\x0a\x08\x0a\x01k\x12\x03\x0a\x01w";
+pub const RESOURCE: &[u8] = b"\x0a\x08\x0a\x01k\x12\x03\x0a\x01w";
 
-/// A status of code 2.
-const ERROR: &[u8] = b"\x7a\x02\x18\x02";
-
-fn checked<'a>(rt: &impl Abort, span: &'a [u8], resource: &'a [u8]) -> SpanRef<'a> {
+pub fn checked<'a>(rt: &impl Abort, span: &'a [u8], resource: &'a [u8]) -> SpanRef<'a> {
     assert!(rt; is_text(span, resource));
     SpanRef::of(span, resource)
 }
 
-/// Whether a trace with these spans is sampled by the policies of this array in TOML.
+/// The settings of one tenant with the policies of this array in TOML.
+pub fn loaded(alloc: Global, policies: &str) -> Result<Settings, Fail> {
+    let text = format!(in alloc; "[[tenant]]\nname = \"a\"\ntail_sampling.policy = {policies}\n")?;
+    Ok(load(alloc, text.as_str())?)
+}
+
+/// Whether a trace with these spans is sampled by policies of this name.
 fn is_sampled(alloc: Global, policies: &str, spans: &[SpanRef<'_>]) -> Result<bool, Fail>
     requires { 0 < length spans.now }
 {
-    let text = format!(in alloc; "[[tenant]]\nname = \"a\"\ntail_sampling.policy = {policies}\n")?;
-    let settings = load(alloc, text.as_str())?;
+    let settings = loaded(alloc, policies_of(policies))?;
     Ok(match settings.section(0) {
         Some(section) => keeps(&section.tail_sampling.policies, spans),
         None => false,
     })
 }
 
-/// The same of a trace of one span.
-fn is_one_sampled(
+/// The same of the trace of one span by its name, or of two.
+fn is_named_sampled(
     rt: &impl Abort,
     alloc: Global,
     policies: &str,
-    span: &[u8],
+    first: &str,
+    second: &str,
 ) -> Result<bool, Fail> {
-    is_sampled(alloc, policies, &[checked(rt, span, RESOURCE)])
+    let one = checked(rt, span_of(first), RESOURCE);
+    if second.is_empty() {
+        return is_sampled(alloc, policies, &[one]);
+    }
+    let other = checked(rt, span_of(second), RESOURCE);
+    is_sampled(alloc, policies, &[one, other])
 }
 
-/// A second or more.
-const A_SECOND_OR_MORE: &str = "[{ type = \"latency\", threshold_ms = 1000 }]";
-
-const IS_ERROR: &str = "[{ type = \"status_code\", status_codes = [\"ERROR\"] }]";
-
-const IS_NO_ERROR: &str = "[{ type = \"status_code\", status_codes = [\"OK\", \"UNSET\"] }]";
-
-/// A later one of a key's values.
-const HAS_X: &str = "[{ type = \"string_attribute\", key = \"k\", values = [\"other\", \"x\"] }]";
-
-/// A value that the resource has.
-const HAS_W: &str = "[{ type = \"string_attribute\", key = \"k\", values = [\"w\"] }]";
-
-const OTHER_KEY: &str = "[{ type = \"string_attribute\", key = \"K\", values = [\"x\"] }]";
-
-const IS_SEVEN: &str =
-    "[{ type = \"numeric_attribute\", key = \"k\", min_value = 7, max_value = 7 }]";
-
-const IS_LESS: &str =
-    "[{ type = \"numeric_attribute\", key = \"k\", min_value = -7, max_value = 6 }]";
-
-/// An error, and a first value of `k`.
-const BOTH: &str = "[{ type = \"and\", and_sub_policy = [\
-{ type = \"status_code\", status_codes = [\"ERROR\"] }, \
-{ type = \"string_attribute\", key = \"k\", values = [\"v\"] }] }]";
-
-const LATE_ALONE: &str = "[{ type = \"latency\", threshold_ms = 1001 }]";
-
-const LATE_OR_ANY: &str =
-    "[{ type = \"latency\", threshold_ms = 1001 }, { type = \"always_sample\" }]";
+/// Policies, one span or two, and whether their trace is sampled:
+///
+/// - a trace lasts from its earliest start to its latest end, in whole milliseconds, rounded down;
+/// - each status has its number, and a missing one is UNSET;
+/// - each occurrence of a key counts, the resource's too, and a string is compared whole;
+/// - both bounds of numbers are included;
+/// - joined policies have to be met all, be it by different spans, and one policy of several is enough.
+const CASES: &str = "\
+second nearly = no
+second second = yes
+second exchanged = no
+second early = no
+second late = no
+second late early = yes
+shortest exchanged = yes
+error error = yes
+error ok = no
+no-error error = no
+no-error ok = yes
+no-error unset = yes
+no-error early = yes
+no-error unknown = no
+no-error negative = no
+no-error error ok = yes
+has-x thrice = yes
+has-w thrice = yes
+other-key thrice = no
+has-X thrice = no
+has-xy thrice = no
+has-v vw = no
+has-7 seven = no
+has-v early = no
+seven thrice = yes
+seven minus-seven = no
+less thrice = no
+less minus-seven = yes
+more thrice = no
+exchanged seven = no
+seven early = no
+one true = no
+both error = no
+both thrice = no
+both thrice error = yes
+both-or-8 error = no
+longer second = no
+longer-or-any second = yes";
 
 #[test]
-fn traces_of_one_span(rt: HostRuntime) -> Result<(), Fail> {
-    for (policies, span, sampled) in [
-        // Whole milliseconds, rounded down.
-        (A_SECOND_OR_MORE, NEARLY_A_SECOND, false),
-        (A_SECOND_OR_MORE, A_SECOND, true),
-        (A_SECOND_OR_MORE, EXCHANGED, false),
-        (A_SECOND_OR_MORE, EARLY, false),
-        (A_SECOND_OR_MORE, LATE, false),
-        // Each status has its number, and a missing one is UNSET.
-        (IS_ERROR, ERROR, true),
-        (IS_NO_ERROR, ERROR, false),
-        (IS_NO_ERROR, b"\x7a\x02\x18\x01", true),
-        (IS_NO_ERROR, EARLY, true),
-        // Each occurrence of a key counts, the resource's too.
-        (HAS_X, THRICE, true),
-        (HAS_W, THRICE, true),
-        (OTHER_KEY, THRICE, false),
-        // Both bounds are included.
-        (IS_SEVEN, THRICE, true),
-        (IS_LESS, THRICE, false),
-        // Joined policies have to be met by this one.
-        (BOTH, ERROR, false),
-        (BOTH, THRICE, false),
-        // One policy of several is enough.
-        (LATE_ALONE, A_SECOND, false),
-        (LATE_OR_ANY, A_SECOND, true),
-    ] {
-        assert!(rt; is_one_sampled(&rt, rt.alloc(), policies, span)? == sampled);
+fn traces_of_one_span_and_of_two(rt: HostRuntime) -> Result<(), Fail> {
+    for line in CASES.lines() {
+        let (asked, wanted) = cut(line, " = ");
+        let [policies, first, second, _, _, _, _] = words(asked);
+        let sampled = is_named_sampled(&rt, rt.alloc(), policies, first, second)?;
+        assert!(rt; sampled == (wanted == "yes"), "at {line}");
     }
     Ok(())
 }
 
-#[test]
-fn traces_of_two_spans(rt: HostRuntime) -> Result<(), Fail> {
-    for (policies, first, second) in [
-        // From the earliest start to the latest end.
-        (A_SECOND_OR_MORE, LATE, EARLY),
-        // Joined policies may be met by different spans.
-        (BOTH, THRICE, ERROR),
-    ] {
-        let spans = [
-            checked(&rt, first, RESOURCE),
-            checked(&rt, second, RESOURCE),
-        ];
-        assert!(rt; is_sampled(rt.alloc(), policies, &spans)?);
-    }
-    Ok(())
-}
-
-/// The definitions, on small inputs, give what was worked out by hand.
-fn definitions_of_policies()
-    ensures durations { Durations }
-    ensures latencies { Latencies }
-    ensures statuses { Statuses }
-    ensures strings { Strings }
-    ensures numbers { Numbers }
-    ensures several { Several }
+/// The definitions, where there is no policy, give what was worked out by hand.
+fn definitions_of_no_policies()
+    ensures none { NoPolicies }
 {}

@@ -1,6 +1,6 @@
 //! Views of spans.
 
-ghost use Rattle.processor_tests.specs.Views.{Told, Members, CanonicalTexts};
+ghost use Rattle.processor_tests.specs.Views.{Told, CanonicalTexts};
 
 use otlp_trace::DoubleBits;
 use span_view::{SpanField, SpanRef, ValueRef, canonical_text_is_viewed, equal_values, is_text};
@@ -91,37 +91,76 @@ fn has_value(rt: &impl Abort, resource: &[u8], value: ValueRef<'_>) -> bool {
     is_attribute(attributes.next(), "", value) && attributes.next().is_none()
 }
 
-#[test]
-fn each_kind_of_value_is_told(rt: HostRuntime) {
-    let cases: [(&[u8], ValueRef<'static>); 11] = [
-        (b"\x0a\x04\x0a\x00\x12\x00", ValueRef::Unset),
-        (b"\x0a\x04\x12\x02\x0a\x00", ValueRef::String("")),
-        (
+/// A resource with one attribute, by the kind of its value, and the value that it is to have.
+fn valued(kind: &str) -> (&'static [u8], ValueRef<'static>) {
+    match kind {
+        "none" => (b"\x0a\x04\x0a\x00\x12\x00", ValueRef::Unset),
+        "empty" => (b"\x0a\x04\x12\x02\x0a\x00", ValueRef::String("")),
+        "text" => (
             b"\x0a\x06\x12\x04\x0a\x02\xc3\xa4",
             ValueRef::String("\u{e4}"),
         ),
-        (b"\x0a\x04\x12\x02\x10\x00", ValueRef::Bool(false)),
-        (b"\x0a\x04\x12\x02\x10\x01", ValueRef::Bool(true)),
-        (
+        "false" => (b"\x0a\x04\x12\x02\x10\x00", ValueRef::Bool(false)),
+        "true" => (b"\x0a\x04\x12\x02\x10\x01", ValueRef::Bool(true)),
+        "int" => (
             b"\x0a\x0d\x12\x0b\x18\xff\xff\xff\xff\xff\xff\xff\xff\xff\x01",
             ValueRef::Int(-1),
         ),
-        (
+        "double" => (
             b"\x0a\x0b\x12\x09\x21\x01\x00\x00\x00\x00\x00\xf8\x7f",
             ValueRef::Double(DoubleBits([1, 0, 0, 0, 0, 0, 0xf8, 0x7f])),
         ),
-        (b"\x0a\x08\x12\x06\x2a\x04\x0a\x02\x18\x07", ValueRef::Array),
-        (b"\x0a\x04\x12\x02\x32\x00", ValueRef::KeyValueList),
-        (
+        _ => valued_as(kind),
+    }
+}
+
+/// The same of the other kinds.
+fn valued_as(kind: &str) -> (&'static [u8], ValueRef<'static>) {
+    match kind {
+        "array" => (b"\x0a\x08\x12\x06\x2a\x04\x0a\x02\x18\x07", ValueRef::Array),
+        "list" => (b"\x0a\x04\x12\x02\x32\x00", ValueRef::KeyValueList),
+        "bytes" => (
             b"\x0a\x06\x12\x04\x3a\x02\xff\x00",
             ValueRef::Bytes(b"\xff\x00"),
         ),
+        // The number 7 and then a bool: the first field tells.
+        "first" => (b"\x0a\x06\x12\x04\x18\x07\x10\x01", ValueRef::Int(7)),
         // A field that no value knows, and one with another wire type.
-        (b"\x0a\x06\x12\x04\x40\x01\x08\x02", ValueRef::Unset),
-    ];
-    for (resource, value) in cases {
-        assert!(rt; has_value(&rt, resource, value));
+        _ => (b"\x0a\x06\x12\x04\x40\x01\x08\x02", ValueRef::Unset),
     }
+}
+
+const KINDS: &str = "none empty text false true int double array list bytes first unknown";
+
+#[test]
+fn each_kind_of_value_is_told(rt: HostRuntime) {
+    for kind in KINDS.split(' ') {
+        let (resource, value) = valued(kind);
+        assert!(rt; has_value(&rt, resource, value), "{kind}");
+    }
+}
+
+/// Whether a span tells this trace id and this status, and no span id.
+fn tells(rt: &impl Abort, span: &[u8], trace_id: &[u8], status: i32) -> bool {
+    let view = checked(rt, span, b"");
+    view.trace_id() == trace_id && view.status() == status && view.span_id().is_empty()
+}
+
+#[test]
+fn what_tells_nothing_is_passed_over(rt: HostRuntime) {
+    // No field; a status with a message alone, and one of minus two.
+    assert!(rt; tells(&rt, b"", b"", 0) && tells(&rt, b"\x7a\x03\x12\x01m", b"", 0));
+    assert!(rt;
+        tells(
+            &rt,
+            b"\x7a\x0b\x18\xfe\xff\xff\xff\xff\xff\xff\xff\xff\x01",
+            b"",
+            -2
+        )
+    );
+    // The first of two trace ids, behind the number 1 as a varint; and nothing behind a place where no field begins.
+    assert!(rt; tells(&rt, b"\x08\x09\x0a\x01\x01\x0a\x01\x02", b"\x01", 0));
+    assert!(rt; tells(&rt, b"\x0a\x01\x01\x00\x12\x01\x03", b"\x01", 0));
 }
 
 #[test]
@@ -148,6 +187,5 @@ fn laws_of_views_can_be_called(_rt: HostRuntime) {
 /// The definitions say of small spans and texts what was worked out by hand.
 fn definitions_of_views()
     ensures told { Told }
-    ensures members { Members }
     ensures canonical { CanonicalTexts }
 {}

@@ -18,27 +18,7 @@ returns-clause-told c = record {
   of_messages = refl;
   of_texts = refl;
   of_none = refl;
-  of_no_bytes = refl;
-  no_code = refl;
-  negative = refl;
   of_array = refl;
-  first = refl;
-  up_to_no_field = refl;
-}
-
-pub returns-clause-members : goal.returns-clause-members
-unfolding number_in varint_at tag_at split_at value_with end_in fields_in fields_of
-returns-clause-members c = record {
-  no_member = refl;
-  empty_string = refl;
-  of_bool = refl;
-  negative = refl;
-  of_double = refl;
-  of_array = refl;
-  of_list = refl;
-  of_bytes = refl;
-  first = refl;
-  unknown = refl;
 }
 
 -- ---- canonical texts

@@ -1,21 +1,7 @@
 use Rattle.std.proofs.Common.{◌<◌, ◌^◌, [], ◌∷◌, refl, arith, rules, lit<}
 use Rattle.pb_wire.specs.Text.{groups}
 use Rattle.otlp_read.specs.Walk.{no_pieces}
-use Rattle.processor_tests.proofs.batch_text.definitions_of_batch_texts.Goals as goal
-
-pub returns-clause-batch_texts : goal.returns-clause-batch_texts
-unfolding groups
-returns-clause-batch_texts c = record {
-  nothing = refl;
-  two_resources = refl;
-  apart = refl;
-  two_schemas = refl;
-  three_scopes = refl;
-  missing = refl;
-}
-
-pub returns-clause-keyed_spans : goal.returns-clause-keyed_spans
-returns-clause-keyed_spans c = record { by_key = refl; by_another = refl; without = refl; others = refl; empty = refl }
+use Rattle.processor_tests.proofs.batch_text.definitions_of_requests.Goals as goal
 
 pub returns-clause-requests : goal.returns-clause-requests
 unfolding groups
