@@ -128,8 +128,8 @@ fn due_of(next: NextDelay) -> u64 {
     }
 }
 
-/// The moment of an answer, the word that picks a delay, a wait in seconds, and the moment of the next attempt. The first
-/// interval is 5000, and its spread half of it; a year later there is still no end.
+/// The moment of an answer, the word that picks a delay, a wait in seconds, and the moment of the next attempt. The
+/// first interval is 5000, and its spread half of it; a year later there is still no end.
 const DELAYS: &str = "\
 1000 0 0 = 3500
 1000 2147483648 0 = 6000

@@ -1,4 +1,4 @@
-//! Spans of two tenants, 7 and 8, and what each of them has in the stores. The note of a row is the number of its spans.
+//! Spans of two tenants, 7 and 8, and what each of them has in stores. The note of a row is the number of its spans.
 
 ghost use Rattle.std.specs.Prelude.{◌≡◌};
 
