@@ -12,6 +12,7 @@ use std::test::Fail;
 use tail_settings::{RetryOnFailure, SendingQueue};
 
 /// What a call is to give: a word, and one or two numbers.
+#[derive(Clone, Copy)]
 struct Wanted<'a> {
     word: &'a str,
     first: u64,

@@ -2,6 +2,7 @@
 //! `put 7 1 = 0`. Numbers that aren't there are 0.
 
 /// A line of a story.
+#[derive(Clone, Copy)]
 pub struct Step<'a> {
     pub call: &'a str,
     pub tenant: u32,
