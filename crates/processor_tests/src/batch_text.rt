@@ -152,7 +152,8 @@ fn spans_are_sent_with_their_resources_and_scopes(rt: HostRuntime) -> Result<(),
 #[test]
 fn no_spans_are_no_bytes(rt: HostRuntime) -> Result<(), Fail> {
     let pool = TextPool::new(rt.alloc());
-    assert!(rt; encoded(rt.alloc(), &pool, [].as_slice())?.is_empty());
+    let spans: [&StoredSpan; 0] = [];
+    assert!(rt; encode_batch(rt.alloc(), &pool, spans.as_slice())?.is_empty());
     batches_are_requests();
     Ok(())
 }
