@@ -3,6 +3,6 @@ use Rattle.tail_policy.specs.Meaning.{keeps}
 use Rattle.tail_policy.specs.Note.{verdict_of}
 use Rattle.processor_tests.proofs.policies.definitions_of_no_policies.Goals as goal
 
-pub returns-clause-none : goal.returns-clause-none
+pub returns : goal.returns
 unfolding keeps verdict_of
-returns-clause-none c = record { no_trace = refl; no_note = refl }
+returns c = record { no_trace = refl; no_note = refl }
