@@ -1,2 +1,1 @@
-pub mod Batching
-pub mod BatchTexts
+pub mod Stored

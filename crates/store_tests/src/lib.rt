@@ -1,16 +1,20 @@
-//! Tests of the stores that all tenants of a shard share, over their public functions. What they expect was worked out
-//! by hand.
+//! Tests of the stores that all tenants of a shard share, over public functions. What they expect was worked out by
+//! hand.
 #![tactic(auto)]
 
 #[cfg(test)]
 mod agenda;
 #[cfg(test)]
-mod batch_text;
-#[cfg(test)]
-mod batcher;
-#[cfg(test)]
 mod load;
 #[cfg(test)]
+mod placed;
+#[cfg(test)]
+mod pool;
+#[cfg(test)]
 mod rows;
+#[cfg(test)]
+mod stores;
+#[cfg(test)]
+mod story;
 #[cfg(test)]
 mod texts;

@@ -100,11 +100,18 @@ fn come(
     Ok(())
 }
 
+/// These spans leave the pool.
+fn take_all(pool: &mut SpanPool<StoredSpan>, tenant: u32, keys: &[usize]) {
+    for key in keys {
+        pool.undo_put(tenant, *key);
+    }
+}
+
 /// A trace is decided: its spans leave the pool, and its row the table. The answer is how many spans it had.
 fn leave(alloc: Global, load: &mut Load, trace: u64) -> u64 {
     let (tenant, number) = place(load, trace);
     let keys = load.table.settle(alloc, tenant, number, true);
-    load.pool.take_all(tenant, keys.as_slice());
+    take_all(&mut load.pool, tenant, keys.as_slice());
     let _ = load.table.sweep(alloc, tenant, number);
     keys.as_slice().len() as u64
 }

@@ -1,5 +1,6 @@
-//! Rows of two tenants, 7 and 8. The note of a row is the sum of its keys.
+//! Rows of two tenants, 7 and 8. The note of a row is the key that came last.
 
+use crate::story::{Numbers, Step, one, row_number, step_of, two};
 use std::alloc::{AllocError, Global};
 use std::process::Abort;
 use std::test::Fail;
@@ -20,140 +21,217 @@ fn row(alloc: Global, trace: [u8; 16], key: usize) -> Result<Row<usize>, AllocEr
     })
 }
 
-/// Opens a row, and tells the trace's row before it. Where the number has a row, that is told and nothing opens.
+/// Opens a row, and tells the trace's row before it. Where the number has a row, nothing opens.
 fn open(
-    table: &mut TraceRows<usize>,
-    tenant: u32,
-    number: u64,
-    row: Row<usize>,
-) -> Result<Option<u64>, AllocError> {
-    let None = table.row(tenant, number) else {
-        return Ok(Some(number));
-    };
-    table.open(tenant, number, row)
-}
-
-/// Whether the row waits with these keys and this note.
-fn waits(table: &TraceRows<usize>, tenant: u32, number: u64, keys: &[usize], note: usize) -> bool {
-    match table.row(tenant, number) {
-        Some(row) => {
-            !row.sampled && row.due == 1000 && row.keys.as_slice() == keys && row.note == note
-        }
-        None => false,
-    }
-}
-
-/// Whether the row was sampled, and has no keys.
-fn is_sampled(table: &TraceRows<usize>, tenant: u32, number: u64) -> bool {
-    match table.row(tenant, number) {
-        Some(row) => row.sampled && row.keys.as_slice().is_empty(),
-        None => false,
-    }
-}
-
-#[test]
-fn a_row_is_decided_and_leaves_and_its_neighbour_stays(rt: HostRuntime) -> Result<(), Fail> {
-    let alloc = rt.alloc();
-    let mut table = TraceRows::new(alloc);
-    assert!(rt; open(&mut table, 7, 1, row(alloc, TRACE, 10)?)? == None);
-    assert!(rt; open(&mut table, 8, 1, row(alloc, TRACE, 20)?)? == None);
-    assert!(rt; table.join(7, 1, 11, 21)? == 10 && table.join(7, 2, 12, 33)? == 33);
-    assert!(rt; waits(&table, 7, 1, [10, 11].as_slice(), 21) && table.row(7, 2).is_none());
-    let keys = table.settle(alloc, 7, 1, true);
-    assert!(rt; keys.as_slice() == [10, 11].as_slice());
-    assert!(rt; is_sampled(&table, 7, 1));
-    assert!(rt; open(&mut table, 7, 2, row(alloc, TRACE, 12)?)? == Some(1));
-    let keys = table.sweep(alloc, 7, 1);
-    assert!(rt; keys.as_slice().is_empty());
-    assert!(rt; table.row(7, 1).is_none());
-    assert!(rt; table.seat(7, TRACE) == Some(2));
-    let keys = table.sweep(alloc, 7, 2);
-    assert!(rt; keys.as_slice() == [12].as_slice());
-    assert!(rt; table.seat(7, TRACE) == None);
-    assert!(rt; table.seat(8, TRACE) == Some(1));
-    assert!(rt; waits(&table, 8, 1, [20].as_slice(), 20));
-    Ok(())
-}
-
-#[test]
-fn what_was_done_is_taken_back(rt: HostRuntime) -> Result<(), Fail> {
-    let alloc = rt.alloc();
-    let mut table = TraceRows::new(alloc);
-    assert!(rt; open(&mut table, 7, 1, row(alloc, TRACE, 10)?)? == None);
-    let former = table.join(7, 1, 11, 21)?;
-    table.undo_join(7, 1, former);
-    assert!(rt; waits(&table, 7, 1, [10].as_slice(), 10));
-    assert!(rt; open(&mut table, 7, 2, row(alloc, TRACE, 12)?)? == Some(1));
-    table.undo_open(7, 2, TRACE, Some(1));
-    assert!(rt; table.row(7, 2).is_none());
-    assert!(rt; table.seat(7, TRACE) == Some(1));
-    assert!(rt; open(&mut table, 7, 2, row(alloc, OTHER, 12)?)? == None);
-    table.undo_open(7, 2, OTHER, None);
-    assert!(rt; table.seat(7, OTHER) == None);
-    assert!(rt; waits(&table, 7, 1, [10].as_slice(), 10));
-    Ok(())
-}
-
-/// What there is of a tenant: how many keys its three rows have and what is noted of them, and two seats.
-fn told(table: &TraceRows<usize>, tenant: u32) -> ([Option<(usize, usize)>; 3], [Option<u64>; 2]) {
-    let row = |number: u64| match table.row(tenant, number) {
-        Some(row) => Some((row.keys.as_slice().len(), row.note)),
-        None => None,
-    };
-    let rows = [row(1), row(2), row(3)];
-    (rows, [table.seat(tenant, TRACE), table.seat(tenant, OTHER)])
-}
-
-/// Opens a row. Where memory is refused, both tenants have what they had, and it opens the next time.
-fn opened_at_last(
-    rt: &impl Abort,
     alloc: Global,
     table: &mut TraceRows<usize>,
     tenant: u32,
     number: u64,
     trace: [u8; 16],
-) -> Result<(), AllocError> {
-    let before = (told(table, 7), told(table, 8));
-    if let Ok(row) = row(alloc, trace, 10)
-        && let Ok(_) = open(table, tenant, number, row)
-    {
-        return Ok(());
-    }
-    assert!(rt; (told(table, 7), told(table, 8)) == before);
-    open(table, tenant, number, row(alloc, trace, 10)?)?;
-    Ok(())
+    key: usize,
+) -> Result<usize, AllocError> {
+    let None = table.row(tenant, number) else {
+        return Ok(1000);
+    };
+    let row = row(alloc, trace, key)?;
+    Ok(row_number(table.open(tenant, number, row)?))
 }
 
-/// A span joins a row. Where memory is refused, both tenants have what they had, and it joins the next time.
-fn joined_at_last(
-    rt: &impl Abort,
+/// The keys of a row.
+fn of_keys(keys: &[usize]) -> Numbers {
+    match keys {
+        [] => one(0),
+        [key] => one(*key),
+        [first, second] => two(*first, *second),
+        _ => one(1000),
+    }
+}
+
+fn waiting(table: &TraceRows<usize>, tenant: u32, number: u64) -> Numbers {
+    match table.row(tenant, number) {
+        Some(row) => {
+            if row.sampled || row.due != 1000 {
+                one(1000)
+            } else {
+                of_keys(row.keys.as_slice())
+            }
+        }
+        None => one(0),
+    }
+}
+
+fn noted(table: &TraceRows<usize>, tenant: u32, number: u64) -> Numbers {
+    match table.row(tenant, number) {
+        Some(row) => two(row.note, usize::from(row.sampled)),
+        None => one(0),
+    }
+}
+
+fn seats(table: &TraceRows<usize>, tenant: u32) -> Numbers {
+    let first = row_number(table.seat(tenant, TRACE));
+    two(first, row_number(table.seat(tenant, OTHER)))
+}
+
+/// Takes back the opening of a row.
+fn undo_open(
     table: &mut TraceRows<usize>,
     tenant: u32,
     number: u64,
-    note: usize,
-) -> Result<usize, AllocError> {
+    trace: [u8; 16],
+    earlier: usize,
+) {
+    let earlier = if earlier == 0 {
+        None
+    } else {
+        Some(earlier as u64)
+    };
+    table.undo_open(tenant, number, trace, earlier);
+}
+
+/// What a call gives that takes memory.
+fn put(alloc: Global, table: &mut TraceRows<usize>, step: &Step<'_>) -> Result<usize, AllocError> {
+    let number = step.number as u64;
+    match step.call {
+        "open" => open(alloc, table, step.tenant, number, TRACE, step.other),
+        "open-other" => open(alloc, table, step.tenant, number, OTHER, step.other),
+        _ => table.join(step.tenant, number, step.other, step.other),
+    }
+}
+
+/// What a call takes back.
+fn undo(table: &mut TraceRows<usize>, step: &Step<'_>) {
+    let number = step.number as u64;
+    match step.call {
+        "undo-join" => {
+            table.undo_join(step.tenant, number, step.other);
+        }
+        "undo-open" => undo_open(table, step.tenant, number, TRACE, step.other),
+        _ => undo_open(table, step.tenant, number, OTHER, step.other),
+    }
+}
+
+fn settled(alloc: Global, table: &mut TraceRows<usize>, tenant: u32, number: u64) -> Numbers {
+    let keys = table.settle(alloc, tenant, number, true);
+    of_keys(keys.as_slice())
+}
+
+fn swept(alloc: Global, table: &mut TraceRows<usize>, tenant: u32, number: u64) -> Numbers {
+    let keys = table.sweep(alloc, tenant, number);
+    of_keys(keys.as_slice())
+}
+
+/// What a call gives.
+fn given(
+    alloc: Global,
+    table: &mut TraceRows<usize>,
+    step: &Step<'_>,
+) -> Result<Numbers, AllocError> {
+    let number = step.number as u64;
+    match step.call {
+        "open" | "open-other" | "join" => Ok(one(put(alloc, table, step)?)),
+        "waits" => Ok(waiting(table, step.tenant, number)),
+        "note" => Ok(noted(table, step.tenant, number)),
+        "seats" => Ok(seats(table, step.tenant)),
+        "settle" => Ok(settled(alloc, table, step.tenant, number)),
+        "sweep" => Ok(swept(alloc, table, step.tenant, number)),
+        _ => {
+            undo(table, step);
+            Ok(one(0))
+        }
+    }
+}
+
+/// What there is of a tenant: how many keys its three rows have and what is noted of them, and two seats.
+fn told(table: &TraceRows<usize>, tenant: u32) -> ([Option<(usize, usize)>; 3], Numbers) {
+    let row = |number: u64| match table.row(tenant, number) {
+        Some(row) => Some((row.keys.as_slice().len(), row.note)),
+        None => None,
+    };
+    ([row(1), row(2), row(3)], seats(table, tenant))
+}
+
+/// What a call gives. Where memory is refused, both tenants have what they had, and it is done again.
+fn given_at_last(
+    rt: &impl Abort,
+    alloc: Global,
+    table: &mut TraceRows<usize>,
+    step: &Step<'_>,
+) -> Result<Numbers, AllocError> {
     let before = (told(table, 7), told(table, 8));
-    if let Ok(former) = table.join(tenant, number, 11, note) {
-        return Ok(former);
+    if let Ok(numbers) = given(alloc, table, step) {
+        return Ok(numbers);
     }
     assert!(rt; (told(table, 7), told(table, 8)) == before);
-    table.join(tenant, number, 11, note)
+    given(alloc, table, step)
 }
+
+/// With the number of a row and a key: `open` gives the trace's row before, and `join` the note before. `undo-join`
+/// takes back a join after that note, and `undo-open` an opening before which the trace had that row. `settle` and
+/// `sweep` give the keys of a row that is sampled and one that leaves, `waits` those of one that waits, `note` its note
+/// and whether it was sampled, and `seats` the rows of the two traces.
+///
+/// In the end many come, so that a row grows, and the table.
+const STORY: &str = "\
+open 7 1 10 = 0
+open 8 1 20 = 0
+join 7 1 11 = 10
+join 7 2 12 = 12
+waits 7 1 = 10 11
+note 7 1 = 11
+note 7 2 = 0
+settle 7 1 = 10 11
+note 7 1 = 11 1
+open 7 2 12 = 1
+sweep 7 1 = 0
+note 7 1 = 0
+seats 7 = 2
+sweep 7 2 = 12
+seats 7 = 0
+seats 8 = 1
+waits 8 1 = 20
+open 7 3 10 = 0
+join 7 3 11 = 10
+undo-join 7 3 10 = 0
+waits 7 3 = 10
+note 7 3 = 10
+open 7 4 12 = 3
+undo-open 7 4 3 = 0
+note 7 4 = 0
+open-other 7 5 12 = 0
+seats 7 = 3 5
+undo-other 7 5 0 = 0
+seats 7 = 3
+waits 7 3 = 10
+open 7 1 10 = 3
+open-other 8 2 10 = 0
+open 7 2 10 = 1
+open-other 8 3 10 = 2
+join 7 2 21 = 10
+join 7 2 22 = 21
+join 7 2 23 = 22
+join 7 2 24 = 23
+join 7 2 25 = 24
+join 7 2 26 = 25
+join 7 2 27 = 26
+join 7 2 28 = 27
+join 7 2 29 = 28
+note 7 2 = 29
+note 7 3 = 10
+note 8 1 = 20
+note 8 3 = 10
+seats 7 = 2
+seats 8 = 1 3";
 
 // Each run with one allocation refused has to end well, too.
 #[test]
-fn where_memory_is_refused_nothing_has_changed(rt: HostRuntime) -> Result<(), Fail> {
-    let alloc = rt.alloc();
-    let mut table = TraceRows::new(alloc);
-    for number in 1..4 {
-        opened_at_last(&rt, alloc, &mut table, 7, number, TRACE)?;
-        opened_at_last(&rt, alloc, &mut table, 8, number, OTHER)?;
+fn rows_open_join_are_decided_and_leave(rt: HostRuntime) -> Result<(), Fail> {
+    let mut table = TraceRows::new(rt.alloc());
+    for line in STORY.lines() {
+        let step = step_of(line);
+        assert!(rt;
+            given_at_last(&rt, rt.alloc(), &mut table, &step)? == step.wanted,
+            "at {line}"
+        );
     }
-    for note in 21..30 {
-        joined_at_last(&rt, &mut table, 7, 2, note)?;
-    }
-    let one = Some((1, 10));
-    assert!(rt; told(&table, 7) == ([one, Some((10, 29)), one], [Some(3), None]));
-    assert!(rt; told(&table, 8) == ([one, one, one], [None, Some(3)]));
     Ok(())
 }

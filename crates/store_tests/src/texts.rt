@@ -1,5 +1,6 @@
 //! Texts of two tenants, 7 and 8, in one pool.
 
+use crate::story::{Step, one, step_of};
 use bytes::Bytes;
 use std::alloc::AllocError;
 use std::process::Abort;
@@ -23,29 +24,54 @@ fn text(bytes: &'static [u8]) -> Text {
     Text::of(Bytes::from_static(bytes))
 }
 
+#[test]
+fn texts_are_the_same_by_their_bytes(rt: HostRuntime) {
+    assert!(rt; text(FIRST).is_same(&text(FIRST)));
+    assert!(rt; !text(FIRST).is_same(&text(THIRD)));
+}
+
+/// Whether a text is shared with its bytes and its digest.
+fn is_shared(first: &Text, bytes: &[u8], digest: [u8; 32]) -> Result<bool, AllocError> {
+    let shared = first.shared()?;
+    Ok(shared.bytes().as_slice() == bytes && shared.digest() == digest)
+}
+
+#[test]
+fn a_text_is_shared_with_its_digest(rt: HostRuntime) -> Result<(), Fail> {
+    let first = Text::of(Bytes::copy_from_slice(rt.alloc(), b"abc")?);
+    assert!(rt; is_shared(&first, b"abc", DIGEST_OF_ABC)?);
+    Ok(())
+}
+
+fn text_of(number: usize) -> Text {
+    match number {
+        1 => text(FIRST),
+        2 => text(SECOND),
+        _ => text(THIRD),
+    }
+}
+
 /// Which text this is, from 1 on.
-fn number_of(bytes: &[u8]) -> u8 {
+fn number_of(bytes: &[u8]) -> usize {
     if bytes == FIRST {
         1
     } else if bytes == SECOND {
         2
-    } else if bytes == THIRD {
-        3
     } else {
-        4
+        3
     }
 }
 
 /// Which text the tenant has at a key, 0 for none.
-fn at(pool: &TextPool, tenant: u32, key: usize) -> u8 {
+fn at(pool: &TextPool, tenant: u32, key: usize) -> usize {
     match pool.text(tenant, key) {
         Some(text) => number_of(text.as_slice()),
         None => 0,
     }
 }
 
-/// Which texts the tenant has at the first four keys.
-fn told(pool: &TextPool, tenant: u32) -> [u8; 4] {
+/// Which texts a tenant has at the first four keys.
+fn told(pool: &TextPool, tenant: u32) -> [usize; 4] {
     [
         at(pool, tenant, 0),
         at(pool, tenant, 1),
@@ -54,130 +80,85 @@ fn told(pool: &TextPool, tenant: u32) -> [u8; 4] {
     ]
 }
 
-#[test]
-fn a_text_is_its_bytes(rt: HostRuntime) {
-    let first = text(FIRST);
-    assert!(rt; first.bytes().as_slice() == FIRST);
-    assert!(rt; first.is_same(&text(FIRST)) && !first.is_same(&text(SECOND)));
-    assert!(rt; !first.is_same(&text(THIRD)) && text(b"").is_same(&text(b"")));
-    assert!(rt; text(b"abc").digest() == DIGEST_OF_ABC);
+fn given(pool: &mut TextPool, step: &Step<'_>) -> Result<usize, AllocError> {
+    match step.call {
+        "hold" => pool.hold(step.tenant, text_of(step.number)),
+        "again" => pool.hold_again(step.tenant, step.number),
+        "release" => {
+            pool.release(step.tenant, step.number);
+            Ok(0)
+        }
+        "same" => Ok(usize::from(pool.is_same(step.tenant, step.number, step.other))),
+        _ => Ok(at(pool, step.tenant, step.number)),
+    }
 }
 
-#[test]
-fn a_text_is_shared(rt: HostRuntime) -> Result<(), Fail> {
-    let alloc = rt.alloc();
-    let first = Text::of(Bytes::copy_from_slice(alloc, FIRST)?);
-    let shared = first.shared()?;
-    assert!(rt; shared.is_same(&first) && shared.digest() == first.digest());
-    assert!(rt; shared.bytes().as_slice() == FIRST);
-    Ok(())
-}
-
-#[test]
-fn a_text_is_kept_once_until_its_last_use(rt: HostRuntime) -> Result<(), Fail> {
-    let mut pool = TextPool::new(rt.alloc());
-    let first = pool.hold(7, text(FIRST))?;
-    let second = pool.hold(7, text(SECOND))?;
-    assert!(rt; first != second);
-    assert!(rt; pool.hold(7, text(FIRST))? == first && pool.hold(7, text(FIRST))? == first);
-    pool.release(7, first);
-    assert!(rt; at(&pool, 7, first) == 1);
-    pool.release(7, first);
-    assert!(rt; at(&pool, 7, first) == 1);
-    pool.release(7, first);
-    assert!(rt; at(&pool, 7, first) == 0 && at(&pool, 7, second) == 2);
-    pool.release(7, first);
-    assert!(rt; at(&pool, 7, first) == 0 && at(&pool, 7, second) == 2);
-    Ok(())
-}
-
-#[test]
-fn a_text_is_held_again_at_its_key(rt: HostRuntime) -> Result<(), Fail> {
-    let mut pool = TextPool::new(rt.alloc());
-    let first = pool.hold(7, text(FIRST))?;
-    assert!(rt; pool.hold_again(7, first)? == first);
-    pool.release(7, first);
-    assert!(rt; at(&pool, 7, first) == 1);
-    pool.release(7, first);
-    assert!(rt; at(&pool, 7, first) == 0);
-    let eight = pool.hold(8, text(SECOND))?;
-    assert!(rt; pool.hold_again(7, eight)? == eight && at(&pool, 7, eight) == 0);
-    pool.release(8, eight);
-    assert!(rt; at(&pool, 8, eight) == 0);
-    Ok(())
-}
-
-#[test]
-fn a_key_is_given_anew_after_its_last_use(rt: HostRuntime) -> Result<(), Fail> {
-    let mut pool = TextPool::new(rt.alloc());
-    let first = pool.hold(7, text(FIRST))?;
-    let second = pool.hold(7, text(SECOND))?;
-    pool.release(7, first);
-    assert!(rt; pool.hold(8, text(THIRD))? == first);
-    assert!(rt; at(&pool, 7, first) == 0 && at(&pool, 8, first) == 3);
-    let third = pool.hold(7, text(FIRST))?;
-    assert!(rt; third != first && third != second && at(&pool, 7, third) == 1);
-    pool.release(8, first);
-    assert!(rt; told(&pool, 8) == [0, 0, 0, 0]);
-    assert!(rt; pool.hold(7, text(FIRST))? == third && at(&pool, 7, second) == 2);
-    Ok(())
-}
-
-#[test]
-fn equal_texts_of_two_tenants_are_apart(rt: HostRuntime) -> Result<(), Fail> {
-    let mut pool = TextPool::new(rt.alloc());
-    let seven = pool.hold(7, text(FIRST))?;
-    let eight = pool.hold(8, text(FIRST))?;
-    assert!(rt; seven != eight && at(&pool, 8, seven) == 0 && at(&pool, 7, eight) == 0);
-    let (before_seven, before_eight) = (told(&pool, 7), told(&pool, 8));
-    pool.release(8, seven);
-    pool.release(7, eight);
-    assert!(rt; told(&pool, 7) == before_seven && told(&pool, 8) == before_eight);
-    pool.release(8, eight);
-    assert!(rt; told(&pool, 7) == before_seven && told(&pool, 8) == [0, 0, 0, 0]);
-    Ok(())
-}
-
-#[test]
-fn keys_are_of_one_text_or_not(rt: HostRuntime) -> Result<(), Fail> {
-    let mut pool = TextPool::new(rt.alloc());
-    let first = pool.hold(7, text(FIRST))?;
-    let third = pool.hold(7, text(THIRD))?;
-    let eight = pool.hold(8, text(FIRST))?;
-    assert!(rt; pool.is_same(7, first, first) && !pool.is_same(7, first, third));
-    assert!(rt; !pool.is_same(7, first, eight) && !pool.is_same(8, first, eight));
-    assert!(rt; pool.is_same(8, first, third) && pool.is_same(7, 100, 200));
-    Ok(())
-}
-
-/// Holds a text. Where memory is refused, both tenants have what they had, and it is held the next time.
-fn held_at_last(
+/// What a call gives. Where memory is refused, both tenants have what they had, and it is done again.
+fn given_at_last(
     rt: &impl Abort,
     pool: &mut TextPool,
-    tenant: u32,
-    bytes: &'static [u8],
+    step: &Step<'_>,
 ) -> Result<usize, AllocError> {
     let before = (told(pool, 7), told(pool, 8));
-    if let Ok(key) = pool.hold(tenant, text(bytes)) {
-        return Ok(key);
+    if let Ok(number) = given(pool, step) {
+        return Ok(number);
     }
     assert!(rt; (told(pool, 7), told(pool, 8)) == before);
-    pool.hold(tenant, text(bytes))
+    given(pool, step)
 }
 
-// Each run with one allocation refused has to end well, too.
+/// `hold` a text, by its number, and `again` that at a key give its key; `release` lets go of the text at a key, and
+/// `text` is which one is there. `same` is whether two keys are of one text; a key that isn't the tenant's has none.
+const STORY: &str = "\
+hold 7 1 = 0
+hold 7 2 = 1
+hold 7 1 = 0
+again 7 0 = 0
+hold 8 1 = 2
+text 7 2 = 0
+text 8 0 = 0
+release 8 0 = 0
+release 7 2 = 0
+again 7 2 = 2
+text 8 2 = 1
+release 7 0 = 0
+text 7 0 = 1
+release 7 0 = 0
+text 7 0 = 1
+release 7 0 = 0
+text 7 0 = 0
+release 7 0 = 0
+text 7 1 = 2
+hold 8 3 = 0
+text 7 0 = 0
+text 8 0 = 3
+hold 7 1 = 3
+text 7 3 = 1
+release 8 0 = 0
+text 8 0 = 0
+hold 7 1 = 3
+release 8 2 = 0
+text 8 2 = 0
+text 7 1 = 2
+hold 8 1 = 2
+same 7 3 3 = 1
+same 7 3 1 = 0
+same 7 3 2 = 0
+same 8 3 2 = 0
+same 8 3 1 = 1
+same 7 100 200 = 1";
+
+// Equal texts of two tenants are apart. A key goes to another text after its last use. Each run with one allocation
+// refused has to end well, too.
 #[test]
-fn where_memory_is_refused_no_text_has_come(rt: HostRuntime) -> Result<(), Fail> {
+fn texts_are_kept_once_a_tenant_until_their_last_use(rt: HostRuntime) -> Result<(), Fail> {
     let mut pool = TextPool::new(rt.alloc());
-    let first = held_at_last(&rt, &mut pool, 7, FIRST)?;
-    let second = held_at_last(&rt, &mut pool, 8, FIRST)?;
-    let third = held_at_last(&rt, &mut pool, 7, SECOND)?;
-    assert!(rt; held_at_last(&rt, &mut pool, 7, FIRST)? == first);
-    assert!(rt; at(&pool, 7, first) == 1 && at(&pool, 8, second) == 1 && at(&pool, 7, third) == 2);
-    pool.release(7, first);
-    pool.release(7, first);
-    assert!(rt; at(&pool, 7, first) == 0 && at(&pool, 8, second) == 1);
-    let fourth = held_at_last(&rt, &mut pool, 8, THIRD)?;
-    assert!(rt; at(&pool, 8, fourth) == 3 && at(&pool, 7, third) == 2);
+    for line in STORY.lines() {
+        let step = step_of(line);
+        assert!(rt;
+            one(given_at_last(&rt, &mut pool, &step)?) == step.wanted,
+            "at {line}"
+        );
+    }
     Ok(())
 }

@@ -1,0 +1,287 @@
+//! Deliveries whose jobs, answers and moments were worked out by hand. Moments are milliseconds.
+
+ghost use Rattle.processor_tests.specs.Senders.{Tickets};
+
+use crate::answers::answer;
+use crate::lines::{cut, number, small, words};
+use bytes::Bytes;
+use send_queue::{Batch, OfferFault, SendQueue, SettleFault, Settled, offers_are_undone};
+use std::alloc::{AllocError, Global};
+use std::process::Abort;
+use std::test::Fail;
+use tail_settings::{RetryOnFailure, SendingQueue};
+
+/// What a call is to give: a word, and one or two numbers.
+#[derive(Clone, Copy)]
+struct Wanted<'a> {
+    word: &'a str,
+    first: u64,
+    second: u64,
+}
+
+fn wanted_of(text: &str) -> Wanted<'_> {
+    let [word, first, second, _, _, _, _] = words(text);
+    Wanted {
+        word,
+        first: number(first),
+        second: number(second),
+    }
+}
+
+fn is(wanted: &Wanted<'_>, word: &str, first: u64, second: u64) -> bool {
+    wanted.word == word && wanted.first == first && wanted.second == second
+}
+
+/// A batch that formed at a moment, of as many spans as its payload has bytes.
+fn batch(moment: u64, payload: &'static str) -> Batch {
+    Batch {
+        moment,
+        spans: payload.len() as u64,
+        payload: Bytes::from_static(payload.as_bytes()),
+    }
+}
+
+/// Whether a batch is taken into the queue or comes back, as wanted.
+fn offers(queue: &mut SendQueue, batch: Batch, wanted: &Wanted<'_>) -> Result<bool, AllocError> {
+    match queue.offer(batch) {
+        Ok(()) => Ok(wanted.word == "taken"),
+        Err(OfferFault::Full(back)) => Ok(is(wanted, "full", back.spans, 0)),
+        Err(OfferFault::OutOfMemory(_back)) => Err(AllocError),
+    }
+}
+
+/// Whether the batch that was offered last comes back with the wanted payload.
+fn takes_back(queue: &mut SendQueue, wanted: &Wanted<'_>) -> bool {
+    match queue.undo_offer() {
+        Some(batch) => batch.payload.as_slice() == wanted.word.as_bytes(),
+        None => wanted.word == "none",
+    }
+}
+
+/// Whether there is the wanted job: its payload and its ticket, or none.
+fn is_job(job: Option<(u64, Bytes)>, wanted: &Wanted<'_>) -> bool {
+    match job {
+        Some((ticket, payload)) => {
+            payload.as_slice() == wanted.word.as_bytes() && ticket == wanted.first
+        }
+        None => wanted.word == "none",
+    }
+}
+
+fn is_ready(ready: Option<u64>, wanted: &Wanted<'_>) -> bool {
+    match ready {
+        Some(moment) => is(wanted, "at", moment, 0),
+        None => wanted.word == "none",
+    }
+}
+
+fn is_settled(settled: Result<Settled, SettleFault>, wanted: &Wanted<'_>) -> bool {
+    match settled {
+        Ok(Settled::Taken { exported, rejected }) => is(wanted, "taken", exported, rejected),
+        Ok(Settled::Waits { spans, due }) => is(wanted, "waits", spans, due),
+        Ok(Settled::Refused { spans }) => is(wanted, "refused", spans, 0),
+        Ok(Settled::Exhausted { spans }) => is(wanted, "exhausted", spans, 0),
+        Err(fault) => is(wanted, "fault", u64::from(fault.number()), 0),
+    }
+}
+
+/// Whether an answer is settled as wanted: `TICKET MOMENT WORD`, and the answer.
+fn settles(
+    alloc: Global,
+    queue: &mut SendQueue,
+    asked: &str,
+    wanted: &Wanted<'_>,
+) -> Result<bool, AllocError> {
+    let [_, ticket, moment, word, status, retry_after, body] = words(asked);
+    let answer = answer(alloc, status, retry_after, body)?;
+    let moment = number(moment).min(1 << 62);
+    Ok(is_settled(
+        queue.settle(number(ticket), moment, small(word), &answer),
+        wanted,
+    ))
+}
+
+/// Whether a step of a story comes true.
+fn goes(alloc: Global, queue: &mut SendQueue, line: &'static str) -> Result<bool, AllocError> {
+    let (asked, spelled) = cut(line, " = ");
+    let wanted = wanted_of(spelled);
+    let [call, moment, payload, _, _, _, _] = words(asked);
+    let moment = number(moment).min(1 << 62);
+    match call {
+        "offer" => offers(queue, batch(moment, payload), &wanted),
+        "back" => Ok(takes_back(queue, &wanted)),
+        "job" => Ok(is_job(queue.take_job(moment)?, &wanted)),
+        "leaves" => Ok(is(&wanted, "spans", queue.leaving(moment), 0)),
+        "ready" => Ok(is_ready(queue.ready(), &wanted)),
+        _ => settles(alloc, queue, asked, &wanted),
+    }
+}
+
+/// Tells a story to a sender, which is to be empty in the end.
+fn tell(
+    rt: &impl Abort,
+    alloc: Global,
+    mut queue: SendQueue,
+    story: &'static str,
+) -> Result<(), AllocError> {
+    for line in story.lines() {
+        assert!(rt; goes(alloc, &mut queue, line)?, "at {line}");
+    }
+    assert!(rt; queue.is_empty());
+    Ok(())
+}
+
+/// One batch at a time, of which one waits.
+const ONE: SendingQueue = SendingQueue {
+    queue_size: 1,
+    num_consumers: 1,
+};
+
+/// Two batches at a time, of which three wait.
+const TWO: SendingQueue = SendingQueue {
+    queue_size: 3,
+    num_consumers: 2,
+};
+
+/// The exporterhelper's defaults, without an end.
+const ENDLESS: RetryOnFailure = RetryOnFailure {
+    initial_interval: 5000,
+    max_interval: 30_000,
+    max_elapsed_time: 0,
+    multiplier: 1500,
+    randomization_factor: 500,
+};
+
+/// The same for so long.
+const FIFTY_SECONDS: RetryOnFailure = RetryOnFailure {
+    initial_interval: 5000,
+    max_interval: 30_000,
+    max_elapsed_time: 50_000,
+    multiplier: 1500,
+    randomization_factor: 500,
+};
+
+/// Just long enough for a third attempt.
+const LONG_ENOUGH: RetryOnFailure = RetryOnFailure {
+    initial_interval: 5000,
+    max_interval: 30_000,
+    max_elapsed_time: 51_250,
+    multiplier: 1500,
+    randomization_factor: 500,
+};
+
+const SENT: &str = "\
+job 999 = none
+offer 1000 abc = taken
+offer 1000 d = full 1
+ready = at 1000
+leaves 1000 = spans 3
+answer 1 1000 0 200 - - = fault 21
+job 1000 = abc 1
+leaves 1000 = spans 0
+offer 1000 ef = taken
+leaves 1000 = spans 0
+ready = none
+job 1000 = none
+answer 2 1000 0 200 - - = fault 21
+answer 1 1000 0 200 - - = taken 3 0
+answer 1 1000 0 200 - - = fault 21
+ready = at 1000
+job 1000 = ef 2
+answer 2 1000 0 200 - - = taken 2 0
+ready = none";
+
+#[test]
+fn a_batch_is_sent_and_its_consumer_is_free(rt: HostRuntime) -> Result<(), Fail> {
+    let queue = SendQueue::new(rt.alloc(), &ONE, &ENDLESS)?;
+    tell(&rt, rt.alloc(), queue, SENT)?;
+    Ok(())
+}
+
+/// After 40 seconds that were asked for, and after 11,250 milliseconds that the greatest word picks.
+const GIVEN_UP: &str = "\
+offer 1000 abc = taken
+job 1000 = abc 1
+answer 1 1000 0 503 40 - = waits 3 41000
+answer 1 1000 0 200 - - = fault 21
+offer 2000 d = taken
+ready = at 41000
+job 40999 = none
+leaves 41000 = spans 0
+job 41000 = abc 2
+answer 2 41000 4294967295 503 - - = exhausted 3
+ready = at 2000
+leaves 41000 = spans 1
+job 41000 = d 3
+answer 3 41000 0 301 - - = refused 1";
+
+#[test]
+fn a_batch_is_given_up_in_the_end(rt: HostRuntime) -> Result<(), Fail> {
+    let queue = SendQueue::new(rt.alloc(), &ONE, &FIFTY_SECONDS)?;
+    tell(&rt, rt.alloc(), queue, GIVEN_UP)?;
+    Ok(())
+}
+
+const JUST_IN_TIME: &str = "\
+offer 1000 abc = taken
+job 1000 = abc 1
+answer 1 1000 0 503 40 - = waits 3 41000
+job 41000 = abc 2
+answer 2 41000 4294967295 failed - - = waits 3 52250
+job 52249 = none
+job 52250 = abc 3
+answer 3 52250 0 200 - five = taken 0 3";
+
+#[test]
+fn a_batch_is_sent_a_third_time_just_in_time(rt: HostRuntime) -> Result<(), Fail> {
+    let queue = SendQueue::new(rt.alloc(), &ONE, &LONG_ENOUGH)?;
+    tell(&rt, rt.alloc(), queue, JUST_IN_TIME)?;
+    Ok(())
+}
+
+/// With the least word the first delay is 2,500 and the second 3,750. In the end what was offered last is taken back.
+const IN_ORDER: &str = "\
+offer 1000 aaa = taken
+offer 1000 bb = taken
+offer 1000 c = taken
+job 1000 = aaa 1
+job 1000 = bb 2
+job 1000 = none
+answer 1 1500 0 502 - - = waits 3 4000
+answer 2 1000 0 502 - - = waits 2 3500
+ready = at 3500
+leaves 4000 = spans 0
+job 4000 = bb 3
+job 4000 = aaa 4
+answer 4 5000 0 502 - - = waits 3 8750
+answer 3 5000 0 502 - - = waits 2 8750
+job 8750 = bb 5
+job 8750 = aaa 6
+answer 5 8750 0 400 - - = refused 2
+leaves 8750 = spans 1
+job 8750 = c 7
+answer 6 9000 0 200 - two = taken 1 2
+answer 7 9000 0 200 - - = taken 1 0
+offer 1000 a = taken
+offer 1100 b = taken
+back = b
+ready = at 1000
+back = a
+ready = none
+back = none
+job 2000 = none";
+
+#[test]
+fn retries_go_by_moment_and_ticket_and_the_newest_is_taken_back(
+    rt: HostRuntime,
+) -> Result<(), Fail> {
+    let queue = SendQueue::new(rt.alloc(), &TWO, &ENDLESS)?;
+    tell(&rt, rt.alloc(), queue, IN_ORDER)?;
+    offers_are_undone();
+    Ok(())
+}
+
+/// The definitions, on the last tickets, give what was worked out by hand.
+fn definitions_of_senders()
+    ensures tickets { Tickets }
+{}

@@ -1,0 +1,191 @@
+//! Views of spans.
+
+ghost use Rattle.processor_tests.specs.Views.{Told, CanonicalTexts};
+
+use otlp_trace::DoubleBits;
+use span_view::{SpanField, SpanRef, ValueRef, canonical_text_is_viewed, equal_values, is_text};
+use std::process::Abort;
+
+/// The span of opentelemetry-proto's example of a trace (examples/trace.json), with a status of code 2 and fields that
+/// no span knows behind it.
+const SPAN: &[u8] = b"\x0a\x10\x5b\x8e\xff\xf7\x98\x03\x81\x03\xd2\x69\xb6\x33\x81\x3f\xc6\x0c\
+\x12\x08\xee\xe1\x9b\x7e\xc3\xc1\xb1\x74\
+\x22\x08\xee\xe1\x9b\x7e\xc3\xc1\xb1\x73\
+\x2a\x11I'm a server span\
+\x30\x02\
+\x39\x00\x48\x59\xe3\xfa\xeb\x6f\x15\
+\x41\x00\x12\xf4\x1e\xfb\xeb\x6f\x15\
+\x4a\x1c\x0a\x0cmy.span.attr\x12\x0c\x0a\x0asome value\
+\x7a\x05\x12\x01m\x18\x02\
+\x08\x09\
+\x38\x63\
+\xa3\x01\x0a\x01z\xa4\x01";
+
+/// Its resource.
+const RESOURCE: &[u8] = b"\x0a\x1c\x0a\x0cservice.name\x12\x0c\x0a\x0amy.service";
+
+fn checked<'a>(rt: &impl Abort, span: &'a [u8], resource: &'a [u8]) -> SpanRef<'a> {
+    assert!(rt; is_text(span, resource));
+    SpanRef::of(span, resource)
+}
+
+fn has_ids(view: &SpanRef<'_>) -> bool {
+    let id: &[u8] = b"\x5b\x8e\xff\xf7\x98\x03\x81\x03\xd2\x69\xb6\x33\x81\x3f\xc6\x0c";
+    let span_id: &[u8] = b"\xee\xe1\x9b\x7e\xc3\xc1\xb1\x74";
+    view.trace_id() == id && view.span_id() == span_id
+}
+
+fn has_times_and_status(view: &SpanRef<'_>) -> bool {
+    (view.start(), view.end()) == (1544712660000000000, 1544712661000000000) && view.status() == 2
+}
+
+/// Whether this is an attribute with that key and value.
+fn is_attribute(found: Option<(&str, ValueRef<'_>)>, key: &str, want: ValueRef<'_>) -> bool {
+    match found {
+        Some((name, value)) => name == key && value == want,
+        None => false,
+    }
+}
+
+fn has_attributes(view: &SpanRef<'_>) -> bool {
+    let own = ValueRef::String("some value");
+    let of_resource = ValueRef::String("my.service");
+    let mut attributes = view.attributes();
+    is_attribute(attributes.next(), "my.span.attr", own)
+        && is_attribute(attributes.next(), "service.name", of_resource)
+        && attributes.next().is_none()
+        && attributes.next().is_none()
+}
+
+/// Whether this field tells an attribute with that key and value.
+fn tells_attribute(found: Option<SpanField<'_>>, key: &str, want: ValueRef<'_>) -> bool {
+    match found {
+        Some(SpanField::Attribute(pair)) => pair.key() == key && pair.value() == want,
+        _ => false,
+    }
+}
+
+fn has_fields(view: &SpanRef<'_>) -> bool {
+    let own = ValueRef::String("some value");
+    let of_resource = ValueRef::String("my.service");
+    let mut fields = view.fields();
+    matches!(fields.next(), Some(SpanField::Start(1544712660000000000)))
+        && matches!(fields.next(), Some(SpanField::End(1544712661000000000)))
+        && tells_attribute(fields.next(), "my.span.attr", own)
+        && matches!(fields.next(), Some(SpanField::Status(2)))
+        && tells_attribute(fields.next(), "service.name", of_resource)
+        && fields.next().is_none()
+        && fields.next().is_none()
+}
+
+#[test]
+fn the_example_of_a_trace_is_viewed(rt: HostRuntime) {
+    let view = checked(&rt, SPAN, RESOURCE);
+    assert!(rt; has_ids(&view) && has_times_and_status(&view) && has_attributes(&view));
+    assert!(rt; has_fields(&view));
+}
+
+/// Whether the one attribute of this resource has no key and this value.
+fn has_value(rt: &impl Abort, resource: &[u8], value: ValueRef<'_>) -> bool {
+    let mut attributes = checked(rt, b"", resource).attributes();
+    is_attribute(attributes.next(), "", value) && attributes.next().is_none()
+}
+
+/// A resource with one attribute, by the kind of its value, and the value that it is to have.
+fn valued(kind: &str) -> (&'static [u8], ValueRef<'static>) {
+    match kind {
+        "none" => (b"\x0a\x04\x0a\x00\x12\x00", ValueRef::Unset),
+        "empty" => (b"\x0a\x04\x12\x02\x0a\x00", ValueRef::String("")),
+        "text" => (
+            b"\x0a\x06\x12\x04\x0a\x02\xc3\xa4",
+            ValueRef::String("\u{e4}"),
+        ),
+        "false" => (b"\x0a\x04\x12\x02\x10\x00", ValueRef::Bool(false)),
+        "true" => (b"\x0a\x04\x12\x02\x10\x01", ValueRef::Bool(true)),
+        "int" => (
+            b"\x0a\x0d\x12\x0b\x18\xff\xff\xff\xff\xff\xff\xff\xff\xff\x01",
+            ValueRef::Int(-1),
+        ),
+        "double" => (
+            b"\x0a\x0b\x12\x09\x21\x01\x00\x00\x00\x00\x00\xf8\x7f",
+            ValueRef::Double(DoubleBits([1, 0, 0, 0, 0, 0, 0xf8, 0x7f])),
+        ),
+        _ => valued_as(kind),
+    }
+}
+
+/// The same of the other kinds.
+fn valued_as(kind: &str) -> (&'static [u8], ValueRef<'static>) {
+    match kind {
+        "array" => (b"\x0a\x08\x12\x06\x2a\x04\x0a\x02\x18\x07", ValueRef::Array),
+        "list" => (b"\x0a\x04\x12\x02\x32\x00", ValueRef::KeyValueList),
+        "bytes" => (
+            b"\x0a\x06\x12\x04\x3a\x02\xff\x00",
+            ValueRef::Bytes(b"\xff\x00"),
+        ),
+        // The number 7 and then a bool: the first field tells.
+        "first" => (b"\x0a\x06\x12\x04\x18\x07\x10\x01", ValueRef::Int(7)),
+        // A field that no value knows, and one with another wire type.
+        _ => (b"\x0a\x06\x12\x04\x40\x01\x08\x02", ValueRef::Unset),
+    }
+}
+
+const KINDS: &str = "none empty text false true int double array list bytes first unknown";
+
+#[test]
+fn each_kind_of_value_is_told(rt: HostRuntime) {
+    for kind in KINDS.split(' ') {
+        let (resource, value) = valued(kind);
+        assert!(rt; has_value(&rt, resource, value), "{kind}");
+    }
+}
+
+/// Whether a span tells this trace id and this status, and no span id.
+fn tells(rt: &impl Abort, span: &[u8], trace_id: &[u8], status: i32) -> bool {
+    let view = checked(rt, span, b"");
+    view.trace_id() == trace_id && view.status() == status && view.span_id().is_empty()
+}
+
+#[test]
+fn what_tells_nothing_is_passed_over(rt: HostRuntime) {
+    // No field; a status with a message alone, and one of minus two.
+    assert!(rt; tells(&rt, b"", b"", 0) && tells(&rt, b"\x7a\x03\x12\x01m", b"", 0));
+    assert!(rt;
+        tells(
+            &rt,
+            b"\x7a\x0b\x18\xfe\xff\xff\xff\xff\xff\xff\xff\xff\x01",
+            b"",
+            -2
+        )
+    );
+    // The first of two trace ids, behind the number 1 as a varint; and nothing behind a place where no field begins.
+    assert!(rt; tells(&rt, b"\x08\x09\x0a\x01\x01\x0a\x01\x02", b"\x01", 0));
+    assert!(rt; tells(&rt, b"\x0a\x01\x01\x00\x12\x01\x03", b"\x01", 0));
+}
+
+#[test]
+fn strings_that_are_not_utf8_are_found(rt: HostRuntime) {
+    let none: &[u8] = b"";
+    for (span, resource, expected) in [
+        (b"\x4a\x03\x0a\x01\xff".as_slice(), none, false),
+        (b"\x4a\x05\x12\x03\x0a\x01\xff".as_slice(), none, false),
+        (none, b"\x0a\x03\x0a\x01\xff".as_slice(), false),
+        // Bytes, and a name that no view reads.
+        (b"\x4a\x05\x12\x03\x3a\x01\xff".as_slice(), none, true),
+        (b"\x2a\x01\xff".as_slice(), none, true),
+    ] {
+        assert!(rt; is_text(span, resource) == expected);
+    }
+}
+
+#[test]
+fn laws_of_views_can_be_called(_rt: HostRuntime) {
+    canonical_text_is_viewed();
+    equal_values();
+}
+
+/// The definitions say of small spans and texts what was worked out by hand.
+fn definitions_of_views()
+    ensures told { Told }
+    ensures canonical { CanonicalTexts }
+{}

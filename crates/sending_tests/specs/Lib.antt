@@ -1,3 +1,0 @@
-pub mod Ledgers
-pub mod Queues
-pub mod Retries

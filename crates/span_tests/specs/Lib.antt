@@ -1,4 +1,0 @@
-pub mod Views
-pub mod Stored
-pub mod Policies
-pub mod Notes

@@ -1,0 +1,170 @@
+//! Spans of two tenants, 7 and 8, in one pool.
+
+ghost use Rattle.store_tests.specs.Stored.{SameResources, SameScopes, EqualOrigins, ReadSpans, ReadResources};
+
+use crate::story::{Step, one, step_of};
+use bytes::Bytes;
+use span_pool::{
+    NotYours, Owned, SpanPool, StoredSpan, TextKeys, each_span_has_one_owner, read_spans_are_viewed,
+};
+use std::alloc::AllocError;
+use std::mem::size_of;
+use std::process::Abort;
+use std::test::Fail;
+
+/// A resource of a schema, and a scope of none.
+const KEYS: TextKeys = TextKeys {
+    resource: Some(3),
+    resource_schema_url: Some(0),
+    scope: Some(5),
+    scope_schema_url: None,
+};
+
+/// Spans by their names, of one letter: field 5.
+const FIRST: &[u8] = b"\x2a\x01\x31";
+
+const SECOND: &[u8] = b"\x2a\x01\x32";
+
+/// The span of this number.
+fn span(owner: u32, number: usize) -> StoredSpan {
+    let name = if number == 1 { FIRST } else { SECOND };
+    StoredSpan::of(owner, KEYS, Bytes::from_static(name))
+}
+
+#[test]
+fn what_was_given_is_there_in_80_bytes(rt: HostRuntime) {
+    let span = span(7, 1);
+    assert!(rt; span.owner() == 7 && span.keys() == KEYS && span.text().as_slice() == FIRST);
+    assert!(rt; size_of::<StoredSpan>() == 80);
+}
+
+fn number_of(span: Option<&StoredSpan>) -> usize {
+    let Some(span) = span else {
+        return 0;
+    };
+    if span.text().as_slice() == FIRST {
+        1
+    } else {
+        2
+    }
+}
+
+/// What a tenant owns at four keys.
+fn owned(pool: &SpanPool<StoredSpan>, tenant: u32) -> [usize; 4] {
+    [
+        number_of(pool.owned(tenant, 0)),
+        number_of(pool.owned(tenant, 1)),
+        number_of(pool.owned(tenant, 2)),
+        number_of(pool.owned(tenant, 3)),
+    ]
+}
+
+/// Puts a span. Where memory is refused, what both own is the same, and the span is there to be put again.
+fn put(
+    rt: &impl Abort,
+    pool: &mut SpanPool<StoredSpan>,
+    span: StoredSpan,
+) -> Result<usize, AllocError> {
+    let before = (owned(pool, 7), owned(pool, 8));
+    match pool.put(span) {
+        Ok(key) => Ok(key),
+        Err(failed) => {
+            assert!(rt; (owned(pool, 7), owned(pool, 8)) == before);
+            Ok(pool.put(failed.value)?)
+        }
+    }
+}
+
+fn taken(pool: &mut SpanPool<StoredSpan>, tenant: u32, key: usize) -> usize {
+    match pool.take(tenant, key) {
+        Ok(span) => number_of(Some(&span)),
+        Err(refused) => refused.number() as usize,
+    }
+}
+
+fn given(
+    rt: &impl Abort,
+    pool: &mut SpanPool<StoredSpan>,
+    step: &Step<'_>,
+) -> Result<usize, AllocError> {
+    match step.call {
+        "put" => put(rt, pool, span(step.tenant, step.number)),
+        "take" => Ok(taken(pool, step.tenant, step.number)),
+        "undo" => {
+            pool.undo_put(step.tenant, step.number);
+            Ok(0)
+        }
+        "owned" => Ok(number_of(pool.owned(step.tenant, step.number))),
+        _ => Ok(number_of(pool.get(step.number))),
+    }
+}
+
+/// `put` a span, by its number, gives its key; `take` the span at a key gives its number, or that of the refusal, and
+/// `undo` takes it back. `owned` is the number of the tenant's span at a key, `get` that of anyone's.
+const STORY: &str = "\
+put 7 1 = 0
+put 8 2 = 1
+put 7 2 = 2
+owned 7 0 = 1
+owned 7 1 = 0
+owned 7 2 = 2
+owned 8 0 = 0
+owned 8 1 = 2
+get 7 1 = 2
+get 7 1000 = 0
+take 8 0 = 20
+take 7 1000 = 20
+take 7 0 = 1
+take 7 0 = 20
+owned 7 0 = 0
+owned 7 2 = 2
+owned 8 1 = 2
+undo 7 1 = 0
+owned 8 1 = 2
+undo 7 2 = 0
+owned 7 2 = 0
+owned 8 1 = 2";
+
+// A span is taken by its owner alone, and once. Each run with one allocation refused has to end well, too.
+#[test]
+fn each_tenant_owns_and_takes_what_it_put(rt: HostRuntime) -> Result<(), Fail> {
+    let mut pool = SpanPool::new(rt.alloc());
+    for line in STORY.lines() {
+        let step = step_of(line);
+        assert!(rt;
+            one(given(&rt, &mut pool, &step)?) == step.wanted,
+            "at {line}"
+        );
+    }
+    Ok(())
+}
+
+// The pool grows; each run with one allocation refused has to end well, too.
+#[test]
+fn many_spans_come(rt: HostRuntime) -> Result<(), Fail> {
+    let mut pool = SpanPool::new(rt.alloc());
+    for _pair in 0..20 {
+        put(&rt, &mut pool, span(7, 1))?;
+        put(&rt, &mut pool, span(8, 2))?;
+    }
+    assert!(rt; owned(&pool, 7) == [1, 0, 1, 0] && owned(&pool, 8) == [0, 2, 0, 2]);
+    Ok(())
+}
+
+#[test]
+fn the_refusal_has_a_text(rt: HostRuntime) -> Result<(), Fail> {
+    let text = format!(in rt.alloc(); "{NotYours}")?;
+    assert!(rt; text.as_str() == "the tenant owns no span at this key");
+    each_span_has_one_owner::<StoredSpan>();
+    read_spans_are_viewed();
+    Ok(())
+}
+
+/// The definitions, on small inputs, give what was worked out by hand.
+fn definitions_of_kept_spans()
+    ensures same_resources { SameResources }
+    ensures same_scopes { SameScopes }
+    ensures equal_origins { EqualOrigins }
+    ensures read_spans { ReadSpans }
+    ensures read_resources { ReadResources }
+{}

@@ -1,0 +1,275 @@
+//! Stories of two tenants, 7 and 8, in stores that they share.
+
+use crate::placed::{
+    A, B, C, OTHER, TRACE, held, join, keys_from, late, open, row_at, seats, spans, texts, told,
+};
+use crate::story::{Numbers, Step, one, row_number, step_of, two};
+use std::alloc::{AllocError, Global};
+use std::process::Abort;
+use std::test::Fail;
+use tenant_stores::{Placed, Stores};
+
+/// The span of this number.
+fn name_of(number: usize) -> &'static [u8] {
+    match number {
+        1 => A,
+        2 => B,
+        _ => C,
+    }
+}
+
+/// The keys of a resource and a scope that are held.
+fn held_at(stores: &mut Stores<u64>, tenant: u32) -> Result<Numbers, AllocError> {
+    let keys = held(stores, tenant)?;
+    match (keys.resource, keys.scope) {
+        (Some(resource), Some(scope)) => Ok(two(resource, scope)),
+        _ => Ok(one(1000)),
+    }
+}
+
+/// The key of a span that opened a row, and the trace's row before.
+fn opened(stores: &mut Stores<u64>, step: &Step<'_>) -> Result<Numbers, AllocError> {
+    let number = step.number as u64;
+    match open(stores, step.tenant, number, TRACE, name_of(step.other))? {
+        Some(opening) => Ok(two(opening.key, row_number(opening.earlier))),
+        None => Ok(one(1000)),
+    }
+}
+
+/// The key of a span that joined a row, and the row's note before.
+fn joined(stores: &mut Stores<u64>, step: &Step<'_>) -> Result<Numbers, AllocError> {
+    let number = step.number as u64;
+    let joining = join(stores, step.tenant, number, name_of(step.other), 2)?;
+    Ok(two(joining.key, joining.former as usize))
+}
+
+/// The keys of the spans of a row that is sampled.
+fn kept(stores: &mut Stores<u64>, tenant: u32, number: u64) -> Numbers {
+    let keys = stores.keep_row(tenant, number);
+    match keys.as_slice() {
+        [first, second] => two(*first, *second),
+        _ => one(1000),
+    }
+}
+
+/// How many spans a row has, its note, and whether it is there, and sampled.
+fn row_of(stores: &Stores<u64>, tenant: u32, number: u64) -> Numbers {
+    match row_at(stores, tenant, number) {
+        Some((spans, note, sampled)) => [spans, note as usize, 1, usize::from(sampled), 0, 0],
+        None => one(0),
+    }
+}
+
+/// What a call gives that takes no memory.
+fn given_at_once(stores: &mut Stores<u64>, step: &Step<'_>) -> Numbers {
+    let tenant = step.tenant;
+    let number = step.number as u64;
+    match step.call {
+        "release" => {
+            stores.release_all(tenant, keys_from(step.number));
+            one(0)
+        }
+        "flush" => {
+            stores.flush(tenant, [step.number].as_slice());
+            one(0)
+        }
+        "keep" => kept(stores, tenant, number),
+        "drop" => one(stores.drop_row(tenant, number)),
+        "sweep" => one(stores.sweep(tenant, number)),
+        _ => seen(stores, step),
+    }
+}
+
+/// What is there.
+fn seen(stores: &Stores<u64>, step: &Step<'_>) -> Numbers {
+    match step.call {
+        "row" => row_of(stores, step.tenant, step.number as u64),
+        "spans" => spans(stores, step.tenant),
+        "texts" => texts(stores, step.tenant),
+        _ => {
+            let [first, second] = seats(stores, step.tenant);
+            two(row_number(first), row_number(second))
+        }
+    }
+}
+
+/// What a call gives.
+fn given(stores: &mut Stores<u64>, step: &Step<'_>) -> Result<Numbers, AllocError> {
+    match step.call {
+        "hold" => held_at(stores, step.tenant),
+        "late" => {
+            let keys = keys_from(step.number);
+            Ok(one(late(stores, step.tenant, keys, name_of(step.other))?))
+        }
+        "open" => opened(stores, step),
+        "join" => joined(stores, step),
+        _ => Ok(given_at_once(stores, step)),
+    }
+}
+
+/// What a call gives. Where memory is refused, both tenants have what they had, and it is done again.
+fn given_at_last(
+    rt: &impl Abort,
+    stores: &mut Stores<u64>,
+    step: &Step<'_>,
+) -> Result<Numbers, AllocError> {
+    let before = (told(stores, 7), told(stores, 8));
+    if let Ok(numbers) = given(stores, step) {
+        return Ok(numbers);
+    }
+    assert!(rt; (told(stores, 7), told(stores, 8)) == before);
+    given(stores, step)
+}
+
+/// Tells a story to new stores.
+fn tell(rt: &impl Abort, alloc: Global, story: &str) -> Result<(), AllocError> {
+    let mut stores = Stores::new(alloc);
+    for line in story.lines() {
+        let step = step_of(line);
+        assert!(rt;
+            given_at_last(rt, &mut stores, &step)? == step.wanted,
+            "at {line}"
+        );
+    }
+    Ok(())
+}
+
+/// A call a line, with what it gives:
+///
+/// - `hold`: the keys of a resource and a scope; `release` lets go of those texts whose scope is at a key;
+/// - `open`, `join` with the number of a row and a span: the span's key, and the trace's row or the row's note before;
+/// - `late` with the key of a scope and a span: the span's key; `flush` a span's key;
+/// - `keep` a row: its keys; `drop`, `sweep` a row: how many spans leave with it;
+/// - `row`: how many spans it has, its note, 1, and whether it was sampled; `seats`: the rows of two traces;
+/// - `spans` at the first six keys, 0 for none; `texts` at the first six, the resource as 4, the scope as 5.
+const STORIES: &str = "\
+open 7 1 1 = 0 0
+open 8 1 1 = 1 0
+join 7 1 2 = 2 1
+open 8 2 2 = 3 1
+row 7 1 = 2 2 1 0
+row 8 1 = 1 1 1 0
+seats 7 = 1 0
+seats 8 = 2 0
+spans 7 = 1 0 2 0 0 0
+spans 8 = 0 1 0 2 0 0
+keep 7 1 = 0 2
+row 7 1 = 0 2 1 1
+spans 7 = 1 0 2 0 0 0
+drop 8 1 = 1
+row 8 1 = 0 1 1 0
+spans 8 = 0 0 0 2 0 0
+flush 7 0 = 0
+spans 7 = 0 0 2 0 0 0
+sweep 7 1 = 0
+row 7 1 = 0
+seats 7 = 0
+sweep 8 1 = 0
+sweep 8 2 = 1
+row 8 2 = 0
+seats 8 = 0
+spans 7 = 0 0 2 0 0 0
+spans 8 = 0 0 0 0 0 0
+
+hold 7 = 1 0
+hold 8 = 3 2
+texts 7 = 5 4 0 0
+texts 8 = 0 0 5 4
+late 7 0 1 = 0
+late 7 0 2 = 1
+release 7 0 = 0
+release 8 0 = 0
+texts 7 = 5 4 0 0
+texts 8 = 0 0 5 4
+flush 7 0 = 0
+texts 7 = 5 4 0 0
+flush 8 1 = 0
+spans 7 = 0 2 0 0 0 0
+flush 7 1 = 0
+texts 7 = 0 0 0 0
+texts 8 = 0 0 5 4
+release 8 2 = 0
+texts 8 = 0 0 0 0
+
+hold 7 = 1 0
+open 7 1 1 = 0 0
+join 7 1 2 = 1 1
+open 7 2 1 = 2 1
+late 7 0 3 = 3
+hold 8 = 3 2
+open 8 1 1 = 4 0
+join 8 1 2 = 5 1
+open 8 2 1 = 6 1
+late 8 2 3 = 7
+spans 7 = 1 2 1 3 0 0
+spans 8 = 0 0 0 0 1 2
+texts 7 = 5 4 0 0
+texts 8 = 0 0 5 4
+row 7 1 = 2 2 1 0
+row 8 2 = 1 1 1 0";
+
+// Each run with one allocation refused has to end well, too.
+#[test]
+fn stories_of_two_tenants(rt: HostRuntime) -> Result<(), Fail> {
+    for story in STORIES.split("\n\n") {
+        tell(&rt, rt.alloc(), story)?;
+    }
+    Ok(())
+}
+
+/// A span joins the first row, and the journal tells so.
+fn joins(stores: &mut Stores<u64>, journal: &mut Vec<Placed<u64>>) -> Result<(), AllocError> {
+    let joining = join(stores, 7, 1, B, 2)?;
+    journal.push(Placed::Joined(1, joining.key, joining.former))?;
+    Ok(())
+}
+
+/// A span opens a row, and the journal tells so.
+fn opens(
+    stores: &mut Stores<u64>,
+    journal: &mut Vec<Placed<u64>>,
+    number: u64,
+    trace: [u8; 16],
+) -> Result<(), AllocError> {
+    if let Some(opening) = open(stores, 7, number, trace, B)? {
+        journal.push(Placed::Opened(number, opening.key, trace, opening.earlier))?;
+    }
+    Ok(())
+}
+
+/// A late span comes, and the journal tells so.
+fn comes_late(stores: &mut Stores<u64>, journal: &mut Vec<Placed<u64>>) -> Result<(), AllocError> {
+    journal.push(Placed::Late(late(stores, 7, keys_from(0), C)?))?;
+    Ok(())
+}
+
+/// Spans of each kind come.
+fn post(stores: &mut Stores<u64>, journal: &mut Vec<Placed<u64>>) -> Result<(), AllocError> {
+    joins(stores, journal)?;
+    opens(stores, journal, 2, OTHER)?;
+    journal.push(Placed::Left)?;
+    opens(stores, journal, 3, TRACE)?;
+    comes_late(stores, journal)
+}
+
+/// Stores in which tenant 7 holds the first two texts, and both tenants have a row.
+fn begin(stores: &mut Stores<u64>) -> Result<bool, AllocError> {
+    let _keys = held(stores, 7)?;
+    let seven = open(stores, 7, 1, TRACE, A)?.is_some();
+    let eight = open(stores, 8, 1, TRACE, A)?.is_some();
+    Ok(seven && eight)
+}
+
+#[test]
+fn what_a_post_did_is_taken_back(rt: HostRuntime) -> Result<(), Fail> {
+    let mut stores = Stores::new(rt.alloc());
+    assert!(rt; begin(&mut stores)?);
+    let before = (told(&stores, 7), told(&stores, 8));
+    let mut journal = Vec::new(rt.alloc());
+    post(&mut stores, &mut journal)?;
+    assert!(rt; spans(&stores, 7) == [1, 0, 2, 2, 2, 3] && stores.seat(7, TRACE) == Some(3));
+    assert!(rt; told(&stores, 7) != before.0 && told(&stores, 8) == before.1);
+    stores.take_all_back(7, &mut journal);
+    assert!(rt; journal.is_empty() && told(&stores, 7) == before.0 && told(&stores, 8) == before.1);
+    Ok(())
+}
