@@ -16,7 +16,6 @@ KNOWN = [
     ("otlp_prepare/src/prepared.rt", "Prepared", {"PartialEq"}, "`prepared_eq` of its specs/Equal"),
     ("otlp_trace/src/octets.rt", "Octets", {"Clone", "PartialEq", "Eq"}, "byte for byte, as of lists"),
     ("otlp_trace/src/repeated.rt", "Repeated", {"PartialEq", "Eq"}, "value for value, as of lists"),
-    ("span_pool/src/stored.rt", "StoredSpan", {"Clone", "PartialEq"}, "the law of `==` in its src/law.rt"),
 ]
 FOUND = [
     "impl PartialEq for Job {\n    ghost eq = { same };\n\n    fn eq(&self, other: &Job) -> bool {\n        true\n    }\n}",

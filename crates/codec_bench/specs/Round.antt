@@ -6,6 +6,8 @@ use Rattle.otlp_trace.specs.Text.{request_text}
 use Rattle.otlp_read.specs.declared.fault.ReadFault.{ReadFault}
 use Rattle.otlp_read.specs.declared.fault.ReadFault.TheVariants as read
 use Rattle.otlp_read.specs.Value.{IsValue}
+use Rattle.otlp_prepare.specs.declared.refusal.Refusal.{Refusal}
+use Rattle.otlp_prepare.specs.declared.refusal.Refusal.TheVariants as refusal
 use Rattle.codec_bench.specs.declared.fault.BenchFault.{BenchFault}
 use Rattle.codec_bench.specs.declared.fault.BenchFault.TheVariants.{Usage, Body, NotCanonical, InputOutput, OutOfMemory}
 
@@ -34,6 +36,11 @@ pub record IsWrittenAgain (body : List ℕ) (v : RequestData) : Type 0 where
 abbrev pub body_fault : ReadFault → BenchFault
 body_fault read.OutOfMemory = OutOfMemory
 body_fault fault = Body fault
+
+-- what a refusal of what makes bodies ready is told as
+abbrev pub refusal_fault : Refusal → BenchFault
+refusal_fault (refusal.Bad fault) = Body fault
+refusal_fault refusal.OutOfMemory = OutOfMemory
 
 -- a fault of a round: of the body, of its text or of the memory, and none of the arguments or a file
 abbrev pub IsOfRound : BenchFault → Type 0

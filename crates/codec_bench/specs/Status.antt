@@ -2,6 +2,8 @@
 use Rattle.std.specs.Prelude.{◌≡◌, ◌≢◌, ℕ, Result, Ok, Err}
 use Rattle.std.specs.declared.io.ErrorKind.{ErrorKind}
 use Rattle.std.specs.declared.io.ErrorKind.TheVariants as kinds
+use Rattle.tail_settings.specs.declared.fault.SettingsFault.{SettingsFault}
+use Rattle.tail_settings.specs.declared.fault.SettingsFault.TheVariants as settings
 use Rattle.codec_bench.specs.declared.fault.BenchFault.{BenchFault}
 use Rattle.codec_bench.specs.declared.fault.BenchFault.TheVariants.{Usage, Body, NotCanonical, InputOutput, OutOfMemory}
 
@@ -12,6 +14,11 @@ status_of (Body fault) = 1
 status_of NotCanonical = 1
 status_of InputOutput = 1
 status_of OutOfMemory = 3
+
+-- what a fault of the settings is told as, which are made of the number of policies
+abbrev pub settings_fault : SettingsFault → BenchFault
+settings_fault settings.OutOfMemory = OutOfMemory
+settings_fault fault = Usage
 
 -- 0 where it comes to its end
 abbrev pub end_status : Result Unit BenchFault → ℕ

@@ -2,20 +2,22 @@
 
 ghost use Rattle.std.specs.Prelude.{◌≡◌};
 ghost use Rattle.std.specs.IoError.{error_kind};
-ghost use Rattle.codec_bench.specs.Status.{status_of, IsOfFile};
-ghost use Rattle.codec_bench.specs.Round.{body_fault};
+ghost use Rattle.codec_bench.specs.Status.{status_of, settings_fault, IsOfFile};
+ghost use Rattle.codec_bench.specs.Round.{body_fault, refusal_fault};
 ghost use Rattle.codec_bench.specs.declared.fault.BenchFault.TheVariants.{OutOfMemory};
 
+use otlp_prepare::Refusal;
 use otlp_read::ReadFault;
 use std::alloc::{AllocError, AllocFailed};
 use std::io::{self, ErrorKind};
+use tail_settings::SettingsFault;
 use thiserror::Error;
 
 /// Why the program ends early.
 #[derive(Debug, Drop, Error)]
 pub enum BenchFault {
     /// The arguments ask for nothing that the program does.
-    #[error("usage: codec_bench [FILE ROUNDS]")]
+    #[error("usage: codec_bench [FILE ROUNDS [POLICIES]]")]
     Usage,
     /// The body has no value.
     #[error("the body is faulty: {0}")]
@@ -51,6 +53,29 @@ impl From<ReadFault> for BenchFault {
         match fault {
             ReadFault::OutOfMemory => BenchFault::OutOfMemory,
             _ => BenchFault::Body(fault),
+        }
+    }
+}
+
+impl From<Refusal> for BenchFault {
+    ghost from_gives = { λ refusal given. given ≡ refusal_fault refusal };
+
+    fn from(refusal: Refusal) -> BenchFault {
+        match refusal {
+            Refusal::OutOfMemory => BenchFault::OutOfMemory,
+            Refusal::Bad(fault) => BenchFault::Body(fault),
+        }
+    }
+}
+
+/// The settings are made of the number of policies, so that nothing but this and memory can be wrong with them.
+impl From<SettingsFault> for BenchFault {
+    ghost from_gives = { λ fault given. given ≡ settings_fault fault };
+
+    fn from(fault: SettingsFault) -> BenchFault {
+        match fault {
+            SettingsFault::OutOfMemory => BenchFault::OutOfMemory,
+            _ => BenchFault::Usage,
         }
     }
 }

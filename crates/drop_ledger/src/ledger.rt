@@ -86,20 +86,6 @@ impl Ledger {
         self.places
     }
 
-    /// How many spans were left out of posts that were taken, since they aren't valid.
-    pub fn invalid(&self) -> u64
-        ensures { result ≡ self.now.invalid }
-    {
-        self.invalid
-    }
-
-    /// How many spans were left out of posts that were taken, since there was no room for them.
-    pub fn over_budget(&self) -> u64
-        ensures { result ≡ self.now.over_budget }
-    {
-        self.over_budget
-    }
-
     /// All counters, in the order of the line that reports them. [`Ledger::of`] makes the same ledger of them.
     pub fn counters(&self) -> [u64; 14]
         // Each counter of the ledger is here.

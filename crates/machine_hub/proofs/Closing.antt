@@ -6,9 +6,9 @@ use Rattle.std.proofs.lemmas.List.{append-nil, length-map, reverse-reverse, reve
 use Rattle.std.proofs.lemmas.List.Sums.{sum_by-cons}
 use Rattle.atomic_table.specs.Seated.{TableId}
 use Rattle.numbered_items.specs.Numbered.{AreRising}
-use Rattle.shared_machine.specs.declared.view.Home.{Home}
-use Rattle.shared_machine.specs.declared.view.Standing.{Standing}
-use Rattle.shared_machine.specs.Seats.{SeatState, KeeperState, new_keeper, keeper_with, IsWholeRun}
+use Rattle.machine_hub.specs.declared.view.Home.{Home}
+use Rattle.machine_hub.specs.declared.view.Standing.{Standing}
+use Rattle.machine_hub.specs.Seats.{SeatState, KeeperState, new_keeper, keeper_with, IsWholeRun}
 use Rattle.machine_hub.specs.Hub.{HubKeeping, keeping, slots_of, seats_at, AreCallersOf, EachRises, IsShardRun, AreShardRuns}
 use Rattle.machine_hub.specs.Keepers.{AreFresh, keeper_slots, AreRoomy, AreFull, taken_in, gathered, AreWholeRuns}
 use Rattle.machine_hub.proofs.Lists.{some_one, empty, EachOf, each_from_all, IsZipping, zipping_first, zipping_old, zipping_all, zipped_long, map_at, map_long, map_some}

@@ -1,3 +1,7 @@
+pub mod Kept
+mod Moves
+mod Stepping
+mod Ending
 mod Lists
 mod Opens
 mod Closing

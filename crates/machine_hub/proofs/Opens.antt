@@ -4,10 +4,10 @@ use Rattle.std.specs.Prelude.{reverse}
 use Rattle.std.proofs.lemmas.List.{append-nil, length-map, length-replicate, reverse-reverse, reverse-append}
 use Rattle.std.proofs.lemmas.List.Elements.{All-replicate}
 use Rattle.atomic_table.specs.Seated.{TableId}
-use Rattle.shared_machine.specs.declared.view.Home.{Home}
-use Rattle.shared_machine.specs.declared.view.Standing.{Standing}
-use Rattle.shared_machine.specs.Slot.{home_of}
-use Rattle.shared_machine.specs.Seats.{SeatState, KeeperState, new_seat, new_keeper}
+use Rattle.machine_hub.specs.declared.view.Home.{Home}
+use Rattle.machine_hub.specs.declared.view.Standing.{Standing}
+use Rattle.machine_hub.specs.Slot.{home_of}
+use Rattle.machine_hub.specs.Seats.{SeatState, KeeperState, new_seat, new_keeper}
 use Rattle.machine_hub.specs.Hub.{HubKeeping, keeping, paired, AreNew, homes_of, new_caller, slots_of, AreCallersOf}
 use Rattle.machine_hub.specs.Keepers.{zipped, snoc, AreFresh, IsOpen, IsAdded}
 use Rattle.machine_hub.proofs.Lists.{zipped_same, paired_push, paired_left, paired_right, map_push}

@@ -2,8 +2,8 @@
 use Rattle.std.proofs.Common.{◌≡◌, ℕ, ◌<◌, List, length, get_or, set, Bool, Option, Some, None, sym, ap, ◌∙◌, subst, arith}
 use Rattle.std.specs.Prelude.{Result, Ok, Err, OnErr, option_map, slice_get}
 use Rattle.atomic_table.specs.Seated.{TableId}
-use Rattle.shared_machine.specs.declared.entry.Entry.{Entry}
-use Rattle.shared_machine.specs.Seats.{SeatState, seat_after, seat_refused, IsAbove, WasMade, WasTold}
+use Rattle.machine_hub.specs.declared.entry.Entry.{Entry}
+use Rattle.machine_hub.specs.Seats.{SeatState, seat_after, seat_refused, IsAbove, WasMade, WasTold}
 use Rattle.machine_hub.specs.declared.receipt.Receipt.{Receipt}
 use Rattle.machine_hub.specs.Hub.{receipt_at, slots_of, IsRefusedOn, IsCallOn, IsToldOn}
 use Rattle.machine_hub.proofs.Lists.{get_is, map_at, map_long, map_set}

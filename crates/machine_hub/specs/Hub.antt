@@ -3,11 +3,11 @@ use Rattle.std.specs.Prelude.{◌≡◌, ℕ, ◌<◌, List, [], ◌∷◌, map,
 use Rattle.std.specs.List.{filter_map}
 use Rattle.atomic_table.specs.Seated.{TableId}
 use Rattle.numbered_items.specs.Numbered.{AreRising, AreAllOf}
-use Rattle.shared_machine.specs.declared.entry.Entry.{Entry}
-use Rattle.shared_machine.specs.declared.view.Home.{Home}
-use Rattle.shared_machine.specs.declared.view.Standing.{Standing}
-use Rattle.shared_machine.specs.Slot.{home_of, IsAtHome}
-use Rattle.shared_machine.specs.Seats.{SeatState, new_seat, seat_after, seat_refused, IsAbove, WasMade, WasTold}
+use Rattle.machine_hub.specs.declared.entry.Entry.{Entry}
+use Rattle.machine_hub.specs.declared.view.Home.{Home}
+use Rattle.machine_hub.specs.declared.view.Standing.{Standing}
+use Rattle.machine_hub.specs.Slot.{home_of, IsAtHome}
+use Rattle.machine_hub.specs.Seats.{SeatState, new_seat, seat_after, seat_refused, IsAbove, WasMade, WasTold}
 use Rattle.machine_hub.specs.declared.receipt.Receipt.{Receipt}
 
 -- who ends a hub: at which slots its shards stand, what they were at first, and how many callers it has

@@ -1,10 +1,10 @@
 -- The keepers of a hub's shards while its callers are taken in, by which `specs/Hub` is proved.
 use Rattle.std.specs.Prelude.{◌≡◌, ℕ, ◌<◌, List, [], ◌∷◌, ◌++◌, length, map, replicate}
 use Rattle.atomic_table.specs.Seated.{TableId}
-use Rattle.shared_machine.specs.declared.view.Home.{Home}
-use Rattle.shared_machine.specs.declared.view.Standing.{Standing}
-use Rattle.shared_machine.specs.Slot.{home_of}
-use Rattle.shared_machine.specs.Seats.{SeatState, KeeperState, new_seat, new_keeper, keeper_with, IsWholeRun}
+use Rattle.machine_hub.specs.declared.view.Home.{Home}
+use Rattle.machine_hub.specs.declared.view.Standing.{Standing}
+use Rattle.machine_hub.specs.Slot.{home_of}
+use Rattle.machine_hub.specs.Seats.{SeatState, KeeperState, new_seat, new_keeper, keeper_with, IsWholeRun}
 use Rattle.machine_hub.specs.Hub.{paired, homes_of, new_caller}
 
 -- each of the one list is changed by the one of the other that stands beside it

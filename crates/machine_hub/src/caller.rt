@@ -2,7 +2,9 @@
 
 ghost use Rattle.std.specs.Prelude.{◌≡◌, ◌++◌, ◌∷◌, [], OnOk};
 
-use shared_machine::{Machine, SlotSeat, StepLog};
+use crate::log::StepLog;
+use crate::machine::Machine;
+use crate::slot::SlotSeat;
 use std::alloc::{AllocError, Global};
 use std::marker::Model;
 
@@ -15,7 +17,7 @@ pub struct Caller<M: Machine, L: StepLog<M>> {
 
 impl<M: Machine, L: StepLog<M>> Model for Caller<M, L> {
     ghost use Rattle.std.specs.Prelude.{List};
-    ghost use Rattle.shared_machine.specs.Seats.{SeatState};
+    ghost use Rattle.machine_hub.specs.Seats.{SeatState};
 
     ghost Value = { List (SeatState M M.Step M.Outcome) };
 

@@ -6,9 +6,12 @@ ghost use Rattle.machine_hub.specs.Keepers.{keeper_slots, AreRoomy, AreFull, tak
 
 use crate::caller::Caller;
 use crate::keeper::HubKeeper;
+use crate::log::StepLog;
+use crate::logged::{Given, LoggedMachine};
+use crate::machine::Machine;
 use crate::opening::{Opening, open_all};
 use crate::receipt::Receipt;
-use shared_machine::{Given, LoggedMachine, Machine, Slot, SlotKeeper, StepLog};
+use crate::slot::{Slot, SlotKeeper};
 use std::alloc::{AllocError, Global};
 use std::marker::Model;
 use std::sync::Wait;

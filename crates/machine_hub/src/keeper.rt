@@ -1,6 +1,9 @@
 //! Who ends a hub.
 
-use shared_machine::{LoggedMachine, Machine, SlotKeeper, StepLog};
+use crate::log::StepLog;
+use crate::logged::LoggedMachine;
+use crate::machine::Machine;
+use crate::slot::SlotKeeper;
 use std::marker::Model;
 
 /// Who opened a hub, and can end it. It has room for the shards, so that ending takes no memory.

@@ -1,12 +1,15 @@
 //! How a hub comes to be, shard by shard.
 
 ghost use Rattle.std.specs.Prelude.{◌≡◌, ◌<◌, ◌++◌, ◌∷◌, [], false, length, List, IfOk, OnOk, replicate, vec_len};
-ghost use Rattle.shared_machine.specs.Slot.{home_of};
+ghost use Rattle.machine_hub.specs.Slot.{home_of};
 ghost use Rattle.machine_hub.specs.Hub.{AreNew};
 ghost use Rattle.machine_hub.specs.Keepers.{zipped, snoc, IsOpen, IsAdded};
 
 use crate::caller::Caller;
-use shared_machine::{LoggedMachine, Machine, Slot, SlotKeeper, SlotSeat, StepLog};
+use crate::log::StepLog;
+use crate::logged::LoggedMachine;
+use crate::machine::Machine;
+use crate::slot::{Slot, SlotKeeper, SlotSeat};
 use std::alloc::{AllocError, Global};
 use std::sync::Wait;
 

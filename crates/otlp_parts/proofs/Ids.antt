@@ -6,10 +6,11 @@ use Rattle.otlp_read.specs.Value.{no_span}
 use Rattle.otlp_canonical.specs.Canonical.{CanonicalSpan}
 use Rattle.span_view.specs.Facts.{AreText, facts}
 use Rattle.span_view.specs.Reading.{facts_of}
+use Rattle.span_pool.specs.Ids.{is_id}
 use Rattle.span_pool.specs.Read.{IsReadSpan, IsReadResource}
 use Rattle.span_pool.specs.Stored.{bytes_of}
 use Rattle.otlp_parts.specs.ReadAs.{span_in, span_of}
-use Rattle.otlp_parts.specs.Texts.{is_id, is_valid_span}
+use Rattle.otlp_parts.specs.Texts.{is_valid_span}
 use Rattle.otlp_parts.proofs.Values.{of_value}
 
 is_read : (text : List ℕ) (of : CanonicalSpan 98 text) → length text < 2 ^ 64 → IsReadSpan of.value

@@ -1,15 +1,12 @@
 -- The parts of a body: the canonical texts of its valid spans, and of the resources and scopes that they stand in (OTLP
 -- 1.x's trace.proto). A span whose ids aren't as the trace data model of OpenTelemetry has them is left out and
 -- counted.
-use Rattle.std.specs.Prelude.{◌≡◌, ℕ, Bool, List, Option, map, option_map, filter, length, not, ◌==◌, ◌&&◌}
-use Rattle.std.specs.List.{list_all, count_by, sum_by}
+use Rattle.std.specs.Prelude.{◌≡◌, ℕ, Bool, List, Option, map, option_map, filter, not, ◌&&◌}
+use Rattle.std.specs.List.{count_by, sum_by}
 use Rattle.otlp_trace.specs.Data.{SpanData, ScopeSpansData, ResourceSpansData, RequestData}
 use Rattle.otlp_trace.specs.Text.{span_text, scope_text, resource_text}
 use Rattle.otlp_read.specs.Value.{IsValue}
-
--- an id of this many bytes, not all of them zero
-abbrev pub is_id : ℕ → List ℕ → Bool
-is_id size bytes = length bytes == size && not (list_all (λ byte. byte == 0) bytes)
+use Rattle.span_pool.specs.Ids.{is_id}
 
 -- a trace id has 16 bytes, a span id 8
 abbrev pub is_valid_span : SpanData → Bool

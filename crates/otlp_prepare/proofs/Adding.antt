@@ -4,14 +4,16 @@ use Rattle.std.proofs.lemmas.List.{get_or_append_left, length-append, map-append
 use Rattle.std.proofs.Math.Seq.{get_or-append_seam}
 use Rattle.std.specs.Prelude.{◌&&◌}
 use Rattle.std.specs.List.{AllByRecursion}
+use Rattle.otlp_read.specs.RoundTrip.{IsShort}
 use Rattle.span_view.specs.Facts.{SpanFacts}
+use Rattle.span_pool.specs.Ids.{is_id}
 use Rattle.span_pool.specs.Stored.{Origin as OriginData, bytes_of}
 use Rattle.tail_settings.specs.Policy.{PolicyData}
 use Rattle.tail_policy.specs.declared.note.ResourceBits.{ResourceBits}
-use Rattle.tenant_rules.specs.Arrivals.{is_id, is_valid}
+use Rattle.tenant_rules.specs.Arrivals.{is_valid}
 use Rattle.otlp_prepare.specs.declared.noted.Origin.{Origin}
 use Rattle.otlp_prepare.specs.Arrivals.{origin_view, no_origin, origin_at, arrival_with}
-use Rattle.otlp_prepare.specs.Found.{PartData, part_with, part_arrival, part_arrivals, bits_in, IsShort, IsFound, AreFound, Adds, IsValidRead, IsAround}
+use Rattle.otlp_prepare.specs.Found.{PartData, part_with, part_arrival, part_arrivals, bits_in, IsFound, AreFound, Adds, IsValidRead, IsAround}
 use Rattle.otlp_prepare.proofs.Lists.{every_append}
 use Rattle.otlp_prepare.proofs.Read.{AllTold, told}
 

@@ -6,7 +6,8 @@ use Rattle.otlp_read.specs.Nested.{NestedSpan}
 use Rattle.otlp_read.specs.Typed.{TypedSpan}
 use Rattle.otlp_read.specs.Value.{no_span, span_known}
 use Rattle.otlp_read.proofs.Sound.{nothing_kept, int32_fits}
-use Rattle.otlp_prepare.specs.Found.{IsShort, IsSpanRead}
+use Rattle.otlp_read.specs.RoundTrip.{IsShort}
+use Rattle.otlp_prepare.specs.Found.{IsSpanRead}
 
 nested : (room : ℕ) → NestedSpan (suc room) no_span
 nested room = record { attributes = tt; events = tt; links = tt; status = tt; unknown = nothing_kept span_known room }

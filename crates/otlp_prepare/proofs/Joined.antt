@@ -2,6 +2,7 @@
 use Rattle.std.proofs.Common.{◌≡◌, ◌∙◌, List, [], ◌∷◌, map, refl, ap, sym, subst}
 use Rattle.std.specs.Prelude.{zip}
 use Rattle.std.specs.List.{AllByRecursion}
+use Rattle.otlp_read.specs.RoundTrip.{IsShort}
 use Rattle.span_pool.specs.Stored.{bytes_of}
 use Rattle.tail_settings.specs.Policy.{PolicyData}
 use Rattle.tail_policy.specs.declared.note.TraceNote.{TraceNote}
@@ -13,7 +14,7 @@ use Rattle.otlp_prepare.specs.declared.noted.Origin.{Origin}
 use Rattle.otlp_prepare.specs.declared.noted.NotedSpan.{NotedSpan}
 use Rattle.otlp_prepare.specs.Arrivals.{origin_at, arrivals_in}
 use Rattle.otlp_prepare.specs.Prepared.{IsReady, AreReady}
-use Rattle.otlp_prepare.specs.Found.{PartData, part_arrival, part_arrivals, own_note, with_note, noted, IsShort, IsFound, AreFound}
+use Rattle.otlp_prepare.specs.Found.{PartData, part_arrival, part_arrivals, own_note, with_note, noted, IsFound, AreFound}
 use Rattle.otlp_prepare.proofs.Lists.{every_mapped}
 
 -- a span with the note that it has by itself

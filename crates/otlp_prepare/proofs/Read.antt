@@ -7,12 +7,14 @@ use Rattle.otlp_trace.specs.Data.{ResourceData, SpanData}
 use Rattle.otlp_trace.specs.Text.{resource_text, span_text}
 use Rattle.otlp_read.specs.Nested.{NestedResource}
 use Rattle.otlp_read.specs.Typed.{TypedResource}
-use Rattle.otlp_parts.specs.Texts.{is_id, is_valid_span}
+use Rattle.otlp_read.specs.RoundTrip.{IsShort}
+use Rattle.otlp_parts.specs.Texts.{is_valid_span}
 use Rattle.span_view.specs.Facts.{AreText, SpanFacts, facts}
 use Rattle.span_view.specs.Reading.{facts_of}
+use Rattle.span_pool.specs.Ids.{is_id}
 use Rattle.span_pool.specs.Stored.{bytes_of}
 use Rattle.span_pool.specs.Read.{IsReadSpan, IsReadResource}
-use Rattle.otlp_prepare.specs.Found.{IsShort, IsSpanRead, IsValidRead, IsResourceRead}
+use Rattle.otlp_prepare.specs.Found.{IsSpanRead, IsValidRead, IsResourceRead}
 
 -- a view over the texts of any span and resource that were read has keys and strings in UTF-8
 abbrev pub AllViewed : Type 0

@@ -1,11 +1,11 @@
 -- When bodies that were read are equal.
 use Rattle.std.specs.Prelude.{ℕ, ℤ, pos, negsuc, Bool, List, [], ◌∷◌, map, nat_eq}
 use Rattle.std.specs.Cmp.{IsPartialEquivalence, partial_equiv_from_equiv, on_per, and_per, nat_eq_equiv}
-use Rattle.std.specs.Cmp.Lexicographic.{pointwise, nat_list_eq_equiv, lists_per}
+use Rattle.std.specs.Cmp.Lexicographic.{pointwise, lists_per}
 use Rattle.std.specs.Ordering.{on, eq_of_both}
 use Rattle.tail_settings.specs.Policy.{StatusData, unset, ok, error, LeafData, always_sample, latency, status_code, string_attribute, numeric_attribute, PolicyData, leaf, and}
 use Rattle.span_pool.specs.Stored.{same_bytes}
-use Rattle.span_pool.specs.Equal.{origin_eq, origin_laws}
+use Rattle.span_pool.specs.Equal.{origin_eq, bytes_laws, origin_laws}
 use Rattle.tenant_rules.specs.Arrivals.{Arrival}
 use Rattle.otlp_prepare.specs.declared.noted.Origin.{Origin}
 use Rattle.otlp_prepare.specs.Arrivals.{origin_view}
@@ -66,9 +66,6 @@ same_front = eq_of_both (on (λ p. p.invalid) nat_eq) same_tenant
 -- and the same spans in the same order
 abbrev pub prepared_eq : PreparedData → PreparedData → Bool
 prepared_eq = eq_of_both same_front (on (λ p. p.arrivals) (pointwise arrival_eq))
-
-bytes_laws : IsPartialEquivalence same_bytes
-bytes_laws = partial_equiv_from_equiv nat_list_eq_equiv
 
 -- which is symmetric and transitive
 pub arrival_laws : IsPartialEquivalence arrival_eq

@@ -1,9 +1,10 @@
 -- What the code follows: the arrivals of a body by the texts of its parts, and the spans as they are found among these.
-use Rattle.std.specs.Prelude.{◌≡◌, ◌<◌, ◌^◌, ◌++◌, ℕ, true, length, List, [], Option, option_map, map, flat_map, IfSome}
+use Rattle.std.specs.Prelude.{◌≡◌, ◌<◌, ◌++◌, ℕ, true, length, List, [], Option, option_map, map, flat_map, IfSome}
 use Rattle.std.specs.List.{AllByRecursion}
 use Rattle.otlp_trace.specs.Data.{SpanData, ResourceData}
 use Rattle.otlp_trace.specs.Text.{span_text, resource_text}
 use Rattle.otlp_read.specs.Nested.{NestedSpan, NestedResource}
+use Rattle.otlp_read.specs.RoundTrip.{IsShort}
 use Rattle.otlp_read.specs.Typed.{TypedSpan, TypedResource}
 use Rattle.otlp_parts.specs.Texts.{is_valid_span, ScopeTexts, ResourceTexts, BodyTexts}
 use Rattle.span_view.specs.Reading.{facts_of}
@@ -82,10 +83,6 @@ noted policies part = with_note part (own_note policies part)
 -- what a resource of this text tells
 abbrev pub bits_in : List PolicyData → Option (List ℕ) → ResourceBits
 bits_in policies resource = resource_bits_of policies (facts_of [] (bytes_of resource)).attributes
-
--- a text has a length that can be spelled
-abbrev pub IsShort : List ℕ → Type 0
-IsShort text = length text < 2 ^ 64
 
 -- a span is valid, its origin is one of these, and it has what its resource tells
 pub record IsFound (policies : List PolicyData) (origins : List Origin) (part : PartData) : Type 0 where

@@ -2,11 +2,12 @@
 
 ghost use Rattle.std.specs.Prelude.{◌≡◌, ◌<◌, ◌++◌, map, IfOk, OnOk, List};
 ghost use Rattle.std.specs.List.{AllByRecursion};
+ghost use Rattle.otlp_read.specs.RoundTrip.{IsShort};
 ghost use Rattle.otlp_parts.specs.Parts.{body_parts_view, resource_parts_view, scope_parts_view};
 ghost use Rattle.span_pool.specs.Stored.{bytes_of};
 ghost use Rattle.tail_settings.specs.Policy.{PolicyData};
 ghost use Rattle.otlp_prepare.specs.Arrivals.{arrival_with, origin_view};
-ghost use Rattle.otlp_prepare.specs.Found.{IsShort, IsValidRead, IsScopeRead, IsResourceRead, IsGroupRead, AreRead, IsAround, part_with, AreFound, Adds, part_arrivals, bits_in, arrivals_in_resource, arrivals_in_body};
+ghost use Rattle.otlp_prepare.specs.Found.{IsValidRead, IsScopeRead, IsResourceRead, IsGroupRead, AreRead, IsAround, part_with, AreFound, Adds, part_arrivals, bits_in, arrivals_in_resource, arrivals_in_body};
 
 use crate::noted::Origin;
 use crate::part::SpanPart;

@@ -1,9 +1,10 @@
 //! Spans of a body without their notes.
 
 ghost use Rattle.std.specs.Prelude.{◌≡◌, [], length};
+ghost use Rattle.otlp_read.specs.RoundTrip.{IsShort};
 ghost use Rattle.span_view.specs.Facts.{AreText};
 ghost use Rattle.span_view.specs.Reading.{facts_of};
-ghost use Rattle.otlp_prepare.specs.Found.{IsShort, IsValidRead, part_with, with_note};
+ghost use Rattle.otlp_prepare.specs.Found.{IsValidRead, part_with, with_note};
 
 use crate::noted::NotedSpan;
 use bytes::Bytes;

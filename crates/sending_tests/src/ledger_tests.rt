@@ -26,8 +26,6 @@ fn spans_are_where_they_were_moved(rt: HostRuntime) {
     let ledger = some_sent();
     assert!(rt; ledger.accepted() == 5);
     assert!(rt; ledger.places().held(Place::Active) == 1);
-    assert!(rt; ledger.invalid() == 7);
-    assert!(rt; ledger.over_budget() == 8);
     assert!(rt; ledger.counters() == SOME_SENT);
     assert!(rt; ledger.places() == Ledger::of(SOME_SENT).places());
     assert!(rt; ledger.places() != Ledger::new().places());

@@ -3,12 +3,12 @@ use Rattle.std.proofs.Common.{◌≡◌, ℕ, zero, suc, ◌+◌, List, [], ◌�
 use Rattle.std.specs.Prelude.{slice_get}
 use Rattle.std.proofs.lemmas.List.{map-append, length-map}
 use Rattle.tail_settings.specs.Settings.{SettingsData}
-use Rattle.shared_machine.specs.declared.view.Home.{Home}
-use Rattle.shared_machine.specs.Slot.{home_of}
+use Rattle.machine_hub.specs.declared.view.Home.{Home}
+use Rattle.machine_hub.specs.Slot.{home_of}
 use Rattle.machine_hub.specs.Hub.{AreNew, homes_of}
 use Rattle.tenant_shard.specs.Lists.{ShardStands}
 use Rattle.tenant_shard.specs.Table.{opened}
-use Rattle.worded_machine.specs.Worded.{Worded, AreSeeded}
+use Rattle.shard_machine.specs.Worded.{Worded, AreSeeded}
 use Rattle.shared_hub.specs.Shards.{members_of, IsFresh, AreOpened, kept}
 use Rattle.shared_hub.specs.Logs.{LoggedShard}
 

@@ -4,19 +4,19 @@ use Rattle.std.specs.Prelude.{slice_get, option_map}
 use Rattle.std.proofs.lemmas.Option.{slice_get_within}
 use Rattle.tail_settings.specs.Section.{SectionData}
 use Rattle.tail_settings.specs.Settings.{SettingsData}
-use Rattle.tenant_words.specs.Words.{start}
+use Rattle.shard_machine.specs.Words.{start}
 use Rattle.tenant_shard.specs.Alone.{OwnStepsDecide}
 use Rattle.tenant_shard.specs.Run.{Run}
 use Rattle.tenant_shard.specs.Table.{opened}
-use Rattle.shared_machine.specs.declared.view.Home.{Home}
-use Rattle.shared_machine.specs.Runs.{entry, Runs}
-use Rattle.shared_machine.proofs.Kept.{runs_push}
+use Rattle.machine_hub.specs.declared.view.Home.{Home}
+use Rattle.machine_hub.specs.Runs.{entry, Runs}
+use Rattle.machine_hub.proofs.Kept.{runs_push}
 use Rattle.tenant_shard.specs.declared.step.Outcome.{Outcome}
 use Rattle.machine_hub.specs.declared.receipt.Receipt.{Receipt}
 use Rattle.machine_hub.specs.Hub.{IsCallOn, AreShardRuns}
-use Rattle.worded_machine.specs.declared.step.Call.{Call}
-use Rattle.worded_machine.specs.Worded.{Worded, AsksFor, WordedDoes}
-use Rattle.worded_machine.specs.Run.{Logged, steps_of, outcomes_of, RunsAreShardRuns, WordsAreInOrder}
+use Rattle.shard_machine.specs.declared.step.Call.{Call}
+use Rattle.shard_machine.specs.Worded.{Worded, AsksFor, WordedDoes}
+use Rattle.shard_machine.specs.Run.{Logged, steps_of, outcomes_of, RunsAreShardRuns, WordsAreInOrder}
 use Rattle.shared_hub.specs.Shards.{members_of, IsFresh, AreOpened}
 use Rattle.shared_hub.specs.Logs.{Seats, LoggedShard, IsLogOf, EndsARun, EachCallEndsARun, AreLogged, LogsTellByOwnSteps}
 use Rattle.shared_hub.proofs.Telling.{run_of, stands_at_end, told_alone}

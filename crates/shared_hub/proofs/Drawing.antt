@@ -2,15 +2,15 @@
 use Rattle.std.proofs.Common.{◌≡◌, ℕ, ◌==◌, List, [], ◌∷◌, Bool, true, false, eqb, Some, None, refl, ap, ◌∙◌, arith}
 use Rattle.std.specs.Prelude.{option_map, if◌then◌else◌, ◌≢◌}
 use Rattle.std.proofs.lemmas.Bool.Decides.{nat_tests}
-use Rattle.tenant_words.specs.Words.{next_word, Source, generator_of, IsDraw}
+use Rattle.shard_machine.specs.Words.{next_word, Source, generator_of, IsDraw}
 use Rattle.tenant_shard.specs.declared.step.Step.{Step}
 use Rattle.tenant_shard.specs.declared.step.Step.TheVariants as steps
 use Rattle.tenant_shard.specs.declared.step.Outcome.{Outcome}
-use Rattle.shared_machine.specs.Runs.{Runs}
-use Rattle.worded_machine.specs.declared.step.WordOf.{WordOf}
-use Rattle.worded_machine.specs.declared.step.WordOf.TheVariants as word
-use Rattle.worded_machine.specs.Worded.{Worded, WordsGoOn, WordedDoes}
-use Rattle.worded_machine.specs.Run.{Logged, with_word, drawn_for}
+use Rattle.machine_hub.specs.Runs.{Runs}
+use Rattle.shard_machine.specs.declared.step.WordOf.{WordOf}
+use Rattle.shard_machine.specs.declared.step.WordOf.TheVariants as word
+use Rattle.shard_machine.specs.Worded.{Worded, WordsGoOn, WordedDoes}
+use Rattle.shard_machine.specs.Run.{Logged, with_word, drawn_for}
 
 -- none of the rest is the tenant's, if it has no generator there
 abbrev NoneOf : ℕ → List Source → List ℕ → Type 0

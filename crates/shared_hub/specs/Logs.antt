@@ -4,7 +4,7 @@ use Rattle.send_retry.specs.declared.answer.Answer.{Answer}
 use Rattle.send_retry.specs.Class.{answer_view}
 use Rattle.tail_settings.specs.Section.{SectionData}
 use Rattle.tail_settings.specs.Settings.{SettingsData}
-use Rattle.tenant_words.specs.Words.{start, first_words}
+use Rattle.shard_machine.specs.Words.{start, first_words}
 use Rattle.tenant_shard.specs.declared.step.Step.{Step}
 use Rattle.tenant_shard.specs.declared.step.Outcome.{Outcome}
 use Rattle.tenant_shard.specs.View.{kept_of}
@@ -15,16 +15,16 @@ use Rattle.tenant_shard.specs.Chain.{ShardRuns}
 use Rattle.tenant_shard.specs.Outcomes.{OwnStep, Answer as Answered, named}
 use Rattle.tenant_shard.specs.Alone.{alone, own_steps, told_to}
 use Rattle.tenant_shard.specs.Table.{section_of, opened}
-use Rattle.shared_machine.specs.declared.view.Standing.{Standing}
-use Rattle.shared_machine.specs.Runs.{entry}
-use Rattle.shared_machine.specs.Seats.{SeatState}
+use Rattle.machine_hub.specs.declared.view.Standing.{Standing}
+use Rattle.machine_hub.specs.Runs.{entry}
+use Rattle.machine_hub.specs.Seats.{SeatState}
 use Rattle.machine_hub.specs.declared.receipt.Receipt.{Receipt}
 use Rattle.machine_hub.specs.Hub.{IsCallOn, IsToldOn}
-use Rattle.worded_machine.specs.declared.step.Call.{Call}
-use Rattle.worded_machine.specs.declared.step.Call.TheVariants as calls
-use Rattle.worded_machine.specs.declared.step.WordedStep.{WordedStep}
-use Rattle.worded_machine.specs.Worded.{Worded, AsksFor, WordedDoes}
-use Rattle.worded_machine.specs.Run.{Logged, steps_of, outcomes_of, drawn_for}
+use Rattle.shard_machine.specs.declared.step.Call.{Call}
+use Rattle.shard_machine.specs.declared.step.Call.TheVariants as calls
+use Rattle.shard_machine.specs.declared.step.WordedStep.{WordedStep}
+use Rattle.shard_machine.specs.Worded.{Worded, AsksFor, WordedDoes}
+use Rattle.shard_machine.specs.Run.{Logged, steps_of, outcomes_of, drawn_for}
 use Rattle.shared_hub.specs.Shards.{members_of, IsFresh}
 
 -- a caller, by its seats at the shards

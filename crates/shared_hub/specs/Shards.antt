@@ -3,8 +3,8 @@ use Rattle.std.specs.Prelude.{◌≡◌, ℕ, zero, suc, ◌%◌, ◌==◌, List
 use Rattle.tail_settings.specs.Settings.{SettingsData}
 use Rattle.tenant_shard.specs.Lists.{ShardStands}
 use Rattle.tenant_shard.specs.Table.{section_at, section_of, opened}
-use Rattle.shared_machine.specs.declared.view.Home.{Home}
-use Rattle.worded_machine.specs.Worded.{Worded, AreSeeded}
+use Rattle.machine_hub.specs.declared.view.Home.{Home}
+use Rattle.shard_machine.specs.Worded.{Worded, AreSeeded}
 
 -- of the numbers below a count, those that leave a shard's number over when divided by the number of shards
 abbrev pub members_below : ℕ → ℕ → ℕ → List ℕ

@@ -3,7 +3,7 @@
 ghost use Rattle.std.specs.Prelude.{◌≡◌, ◌≢◌, ◌<◌, ◌%◌, ◌⊎◌, length, replicate, IfOk, IfErr, OnErr, vec_len};
 ghost use Rattle.tail_settings.specs.Settings.{SettingsData, settings_view};
 ghost use Rattle.machine_hub.specs.Hub.{slots_of, new_caller, AreCallersOf, AreShardRuns, IsRefusedOn};
-ghost use Rattle.worded_machine.specs.Worded.{WordedDoes};
+ghost use Rattle.shard_machine.specs.Worded.{WordedDoes};
 ghost use Rattle.shared_hub.specs.Shards.{AreOpened, kept};
 ghost use Rattle.shared_hub.specs.Logs.{IsStepOn, IsAnswerOn, IsEmptyOn, AreLogged};
 ghost use Rattle.shared_hub.specs.declared.fault.HubFault.TheVariants as faults;
@@ -15,12 +15,12 @@ use crate::shards::shards_of;
 use crate::{Caller, HubKeeper, ShardLog};
 use machine_hub::{Hub, Receipt};
 use send_retry::Answer;
+use shard_machine::{Call, WordedShard, runs_are_shard_runs, words_are_in_order};
 use std::alloc::{AllocError, Global};
 use std::marker::Model;
 use std::sync::Wait;
 use tail_settings::Settings;
 use tenant_shard::{Outcome, Step};
-use worded_machine::{Call, WordedShard, runs_are_shard_runs, words_are_in_order};
 
 /// All shards of the settings, which threads share. Shards are numbered from 0, and tenant i is in shard i mod their
 /// number.

@@ -6,7 +6,7 @@
 //! of a shard of its tenants, so that each of them was told what its own steps say, whatever threads did; and that each
 //! entry is one call's (`specs/Logs`).
 //!
-//! It stands on `machine_hub` for the shards behind their locks, on `worded_machine` for what a shard is, and on
+//! It stands on `machine_hub` for the shards behind their locks, on `shard_machine` for what a shard is, and on
 //! `tail_settings` for the tenants. Its rules come from no public text.
 #![tactic(auto)]
 
@@ -23,11 +23,11 @@ pub use fault::{CallersMissing, HubFault};
 pub use hub::SharedHub;
 pub use log::OptionalLog;
 pub use machine_hub::Receipt;
+pub use shard_machine::{Call, WordOf, WordedShard, WordedStep};
 use tenant_shard::Outcome;
-pub use worded_machine::{Call, WordOf, WordedShard, WordedStep};
 
 /// A step that was made, and what it gave.
-pub type Entry<'a> = shared_machine::Entry<WordedStep<'a>, Outcome>;
+pub type Entry<'a> = machine_hub::Entry<WordedStep<'a>, Outcome>;
 
 /// Who calls a hub, one for each thread.
 pub type Caller<'a> = machine_hub::Caller<WordedShard<'a>, OptionalLog<'a>>;
@@ -36,7 +36,7 @@ pub type Caller<'a> = machine_hub::Caller<WordedShard<'a>, OptionalLog<'a>>;
 pub type HubKeeper<'a> = machine_hub::HubKeeper<WordedShard<'a>, OptionalLog<'a>>;
 
 /// A shard with its log.
-pub type ShardLog<'a> = shared_machine::LoggedMachine<WordedShard<'a>, OptionalLog<'a>>;
+pub type ShardLog<'a> = machine_hub::LoggedMachine<WordedShard<'a>, OptionalLog<'a>>;
 
 /// Each tenant of a table is in one shard, with its own section: a law over settings.
 pub fn each_tenant_is_in_its_shard()
@@ -47,8 +47,8 @@ pub fn each_tenant_is_in_its_shard()
 pub fn each_call_ends_a_run()
     ensures { EachCallEndsARun }
 {
-    worded_machine::runs_are_shard_runs();
-    worded_machine::words_are_in_order();
+    shard_machine::runs_are_shard_runs();
+    shard_machine::words_are_in_order();
 }
 
 /// What the logs of any hubs tell a tenant follows from its section and its own steps alone: a law over logs.

@@ -4,11 +4,11 @@ ghost use Rattle.std.specs.Prelude.{◌≡◌, ◌<◌, ◌+◌, ◌^◌, ◌++�
 ghost use Rattle.std.specs.Prelude.{vec_len, vec_capacity};
 ghost use Rattle.std.specs.Arc.{arc_value};
 
-use shared_machine::{Entry, StepLog};
+use machine_hub::{Entry, StepLog};
+use shard_machine::{WordedShard, WordedStep};
 use std::alloc::{AllocError, Global};
 use std::sync::Arc;
 use tenant_shard::Outcome;
-use worded_machine::{WordedShard, WordedStep};
 
 /// Keeps each entry, or nothing, as it was opened.
 #[derive(Drop)]

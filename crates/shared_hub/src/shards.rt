@@ -7,10 +7,10 @@ ghost use Rattle.shared_hub.specs.Shards.{members_of, AreOpened, kept};
 
 use crate::ShardLog;
 use crate::log::OptionalLog;
-use shared_machine::LoggedMachine;
+use machine_hub::LoggedMachine;
+use shard_machine::WordedShard;
 use std::alloc::{AllocError, Global};
 use tail_settings::Settings;
-use worded_machine::WordedShard;
 
 /// The shards of the settings in the order of their numbers, each with a log that keeps all or nothing.
 pub(crate) fn shards_of<'a>(

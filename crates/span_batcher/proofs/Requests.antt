@@ -14,8 +14,7 @@ use Rattle.otlp_read.specs.RoundTrip.{IsShort, RequestReadsBack, ResourceReadsBa
 use Rattle.otlp_read.specs.Typed.{TypedResource, TypedScope, TypedSpan, TypedScopeSpans, TypedResourceSpans, TypedRequest}
 use Rattle.otlp_read.specs.Value.{no_resource, no_scope, resource_step, scope_step, IsValue}
 use Rattle.otlp_read.specs.Walk.{read_with}
-use Rattle.span_pool.specs.Keyed.{SpanTexts}
-use Rattle.span_pool.specs.Stored.{same_text, same_bytes}
+use Rattle.span_pool.specs.Stored.{SpanTexts, same_text, same_bytes}
 use Rattle.span_batcher.specs.ExportText.{runs, same_resource, same_scope, scope_spans_field, resource_spans_field, export_text}
 use Rattle.span_batcher.specs.Request.{PlacedSpan, written, spans_of_scope, spans_of_resource, spans_of, one_scope_spans, one_resource_spans, request_of, IsReadableResource, IsReadableScope, IsReadable}
 use Rattle.span_batcher.proofs.Runs.{runs_whole, runs_each, Uniform, runs_uniform, fields_of_runs}

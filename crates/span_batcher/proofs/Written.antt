@@ -2,7 +2,7 @@
 use Rattle.std.proofs.Common.{◌≡◌, ℕ, List, [], ◌∷◌, ◌++◌, map, length, take, drop, slice_get, Some, refl, sym, ap, ◌∙◌, append_assoc, flat_map}
 use Rattle.std.proofs.Math.Seq.{take-append_seam, drop-append_seam}
 use Rattle.otlp_trace.specs.Text.{bytes_field, repeated, scope_spans_of, resource_spans_of}
-use Rattle.span_pool.specs.Keyed.{SpanTexts}
+use Rattle.span_pool.specs.Stored.{SpanTexts}
 use Rattle.span_batcher.specs.ExportText.{runs, same_scope, scope_spans_field, resource_spans_field}
 
 pub repeated-append : {A : Type 0} (n : ℕ) (text : A → List ℕ) (xs ys : List A) → repeated n text (xs ++ ys) ≡ repeated n text xs ++ repeated n text ys

@@ -3,7 +3,7 @@
 -- canonical text and those of its resource and scope.
 use Rattle.std.specs.Prelude.{ℕ, Bool, List, [], ◌∷◌, flat_map, if◌then◌else◌}
 use Rattle.otlp_trace.specs.Text.{bytes_field, repeated, scope_spans_of, resource_spans_of}
-use Rattle.span_pool.specs.Keyed.{SpanTexts}
+use Rattle.span_pool.specs.Stored.{SpanTexts}
 use Rattle.span_pool.specs.Stored as pool
 
 -- one more before the runs of the others

@@ -7,7 +7,7 @@ use Rattle.otlp_trace.specs.Text.{resource_text, scope_text, span_text}
 use Rattle.otlp_read.specs.Nested.{NestedResource, NestedScope, NestedSpan}
 use Rattle.otlp_read.specs.RoundTrip.{IsShort}
 use Rattle.otlp_read.specs.Typed.{TypedResource, TypedScope, TypedSpan}
-use Rattle.span_pool.specs.Keyed.{SpanTexts}
+use Rattle.span_pool.specs.Stored.{SpanTexts}
 use Rattle.span_batcher.specs.ExportText.{runs, same_resource, same_scope}
 
 -- a span with its resource and its scope, where it has any, and the URLs of their schemas, empty where there is none

@@ -2,14 +2,13 @@
 
 ghost use Rattle.std.specs.Prelude.{◌≡◌, ◌<◌, ◌≤◌, ◌++◌, ◌∷◌, ◌==◌, ℕ, Bool, List, length, take, drop, flat_map, IfOk, OnOk, option_copied};
 ghost use Rattle.otlp_trace.specs.Text.{embedded, repeated};
-ghost use Rattle.span_pool.specs.Keyed.{SpanTexts, text_at};
-ghost use Rattle.span_pool.specs.Stored.{bytes_of, same_bytes, same_text};
+ghost use Rattle.span_pool.specs.Stored.{SpanTexts, text_at, bytes_of, same_bytes, same_text};
 ghost use Rattle.span_batcher.specs.ExportText.{runs, same_resource, same_scope, scope_spans_field, resource_spans_field, export_text};
 ghost use Rattle.span_batcher.specs.Texts.{texts_in, span_in, spans_in};
 
 use bytes::Bytes;
 use otlp_trace::{put_bytes_field, put_some_bytes, wrap_in_field};
-use span_pool::{KeyedSpan, Owned};
+use span_pool::{Owned, StoredSpan};
 use std::alloc::{AllocError, Global};
 use text_pool::TextPool;
 
@@ -43,28 +42,28 @@ fn bytes_at(texts: &TextPool, tenant: u32, key: Option<usize>) -> &[u8]
 }
 
 /// The text of a span's resource, where it has one.
-fn resource_of<'a>(texts: &'a TextPool, span: &KeyedSpan) -> Option<&'a Bytes>
+fn resource_of<'a>(texts: &'a TextPool, span: &StoredSpan) -> Option<&'a Bytes>
     ensures { option_copied result ≡ (span_in texts.now span.now).origin.resource }
 {
     text_at(texts, span.owner(), span.keys().resource)
 }
 
 /// The URL of the resource's schema, empty where there is none.
-fn resource_url_of<'a>(texts: &'a TextPool, span: &KeyedSpan) -> &'a [u8]
+fn resource_url_of<'a>(texts: &'a TextPool, span: &StoredSpan) -> &'a [u8]
     ensures { result.now ≡ (span_in texts.now span.now).origin.resource_schema_url }
 {
     bytes_at(texts, span.owner(), span.keys().resource_schema_url)
 }
 
 /// The text of a span's scope, where it has one.
-fn scope_of<'a>(texts: &'a TextPool, span: &KeyedSpan) -> Option<&'a Bytes>
+fn scope_of<'a>(texts: &'a TextPool, span: &StoredSpan) -> Option<&'a Bytes>
     ensures { option_copied result ≡ (span_in texts.now span.now).origin.scope }
 {
     text_at(texts, span.owner(), span.keys().scope)
 }
 
 /// The URL of the scope's schema, empty where there is none.
-fn scope_url_of<'a>(texts: &'a TextPool, span: &KeyedSpan) -> &'a [u8]
+fn scope_url_of<'a>(texts: &'a TextPool, span: &StoredSpan) -> &'a [u8]
     ensures { result.now ≡ (span_in texts.now span.now).origin.scope_schema_url }
 {
     bytes_at(texts, span.owner(), span.keys().scope_schema_url)
@@ -128,7 +127,7 @@ fn put_embedded(out: &mut Vec<u8>, text: Option<&Bytes>) -> Result<(), AllocErro
 }
 
 /// Appends the spans, each as a field of a `ScopeSpans`.
-fn put_spans(out: &mut Vec<u8>, spans: &[&KeyedSpan]) -> Result<(), AllocError>
+fn put_spans(out: &mut Vec<u8>, spans: &[&StoredSpan]) -> Result<(), AllocError>
     ensures { OnOk result (out.new.items ≡ out.old.items ++ repeated 2 (λ span. span.now.text) spans.now) }
 {
     for span in spans {
@@ -143,10 +142,10 @@ pub trait Level {
 
     ghost field: { List SpanTexts → List ℕ };
 
-    fn is_same(texts: &TextPool, one: &KeyedSpan, other: &KeyedSpan) -> bool
+    fn is_same(texts: &TextPool, one: &StoredSpan, other: &StoredSpan) -> bool
         ensures { result ≡ same (span_in texts.now one.now) (span_in texts.now other.now) };
 
-    fn put(out: &mut Vec<u8>, texts: &TextPool, spans: &[&KeyedSpan]) -> Result<(), AllocError>
+    fn put(out: &mut Vec<u8>, texts: &TextPool, spans: &[&StoredSpan]) -> Result<(), AllocError>
         ensures { OnOk result (out.new.items ≡ out.old.items ++ field (spans_in texts.now spans.now)) };
 }
 
@@ -158,14 +157,14 @@ impl Level for ScopeLevel {
 
     ghost field = { scope_spans_field };
 
-    fn is_same(texts: &TextPool, one: &KeyedSpan, other: &KeyedSpan) -> bool {
+    fn is_same(texts: &TextPool, one: &StoredSpan, other: &StoredSpan) -> bool {
         let tenants = (one.owner(), other.owner());
         let (one, other) = (one.keys(), other.keys());
         is_same_text(texts, tenants, one.scope, other.scope)
             && is_same_url(texts, tenants, one.scope_schema_url, other.scope_schema_url)
     }
 
-    fn put(out: &mut Vec<u8>, texts: &TextPool, spans: &[&KeyedSpan]) -> Result<(), AllocError> {
+    fn put(out: &mut Vec<u8>, texts: &TextPool, spans: &[&StoredSpan]) -> Result<(), AllocError> {
         let Some(first) = spans.first() else {
             return Ok(());
         };
@@ -185,7 +184,7 @@ impl Level for ResourceLevel {
 
     ghost field = { resource_spans_field };
 
-    fn is_same(texts: &TextPool, one: &KeyedSpan, other: &KeyedSpan) -> bool {
+    fn is_same(texts: &TextPool, one: &StoredSpan, other: &StoredSpan) -> bool {
         let tenants = (one.owner(), other.owner());
         let (one, other) = (one.keys(), other.keys());
         is_same_text(texts, tenants, one.resource, other.resource)
@@ -197,7 +196,7 @@ impl Level for ResourceLevel {
             )
     }
 
-    fn put(out: &mut Vec<u8>, texts: &TextPool, spans: &[&KeyedSpan]) -> Result<(), AllocError> {
+    fn put(out: &mut Vec<u8>, texts: &TextPool, spans: &[&StoredSpan]) -> Result<(), AllocError> {
         let Some(first) = spans.first() else {
             return Ok(());
         };
@@ -210,7 +209,7 @@ impl Level for ResourceLevel {
 }
 
 /// How many spans the first run has.
-fn leading<L: Level>(texts: &TextPool, spans: &[&KeyedSpan]) -> usize
+fn leading<L: Level>(texts: &TextPool, spans: &[&StoredSpan]) -> usize
     requires { 0 < length spans.now }
     ensures some { 0 < result }
     ensures within { result ≤ length spans.now }
@@ -228,7 +227,7 @@ fn leading<L: Level>(texts: &TextPool, spans: &[&KeyedSpan]) -> usize
 fn put_runs<L: Level>(
     out: &mut Vec<u8>,
     texts: &TextPool,
-    spans: &[&KeyedSpan],
+    spans: &[&StoredSpan],
 ) -> Result<(), AllocError>
     ensures { OnOk result (out.new.items
         ≡ out.old.items ++ flat_map L.field (runs L.same (spans_in texts.now spans.now))) }
@@ -251,7 +250,7 @@ fn put_runs<L: Level>(
 pub fn encode_batch(
     alloc: Global,
     texts: &TextPool,
-    spans: &[&KeyedSpan],
+    spans: &[&StoredSpan],
 ) -> Result<Bytes, AllocError>
     ensures { IfOk result (λ payload. payload ≡ export_text (spans_in texts.now spans.now)) }
 {

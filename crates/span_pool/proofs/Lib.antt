@@ -1,3 +1,2 @@
 pub mod Unread
 pub mod Viewed
-pub mod Equals

@@ -1,7 +1,5 @@
-pub mod Numbers
+pub mod Ids
 pub mod Stored
-pub mod Keyed
-pub mod Named
 pub mod Equal
 pub mod Read
 pub mod Pool

@@ -1,11 +1,10 @@
--- A span as it is kept: whose it is, its canonical text, and what stood round it. A span stands in a ScopeSpans of a
--- ResourceSpans, each with the URL of its schema (OTLP 1.x's trace.proto).
-use Rattle.std.specs.Prelude.{ℕ, Bool, List, [], Option, Some, None, nat_eq, ◌&&◌}
+-- A span as it is kept, with its own text: those that it shares with others are kept apart, each under a key. That is
+-- this project's own rule. A span stands in a ScopeSpans of a ResourceSpans, each with the URL of its schema (OTLP
+-- 1.x's trace.proto). What a span stands for is told by a function from keys to texts.
+use Rattle.std.specs.Prelude.{ℕ, Bool, true, false, List, [], Option, Some, None, nat_eq, ◌&&◌}
 use Rattle.std.specs.Option.{option_eq}
 use Rattle.std.specs.Cmp.Lexicographic.{pointwise}
-use Rattle.span_view.specs.Facts.{SpanFacts}
-use Rattle.span_view.specs.Reading.{facts_of}
-use Rattle.span_pool.specs.declared.numbers.Numbers.{Numbers}
+use Rattle.span_pool.specs.declared.keys.TextKeys.{TextKeys}
 
 -- the canonical texts of a span's resource and scope, where it has any, and the URLs of their schemas, empty where
 -- there is none
@@ -15,22 +14,44 @@ pub record Origin : Type 0 where
   pub scope : Option (List ℕ)
   pub scope_schema_url : List ℕ
 
--- a span as it is kept: its tenant's number, where it came from, its canonical text, and the numbers that tell at once
--- that it has one resource or one scope with another span
+-- a span as it is kept: its tenant's number, the keys of what it shares, and its canonical text
 pub record StoredData : Type 0 where
   pub owner : ℕ
+  pub keys : TextKeys
+  pub text : List ℕ
+
+-- a span by its texts: where it came from, and its canonical text
+pub record SpanTexts : Type 0 where
   pub origin : Origin
   pub text : List ℕ
-  pub numbers : Numbers
 
 -- the bytes of a text that may be missing, which then has none
 abbrev pub bytes_of : Option (List ℕ) → List ℕ
 bytes_of None = []
 bytes_of (Some bytes) = bytes
 
--- what sampling policies ask of a span
-abbrev pub stored_facts : StoredData → SpanFacts
-stored_facts s = facts_of s.text (bytes_of s.origin.resource)
+-- the key, where there is one
+abbrev pub key_where : Bool → ℕ → Option ℕ
+key_where true key = Some key
+key_where false key = None
+
+-- the text at a key, where there is a key and a text
+abbrev pub text_at : (ℕ → Option (List ℕ)) → Option ℕ → Option (List ℕ)
+text_at texts None = None
+text_at texts (Some key) = texts key
+
+-- the origin that keys name; a URL that is missing is empty
+abbrev pub origin_at : (ℕ → Option (List ℕ)) → TextKeys → Origin
+origin_at texts keys = record {
+  resource = text_at texts keys.resource;
+  resource_schema_url = bytes_of (text_at texts keys.resource_schema_url);
+  scope = text_at texts keys.scope;
+  scope_schema_url = bytes_of (text_at texts keys.scope_schema_url);
+}
+
+-- the span that it is where these texts are kept
+abbrev pub texts_of : (ℕ → Option (List ℕ)) → StoredData → SpanTexts
+texts_of texts span = record { origin = origin_at texts span.keys; text = span.text }
 
 -- the same bytes in the same order
 abbrev pub same_bytes : List ℕ → List ℕ → Bool

@@ -1,15 +1,13 @@
-//! What kept spans tell, and when they are equal.
+//! What kept spans tell.
 
-ghost use Rattle.std.specs.Prelude.{◌≡◌, ◌↔◌, true, Option, option_map, IfSome};
+ghost use Rattle.std.specs.Prelude.{◌≡◌, Option, option_map, IfSome};
 ghost use Rattle.otlp_trace.specs.Data.{ResourceData, SpanData};
 ghost use Rattle.otlp_trace.specs.Text.{resource_text, span_text};
 ghost use Rattle.span_view.specs.Facts.{AreText, facts};
 ghost use Rattle.span_view.specs.Reading.{facts_of};
 ghost use Rattle.span_pool.specs.Read.{IsReadSpan, IsReadResource};
-ghost use Rattle.span_pool.specs.Stored.{StoredData, bytes_of};
+ghost use Rattle.span_pool.specs.Stored.{bytes_of};
 
-use crate::numbers::Numbers;
-use crate::stored::StoredSpan;
 use span_view::canonical_text_is_viewed;
 
 /// A span that was read can be kept as its canonical text with its resource's, which may be missing: a view over them
@@ -24,10 +22,3 @@ pub fn read_spans_are_viewed()
 {
     canonical_text_is_viewed();
 }
-
-/// Numbers are equal where they are the same, and spans where all but their numbers is.
-pub fn equal_spans()
-    ensures numbers { (a b : Numbers) → (⟦<Numbers as PartialEq>⟧.eq a b ≡ true) ↔ (a ≡ b) }
-    ensures spans { (a b : StoredData)
-        → (⟦<StoredSpan as PartialEq>⟧.eq a b ≡ true) ↔ (record a { numbers = b.numbers } ≡ b) }
-{}

@@ -2,7 +2,7 @@
 
 ghost use Rattle.std.specs.Prelude.{◌≡◌, ◌≢◌, ℕ, None, Some, IsSome, IfOk, OnOk, OnErr, IfErr, IfSome, option_copied};
 ghost use Rattle.slab.specs.Slab.{Slab as Slots, get};
-ghost use Rattle.span_pool.specs.Pool.{part, with_span, without};
+ghost use Rattle.span_pool.specs.Pool.{part, with_span};
 
 use crate::owned::Owned;
 use slab::Slab;
@@ -96,16 +96,6 @@ impl<S: Owned> SpanPool<S> {
         match self.spans.get(key) {
             Some(span) if span.owner() == tenant => Ok(self.spans.remove(key)),
             _ => Err(NotYours),
-        }
-    }
-
-    /// Takes out the tenant's spans at these keys, of which it may own none. It takes no memory.
-    pub fn take_all(&mut self, tenant: u32, keys: &[usize])
-        ensures own { part S.owner tenant self.new ≡ without keys.now (part S.owner tenant self.old) }
-        ensures others { (other : ℕ) → other ≢ tenant → part S.owner other self.new ≡ part S.owner other self.old }
-    {
-        for key in keys {
-            self.undo_put(tenant, *key);
         }
     }
 

@@ -1,47 +1,17 @@
 -- What the definitions give for small spans that are kept, worked out by hand. Texts are spelled by the encoding guide
 -- of Protocol Buffers (https://protobuf.dev/programming-guides/encoding/), with the field numbers of
 -- opentelemetry-proto (trace, resource and common v1).
-use Rattle.std.specs.Prelude.{◌≡◌, codes, ℕ, ◌-◌, ◌^◌, pos, Bool, true, false, List, [], ◌∷◌, ◌++◌, Option, Some, None}
+use Rattle.std.specs.Prelude.{◌≡◌, codes, ℕ, ◌^◌, Bool, true, false, List, [], ◌∷◌, Option, Some, None}
 use Rattle.otlp_trace.specs.Data.{ResourceData}
 use Rattle.otlp_read.specs.Value.{no_span}
-use Rattle.span_view.specs.Facts.{string, int, AttributeFact}
-use Rattle.span_pool.specs.declared.numbers.Numbers.{Numbers}
-use Rattle.span_pool.specs.Numbers.{shifted}
-use Rattle.span_pool.specs.Stored.{Origin, StoredData, stored_facts, same_resource, same_scope}
-use Rattle.span_pool.specs.Equal.{stored_eq}
-use Rattle.span_pool.specs.Named.{Names, IsNamed, AreAlike, renumbered}
+use Rattle.span_pool.specs.Stored.{Origin, same_resource, same_scope}
+use Rattle.span_pool.specs.Equal.{origin_eq}
 use Rattle.span_pool.specs.Read.{IsReadResource, IsReadSpan}
 
--- ---- texts
-
--- trace_id 01 02 and span_id 03: fields 1 and 2, bytes
-abbrev pub ids : List ℕ
-ids = 10 ∷ 2 ∷ 1 ∷ 2 ∷ 18 ∷ 1 ∷ 3 ∷ []
-
--- start 5 and end 261: fields 7 and 8, eight bytes, least first
-abbrev pub times : List ℕ
-times = 57 ∷ 5 ∷ 0 ∷ 0 ∷ 0 ∷ 0 ∷ 0 ∷ 0 ∷ 0 ∷ 65 ∷ 5 ∷ 1 ∷ 0 ∷ 0 ∷ 0 ∷ 0 ∷ 0 ∷ 0 ∷ []
-
--- an attribute `k` with the number 7: field 9, in which field 1 is the key and field 2 the value, whose field 3 is a
--- number
-abbrev pub attributes : List ℕ
-attributes = 74 ∷ 7 ∷ 10 ∷ 1 ∷ 107 ∷ 18 ∷ 2 ∷ 24 ∷ 7 ∷ []
-
--- a status of code 2: field 15, in which field 3 is the code
-abbrev pub status : List ℕ
-status = 122 ∷ 2 ∷ 24 ∷ 2 ∷ []
-
-abbrev pub span : List ℕ
-span = ids ++ (times ++ (attributes ++ status))
-
--- a resource with an attribute `k`, the text `w`: field 1, and the value's field 1
+-- a resource with an attribute `k`, the text `w`: field 1, in which field 1 is the key and field 2 the value, whose
+-- field 1 is a text
 abbrev pub resource : List ℕ
 resource = 10 ∷ 8 ∷ 10 ∷ 1 ∷ 107 ∷ 18 ∷ 3 ∷ 10 ∷ 1 ∷ 119 ∷ []
-
--- ---- spans that are kept
-
-abbrev pub numbered : ℕ → ℕ → Numbers
-numbered of_resource of_scope = record { resource = of_resource; scope = of_scope }
 
 -- of a resource and a scope, each with the URL of its schema
 abbrev pub from : Option (List ℕ) → List ℕ → Option (List ℕ) → List ℕ → Origin
@@ -51,41 +21,6 @@ from of_resource resource_url of_scope scope_url = record {
   scope = of_scope;
   scope_schema_url = scope_url;
 }
-
--- of neither
-abbrev pub nowhere : Origin
-nowhere = from None [] None []
-
--- a span of tenant 7 without numbers
-abbrev pub kept : Origin → List ℕ → StoredData
-kept origin text = record { owner = 7; origin = origin; text = text; numbers = numbered 0 0 }
-
-abbrev pub own_attribute : AttributeFact
-own_attribute = record { key = codes "k"; value = int (pos 7) }
-
-abbrev pub resource_attribute : AttributeFact
-resource_attribute = record { key = codes "k"; value = string (codes "w") }
-
-pub record Told : Type 0 where
-  -- the span's own attribute comes first
-  pub both : stored_facts (kept (from (Some resource) [] None []) span) ≡ record {
-    trace_id = 1 ∷ 2 ∷ [];
-    span_id = 3 ∷ [];
-    start_time_unix_nano = 5;
-    end_time_unix_nano = 261;
-    status = pos 2;
-    attributes = own_attribute ∷ resource_attribute ∷ [];
-  }
-  -- no resource, and a scope, of which nothing is told
-  pub no_resource : (stored_facts (kept (from None [] (Some resource) []) span)).attributes ≡ own_attribute ∷ []
-  pub nothing : stored_facts (kept nowhere []) ≡ record {
-    trace_id = [];
-    span_id = [];
-    start_time_unix_nano = 0;
-    end_time_unix_nano = 0;
-    status = pos 0;
-    attributes = [];
-  }
 
 -- ---- resources and scopes that are the same
 
@@ -120,61 +55,15 @@ pub record SameScopes : Type 0 where
 abbrev pub from_two : List ℕ → List ℕ → Origin
 from_two url other_url = from (Some (1 ∷ [])) url (Some (2 ∷ [])) other_url
 
-abbrev pub one : StoredData
-one = kept (from_two (codes "u") (codes "v")) span
+abbrev pub one : Origin
+one = from_two (codes "u") (codes "v")
 
-pub record EqualSpans : Type 0 where
-  pub same : stored_eq one one ≡ true
-  pub other_owner : stored_eq one (record one { owner = 8 }) ≡ false
-  pub other_text : stored_eq one (record one { text = ids }) ≡ false
-  pub no_resource : stored_eq one (kept (from None (codes "u") (Some (2 ∷ [])) (codes "v")) span) ≡ false
-  pub other_resource_url : stored_eq one (kept (from_two (codes "v") (codes "v")) span) ≡ false
-  pub other_scope : stored_eq one (kept (from (Some (1 ∷ [])) (codes "u") (Some (1 ∷ [])) (codes "v")) span) ≡ false
-  pub other_scope_url : stored_eq one (kept (from_two (codes "u") []) span) ≡ false
-  -- numbers don't count
-  pub other_numbers : stored_eq one (record one { numbers = numbered 5 6 }) ≡ true
-
--- ---- numbers
-
--- here the number n names the resource whose text is the byte n, and the missing scope whose schema is at the URL of
--- that byte
-abbrev pub names : Names
-names = record { resource = λ n. (Some (n ∷ []), []); scope = λ n. (None, n ∷ []) }
-
--- a span with this resource and scope, and these numbers
-abbrev pub spelled : ℕ → ℕ → Numbers → StoredData
-spelled of_resource of_scope numbers = record {
-  owner = 7;
-  origin = from (Some (of_resource ∷ [])) [] None (of_scope ∷ []);
-  text = [];
-  numbers = numbers;
-}
-
-pub record NamedSpans : Type 0 where
-  pub named : IsNamed names 2 (spelled 1 2 (numbered 1 2))
-  -- 0 is no number, so it says nothing
-  pub no_numbers : IsNamed names 0 (spelled 1 2 (numbered 0 0))
-  pub wrong_resource : IsNamed names 2 (spelled 2 2 (numbered 1 2)) → ⊥
-  pub wrong_scope : IsNamed names 2 (spelled 1 1 (numbered 1 2)) → ⊥
-  -- a number above the last one that is in use
-  pub not_in_use : IsNamed names 1 (spelled 1 2 (numbered 1 2)) → ⊥
-
-pub record AlikeSpans : Type 0 where
-  pub one_number : AreAlike (spelled 1 2 (numbered 5 6)) (spelled 1 2 (numbered 5 6))
-  pub other_numbers : AreAlike (spelled 1 2 (numbered 5 6)) (spelled 3 4 (numbered 7 8))
-  -- equal resources may have different numbers, or none
-  pub same_resource : AreAlike (spelled 1 2 (numbered 5 0)) (spelled 1 2 (numbered 6 0))
-  pub no_numbers : AreAlike (spelled 1 2 (numbered 0 0)) (spelled 3 4 (numbered 0 0))
-  pub wrong_resource : AreAlike (spelled 1 2 (numbered 5 6)) (spelled 3 2 (numbered 5 6)) → ⊥
-  pub wrong_scope : AreAlike (spelled 1 2 (numbered 5 6)) (spelled 1 4 (numbered 5 6)) → ⊥
-
-pub record Shifts : Type 0 where
-  pub higher : shifted 5 2 ≡ 7
-  pub none : shifted 5 0 ≡ 0
-  -- 2^64 - 1 is the greatest number
-  pub greatest : shifted (2 ^ 64 - 3) 2 ≡ 2 ^ 64 - 1
-  pub too_great : shifted (2 ^ 64 - 2) 2 ≡ 0
-  pub both : (renumbered 5 (spelled 1 2 (numbered 1 0))).numbers ≡ numbered 6 0
+pub record EqualOrigins : Type 0 where
+  pub same : origin_eq one one ≡ true
+  pub no_resource : origin_eq one (from None (codes "u") (Some (2 ∷ [])) (codes "v")) ≡ false
+  pub other_resource_url : origin_eq one (from_two (codes "v") (codes "v")) ≡ false
+  pub other_scope : origin_eq one (from (Some (1 ∷ [])) (codes "u") (Some (1 ∷ [])) (codes "v")) ≡ false
+  pub other_scope_url : origin_eq one (from_two (codes "u") []) ≡ false
 
 -- ---- messages as a reader makes them
 

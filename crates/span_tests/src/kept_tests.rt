@@ -1,24 +1,20 @@
 //! Spans of two tenants, 7 and 8, in one pool.
 
 use bytes::Bytes;
-use span_pool::{NotYours, Numbers, SchemaUrls, SpanPool, StoredSpan, each_span_has_one_owner};
-use span_view::is_text;
+use span_pool::{NotYours, SpanPool, StoredSpan, TextKeys, each_span_has_one_owner};
 use std::alloc::AllocError;
 use std::process::Abort;
 use std::test::Fail;
 
 /// A span without a resource, whose text is a name.
-fn span(rt: &impl Abort, owner: u32, text: &'static [u8]) -> StoredSpan {
-    assert!(rt; is_text(text, b""));
-    let urls = SchemaUrls {
-        resource: Bytes::new(),
-        scope: Bytes::new(),
+fn span(owner: u32, text: &'static [u8]) -> StoredSpan {
+    let keys = TextKeys {
+        resource: None,
+        resource_schema_url: None,
+        scope: None,
+        scope_schema_url: None,
     };
-    let numbers = Numbers {
-        resource: 0,
-        scope: 0,
-    };
-    StoredSpan::of(owner, None, None, urls, Bytes::from_static(text), numbers)
+    StoredSpan::of(owner, keys, Bytes::from_static(text))
 }
 
 /// The name, 0 where there is no span, and 9 where it is another one.
@@ -64,9 +60,9 @@ fn put(
 
 /// Three spans: the first and the last are tenant 7's, the other is tenant 8's.
 fn filled(rt: &impl Abort, pool: &mut SpanPool<StoredSpan>) -> Result<[usize; 3], AllocError> {
-    let first = put(rt, pool, span(rt, 7, b"\x2a\x01\x31"))?;
-    let second = put(rt, pool, span(rt, 8, b"\x2a\x01\x32"))?;
-    let third = put(rt, pool, span(rt, 7, b"\x2a\x01\x33"))?;
+    let first = put(rt, pool, span(7, b"\x2a\x01\x31"))?;
+    let second = put(rt, pool, span(8, b"\x2a\x01\x32"))?;
+    let third = put(rt, pool, span(7, b"\x2a\x01\x33"))?;
     Ok([first, second, third])
 }
 
@@ -103,14 +99,15 @@ fn a_span_is_taken_by_its_owner_alone_and_once(rt: HostRuntime) -> Result<(), Fa
 }
 
 #[test]
-fn spans_are_taken_at_once_and_taken_back(rt: HostRuntime) -> Result<(), Fail> {
+fn spans_are_taken_back_by_their_owner_alone(rt: HostRuntime) -> Result<(), Fail> {
     let mut pool = SpanPool::new(rt.alloc());
     let keys = filled(&rt, &mut pool)?;
     // Tenant 8 owns the second alone, and the first is named twice.
-    pool.take_all(7, &[keys[0], keys[1], keys[0]]);
+    for key in [keys[0], keys[1], keys[0]] {
+        pool.undo_put(7, key);
+    }
     assert!(rt; owned(&pool, 7, keys) == [0, 0, 3]);
     assert!(rt; owned(&pool, 8, keys) == [0, 2, 0]);
-    pool.undo_put(7, keys[1]);
     pool.undo_put(7, keys[2]);
     assert!(rt; owned(&pool, 7, keys) == [0, 0, 0]);
     assert!(rt; owned(&pool, 8, keys) == [0, 2, 0]);
@@ -123,8 +120,8 @@ fn where_memory_is_refused_nothing_has_changed(rt: HostRuntime) -> Result<(), Fa
     let mut pool = SpanPool::new(rt.alloc());
     let keys = filled(&rt, &mut pool)?;
     for _more in 0..20 {
-        put(&rt, &mut pool, span(&rt, 7, b"\x2a\x01\x31"))?;
-        put(&rt, &mut pool, span(&rt, 8, b"\x2a\x01\x32"))?;
+        put(&rt, &mut pool, span(7, b"\x2a\x01\x31"))?;
+        put(&rt, &mut pool, span(8, b"\x2a\x01\x32"))?;
     }
     assert!(rt; owned(&pool, 7, keys) == [1, 0, 3]);
     assert!(rt; owned(&pool, 8, keys) == [0, 2, 0]);

@@ -6,8 +6,6 @@
 #[cfg(test)]
 mod kept_tests;
 #[cfg(test)]
-mod keyed_tests;
-#[cfg(test)]
 mod note_tests;
 #[cfg(test)]
 mod policy_tests;

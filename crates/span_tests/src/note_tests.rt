@@ -7,8 +7,7 @@ use std::alloc::Global;
 use std::process::Abort;
 use std::test::Fail;
 use tail_policy::{
-    AllOf, AnyOf, Policy, PolicyByParts, TenantPolicies, TraceNote, keeps, span_note,
-    views_of_parts,
+    AllOf, AnyOf, Policy, PolicyByParts, TenantPolicies, TraceNote, keeps, views_of_parts,
 };
 use tail_settings::{Settings, load};
 
@@ -81,8 +80,8 @@ fn is_noted(
     let whole = policies.note(&checked(rt, span, resource))?;
     assert!(rt; is_text(b"", resource));
     let shared = policies.resource_note(resource)?;
-    assert!(rt; is_text(span, b""));
-    let by_parts = span_note(policies, &shared, span)?;
+    let own = policies.note(&checked(rt, span, b""))?;
+    let by_parts = policies.with_resource(&shared, own);
     Ok(whole == note && by_parts == note)
 }
 
@@ -256,8 +255,8 @@ fn verdict_by_parts<P: PolicyByParts>(
 ) -> Result<bool, Fail> {
     assert!(rt; is_text(b"", resource));
     let shared = policy.resource_note(resource)?;
-    assert!(rt; is_text(span, b""));
-    let note = span_note(policy, &shared, span)?;
+    let own = policy.note(&checked(rt, span, b""))?;
+    let note = policy.with_resource(&shared, own);
     Ok(policy.verdict(&note))
 }
 

@@ -7,8 +7,7 @@ use Rattle.otlp_trace.specs.Data.{ResourceData, ScopeData, RequestData}
 use Rattle.otlp_trace.specs.Examples.{plain_resource, plain_scope, plain_span, example_resource, example_scope, example_span, example_request, example_bytes}
 use Rattle.text_pool.specs.declared.pool.Kept.{Kept}
 use Rattle.span_pool.specs.declared.keys.TextKeys.{TextKeys}
-use Rattle.span_pool.specs.Stored.{Origin}
-use Rattle.span_pool.specs.Keyed.{KeyedData, SpanTexts}
+use Rattle.span_pool.specs.Stored.{Origin, StoredData, SpanTexts}
 use Rattle.span_batcher.specs.ExportText.{export_text}
 use Rattle.span_batcher.specs.Texts.{span_in}
 use Rattle.span_batcher.specs.Request.{PlacedSpan, written, spans_of, request_of, IsReadable}
@@ -91,14 +90,14 @@ pool = record {
   capacity = 8;
 }
 
-abbrev pub keyed : Option ℕ → Option ℕ → KeyedData
+abbrev pub keyed : Option ℕ → Option ℕ → StoredData
 keyed of_resource resource_url = record {
   owner = 7;
   keys = record { resource = of_resource; resource_schema_url = resource_url; scope = None; scope_schema_url = None };
   text = name 0x61;
 }
 
-pub record KeyedSpans : Type 0 where
+pub record StoredSpans : Type 0 where
   pub by_key : span_in pool (keyed (Some 0) (Some 3)) ≡ from (Some (resource 1)) (codes "u") None [] 0x61
   pub by_another : span_in pool (keyed (Some 1) (Some 3)) ≡ from (Some (resource 1)) (codes "u") None [] 0x61
   pub without : span_in pool (keyed None None) ≡ from None [] None [] 0x61

@@ -1,11 +1,11 @@
 //! What batches are sent as. Bytes were put together by hand, by the numbers of the fields in opentelemetry-proto's
 //! trace.proto and trace_service.proto and the encoding guide of Protocol Buffers.
 
-ghost use Rattle.store_tests.specs.BatchTexts.{BatchTexts, KeyedSpans, Requests, ReadablePlaces};
+ghost use Rattle.store_tests.specs.BatchTexts.{BatchTexts, StoredSpans, Requests, ReadablePlaces};
 
 use bytes::Bytes;
 use span_batcher::{batches_are_requests, encode_batch};
-use span_pool::{KeyedSpan, TextKeys};
+use span_pool::{StoredSpan, TextKeys};
 use std::alloc::{AllocError, Global};
 use std::test::Fail;
 use text_pool::{Text, TextPool};
@@ -43,21 +43,21 @@ fn keyed(
     resource: (Shared, Shared),
     scope: (Shared, Shared),
     text: &'static [u8],
-) -> Result<KeyedSpan, AllocError> {
+) -> Result<StoredSpan, AllocError> {
     let keys = TextKeys {
         resource: key(pool, owner, resource.0)?,
         resource_schema_url: key(pool, owner, resource.1)?,
         scope: key(pool, owner, scope.0)?,
         scope_schema_url: key(pool, owner, scope.1)?,
     };
-    Ok(KeyedSpan::of(owner, keys, Bytes::from_static(text)))
+    Ok(StoredSpan::of(owner, keys, Bytes::from_static(text)))
 }
 
 /// Whether three spans are sent as these bytes.
 fn are_sent(
     alloc: Global,
     pool: &TextPool,
-    spans: [&KeyedSpan; 3],
+    spans: [&StoredSpan; 3],
     want: &[u8],
 ) -> Result<bool, AllocError> {
     let text = encode_batch(alloc, pool, spans.as_slice())?;
@@ -105,7 +105,7 @@ fn where_the_tenant_has_no_text_there_is_none(rt: HostRuntime) -> Result<(), Fai
         resource: Some(1000),
         ..a.keys()
     };
-    let c = KeyedSpan::of(7, keys, Bytes::from_static(C));
+    let c = StoredSpan::of(7, keys, Bytes::from_static(C));
     assert!(rt; are_sent(rt.alloc(), &pool, [&a, &b, &c], MISSING)?);
     Ok(())
 }
@@ -128,7 +128,7 @@ fn equal_resources_under_two_keys_are_one(rt: HostRuntime) -> Result<(), Fail> {
 #[test]
 fn no_spans_are_no_bytes(rt: HostRuntime) -> Result<(), Fail> {
     let pool = TextPool::new(rt.alloc());
-    let spans: [&KeyedSpan; 0] = [];
+    let spans: [&StoredSpan; 0] = [];
     assert!(rt; encode_batch(rt.alloc(), &pool, spans.as_slice())?.is_empty());
     batches_are_requests();
     Ok(())
@@ -137,7 +137,7 @@ fn no_spans_are_no_bytes(rt: HostRuntime) -> Result<(), Fail> {
 /// The definitions, on small inputs, give what was worked out by hand.
 fn definitions_of_batch_texts()
     ensures batch_texts { BatchTexts }
-    ensures keyed_spans { KeyedSpans }
+    ensures keyed_spans { StoredSpans }
     ensures requests { Requests }
     ensures readable_places { ReadablePlaces }
 {}

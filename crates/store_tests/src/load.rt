@@ -2,7 +2,7 @@
 //! time and the memory of each test here.
 
 use bytes::Bytes;
-use span_pool::{KeyedSpan, SpanPool, TextKeys};
+use span_pool::{SpanPool, StoredSpan, TextKeys};
 use std::alloc::{AllocError, Global};
 use std::process::Abort;
 use std::test::Fail;
@@ -28,7 +28,7 @@ const NO_KEYS: TextKeys = TextKeys {
 /// The stores, and whose spans come: a trace of each tenant in turn.
 #[derive(Drop)]
 struct Load {
-    pool: SpanPool<KeyedSpan>,
+    pool: SpanPool<StoredSpan>,
     table: TraceRows<u64>,
     tenants: u32,
 }
@@ -61,11 +61,11 @@ fn stored(
     tenant: u32,
     body: &Bytes,
     number: u64,
-) -> Result<KeyedSpan, AllocError> {
+) -> Result<StoredSpan, AllocError> {
     let start = (number as usize).saturating_mul(TEXT.len());
     let end = start.saturating_add(TEXT.len());
     assert!(rt; start <= end && end <= body.len());
-    Ok(KeyedSpan::of(tenant, NO_KEYS, body.slice(start..end)?))
+    Ok(StoredSpan::of(tenant, NO_KEYS, body.slice(start..end)?))
 }
 
 /// A span of a body comes into the pool, and joins its trace's row or opens it.

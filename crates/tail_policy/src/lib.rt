@@ -4,7 +4,7 @@
 //! OpenTelemetry Collector's `tail_sampling` processor). Each policy looks at all spans of the trace, each with its
 //! resource. [`keeps`] answers exactly that. [`TenantPolicies`] answer the same by notes: what is kept of each span is
 //! of one size and joins, so a trace is decided without its spans. The note of a span can be made of its own text and
-//! of what its resource tells, which is found once for all spans of the resource ([`span_note`]). Policies of other
+//! of what its resource tells, which is found once for all spans of the resource ([`PolicyByParts`]). Policies of other
 //! kinds have the trait [`Policy`], and are joined by [`AnyOf`] and [`AllOf`].
 //!
 //! It stands on `span_view`, for what a policy asks of a span, and on `tail_settings`, for what a policy is.
@@ -32,7 +32,7 @@ pub use all_of::AllOf;
 pub use any_of::AnyOf;
 pub use both::BothNotes;
 pub use note::{ResourceBits, TraceNote};
-pub use noting::{Policy, PolicyByParts, span_note, views_of_parts};
+pub use noting::{Policy, PolicyByParts, views_of_parts};
 use policy::policy_samples;
 use span_view::SpanRef;
 use tail_settings::PolicySpec;

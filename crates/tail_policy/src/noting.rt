@@ -65,24 +65,6 @@ pub trait PolicyByParts: Policy {
         ≡ Self.note_of p (with_attributes span attributes) };
 }
 
-/// The note of a span by its own text and by what its resource tells. It is the note of a view of both texts, and the
-/// resource's isn't looked at. The span's text is canonical, or at least has keys and strings that are UTF-8.
-pub fn span_note<P: PolicyByParts>(
-    policy: &P,
-    resource: &P::ResourceNote,
-    span: &[u8],
-) -> Result<P::Note, AllocError>
-    requires text { AreText (facts_of span.now []).attributes }
-    ensures parts { IfOk result (λ note. note
-        ≡ P.with_resource_of policy.now resource.now (P.note_of policy.now (facts_of span.now []))) }
-    ensures whole { IfOk result (λ note. (text : List ℕ)
-        → resource.now ≡ P.resource_note_of policy.now (facts_of [] text).attributes
-        → note ≡ P.note_of policy.now (facts_of span.now text)) }
-{
-    let own = policy.note(&SpanRef::of(span, &[]))?;
-    Ok(policy.with_resource(resource, own))
-}
-
 /// A view of a span and its resource tells what the span tells by itself, and behind its attributes those of the
 /// resource; and what it asks of its texts it asks of each by itself.
 pub fn views_of_parts()

@@ -2,6 +2,7 @@
 use Rattle.std.proofs.Common.{◌≡◌, ℕ, suc, ◌+◌, ◌<◌, ◌≤◌, List, [], ◌∷◌, ◌++◌, length, refl, ap, arith, length-append, Bool, true, false, cond, ◌||◌}
 use Rattle.std.specs.Prelude.{nat_lt}
 use Rattle.std.proofs.lemmas.Bool.Decides.{nat_tests}
+use Rattle.span_pool.specs.Stored.{same_bytes}
 use Rattle.drop_ledger.specs.Ledger.{counted, most_counted}
 use Rattle.drop_ledger.specs.declared.places.Place.TheVariants.{Undecided, Pending, Queued, QueueFull, NotSampled}
 use Rattle.span_batcher.specs.Machine.{cuts, added}
@@ -11,7 +12,6 @@ use Rattle.tenant_rules.specs.Fate.{SettledData, WaitingData}
 use Rattle.tenant_rules.specs.Fronts.{AreInOrder, AllDueBy}
 use Rattle.tenant_rules.specs.Limits.{IsWithinLimits}
 use Rattle.tenant_rules.specs.Machine.{held, has_row, joined, evict_waiting, evict_first, evicted, opens, joins, counted_in}
-use Rattle.tenant_rules.specs.Rows.{is_same}
 use Rattle.tenant_rules.specs.Sender.{BatchData, is_full}
 use Rattle.tenant_rules.specs.State.{State}
 use Rattle.tenant_rules.specs.Sum.{IsCounted}
@@ -35,7 +35,7 @@ pub record Fits (s : State) : Type 0 where
 module _ (x : Arrival) where
   joined_spans : (ws : List WaitingData) → has_row (trace_of x) ws ≡ true → spans_in (joined x ws) ≡ spans_in ws + 1
   joined_spans [] is = absurd (cc)
-  joined_spans (r ∷ rs) is = by_tests (has_row (trace_of x) rs) (is_same (trace_of x) r.trace) is (λ here. joined_spans rs here)
+  joined_spans (r ∷ rs) is = by_tests (has_row (trace_of x) rs) (same_bytes (trace_of x) r.trace) is (λ here. joined_spans rs here)
     where
       by_tests : (a b : Bool) → (a || b) ≡ true → (a ≡ true → spans_in (joined x rs) ≡ spans_in rs + 1) →
           spans_in (cond a (r ∷ joined x rs) (cond b (record r { spans = r.spans ++ x ∷ [] } ∷ rs) (r ∷ rs))) ≡ spans_in (r ∷ rs) + 1
@@ -47,7 +47,7 @@ module _ (x : Arrival) where
 
   joined_size : (ws : List WaitingData) → length (joined x ws) ≡ length ws
   joined_size [] = refl
-  joined_size (r ∷ rs) = by_tests (has_row (trace_of x) rs) (is_same (trace_of x) r.trace) (joined_size rs)
+  joined_size (r ∷ rs) = by_tests (has_row (trace_of x) rs) (same_bytes (trace_of x) r.trace) (joined_size rs)
     where
       by_tests : (a b : Bool) → length (joined x rs) ≡ length rs → length (cond a (r ∷ joined x rs) (cond b (record r { spans = r.spans ++ x ∷ [] } ∷ rs) (r ∷ rs))) ≡ length (r ∷ rs)
       by_tests true b ih = ap suc ih
@@ -56,7 +56,7 @@ module _ (x : Arrival) where
 
   pub joined_order : (m : ℕ) (ws : List WaitingData) → AreInOrder m ws → AreInOrder m (joined x ws)
   joined_order m [] order = tt
-  joined_order m (r ∷ rs) order = by_tests (has_row (trace_of x) rs) (is_same (trace_of x) r.trace) (joined_order r.due rs order.1)
+  joined_order m (r ∷ rs) order = by_tests (has_row (trace_of x) rs) (same_bytes (trace_of x) r.trace) (joined_order r.due rs order.1)
     where
       by_tests : (a b : Bool) → AreInOrder r.due (joined x rs) → AreInOrder m (cond a (r ∷ joined x rs) (cond b (record r { spans = r.spans ++ x ∷ [] } ∷ rs) (r ∷ rs)))
       by_tests true b ih = (order.0, ih)
@@ -65,7 +65,7 @@ module _ (x : Arrival) where
 
   pub joined_due_by : (m : ℕ) (ws : List WaitingData) → AllDueBy m ws → AllDueBy m (joined x ws)
   joined_due_by m [] by = tt
-  joined_due_by m (r ∷ rs) by = by_tests (has_row (trace_of x) rs) (is_same (trace_of x) r.trace) (joined_due_by m rs by.1)
+  joined_due_by m (r ∷ rs) by = by_tests (has_row (trace_of x) rs) (same_bytes (trace_of x) r.trace) (joined_due_by m rs by.1)
     where
       by_tests : (a b : Bool) → AllDueBy m (joined x rs) → AllDueBy m (cond a (r ∷ joined x rs) (cond b (record r { spans = r.spans ++ x ∷ [] } ∷ rs) (r ∷ rs)))
       by_tests true b ih = (by.0, ih)

@@ -6,7 +6,7 @@ use Rattle.span_batcher.specs.Machine.{fired}
 use Rattle.drop_ledger.specs.Ledger.{LedgerData, moved}
 use Rattle.drop_ledger.specs.declared.places.Place.TheVariants.{Undecided, NotSampled}
 use Rattle.send_queue.specs.Sender.{BatchData, SenderData}
-use Rattle.span_pool.specs.Keyed.{SpanTexts}
+use Rattle.span_pool.specs.Stored.{SpanTexts}
 use Rattle.tail_policy.specs.declared.note.TraceNote.{TraceNote}
 use Rattle.tail_policy.specs.Note.{verdict_of}
 use Rattle.trace_rows.specs.declared.table.Row.{Row}

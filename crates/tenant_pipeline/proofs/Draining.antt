@@ -11,7 +11,7 @@ use Rattle.span_batcher.specs.Batches.{Batch}
 use Rattle.span_batcher.specs.State as batcher
 use Rattle.span_batcher.specs.State.{next_due, IsAfter}
 use Rattle.span_batcher.specs.Machine.{fired, drained}
-use Rattle.span_pool.specs.Keyed.{KeyedData}
+use Rattle.span_pool.specs.Stored.{StoredData}
 use Rattle.tail_policy.specs.declared.note.TraceNote.{TraceNote}
 use Rattle.tail_policy.specs.Note.{verdict_of}
 use Rattle.tail_settings.specs.Policy.{PolicyData}
@@ -53,7 +53,7 @@ shown_few : (p : Part TraceNote) (keys : List ℕ) → length (arrivals_at p key
 shown_few p [] = omega arith
 shown_few p (key ∷ keys) = by_slot (p.spans key) (shown_few p keys)
   where
-    by_slot : (o : Option KeyedData) → length (arrivals_at p keys) ≤ length keys → length (arrivals_of (shown p.texts o ++ spans_at p.spans p.texts keys)) ≤ suc (length keys)
+    by_slot : (o : Option StoredData) → length (arrivals_at p keys) ≤ length keys → length (arrivals_of (shown p.texts o ++ spans_at p.spans p.texts keys)) ≤ suc (length keys)
     by_slot None few = omega (arith, few)
     by_slot (Some span) few = omega (arith, few)
 
@@ -61,14 +61,14 @@ pub there_by : (p : Part TraceNote) (keys : List ℕ) → length (arrivals_at p 
 there_by p [] size = λ j some. absurd (omega (arith, some))
 there_by p (key ∷ keys) size = by_slot (p.spans key) refl size (λ all. there_by p keys all)
   where
-    by_key : (slot : KeyedData) → p.spans key ≡ Some slot → AreThere p keys → (j : ℕ) (b : Bool) → eqb key j ≡ b → 0 < cond b 1 0 + count j keys → p.spans j ≢ None
+    by_key : (slot : StoredData) → p.spans key ≡ Some slot → AreThere p keys → (j : ℕ) (b : Bool) → eqb key j ≡ b → 0 < cond b 1 0 + count j keys → p.spans j ≢ None
     by_key slot here rest j true is some = λ none.
         let same : key ≡ j = grind (arith, nat_tests, is) in
-        let clash : Path (Option KeyedData) (Some slot) None = sym here ∙ (ap p.spans same ∙ none) in
+        let clash : Path (Option StoredData) (Some slot) None = sym here ∙ (ap p.spans same ∙ none) in
         absurd (cc)
     by_key slot here rest j false is some = rest j (omega (arith, some))
 
-    by_slot : (o : Option KeyedData) → p.spans key ≡ o → length (arrivals_of (shown p.texts o ++ spans_at p.spans p.texts keys)) ≡ suc (length keys) →
+    by_slot : (o : Option StoredData) → p.spans key ≡ o → length (arrivals_of (shown p.texts o ++ spans_at p.spans p.texts keys)) ≡ suc (length keys) →
         (length (arrivals_at p keys) ≡ length keys → AreThere p keys) → AreThere p (key ∷ keys)
     by_slot None here all ih = absurd (let few = shown_few p keys in omega (arith, few, all))
     by_slot (Some slot) here all ih = λ j some. by_key slot here (ih (omega (arith, all))) j (eqb key j) refl some
@@ -220,7 +220,7 @@ module _ (own : Pipeline) (p : Part TraceNote) (moment : ℕ) (held : IsHeldAt m
   named : (key : ℕ) → 0 < count key (named_keys (counts_in own) own.batcher.spans p) → p.spans key ≢ None
   named key some none =
       let found = (keys_are_shown TraceNote (counts_in own) own.batcher.spans [] p held.sound).there key some in
-      let clash : Path (Option KeyedData) (Some found.0) None = sym found.1 ∙ none in
+      let clash : Path (Option StoredData) (Some found.0) None = sym found.1 ∙ none in
       absurd (cc)
 
   pub row_there : (number : ℕ) (row : Row TraceNote) → own.rows.decided < number → number ≤ own.rows.opened → p.rows number ≡ Some row → AreThere p row.keys

@@ -2,7 +2,7 @@
 use Rattle.std.proofs.Common.{◌≡◌, ◌<◌, ◌≤◌, ◌+◌, ◌++◌, ◌∙◌, ℕ, List, map, sym, ap, subst, arith, true, Option, Some}
 use Rattle.std.specs.List.{AllByRecursion}
 use Rattle.drop_ledger.specs.Ledger.{counted, most_counted, taken}
-use Rattle.span_pool.specs.Keyed.{KeyedData, SpanTexts, origin_at, texts_of}
+use Rattle.span_pool.specs.Stored.{StoredData, SpanTexts, origin_at, texts_of}
 use Rattle.text_pool.specs.declared.pool.Kept.{Kept}
 use Rattle.span_pool.specs.declared.keys.TextKeys.{TextKeys}
 use Rattle.tail_policy.specs.declared.note.TraceNote.{TraceNote}
@@ -33,7 +33,7 @@ use Rattle.tenant_pipeline.proofs.Placing.{IsReady, among_pending}
 use Rattle.tenant_pipeline.proofs.Seating.{has_row_is, joined_is, joined_noted}
 
 module _ (own : Pipeline) (p mid q : Part TraceNote) (moment : ℕ) (journal : Journal) (keys : TextKeys) (span : NotedSpan) (held : List ℕ) (coming : IsComing moment journal keys span held own p)
-    (kept_span : KeyedData) (ready : IsReady own p mid journal keys span.text kept_span) (number key : ℕ) (note : TraceNote) (row : Row TraceNote)
+    (kept_span : StoredData) (ready : IsReady own p mid journal keys span.text kept_span) (number key : ℕ) (note : TraceNote) (row : Row TraceNote)
     (seat : p.seats span.trace ≡ Some number) (above : own.rows.decided < number) (there : p.rows number ≡ Some row) (note_is : note ≡ notes.joined row.note span.note)
     (change : Joins number key kept_span note mid q)
     (sound_q : (n : Counts) (pending others : List ℕ) → n.decided < number → number ≤ n.opened → IsSound n pending (text_keys kept_span.keys ++ others) mid → IsSound n pending others q)

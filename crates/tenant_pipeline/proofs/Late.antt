@@ -6,7 +6,7 @@ use Rattle.drop_ledger.specs.Ledger.{counted, ledger_of, most_counted, moved, ta
 use Rattle.drop_ledger.specs.declared.places.Place.TheVariants.{Undecided, NotSampled}
 use Rattle.span_batcher.specs.State as batcher
 use Rattle.span_batcher.specs.State.{next_due, IsAfter}
-use Rattle.span_pool.specs.Keyed.{KeyedData, SpanTexts, origin_at, texts_of}
+use Rattle.span_pool.specs.Stored.{StoredData, SpanTexts, origin_at, texts_of}
 use Rattle.span_pool.specs.Pool.{with_span}
 use Rattle.span_pool.specs.declared.keys.TextKeys.{TextKeys}
 use Rattle.text_pool.specs.declared.pool.Kept.{Kept}
@@ -44,7 +44,7 @@ use Rattle.tenant_pipeline.proofs.Timing.{from_after}
 
 -- it lies in the stores, and nothing has left yet
 module _ (own : Pipeline) (p mid q : Part TraceNote) (moment : ℕ) (journal : Journal) (keys : TextKeys) (text held : List ℕ) (posting : IsPosting moment journal held own p)
-    (span : KeyedData) (ready : IsReady own p mid journal keys text span) (key : ℕ) (change : Waits key span mid q)
+    (span : StoredData) (ready : IsReady own p mid journal keys text span) (key : ℕ) (change : Waits key span mid q)
     (sound_q : (n : Counts) (pending others : List ℕ) → IsSound n pending (text_keys span.keys ++ others) mid → IsSound n (pending ++ key ∷ []) others q)
     (shows_q : (n : Counts) (pending others shown : List ℕ) → IsSound n pending others mid → AreAmong shown pending →
     view n (shown ++ key ∷ []) q ≡ with_late (texts_of (text_at mid.texts) span) (view n shown mid))
@@ -86,7 +86,7 @@ module _ (own : Pipeline) (p mid q : Part TraceNote) (moment : ℕ) (journal : J
       let both = count-append k own.batcher.spans (key ∷ []) in
       let more = count-append k gone own.batcher.spans in
       let found = shown.there k (omega (arith, waits, all, both, more, some)) in
-      let clash : Path (Option KeyedData) (Some found.0) None = sym found.1 ∙ none in
+      let clash : Path (Option StoredData) (Some found.0) None = sym found.1 ∙ none in
       absurd (cc)
 
   none_waits : count key own.batcher.spans ≡ 0
@@ -98,7 +98,7 @@ module _ (own : Pipeline) (p mid q : Part TraceNote) (moment : ℕ) (journal : J
 
   same_spans : spans_at q.spans q.texts own.batcher.spans ≡ spans_at p.spans p.texts own.batcher.spans
   same_spans =
-      ap (λ (f : ℕ → Option KeyedData). spans_at f q.texts own.batcher.spans) change.spans
+      ap (λ (f : ℕ → Option StoredData). spans_at f q.texts own.batcher.spans) change.spans
       ∙ (ap (λ (f : ℕ → Option Kept). spans_at (with_span key (Some span) mid.spans) f own.batcher.spans) change.texts
       ∙ (spans-alike mid.spans mid.texts (with_span key (Some span) mid.spans) mid.texts own.batcher.spans (alike-put key (Some span) mid.spans mid.texts own.batcher.spans none_waits)
       ∙ ap (λ (v : View TraceNote). v.pending) ready.shown))

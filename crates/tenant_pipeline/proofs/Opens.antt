@@ -6,7 +6,7 @@ use Rattle.std.proofs.lemmas.Bool.Decides.{nat_tests}
 use Rattle.std.proofs.lemmas.List.{length-map, map-append}
 use Rattle.drop_ledger.specs.Ledger.{LedgerData, counted, most_counted, moved, taken}
 use Rattle.drop_ledger.specs.declared.places.Place.TheVariants.{Undecided, TooEarly}
-use Rattle.span_pool.specs.Keyed.{KeyedData, SpanTexts, origin_at, texts_of}
+use Rattle.span_pool.specs.Stored.{StoredData, SpanTexts, origin_at, texts_of}
 use Rattle.span_pool.specs.declared.keys.TextKeys.{TextKeys}
 use Rattle.text_pool.specs.declared.pool.Kept.{Kept}
 use Rattle.tail_policy.specs.declared.note.TraceNote.{TraceNote}
@@ -216,7 +216,7 @@ with_room_noted policies false v all = room_noted policies v.settled v all
 
 -- where a row leaves, its spans are undecided
 pub leaves_few : (own : Pipeline) (p mid : Part TraceNote) (moment : ℕ) (journal : Journal) (keys : TextKeys) (span : NotedSpan) (held : List ℕ) → IsComing moment journal keys span held own p →
-    (kept_span : KeyedData) → IsReady own p mid journal keys span.text kept_span → own.rows.decided < first_left own mid → length (keys_of (mid.rows (first_left own mid))) ≤ own.ledger.places.undecided
+    (kept_span : StoredData) → IsReady own p mid journal keys span.text kept_span → own.rows.decided < first_left own mid → length (keys_of (mid.rows (first_left own mid))) ≤ own.ledger.places.undecided
 leaves_few own p mid moment journal keys span held coming kept_span ready lt =
     let h = coming.posting.holds in
     let range = own.section.tail_sampling.num_traces_range in
@@ -224,7 +224,7 @@ leaves_few own p mid moment journal keys span held coming kept_span ready lt =
     leave_few own mid (journal.undo.gone.items ++ own.batcher.spans) (text_keys kept_span.keys ++ held) (ready.sound held h.sound) (omega (arith, range.0)) h.first_is undecided lt
 
 module _ (own : Pipeline) (p mid q : Part TraceNote) (moment : ℕ) (journal : Journal) (keys : TextKeys) (span : NotedSpan) (held : List ℕ) (coming : IsComing moment journal keys span held own p)
-    (kept_span : KeyedData) (ready : IsReady own p mid journal keys span.text kept_span) (number key due : ℕ)
+    (kept_span : StoredData) (ready : IsReady own p mid journal keys span.text kept_span) (number key due : ℕ)
     (number_is : number ≡ own.rows.opened + 1) (due_is : due ≡ moment + own.section.tail_sampling.decision_wait)
     (change : Opens number key due span.trace kept_span span.note mid q)
     (sound_q : (n : Counts) (pending others : List ℕ) → number ≡ n.opened + 1 → IsSound n pending (text_keys kept_span.keys ++ others) mid → IsSound (one_opened n) pending others q)

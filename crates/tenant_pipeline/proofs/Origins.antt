@@ -2,9 +2,8 @@
 use Rattle.std.proofs.Common.{◌≡◌, ℕ, zero, suc, ◌+◌, ◌<◌, List, [], ◌∷◌, ◌++◌, length, map, drop, get_or, refl, sym, ap, subst, ◌∙◌, arith, append_assoc, append-nil, Option, Some, None}
 use Rattle.std.proofs.lemmas.List.{map-append, drop_more}
 use Rattle.std.specs.Prelude.{option_to_list}
-use Rattle.span_pool.specs.Stored.{Origin as OriginData, bytes_of}
-use Rattle.span_pool.specs.Keyed as keyed
-use Rattle.span_pool.specs.Keyed.{origin_at}
+use Rattle.span_pool.specs.Stored.{Origin as OriginData, bytes_of, origin_at}
+use Rattle.span_pool.specs.Stored as keyed
 use Rattle.span_pool.specs.declared.keys.TextKeys.{TextKeys}
 use Rattle.tail_policy.specs.declared.note.TraceNote.{TraceNote}
 use Rattle.tenant_stores.specs.Changes.{all_released, ReleasesAll}

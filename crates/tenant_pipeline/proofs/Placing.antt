@@ -2,8 +2,8 @@
 use Rattle.std.proofs.Common.{◌≡◌, ◌<◌, ◌≤◌, ◌++◌, ◌∙◌, ℕ, List, [], ◌∷◌, length, refl, sym, subst, arith, Option, Some, None}
 use Rattle.std.specs.Prelude.{option_to_list}
 use Rattle.drop_ledger.specs.Ledger.{LedgerData}
-use Rattle.span_pool.specs.Keyed.{KeyedData, SpanTexts, origin_at, texts_of}
-use Rattle.span_pool.specs.Keyed as keyed
+use Rattle.span_pool.specs.Stored.{StoredData, SpanTexts, origin_at, texts_of}
+use Rattle.span_pool.specs.Stored as keyed
 use Rattle.span_pool.specs.declared.keys.TextKeys.{TextKeys}
 use Rattle.text_pool.specs.declared.pool.Kept.{Kept}
 use Rattle.tail_policy.specs.declared.note.TraceNote.{TraceNote}
@@ -85,7 +85,7 @@ takes_back undo start own rows ledger back = record {
 -- ---- a span with its texts
 
 -- a span that is kept has its origin's texts, each held once more
-pub record IsKeyed (keys : TextKeys) (text : List ℕ) (p mid : Part TraceNote) (span : KeyedData) : Type 0 where
+pub record IsKeyed (keys : TextKeys) (text : List ℕ) (p mid : Part TraceNote) (span : StoredData) : Type 0 where
   pub text_is : span.text ≡ text
   pub holds : (n : Counts) (pending held : List ℕ) → AreAmong (text_keys keys) held → IsSound n pending held p → HoldsAll (text_keys span.keys) p mid
   pub sound : (n : Counts) (pending held : List ℕ) → AreAmong (text_keys keys) held → IsSound n pending held p → IsSound n pending (text_keys span.keys ++ held) mid
@@ -95,7 +95,7 @@ pub record IsKeyed (keys : TextKeys) (text : List ℕ) (p mid : Part TraceNote) 
 
 -- what that makes of the part of a tenant in a post: the same is shown, one span more can come, and origins that are held
 -- stay
-pub record IsReady (own : Pipeline) (p mid : Part TraceNote) (journal : Journal) (keys : TextKeys) (text : List ℕ) (span : KeyedData) : Type 0 where
+pub record IsReady (own : Pipeline) (p mid : Part TraceNote) (journal : Journal) (keys : TextKeys) (text : List ℕ) (span : StoredData) : Type 0 where
   pub arrived : arrival_of (texts_of (text_at mid.texts) span) ≡ arrival_at p keys text
   pub holds : HoldsAll (text_keys span.keys) p mid
   pub sound : (other : List ℕ) → IsSound (counts_in own) (journal.undo.gone.items ++ own.batcher.spans) other p → IsSound (counts_in own) (journal.undo.gone.items ++ own.batcher.spans) (text_keys span.keys ++ other) mid
@@ -105,7 +105,7 @@ pub record IsReady (own : Pipeline) (p mid : Part TraceNote) (journal : Journal)
 pub among_pending : (own : Pipeline) (journal : Journal) → AreAmong own.batcher.spans (journal.undo.gone.items ++ own.batcher.spans)
 among_pending own journal = λ key. omega (arith, count-append key journal.undo.gone.items own.batcher.spans)
 
-pub ready_now : (own : Pipeline) (p mid : Part TraceNote) (moment : ℕ) (journal : Journal) (keys : TextKeys) (text held : List ℕ) (span : KeyedData) →
+pub ready_now : (own : Pipeline) (p mid : Part TraceNote) (moment : ℕ) (journal : Journal) (keys : TextKeys) (text held : List ℕ) (span : StoredData) →
     IsPosting moment journal held own p → AreAmong (text_keys keys) held → IsKeyed keys text p mid span → IsReady own p mid journal keys text span
 ready_now own p mid moment journal keys text held span posting among kept =
     let n = counts_in own in

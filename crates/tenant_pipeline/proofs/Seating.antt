@@ -5,7 +5,7 @@ use Rattle.std.specs.Prelude.{nat_lt}
 use Rattle.std.proofs.lemmas.List.{map-append}
 use Rattle.std.proofs.lemmas.List.Sums.{fold-append}
 use Rattle.drop_ledger.specs.declared.places.Place.TheVariants.{Undecided}
-use Rattle.span_pool.specs.Keyed.{SpanTexts}
+use Rattle.span_pool.specs.Stored.{SpanTexts}
 use Rattle.span_view.specs.Facts.{SpanFacts}
 use Rattle.tail_policy.specs.declared.note.TraceNote.{TraceNote}
 use Rattle.tail_policy.specs.Note.{note_of}

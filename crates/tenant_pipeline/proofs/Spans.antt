@@ -7,7 +7,7 @@ use Rattle.span_batcher.specs.Machine.{cuts, uncut}
 use Rattle.span_batcher.specs.Maps.{mapped, spans_of}
 use Rattle.span_batcher.specs.ExportText as batches
 use Rattle.span_batcher.proofs.Maps.{cuts-whole}
-use Rattle.span_pool.specs.Keyed.{KeyedData, SpanTexts}
+use Rattle.span_pool.specs.Stored.{StoredData, SpanTexts, texts_of as keyed_texts}
 use Rattle.span_pool.specs.Pool.{owned}
 use Rattle.tail_policy.specs.declared.note.TraceNote.{TraceNote}
 use Rattle.text_pool.specs.declared.pool.Kept.{Kept}
@@ -16,7 +16,6 @@ use Rattle.slab.specs.Slab.{Slab, get}
 use Rattle.text_pool.specs.Part.{text_of}
 use Rattle.text_pool.specs.Part as texts
 use Rattle.span_batcher.specs.Texts.{texts_in, span_in, spans_in}
-use Rattle.span_pool.specs.Keyed.{texts_of as keyed_texts}
 use Rattle.tenant_stores.specs.declared.stores.Stores.{Stores}
 use Rattle.tenant_stores.specs.Part.{Part, part, owner_of}
 use Rattle.tenant_stores.specs.Counts.{count}
@@ -30,7 +29,7 @@ use Rattle.tenant_pipeline.specs.StateIn.{arrival_of, arrivals_of}
 use Rattle.tenant_pipeline.specs.Outbox.{arrivals_at, AreThere, batch_at}
 
 -- a span that a tenant has is its own
-pub owner_is : (tenant : ℕ) (slot : Option KeyedData) (span : KeyedData) → owned owner_of tenant slot ≡ Some span → span.owner ≡ tenant
+pub owner_is : (tenant : ℕ) (slot : Option StoredData) (span : StoredData) → owned owner_of tenant slot ≡ Some span → span.owner ≡ tenant
 owner_is tenant None span is = absurd (cc)
 owner_is tenant (Some other) span is = by_test (eqb other.owner tenant) refl is
   where
@@ -38,7 +37,7 @@ owner_is tenant (Some other) span is = by_test (eqb other.owner tenant) refl is
     by_test true t e =
         let same : other ≡ span = cc in
         let owner : other.owner ≡ tenant = grind (arith, nat_tests, t) in
-        sym (ap (λ (s : KeyedData). s.owner) same) ∙ owner
+        sym (ap (λ (s : StoredData). s.owner) same) ∙ owner
     by_test false t e = absurd (cc)
 
 -- the texts of spans as they arrived
@@ -61,7 +60,7 @@ sent_is moment n payload xs size text =
 abbrev pub arrival_or : Part TraceNote → ℕ → Arrival
 arrival_or p key = arrival_of (span_at p key)
 
-shown_is : (texts : ℕ → Option Kept) (slot : Option KeyedData) → slot ≢ None → shown texts slot ≡ shown_or texts no_span slot ∷ []
+shown_is : (texts : ℕ → Option Kept) (slot : Option StoredData) → slot ≢ None → shown texts slot ≡ shown_or texts no_span slot ∷ []
 shown_is texts None some = absurd (some refl)
 shown_is texts (Some span) some = refl
 
@@ -112,18 +111,18 @@ module _ (tenant : ℕ) (stores : Stores TraceNote) where
   p = part tenant stores
 
   -- one more
-  pub span_more : (xs : List (Bor KeyedData)) (found : Bor KeyedData) (key : ℕ) (rest : List ℕ) → p.spans key ≡ Some found.now →
+  pub span_more : (xs : List (Bor StoredData)) (found : Bor StoredData) (key : ℕ) (rest : List ℕ) → p.spans key ≡ Some found.now →
       spans_in stores.texts (xs ++ found ∷ []) ++ spans_at p.spans p.texts rest ≡ spans_in stores.texts xs ++ spans_at p.spans p.texts (key ∷ rest)
   span_more xs found key rest is =
       let owner = owner_is tenant (get stores.spans key) found.now is in
       let one : span_in stores.texts found.now ≡ keyed_texts (text_at p.texts) found.now = ap (λ (t : ℕ). keyed_texts (texts_in stores.texts t) found.now) owner in
       let slot : shown p.texts (p.spans key) ≡ span_in stores.texts found.now ∷ [] = ap (shown p.texts) is ∙ ap (λ (x : SpanTexts). x ∷ []) (sym one) in
-      ap (λ (ys : List SpanTexts). ys ++ spans_at p.spans p.texts rest) (map-append (λ (b : Bor KeyedData). span_in stores.texts b.now) xs (found ∷ []))
+      ap (λ (ys : List SpanTexts). ys ++ spans_at p.spans p.texts rest) (map-append (λ (b : Bor StoredData). span_in stores.texts b.now) xs (found ∷ []))
       ∙ (append_assoc (spans_in stores.texts xs) (span_in stores.texts found.now ∷ []) (spans_at p.spans p.texts rest)
       ∙ ap (λ (ys : List SpanTexts). spans_in stores.texts xs ++ (ys ++ spans_at p.spans p.texts rest)) (sym slot))
 
 -- texts by their tenants are all of them
-pub spans_same : (t u : Slab Kept) → ((tenant : ℕ) → texts.part tenant t ≡ texts.part tenant u) → (xs : List (Bor KeyedData)) → spans_in t xs ≡ spans_in u xs
+pub spans_same : (t u : Slab Kept) → ((tenant : ℕ) → texts.part tenant t ≡ texts.part tenant u) → (xs : List (Bor StoredData)) → spans_in t xs ≡ spans_in u xs
 spans_same t u same [] = refl
 spans_same t u same (x ∷ xs) =
     let one : span_in t x.now ≡ span_in u x.now = ap (λ (at : ℕ → Option Kept). keyed_texts (λ key. text_of (at key)) x.now) (same x.now.owner) in

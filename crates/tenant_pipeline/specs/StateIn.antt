@@ -1,7 +1,6 @@
 -- What a tenant's rules see of it: what its pipeline keeps by itself, and what the stores have of it.
 use Rattle.std.specs.Prelude.{ℕ, List, map}
-use Rattle.span_pool.specs.Keyed.{SpanTexts}
-use Rattle.span_pool.specs.Stored.{bytes_of}
+use Rattle.span_pool.specs.Stored.{SpanTexts, bytes_of}
 use Rattle.span_view.specs.Reading.{facts_of}
 use Rattle.tail_policy.specs.declared.note.TraceNote.{TraceNote}
 use Rattle.tail_settings.specs.Policy.{PolicyData}

@@ -24,7 +24,7 @@ use crate::undo::{Undo, take_back_offers};
 use drop_ledger::{Ledger, Place};
 use send_queue::{Batch, OfferFault};
 use span_batcher::{Planned, encode_batch};
-use span_pool::KeyedSpan;
+use span_pool::StoredSpan;
 use std::alloc::{AllocError, Global};
 use std::collections::VecDeque;
 use tail_policy::TraceNote;
@@ -36,7 +36,7 @@ fn spans_by_keys<'a>(
     stores: &'a Stores<TraceNote>,
     tenant: u32,
     keys: &[usize],
-) -> Result<Vec<&'a KeyedSpan>, AllocError>
+) -> Result<Vec<&'a StoredSpan>, AllocError>
     ensures { IfOk result (λ spans. spans_in stores.now.texts spans.items ≡
         spans_at (part tenant stores.now).spans (part tenant stores.now).texts keys.now) }
 {

@@ -3,7 +3,7 @@
 ghost use Rattle.std.specs.Prelude.{◌≡◌, ◌≢◌, ◌<◌, ◌≤◌, ◌+◌, ◌-◌, ◌++◌, ◌∷◌, [], ◌^◌, ℕ, List, Some, IfOk, OnOk, OnErr, if◌then◌else◌, nat_lt, length, vec_len, vec_capacity};
 ghost use Rattle.drop_ledger.specs.Ledger.{IsSound as IsSoundLedger, counted, moved, most_counted};
 ghost use Rattle.drop_ledger.specs.declared.places.Place.TheVariants.{Undecided, TooEarly};
-ghost use Rattle.span_pool.specs.Keyed.{origin_at};
+ghost use Rattle.span_pool.specs.Stored.{origin_at};
 ghost use Rattle.tail_policy.specs.declared.note.TraceNote.{TraceNote as Note};
 ghost use Rattle.trace_rows.specs.Part.{keys_of};
 ghost use Rattle.tenant_stores.specs.Part.{Part, part};
@@ -23,7 +23,7 @@ use crate::journal::Journal;
 use crate::pipeline::Pipeline;
 use drop_ledger::Place;
 use otlp_prepare::NotedSpan;
-use span_pool::{KeyedSpan, TextKeys};
+use span_pool::{StoredSpan, TextKeys};
 use std::alloc::AllocError;
 use tail_policy::TraceNote;
 use tenant_stores::{Placed, Stores};
@@ -286,7 +286,7 @@ impl Pipeline {
         stores: &mut Stores<TraceNote>,
         keys: TextKeys,
         span: &NotedSpan,
-    ) -> Result<KeyedSpan, AllocError>
+    ) -> Result<StoredSpan, AllocError>
         ensures owner { IfOk result (λ keyed. keyed.owner ≡ self.now.tenant) }
         ensures text { IfOk result (λ keyed. keyed.text ≡ span.now.text) }
         ensures own { IfOk result (λ keyed. (n : Counts) (pending held : List ℕ)
@@ -313,6 +313,6 @@ impl Pipeline {
     {
         let text = span.text.clone()?;
         let keys = stores.hold_again(self.tenant, keys)?;
-        Ok(KeyedSpan::of(self.tenant, keys, text))
+        Ok(StoredSpan::of(self.tenant, keys, text))
     }
 }

@@ -3,7 +3,7 @@
 ghost use Rattle.std.specs.Prelude.{◌≡◌, ◌≢◌, ◌<◌, ◌≤◌, ◌+◌, ◌-◌, ◌++◌, [], ◌^◌, ℕ, List, IfOk, OnOk, OnErr, length, map};
 ghost use Rattle.drop_ledger.specs.Ledger.{counted, most_counted};
 ghost use Rattle.span_batcher.specs.State.{next_due, IsAfter};
-ghost use Rattle.span_pool.specs.Keyed.{origin_at};
+ghost use Rattle.span_pool.specs.Stored.{origin_at};
 ghost use Rattle.tail_policy.specs.declared.note.TraceNote.{TraceNote as Note};
 ghost use Rattle.tenant_stores.specs.Part.{Part, part};
 ghost use Rattle.tenant_stores.specs.Counts.{Counts};

@@ -2,9 +2,9 @@
 use Rattle.std.proofs.Common.{◌≡◌, ℕ, ◌+◌, ◌-◌, ◌<◌, ◌≤◌, List, [], ◌∷◌, ◌++◌, length, refl, ap, arith, length-append, Bool, true, false, cond, ◌||◌, Option, Some, None}
 use Rattle.std.specs.Prelude.{filter, nat_lt, ◌==◌}
 use Rattle.std.proofs.lemmas.Bool.Decides.{nat_tests}
+use Rattle.span_pool.specs.Stored.{same_bytes}
 use Rattle.drop_ledger.specs.Ledger.{counted, most_counted, left_out}
 use Rattle.tenant_rules.specs.Arrivals.{Arrival, valid, is_valid, trace_of}
-use Rattle.tenant_rules.specs.Rows.{is_same}
 use Rattle.tenant_rules.specs.Fate.{SettledData, WaitingData}
 use Rattle.tenant_rules.specs.Batching.{spans_in}
 use Rattle.tenant_rules.specs.Intake.{Verdict, shutting_down, counter_limit, exhausted, accepted, verdict_of}
@@ -18,7 +18,7 @@ use Rattle.tenant_rules.proofs.Sums.{Fixed, Kept, fixed_of, kept_of, counted_of,
 -- a span that joins a row
 joined_spans : (x : Arrival) (ws : List WaitingData) → has_row (trace_of x) ws ≡ true → spans_in (joined x ws) ≡ spans_in ws + 1
 joined_spans x [] is = absurd (cc)
-joined_spans x (r ∷ rs) is = by_tests (has_row (trace_of x) rs) (is_same (trace_of x) r.trace) is (λ here. joined_spans x rs here)
+joined_spans x (r ∷ rs) is = by_tests (has_row (trace_of x) rs) (same_bytes (trace_of x) r.trace) is (λ here. joined_spans x rs here)
   where
     by_tests : (a b : Bool) → (a || b) ≡ true → (a ≡ true → spans_in (joined x rs) ≡ spans_in rs + 1) →
         spans_in (cond a (r ∷ joined x rs) (cond b (record r { spans = r.spans ++ x ∷ [] } ∷ rs) (r ∷ rs))) ≡ spans_in (r ∷ rs) + 1

@@ -4,6 +4,7 @@ use Rattle.std.proofs.Common.{◌≡◌, ℕ, ◌+◌, ◌-◌, ◌<◌, ◌≤�
 use Rattle.std.proofs.lemmas.Bool.Decides.{nat_tests}
 use Rattle.std.proofs.lemmas.List.{map-append}
 use Rattle.tail_settings.specs.Section.{SectionData}
+use Rattle.span_pool.specs.Stored.{same_bytes}
 use Rattle.drop_ledger.specs.declared.places.Place.TheVariants.{Undecided, Pending, NotSampled, TooEarly}
 use Rattle.drop_ledger.specs.declared.places.Places.{Places}
 use Rattle.drop_ledger.specs.Ledger.{LedgerData, taken, moved}
@@ -11,7 +12,7 @@ use Rattle.span_batcher.specs.Batches.{IsSound, Group, batches}
 use Rattle.span_batcher.specs.State as batcher
 use Rattle.span_batcher.specs.Machine.{cuts, uncut, added}
 use Rattle.tenant_rules.specs.Arrivals.{Arrival, trace_of}
-use Rattle.tenant_rules.specs.Rows.{Taken, Opened, Seat, Seated, is_same, present_seat, opened, seated}
+use Rattle.tenant_rules.specs.Rows.{Taken, Opened, Seat, Seated, present_seat, opened, seated}
 use Rattle.tenant_rules.specs.Fate.{most_of, is_sampled, SettledData, WaitingData, settled, waiting, dropped, late_dropped, too_early}
 use Rattle.tenant_rules.specs.Groups.{decided, cut_short, late, by_moment, groups_of, groups}
 use Rattle.tenant_rules.specs.Sender.{BatchData, SenderData, sizes, active_sizes}
@@ -294,7 +295,7 @@ late_kept w i e D es a s sound is due by sampled =
 
 spans_joined : (a : Arrival) (ws : List WaitingData) → has_row (trace_of a) ws ≡ true → spans_in (joined a ws) ≡ spans_in ws + 1
 spans_joined a [] is = absurd (cc)
-spans_joined a (r ∷ rs) is = by_tests (has_row (trace_of a) rs) (is_same (trace_of a) r.trace) is (λ here. spans_joined a rs here)
+spans_joined a (r ∷ rs) is = by_tests (has_row (trace_of a) rs) (same_bytes (trace_of a) r.trace) is (λ here. spans_joined a rs here)
   where
     by_tests : (b c : Bool) → (b || c) ≡ true → (b ≡ true → spans_in (joined a rs) ≡ spans_in rs + 1) →
         spans_in (cond b (r ∷ joined a rs) (cond c (record r { spans = r.spans ++ a ∷ [] } ∷ rs) (r ∷ rs))) ≡ length r.spans + spans_in rs + 1

@@ -3,8 +3,9 @@ use Rattle.std.proofs.Common.{◌≡◌, ◌≢◌, ℕ, suc, ◌+◌, ◌<◌, 
 use Rattle.std.specs.Prelude.{is_some, unwrap_or}
 use Rattle.std.proofs.lemmas.Bool.Decides.{nat_tests}
 use Rattle.tail_settings.specs.Section.{SectionData}
+use Rattle.span_pool.specs.Stored.{same_bytes}
 use Rattle.tenant_rules.specs.Arrivals.{Arrival, trace_of}
-use Rattle.tenant_rules.specs.Rows.{Taken, Opened, Seat, Seated, latest, is_same, is_present, if_present, present_seat, opened, seated}
+use Rattle.tenant_rules.specs.Rows.{Taken, Opened, Seat, Seated, latest, is_present, if_present, present_seat, opened, seated}
 use Rattle.tenant_rules.specs.Fate.{most_of, due_of, on_time, is_evicted, WaitingData, settled, waiting, dropped, too_early}
 use Rattle.tenant_rules.specs.Groups.{decided}
 use Rattle.tenant_rules.specs.Machine.{has_row, joined}
@@ -108,7 +109,7 @@ same_behind w n N (r ∷ R) lt = (on_time_other w (length R + 1) n N (λ same. o
 -- the rows that are decided keep theirs
 pub same_join : (t : List ℕ) (w : SectionData) (e : ℕ) (n : Seated) (N : List Seated) (R : List Opened) → latest t R ≡ Some (record { row = n.row; opening = n.opening }) → e < n.opening + w.tail_sampling.decision_wait → SameOver w e (n ∷ N) N R
 same_join t w e n N [] is lt = tt
-same_join t w e n N (r ∷ R) is lt = by_test (is_same t r.trace) is (λ here. same_join t w e n N R here lt)
+same_join t w e n N (r ∷ R) is lt = by_test (same_bytes t r.trace) is (λ here. same_join t w e n N R here lt)
   where
     by_test : (b : Bool) → Path (Option Seat) (cond b (Some (record { row = length R + 1; opening = r.moment })) (latest t R)) (Some (record { row = n.row; opening = n.opening })) →
         (latest t R ≡ Some (record { row = n.row; opening = n.opening }) → SameOver w e (n ∷ N) N R) → SameOver w e (n ∷ N) N (r ∷ R)
@@ -121,17 +122,17 @@ same_join t w e n N (r ∷ R) is lt = by_test (is_same t r.trace) is (λ here. s
         let within = latest_row t R (record { row = n.row; opening = n.opening }) here in
         (λ due. on_time_other w (length R + 1) n N (λ same. omega (arith, same, within.1)), ih here)
 
-joined_last : (x : Arrival) (xs : List WaitingData) (row : WaitingData) → is_same (trace_of x) row.trace ≡ true → joined x (xs ++ row ∷ []) ≡ xs ++ record row { spans = row.spans ++ x ∷ [] } ∷ []
+joined_last : (x : Arrival) (xs : List WaitingData) (row : WaitingData) → same_bytes (trace_of x) row.trace ≡ true → joined x (xs ++ row ∷ []) ≡ xs ++ record row { spans = row.spans ++ x ∷ [] } ∷ []
 joined_last x [] row is = rw is refl
 joined_last x (y ∷ xs) row is =
     let found : has_row (trace_of x) (xs ++ row ∷ []) ≡ true = has_last (trace_of x) xs row ∙ rw is refl in
     rw found (ap (λ (ws : List WaitingData). y ∷ ws) (joined_last x xs row is))
 
-joined_before : (x : Arrival) (xs : List WaitingData) (row : WaitingData) → is_same (trace_of x) row.trace ≡ false → joined x (xs ++ row ∷ []) ≡ joined x xs ++ row ∷ []
+joined_before : (x : Arrival) (xs : List WaitingData) (row : WaitingData) → same_bytes (trace_of x) row.trace ≡ false → joined x (xs ++ row ∷ []) ≡ joined x xs ++ row ∷ []
 joined_before x [] row is = rw is refl
 joined_before x (y ∷ xs) row is =
     let found : has_row (trace_of x) (xs ++ row ∷ []) ≡ has_row (trace_of x) xs = has_last (trace_of x) xs row ∙ rw is refl in
-    rw found (by_tests (has_row (trace_of x) xs) (is_same (trace_of x) y.trace) (joined_before x xs row is))
+    rw found (by_tests (has_row (trace_of x) xs) (same_bytes (trace_of x) y.trace) (joined_before x xs row is))
   where
     by_tests : (a b : Bool) → joined x (xs ++ row ∷ []) ≡ joined x xs ++ row ∷ [] →
         cond a (y ∷ joined x (xs ++ row ∷ [])) (cond b (record y { spans = y.spans ++ x ∷ [] } ∷ (xs ++ row ∷ [])) (y ∷ (xs ++ row ∷ [])))
@@ -144,18 +145,18 @@ joined_before x (y ∷ xs) row is =
 pub waiting_joined : (w : SectionData) (e k : ℕ) (n : Seated) (N : List Seated) (R : List Opened) → latest (trace_of n.arrival) R ≡ Some (record { row = n.row; opening = n.opening }) → is_present (most_of w) k n.row ≡ true →
     e < n.opening + w.tail_sampling.decision_wait → n.moment ≡ e → waiting w e None (n ∷ N) k R ≡ joined n.arrival (waiting w e None N k R)
 waiting_joined w e k n N [] is here lt now = refl
-waiting_joined w e k n N (r ∷ R) is here lt now = by_test (is_same (trace_of n.arrival) r.trace) refl is (λ rest. waiting_joined w e k n N R rest here lt now)
+waiting_joined w e k n N (r ∷ R) is here lt now = by_test (same_bytes (trace_of n.arrival) r.trace) refl is (λ rest. waiting_joined w e k n N R rest here lt now)
   where
     row : WaitingData
     row = record { trace = r.trace; due = due_of w r.moment; spans = on_time w (length R + 1) N }
 
-    rows_before : (b c : Bool) → is_same (trace_of n.arrival) r.trace ≡ false → waiting w e None (n ∷ N) k R ≡ joined n.arrival (waiting w e None N k R) →
+    rows_before : (b c : Bool) → same_bytes (trace_of n.arrival) r.trace ≡ false → waiting w e None (n ∷ N) k R ≡ joined n.arrival (waiting w e None N k R) →
         waiting w e None (n ∷ N) k R ++ cond (b && not c) (record { trace = r.trace; due = due_of w r.moment; spans = on_time w (length R + 1) N } ∷ []) [] ≡ joined n.arrival (waiting w e None N k R ++ cond (b && not c) (record { trace = r.trace; due = due_of w r.moment; spans = on_time w (length R + 1) N } ∷ []) [])
     rows_before true false other ih = ap (λ (ws : List WaitingData). ws ++ row ∷ []) ih ∙ sym (joined_before n.arrival (waiting w e None N k R) row other)
     rows_before true true other ih = rw (append-nil, append-nil) ih
     rows_before false c other ih = rw (append-nil, append-nil) ih
 
-    by_test : (b : Bool) → is_same (trace_of n.arrival) r.trace ≡ b → Path (Option Seat) (cond b (Some (record { row = length R + 1; opening = r.moment })) (latest (trace_of n.arrival) R)) (Some (record { row = n.row; opening = n.opening })) →
+    by_test : (b : Bool) → same_bytes (trace_of n.arrival) r.trace ≡ b → Path (Option Seat) (cond b (Some (record { row = length R + 1; opening = r.moment })) (latest (trace_of n.arrival) R)) (Some (record { row = n.row; opening = n.opening })) →
         (latest (trace_of n.arrival) R ≡ Some (record { row = n.row; opening = n.opening }) → waiting w e None (n ∷ N) k R ≡ joined n.arrival (waiting w e None N k R)) → waiting w e None (n ∷ N) k (r ∷ R) ≡ joined n.arrival (waiting w e None N k (r ∷ R))
     by_test true same seat_is ih =
         let same_seat : Path Seat (record { row = length R + 1; opening = r.moment }) (record { row = n.row; opening = n.opening }) = cc in
@@ -184,7 +185,7 @@ waiting_joined w e k n N (r ∷ R) is here lt now = by_test (is_same (trace_of n
 pub early_joined : (t : List ℕ) (w : SectionData) (e : ℕ) (n : Seated) (N : List Seated) (all R : List Opened) → latest t R ≡ Some (record { row = n.row; opening = n.opening }) → is_present (most_of w) (length all) n.row ≡ true →
     e < n.opening + w.tail_sampling.decision_wait → OpenedBy e all → too_early w (n ∷ N) all R ≡ too_early w N all R
 early_joined t w e n N all [] is here lt by = refl
-early_joined t w e n N all (r ∷ R) is here lt by = by_test (is_same t r.trace) is (λ rest. early_joined t w e n N all R rest here lt by)
+early_joined t w e n N all (r ∷ R) is here lt by = by_test (same_bytes t r.trace) is (λ rest. early_joined t w e n N all R rest here lt by)
   where
     by_test : (b : Bool) → Path (Option Seat) (cond b (Some (record { row = length R + 1; opening = r.moment })) (latest t R)) (Some (record { row = n.row; opening = n.opening })) →
         (latest t R ≡ Some (record { row = n.row; opening = n.opening }) → too_early w (n ∷ N) all R ≡ too_early w N all R) → too_early w (n ∷ N) all (r ∷ R) ≡ too_early w N all (r ∷ R)

@@ -3,6 +3,7 @@ use Rattle.std.proofs.Common.{◌≡◌, ℕ, zero, suc, ◌+◌, ◌<◌, ◌�
 use Rattle.std.specs.Prelude.{drop, option_to_list, nat_lt, ◌==◌}
 use Rattle.std.proofs.lemmas.Bool.Decides.{nat_tests}
 use Rattle.tail_settings.specs.Section.{SectionData}
+use Rattle.span_pool.specs.Stored.{same_bytes}
 use Rattle.send_retry.specs.Class.{AnswerData}
 use Rattle.send_queue.specs.declared.active.Retry.{Retry}
 use Rattle.span_batcher.specs.State.{next_due}
@@ -12,7 +13,6 @@ use Rattle.span_batcher.specs.Timers.{is_due}
 use Rattle.drop_ledger.specs.declared.places.Place.TheVariants.{Undecided, Pending, Queued, QueueFull}
 use Rattle.tenant_rules.specs.Arrivals.{Arrival, valid, trace_of}
 use Rattle.tenant_rules.specs.Own.{Own, Post, Turn, Answer, Report, Drain}
-use Rattle.tenant_rules.specs.Rows.{is_same}
 use Rattle.tenant_rules.specs.Fate.{SettledData, WaitingData, are_sampled}
 use Rattle.tenant_rules.specs.Sender.{BatchData, ActiveData, SenderData, is_full, has_consumer, has_tickets, first_retry, due_by, under, without, replaced, retried, oldest, Choice, Retried, Oldest, NoBatch, choice_by, choice, sent_again, sent_first, FateData, Leaves, Stays, fate, in_flight, left_by, answered_by}
 use Rattle.tenant_rules.specs.Batching.{all_sent}
@@ -127,7 +127,7 @@ drain_within n m s k = by_test s.drained
 
 joined_rows : (x : Arrival) (ws : List WaitingData) → length (joined x ws) ≡ length ws
 joined_rows x [] = refl
-joined_rows x (r ∷ rs) = by_tests (has_row (trace_of x) rs) (is_same (trace_of x) r.trace) (joined_rows x rs)
+joined_rows x (r ∷ rs) = by_tests (has_row (trace_of x) rs) (same_bytes (trace_of x) r.trace) (joined_rows x rs)
   where
     by_tests : (a b : Bool) → length (joined x rs) ≡ length rs → length (cond a (r ∷ joined x rs) (cond b (record r { spans = r.spans ++ x ∷ [] } ∷ rs) (r ∷ rs))) ≡ length (r ∷ rs)
     by_tests true b ih = ap suc ih

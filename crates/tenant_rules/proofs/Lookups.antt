@@ -3,7 +3,8 @@ use Rattle.std.proofs.Common.{◌≡◌, ℕ, suc, ◌+◌, ◌<◌, ◌≤◌, 
 use Rattle.std.specs.Prelude.{if◌then◌else◌}
 use Rattle.std.proofs.lemmas.Bool.Decides.{nat_tests}
 use Rattle.tail_settings.specs.Section.{SectionData}
-use Rattle.tenant_rules.specs.Rows.{Opened, Seat, Seated, latest, is_same, is_present, if_present, present_seat}
+use Rattle.span_pool.specs.Stored.{same_bytes}
+use Rattle.tenant_rules.specs.Rows.{Opened, Seat, Seated, latest, is_present, if_present, present_seat}
 use Rattle.tenant_rules.specs.Fate.{most_of, due_of, on_time, is_sampled, SettledData, WaitingData, settled, waiting}
 use Rattle.tenant_rules.specs.Machine.{last_of, sampled_in, has_row}
 use Rattle.tenant_rules.proofs.Times.{OpenedBy, waiting_none}
@@ -19,7 +20,7 @@ rows_none w e n N (r ∷ R) le =
 -- the latest row of a trace is one of these
 pub latest_row : (t : List ℕ) (R : List Opened) (s : Seat) → latest t R ≡ Some s → (0 < s.row) × (s.row ≤ length R)
 latest_row t [] s is = absurd (cc)
-latest_row t (r ∷ R) s is = by_test (is_same t r.trace) is (λ rest. latest_row t R s rest)
+latest_row t (r ∷ R) s is = by_test (same_bytes t r.trace) is (λ rest. latest_row t R s rest)
   where
     by_test : (b : Bool) → Path (Option Seat) (cond b (Some (record { row = length R + 1; opening = r.moment })) (latest t R)) (Some s) → (latest t R ≡ Some s → (0 < s.row) × (s.row ≤ length R)) → (0 < s.row) × (s.row ≤ suc (length R))
     by_test true here ih = let row : length R + 1 ≡ s.row = ap (λ (z : Seat). z.row) (seat_same here) in (omega (arith, row), omega (arith, row))
@@ -30,13 +31,13 @@ latest_row t (r ∷ R) s is = by_test (is_same t r.trace) is (λ rest. latest_ro
 
 -- ---- rows that wait
 
-pub has_last : (t : List ℕ) (xs : List WaitingData) (row : WaitingData) → has_row t (xs ++ row ∷ []) ≡ (is_same t row.trace || has_row t xs)
-has_last t [] row = by_test (is_same t row.trace)
+pub has_last : (t : List ℕ) (xs : List WaitingData) (row : WaitingData) → has_row t (xs ++ row ∷ []) ≡ (same_bytes t row.trace || has_row t xs)
+has_last t [] row = by_test (same_bytes t row.trace)
   where
     by_test : (b : Bool) → b ≡ (b || false)
     by_test true = refl
     by_test false = refl
-has_last t (x ∷ xs) row = by_test (is_same t row.trace) (has_row t xs) (is_same t x.trace) (has_row t (xs ++ row ∷ [])) (has_last t xs row)
+has_last t (x ∷ xs) row = by_test (same_bytes t row.trace) (has_row t xs) (same_bytes t x.trace) (has_row t (xs ++ row ∷ [])) (has_last t xs row)
   where
     by_test : (a b c d : Bool) → d ≡ (a || b) → (d || c) ≡ (a || (b || c))
     by_test true b c d is = rw is refl
@@ -50,7 +51,7 @@ seat_waits w e n (Some s) = is_present (most_of w) n s.row && not (leb (s.openin
 has_row_is : (t : List ℕ) (w : SectionData) (e m n : ℕ) (N : List Seated) (R : List Opened) → OpenedBy m R → has_row t (waiting w e None N n R) ≡ seat_waits w e n (latest t R)
 has_row_is t w e m n N [] by = refl
 has_row_is t w e m n N (r ∷ R) by =
-    by_test (is_same t r.trace) (is_present (most_of w) n (length R + 1)) (leb (r.moment + w.tail_sampling.decision_wait) e) refl refl refl (has_row_is t w e r.moment n N R by.1)
+    by_test (same_bytes t r.trace) (is_present (most_of w) n (length R + 1)) (leb (r.moment + w.tail_sampling.decision_wait) e) refl refl refl (has_row_is t w e r.moment n N R by.1)
   where
     row : WaitingData
     row = record { trace = r.trace; due = due_of w r.moment; spans = on_time w (length R + 1) N }
@@ -61,7 +62,7 @@ has_row_is t w e m n N (r ∷ R) by =
     gone : ltb n (length R + 1 + w.tail_sampling.num_traces) ≡ false → waiting w e None N n R ≡ []
     gone out = (rows_none w e n N R (grind (arith, nat_tests, out))).1
 
-    by_test : (a b c : Bool) → is_same t r.trace ≡ a → ltb n (length R + 1 + w.tail_sampling.num_traces) ≡ b → leb (r.moment + w.tail_sampling.decision_wait) e ≡ c → has_row t (waiting w e None N n R) ≡ seat_waits w e n (latest t R) →
+    by_test : (a b c : Bool) → same_bytes t r.trace ≡ a → ltb n (length R + 1 + w.tail_sampling.num_traces) ≡ b → leb (r.moment + w.tail_sampling.decision_wait) e ≡ c → has_row t (waiting w e None N n R) ≡ seat_waits w e n (latest t R) →
         has_row t (waiting w e None N n R ++ cond (b && not c) (record { trace = r.trace; due = due_of w r.moment; spans = on_time w (length R + 1) N } ∷ []) []) ≡ seat_waits w e n (cond a (Some (record { row = length R + 1; opening = r.moment })) (latest t R))
     by_test true true false s p o ih = has_last t (waiting w e None N n R) row ∙ rw (s, p, o) refl
     by_test true true true s p o ih = let none : waiting w e None N n R ≡ [] = over (grind (arith, nat_tests, o)) in rw (none, p, o) refl
@@ -80,11 +81,11 @@ last_assoc : (a b c : Option Bool) → last_of a (last_of b c) ≡ last_of (last
 last_assoc a b None = refl
 last_assoc a b (Some k) = refl
 
-sampled_last : (t : List ℕ) (xs : List SettledData) (row : SettledData) → sampled_in t (xs ++ row ∷ []) ≡ last_of (sampled_in t xs) (if is_same t row.trace then Some row.sampled else None)
-sampled_last t [] row = sym (last_none (if is_same t row.trace then Some row.sampled else None))
+sampled_last : (t : List ℕ) (xs : List SettledData) (row : SettledData) → sampled_in t (xs ++ row ∷ []) ≡ last_of (sampled_in t xs) (if same_bytes t row.trace then Some row.sampled else None)
+sampled_last t [] row = sym (last_none (if same_bytes t row.trace then Some row.sampled else None))
 sampled_last t (x ∷ xs) row =
-    let one = if is_same t x.trace then Some x.sampled else None in
-    ap (last_of one) (sampled_last t xs row) ∙ last_assoc one (sampled_in t xs) (if is_same t row.trace then Some row.sampled else None)
+    let one = if same_bytes t x.trace then Some x.sampled else None in
+    ap (last_of one) (sampled_last t xs row) ∙ last_assoc one (sampled_in t xs) (if same_bytes t row.trace then Some row.sampled else None)
 
 -- whether the trace's latest row is sampled, where that is present
 abbrev pub seat_sampled : SectionData → ℕ → List Seated → Option Seat → Option Bool
@@ -94,7 +95,7 @@ seat_sampled w n N (Some s) = if is_present (most_of w) n s.row then Some (is_sa
 sampled_in_is : (t : List ℕ) (w : SectionData) (e n : ℕ) (N : List Seated) (R : List Opened) → seat_waits w e n (latest t R) ≡ false → sampled_in t (settled w e None N n R) ≡ seat_sampled w n N (latest t R)
 sampled_in_is t w e n N [] out = refl
 sampled_in_is t w e n N (r ∷ R) out =
-    by_test (is_same t r.trace) (is_present (most_of w) n (length R + 1)) (leb (r.moment + w.tail_sampling.decision_wait) e) refl refl refl out (λ rest. sampled_in_is t w e n N R rest)
+    by_test (same_bytes t r.trace) (is_present (most_of w) n (length R + 1)) (leb (r.moment + w.tail_sampling.decision_wait) e) refl refl refl out (λ rest. sampled_in_is t w e n N R rest)
   where
     row : SettledData
     row = record { trace = r.trace; sampled = is_sampled w (length R + 1) N }
@@ -102,7 +103,7 @@ sampled_in_is t w e n N (r ∷ R) out =
     gone : ltb n (length R + 1 + w.tail_sampling.num_traces) ≡ false → settled w e None N n R ≡ []
     gone away = (rows_none w e n N R (grind (arith, nat_tests, away))).0
 
-    by_test : (a b c : Bool) → is_same t r.trace ≡ a → ltb n (length R + 1 + w.tail_sampling.num_traces) ≡ b → leb (r.moment + w.tail_sampling.decision_wait) e ≡ c →
+    by_test : (a b c : Bool) → same_bytes t r.trace ≡ a → ltb n (length R + 1 + w.tail_sampling.num_traces) ≡ b → leb (r.moment + w.tail_sampling.decision_wait) e ≡ c →
         seat_waits w e n (cond a (Some (record { row = length R + 1; opening = r.moment })) (latest t R)) ≡ false →
         (seat_waits w e n (latest t R) ≡ false → sampled_in t (settled w e None N n R) ≡ seat_sampled w n N (latest t R)) →
         sampled_in t (settled w e None N n R ++ cond (b && c) (record { trace = r.trace; sampled = is_sampled w (length R + 1) N } ∷ []) []) ≡ seat_sampled w n N (cond a (Some (record { row = length R + 1; opening = r.moment })) (latest t R))

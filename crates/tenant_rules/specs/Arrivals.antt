@@ -1,8 +1,8 @@
 -- The spans of a body as they arrive, each with what stands round it as canonical text, and which of them are valid
 -- (the trace data model of OpenTelemetry).
-use Rattle.std.specs.Prelude.{ℕ, Bool, List, filter, length, not, ◌==◌, ◌&&◌}
-use Rattle.std.specs.List.{list_all}
+use Rattle.std.specs.Prelude.{ℕ, Bool, List, filter, ◌&&◌}
 use Rattle.span_view.specs.Facts.{SpanFacts}
+use Rattle.span_pool.specs.Ids.{is_id}
 use Rattle.span_pool.specs.Stored.{Origin}
 
 -- one span of a body: its ids and what policies ask, its text, and the texts of its resource and its scope
@@ -10,10 +10,6 @@ pub record Arrival : Type 0 where
   pub facts : SpanFacts
   pub text : List ℕ
   pub origin : Origin
-
--- an id of this many bytes, not all of them zero
-abbrev pub is_id : ℕ → List ℕ → Bool
-is_id size bytes = length bytes == size && not (list_all (λ byte. byte == 0) bytes)
 
 -- a trace id has 16 bytes, a span id 8
 abbrev pub is_valid : Arrival → Bool

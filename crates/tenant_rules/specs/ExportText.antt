@@ -1,6 +1,6 @@
 -- What a batch of spans that arrived is sent as.
 use Rattle.std.specs.Prelude.{ℕ, List, map}
-use Rattle.span_pool.specs.Keyed.{SpanTexts}
+use Rattle.span_pool.specs.Stored.{SpanTexts}
 use Rattle.span_batcher.specs.ExportText as batches
 use Rattle.tenant_rules.specs.Arrivals.{Arrival}
 

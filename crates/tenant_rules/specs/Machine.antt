@@ -1,5 +1,6 @@
 -- How the state goes on: what the steps of the code do to its fields.
 use Rattle.std.specs.Prelude.{ℕ, ◌+◌, Bool, true, false, max, List, [], ◌∷◌, ◌++◌, length, Option, Some, None, option_to_list, if◌then◌else◌, ◌||◌, nat_lt}
+use Rattle.span_pool.specs.Stored.{same_bytes}
 use Rattle.drop_ledger.specs.declared.places.Place.TheVariants.{Undecided, Queued, Active, NotSampled, TooEarly}
 use Rattle.drop_ledger.specs.Ledger.{LedgerData, taken, left_out, moved, most_counted}
 use Rattle.drop_ledger.specs.Ledger as ledger
@@ -10,7 +11,6 @@ use Rattle.tenant_rules.specs.declared.told.Told.{Told}
 use Rattle.tenant_rules.specs.declared.told.Told.TheVariants as tell
 use Rattle.tenant_rules.specs.Arrivals.{Arrival, valid, trace_of}
 use Rattle.tenant_rules.specs.Own.{Own, Post, Turn, Answer, Report, Drain, moment_of}
-use Rattle.tenant_rules.specs.Rows.{is_same}
 use Rattle.tenant_rules.specs.Fate.{SettledData, WaitingData}
 use Rattle.tenant_rules.specs.Batching.{all_sent}
 use Rattle.tenant_rules.specs.Intake.{Verdict, shutting_down, counter_limit, exhausted, accepted, verdict_of}
@@ -35,19 +35,19 @@ last_of first (Some sampled) = Some sampled
 abbrev pub sampled_in : List ℕ → List SettledData → Option Bool
 sampled_in trace [] = None
 sampled_in trace (row ∷ rows) =
-    last_of (if is_same trace row.trace then Some row.sampled else None) (sampled_in trace rows)
+    last_of (if same_bytes trace row.trace then Some row.sampled else None) (sampled_in trace rows)
 
 -- whether the trace has a row that waits
 abbrev pub has_row : List ℕ → List WaitingData → Bool
 has_row trace [] = false
-has_row trace (row ∷ rows) = has_row trace rows || is_same trace row.trace
+has_row trace (row ∷ rows) = has_row trace rows || same_bytes trace row.trace
 
 -- the span joins its trace's latest row, behind the others
 abbrev pub joined : Arrival → List WaitingData → List WaitingData
 joined x [] = []
 joined x (row ∷ rows) =
     if has_row (trace_of x) rows then row ∷ joined x rows
-    else if is_same (trace_of x) row.trace then record row { spans = row.spans ++ x ∷ [] } ∷ rows
+    else if same_bytes (trace_of x) row.trace then record row { spans = row.spans ++ x ∷ [] } ∷ rows
     else row ∷ rows
 
 -- the first row that waits leaves

@@ -1,8 +1,8 @@
 -- Which row each span goes to. A span goes to its trace's latest row while that is present; at most `num_traces` rows
 -- are (the Collector's tailsamplingprocessor; the numbering of rows is our own). Lists of spans and of rows have the
 -- newest first.
-use Rattle.std.specs.Prelude.{ℕ, ◌+◌, Bool, List, [], ◌∷◌, length, Option, Some, None, unwrap_or, is_some, if◌then◌else◌, nat_eq, nat_lt}
-use Rattle.std.specs.Cmp.Lexicographic.{pointwise}
+use Rattle.std.specs.Prelude.{ℕ, ◌+◌, Bool, List, [], ◌∷◌, length, Option, Some, None, unwrap_or, is_some, if◌then◌else◌, nat_lt}
+use Rattle.span_pool.specs.Stored.{same_bytes}
 use Rattle.tenant_rules.specs.Arrivals.{Arrival, trace_of}
 
 -- a span that was taken, with the moment at which its post took effect
@@ -27,15 +27,13 @@ pub record Seated : Type 0 where
   pub moment : ℕ
   pub arrival : Arrival
 
--- whether two trace ids are the same, byte for byte
-abbrev pub is_same : List ℕ → List ℕ → Bool
-is_same one other = pointwise nat_eq one other
-
 -- the latest row of a trace
 abbrev pub latest : List ℕ → List Opened → Option Seat
 latest trace [] = None
 latest trace (row ∷ rows) =
-    if is_same trace row.trace then Some (record { row = length rows + 1; opening = row.moment }) else latest trace rows
+    if same_bytes trace row.trace
+    then Some (record { row = length rows + 1; opening = row.moment })
+    else latest trace rows
 
 -- with n rows opened, a row is present while fewer than `most` rows opened after it
 abbrev pub is_present : ℕ → ℕ → ℕ → Bool

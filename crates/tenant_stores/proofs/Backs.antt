@@ -5,7 +5,7 @@ use Rattle.std.proofs.lemmas.List.{take_at}
 use Rattle.std.proofs.lemmas.Slice.Eq.{bytes_eq-Decides}
 use Rattle.std.specs.Cmp.Lexicographic.{nat_list_eq_equiv}
 use Rattle.std.proofs.Math.Path.{fun_ext}
-use Rattle.span_pool.specs.Keyed.{KeyedData}
+use Rattle.span_pool.specs.Stored.{StoredData}
 use Rattle.span_pool.specs.Pool.{with_span, without}
 use Rattle.text_pool.specs.declared.pool.Kept.{Kept}
 use Rattle.trace_rows.specs.Part.{with_at, with_seat, joined, unjoined}
@@ -51,13 +51,13 @@ module _ {N : Type 0} where
       at_keys ∙ ap (λ (n : N). Some (record row { note = n })) (sym same)
 
   -- the span leaves again, and what it has of texts
-  left_again : (start middle q r : Part N) (key : ℕ) (span : KeyedData) → middle.spans key ≡ None → q.spans ≡ with_span key (Some span) middle.spans → q.texts ≡ middle.texts
+  left_again : (start middle q r : Part N) (key : ℕ) (span : StoredData) → middle.spans key ≡ None → q.spans ≡ with_span key (Some span) middle.spans → q.texts ≡ middle.texts
       → HoldsAll (text_keys span.keys) start middle → r.spans ≡ without (key ∷ []) q.spans → r.texts ≡ texts_without (key ∷ []) q.spans q.texts
       → (r.spans ≡ start.spans) × (r.texts ≡ start.texts)
   left_again start middle q r key span vacant spans texts holds gone released =
-      let there : q.spans key ≡ Some span = ap (λ (f : ℕ → Option KeyedData). f key) spans ∙ span_here key (Some span) middle.spans in (
+      let there : q.spans key ≡ Some span = ap (λ (f : ℕ → Option StoredData). f key) spans ∙ span_here key (Some span) middle.spans in (
         gone ∙ (ap (with_span key None) spans ∙ (span_restored middle.spans key (Some span) None vacant ∙ holds.spans)),
-        released ∙ (ap (λ (o : Option KeyedData). all_released (text_keys_of o) q.texts) there ∙ (ap (all_released (text_keys span.keys)) texts ∙ holds.texts)),
+        released ∙ (ap (λ (o : Option StoredData). all_released (text_keys_of o) q.texts) there ∙ (ap (all_released (text_keys span.keys)) texts ∙ holds.texts)),
       )
 
   pub back_joined : (start p q r : Part N) (number key : ℕ) (former : N) → IsPlaced (Joined number key former) start p

@@ -2,9 +2,8 @@
 use Rattle.std.proofs.Common.{◌≡◌, ◌≢◌, ℕ, suc, ◌+◌, ◌-◌, ◌<◌, ◌≤◌, List, [], ◌∷◌, ◌++◌, refl, sym, ap, ◌∙◌, arith, append_assoc, Bool, true, false, Option, Some, None, eqb, cond, subst}
 use Rattle.std.specs.Prelude.{IfSome, option_to_list, Result, Ok, Err, OnErr}
 use Rattle.std.proofs.lemmas.Bool.Decides.{nat_tests}
-use Rattle.span_pool.specs.Keyed.{KeyedData}
-use Rattle.span_pool.specs.Keyed as keyed
-use Rattle.span_pool.specs.Stored.{bytes_of}
+use Rattle.span_pool.specs.Stored.{StoredData, bytes_of}
+use Rattle.span_pool.specs.Stored as keyed
 use Rattle.span_pool.specs.declared.keys.TextKeys.{TextKeys}
 use Rattle.text_pool.specs.Part.{with_text, released, held, text_of}
 use Rattle.text_pool.specs.declared.pool.Kept.{Kept}

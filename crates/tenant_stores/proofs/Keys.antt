@@ -1,6 +1,6 @@
 -- Keys that are named show a span each.
 use Rattle.std.proofs.Common.{◌≡◌, ℕ, suc, ◌+◌, ◌-◌, ◌<◌, ◌≤◌, List, [], ◌∷◌, ◌++◌, map, refl, ap, sym, ◌∙◌, arith, Option, Some, None}
-use Rattle.span_pool.specs.Keyed.{KeyedData, SpanTexts}
+use Rattle.span_pool.specs.Stored.{StoredData, SpanTexts}
 use Rattle.trace_rows.specs.declared.table.Row.{Row}
 use Rattle.trace_rows.specs.Part.{keys_of}
 use Rattle.tenant_stores.specs.Part.{Part}
@@ -12,17 +12,17 @@ use Rattle.tenant_stores.proofs.Lists.{count-append, count-self}
 use Rattle.tenant_stores.proofs.Rows.{named-replaced}
 
 module _ {N : Type 0} (n : Counts) (pending held : List ℕ) (p : Part N) (sound : IsSound n pending held p) where
-  key_there : (key : ℕ) → 0 < count key (named_keys n pending p) → (span : KeyedData) × (p.spans key ≡ Some span)
+  key_there : (key : ℕ) → 0 < count key (named_keys n pending p) → (span : StoredData) × (p.spans key ≡ Some span)
   key_there key some = by_span (p.spans key) refl
     where
-      by_span : (o : Option KeyedData) → p.spans key ≡ o → (span : KeyedData) × (p.spans key ≡ Some span)
+      by_span : (o : Option StoredData) → p.spans key ≡ o → (span : StoredData) × (p.spans key ≡ Some span)
       by_span None e = let none : one (p.spans key) ≡ 0 = ap one e in absurd (omega (arith, some, sound.named key, none))
       by_span (Some span) e = (span, e)
 
   key_shows : (key : ℕ) → 0 < count key (named_keys n pending p) → shown p.texts (p.spans key) ≡ span_at p key ∷ []
   key_shows key some =
       let found = key_there key some in
-      ap (shown p.texts) found.1 ∙ sym (ap (λ (o : Option KeyedData). shown_or p.texts no_span o ∷ []) found.1)
+      ap (shown p.texts) found.1 ∙ sym (ap (λ (o : Option StoredData). shown_or p.texts no_span o ∷ []) found.1)
 
   keys_each : (keys : List ℕ) → AreAmong keys (named_keys n pending p) → spans_at p.spans p.texts keys ≡ map (span_at p) keys
   keys_each keys among = by_keys keys (λ key some. omega (arith, some, among key))

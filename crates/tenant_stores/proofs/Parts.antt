@@ -4,7 +4,7 @@ use Rattle.std.specs.Prelude.{IfSome}
 use Rattle.std.proofs.lemmas.Bool.Decides.{nat_tests}
 use Rattle.std.proofs.lemmas.List.{drop_more}
 use Rattle.std.proofs.Math.Path.{fun_ext}
-use Rattle.span_pool.specs.Keyed.{KeyedData}
+use Rattle.span_pool.specs.Stored.{StoredData}
 use Rattle.span_pool.specs.Pool.{with_span, without}
 use Rattle.text_pool.specs.Part.{with_text, text_of}
 use Rattle.text_pool.specs.Part as texts
@@ -15,7 +15,7 @@ use Rattle.tenant_stores.specs.View.{text_keys_of}
 use Rattle.tenant_stores.specs.Changes.{all_released, texts_without, Leaves}
 
 -- a part from its four
-pub part_by : {N : Type 0} (a a' : ℕ → Option KeyedData) (t t' : ℕ → Option Kept) (b b' : ℕ → Option (Row N)) (s s' : List ℕ → Option ℕ) → a ≡ a' → t ≡ t' → b ≡ b' → s ≡ s' →
+pub part_by : {N : Type 0} (a a' : ℕ → Option StoredData) (t t' : ℕ → Option Kept) (b b' : ℕ → Option (Row N)) (s s' : List ℕ → Option ℕ) → a ≡ a' → t ≡ t' → b ≡ b' → s ≡ s' →
     (let left : Part N = record { spans = a; texts = t; rows = b; seats = s } in let right : Part N = record { spans = a'; texts = t'; rows = b'; seats = s' } in left ≡ right)
 part_by a a' t t' b b' s s' p o q r = λ i. record { spans = p i; texts = o i; rows = q i; seats = r i }
 
@@ -63,7 +63,7 @@ leave_more keys i now next lt leaves =
     let more : drop i keys ≡ get_or keys i 0 ∷ drop (i + 1) keys = drop_more keys i 0 lt in
     let rest = drop (i + 1) keys in (
       ap (without rest) leaves.spans ∙ sym (ap (λ (ks : List ℕ). without ks now.spans) more),
-      ap (λ (f : ℕ → Option KeyedData). texts_without rest f next.texts) leaves.spans
+      ap (λ (f : ℕ → Option StoredData). texts_without rest f next.texts) leaves.spans
           ∙ (ap (texts_without rest (without (get_or keys i 0 ∷ []) now.spans)) leaves.texts
           ∙ sym (ap (λ (ks : List ℕ). texts_without ks now.spans now.texts) more)),
     )

@@ -1,7 +1,7 @@
 -- What numbers of rows say of what is shown: room for one row more, the first row that waits, and how many there are.
 use Rattle.std.proofs.Common.{◌≡◌, ◌≢◌, ℕ, zero, suc, ◌+◌, ◌-◌, ◌<◌, ◌≤◌, max, List, [], ◌∷◌, ◌++◌, length, refl, sym, ap, ◌∙◌, arith, Bool, true, false, Option, Some, None, ltb, cond, subst, add-one}
 use Rattle.std.proofs.lemmas.Bool.Decides.{nat_tests}
-use Rattle.span_pool.specs.Keyed.{KeyedData}
+use Rattle.span_pool.specs.Stored.{StoredData}
 use Rattle.text_pool.specs.declared.pool.Kept.{Kept}
 use Rattle.trace_rows.specs.declared.table.Row.{Row}
 use Rattle.trace_rows.specs.Part.{keys_of}
@@ -117,7 +117,7 @@ module _ {N : Type 0} where
 
   -- ---- how many rows there are
 
-  waiting_length : (s : ℕ → Option KeyedData) (t : ℕ → Option Kept) (rows : ℕ → Option (Row N)) (m a : ℕ) → ((k : ℕ) → a < k → k ≤ a + m → rows k ≢ None) → length (waiting_rows s t rows (range a m)) ≡ m
+  waiting_length : (s : ℕ → Option StoredData) (t : ℕ → Option Kept) (rows : ℕ → Option (Row N)) (m a : ℕ) → ((k : ℕ) → a < k → k ≤ a + m → rows k ≢ None) → length (waiting_rows s t rows (range a m)) ≡ m
   waiting_length s t rows zero a there = refl
   waiting_length s t rows (suc m) a there = by_row (rows (suc a)) (there (suc a) (omega arith) (omega arith)) (waiting_length s t rows m (suc a) (λ k above below. there k (omega (arith, above)) (omega (arith, below))))
     where

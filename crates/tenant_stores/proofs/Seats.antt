@@ -3,7 +3,7 @@ use Rattle.std.proofs.Common.{◌≡◌, ◌≢◌, ◌⊎◌, inl, inr, ℕ, ze
 use Rattle.std.specs.Prelude.{is_some, ◌||◌}
 use Rattle.std.proofs.lemmas.Slice.Eq.{bytes_eq-Decides}
 use Rattle.std.specs.Cmp.Lexicographic.{nat_list_eq_equiv}
-use Rattle.span_pool.specs.Keyed.{KeyedData, SpanTexts, texts_of}
+use Rattle.span_pool.specs.Stored.{StoredData, SpanTexts, texts_of}
 use Rattle.text_pool.specs.declared.pool.Kept.{Kept}
 use Rattle.trace_rows.specs.declared.table.Row.{Row}
 use Rattle.trace_rows.specs.Part.{with_at, joined}
@@ -37,7 +37,7 @@ pub record IsRowOf {N : Type 0} (rows : ℕ → Option (Row N)) (trace : List �
   pub of_trace : row.trace ≡ trace
 
 -- a row as one that waits
-abbrev pub shown_row : {N : Type 0} → (ℕ → Option KeyedData) → (ℕ → Option Kept) → Row N → WaitingRow N
+abbrev pub shown_row : {N : Type 0} → (ℕ → Option StoredData) → (ℕ → Option Kept) → Row N → WaitingRow N
 shown_row s t row = record { trace = row.trace; due = row.due; spans = spans_at s t row.keys; note = row.note }
 
 abbrev gone_numbers : Counts → List ℕ
@@ -101,7 +101,7 @@ module _ {N : Type 0} where
 
   -- ---- look-ups by trace are look-ups by seat
 
-  pub has-seat : (s : ℕ → Option KeyedData) (t : ℕ → Option Kept) (rows : ℕ → Option (Row N)) (trace : List ℕ) (js : List ℕ) → has_row trace (waiting_rows s t rows js) ≡ is_some (seat_in rows js trace)
+  pub has-seat : (s : ℕ → Option StoredData) (t : ℕ → Option Kept) (rows : ℕ → Option (Row N)) (trace : List ℕ) (js : List ℕ) → has_row trace (waiting_rows s t rows js) ≡ is_some (seat_in rows js trace)
   has-seat s t rows trace [] = refl
   has-seat s t rows trace (j ∷ js) = by_row (rows j) (has-seat s t rows trace js)
     where
@@ -136,7 +136,7 @@ module _ {N : Type 0} where
       by_test true e = let here = if_of_is trace row j e in rw (ih, here) (sym (ap (told_of tell) had))
       by_test false e = let here = if_of_not trace row j e in rw (ih, here) refl
 
-  pub row-seat : (s : ℕ → Option KeyedData) (t : ℕ → Option Kept) (rows : ℕ → Option (Row N)) (trace : List ℕ) (js : List ℕ) → row_in trace (waiting_rows s t rows js)
+  pub row-seat : (s : ℕ → Option StoredData) (t : ℕ → Option Kept) (rows : ℕ → Option (Row N)) (trace : List ℕ) (js : List ℕ) → row_in trace (waiting_rows s t rows js)
       ≡ told_at (shown_row s t) rows (seat_in rows js trace)
   row-seat s t rows trace [] = refl
   row-seat s t rows trace (j ∷ js) = by_row (rows j) refl (row-seat s t rows trace js)
@@ -251,7 +251,7 @@ module _ {N : Type 0} where
 
   -- ---- a span joins the row of a seat
 
-  module _ (s : ℕ → Option KeyedData) (t : ℕ → Option Kept) (rows : ℕ → Option (Row N)) (trace : List ℕ) (number key : ℕ) (x : SpanTexts) (note : N)
+  module _ (s : ℕ → Option StoredData) (t : ℕ → Option Kept) (rows : ℕ → Option (Row N)) (trace : List ℕ) (number key : ℕ) (x : SpanTexts) (note : N)
       (spans : (keys : List ℕ) → spans_at s t (keys ++ key ∷ []) ≡ spans_at s t keys ++ x ∷ []) where
     abbrev grown_rows : ℕ → Option (Row N)
     grown_rows = with_at number (joined key note (rows number)) rows

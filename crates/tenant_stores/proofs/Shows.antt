@@ -1,6 +1,6 @@
 -- What each change makes of what a part shows.
 use Rattle.std.proofs.Common.{◌≡◌, ◌≢◌, ℕ, zero, suc, ◌+◌, ◌-◌, ◌<◌, ◌≤◌, List, [], ◌∷◌, ◌++◌, refl, sym, ap, ◌∙◌, arith, append-nil, Bool, true, false, Option, Some, None, subst, add-one}
-use Rattle.span_pool.specs.Keyed.{KeyedData, SpanTexts, texts_of}
+use Rattle.span_pool.specs.Stored.{StoredData, SpanTexts, texts_of}
 use Rattle.span_pool.specs.Pool.{with_span, without}
 use Rattle.text_pool.specs.Part.{with_text, released}
 use Rattle.text_pool.specs.Part as texts
@@ -11,7 +11,7 @@ use Rattle.tenant_stores.specs.Part.{Part}
 use Rattle.tenant_stores.specs.Counts.{Counts, AreInOrder, one_opened, one_decided, one_swept, in_table, settled_numbers, waiting_numbers, range, count}
 use Rattle.tenant_stores.specs.View.{SettledRow, WaitingRow, View, text_at, shown, spans_at, as_waiting, as_settled, waiting_rows, settled_rows, keys_in, text_keys, text_keys_of, text_keys_at, view}
 use Rattle.tenant_stores.specs.Sound.{one, uses_of, seat_in, named_keys, IsSound}
-use Rattle.tenant_stores.specs.Changes.{all_released, texts_without, Holds, Releases, Joins, Opens, Waits, new_row, Settles, Leaves}
+use Rattle.tenant_stores.specs.Changes.{all_released, texts_without, Joins, Opens, Waits, new_row, Settles, Leaves}
 use Rattle.tenant_stores.specs.Shows.{AreAmong, Stay, settled_in, waiting_in, row_shown, joined_rows, with_joined, with_opened, with_late, kept_by, first_kept, dropped_by, first_dropped}
 use Rattle.tenant_stores.proofs.Parts.{span_here}
 use Rattle.tenant_stores.proofs.Lists.{count-append, AreOther, range-above, range-below, front_of, last}
@@ -28,18 +28,8 @@ module _ {N : Type 0} where
   pub texts_show : (p q : Part N) (n : Counts) (pending keys : List ℕ) → AreInOrder n → q.spans ≡ p.spans → q.rows ≡ p.rows → ((t : ℕ) → 0 < count t (text_keys_at p.spans (named_keys n pending p)) → text_at q.texts t ≡ text_at p.texts t) → AreAmong keys pending → view n keys q ≡ view n keys p
   texts_show p q n pending keys order spans rows same among =
       let named = named_keys n pending p in
-      let alike : ShowAlike named p.spans p.texts q.spans q.texts = λ k some. ap (λ (f : ℕ → Option KeyedData). shown q.texts (f k)) spans ∙ alike-texts p.spans p.texts q.texts named same k some in
+      let alike : ShowAlike named p.spans p.texts q.spans q.texts = λ k some. ap (λ (f : ℕ → Option StoredData). shown q.texts (f k)) spans ∙ alike-texts p.spans p.texts q.texts named same k some in
       same_view n pending keys p q order rows alike among
-
-  module _ (tenant key : ℕ) (text : List ℕ) (p q : Part N) (change : Holds tenant key text p q) (n : Counts) (pending held : List ℕ) (sound : IsSound n pending held p) where
-    hold_same : (t : ℕ) → 0 < uses_of (p.texts t) → text_at q.texts t ≡ text_at p.texts t
-    hold_same t some = ap (λ (f : ℕ → Option Kept). text_at f t) change.texts ∙ held-stays tenant key text p.texts t some
-
-    pub hold_shows : (keys : List ℕ) → AreAmong keys pending → view n keys q ≡ view n keys p
-    hold_shows keys among = texts_show p q n pending keys sound.order change.spans change.rows (λ t named. hold_same t (omega (arith, named, sound.used t))) among
-
-    pub hold_stays : Stay held p.texts q.texts
-    hold_stays t some = hold_same t (omega (arith, some, sound.used t))
 
   -- several uses are given back
   module _ (gone : List ℕ) (p q : Part N) (spans : q.spans ≡ p.spans) (texts' : q.texts ≡ all_released gone p.texts) (rows : q.rows ≡ p.rows) (n : Counts) (pending held : List ℕ) (sound : IsSound n pending (gone ++ held) p) where
@@ -51,12 +41,6 @@ module _ {N : Type 0} where
 
     pub released_stays : Stay held p.texts q.texts
     released_stays t some = back_same t (omega (arith, some, sound.used t, count-append t gone held))
-
-  pub release_shows : (key : ℕ) (p q : Part N) → Releases key p q → (n : Counts) (pending held : List ℕ) → IsSound n pending (key ∷ held) p → (keys : List ℕ) → AreAmong keys pending → view n keys q ≡ view n keys p
-  release_shows key p q change n pending held sound keys among = released_shows (key ∷ []) p q change.spans change.texts change.rows n pending held sound keys among
-
-  pub release_stays : (key : ℕ) (p q : Part N) → Releases key p q → (n : Counts) (pending held : List ℕ) → IsSound n pending (key ∷ held) p → Stay held p.texts q.texts
-  release_stays key p q change n pending held sound = released_stays (key ∷ []) p q change.spans change.texts change.rows n pending held sound
 
   -- ---- spans leave
 
@@ -81,7 +65,7 @@ module _ {N : Type 0} where
     pub leaves_shows : (keys : List ℕ) → AreAmong keys left → view n keys q ≡ view n keys p
     leaves_shows keys among =
         let named_same : (t : ℕ) → 0 < count t (text_keys_at p.spans named_left) → text_at q.texts t ≡ text_at p.texts t = λ t some. left_same t (omega (arith, some)) in
-        let alike : ShowAlike named_left p.spans p.texts q.spans q.texts = λ k some. ap (λ (f : ℕ → Option KeyedData). shown q.texts (f k)) change.spans ∙ alike-without gone p.spans p.texts q.texts named_left left_apart named_same k some in
+        let alike : ShowAlike named_left p.spans p.texts q.spans q.texts = λ k some. ap (λ (f : ℕ → Option StoredData). shown q.texts (f k)) change.spans ∙ alike-without gone p.spans p.texts q.texts named_left left_apart named_same k some in
         same_view n left keys p q sound.order change.rows alike among
 
     pub leaves_stays : Stay held p.texts q.texts
@@ -93,8 +77,8 @@ module _ {N : Type 0} where
   unnamed : (n : Counts) (pending held : List ℕ) (p : Part N) (key : ℕ) → IsSound n pending held p → p.spans key ≡ None → count key (named_keys n pending p) ≡ 0
   unnamed n pending held p key sound vacant = sound.named key ∙ ap one vacant
 
-  module _ (number key : ℕ) (span : KeyedData) (note : N) (p q : Part N) (change : Joins number key span note p q) (n : Counts) (pending held : List ℕ) (sound : IsSound n pending held p) where
-    abbrev at : ℕ → Option KeyedData
+  module _ (number key : ℕ) (span : StoredData) (note : N) (p q : Part N) (change : Joins number key span note p q) (n : Counts) (pending held : List ℕ) (sound : IsSound n pending held p) where
+    abbrev at : ℕ → Option StoredData
     at = with_span key (Some span) p.spans
 
     -- one more row, or another one, beside keys that show the same
@@ -117,12 +101,12 @@ module _ {N : Type 0} where
         let others : AreOther number S = range-below (n.decided - n.first) n.first number (let b = sound.order.first in omega (arith, b, above)) in
         let settled' : (view n keys q).settled ≡ (view n keys p).settled = ap (λ (f : ℕ → Option (Row N)). settled_rows f S) change.rows ∙ settled-other number w p.rows S others in
         let waiting' : (view n keys q).waiting ≡ joined_rows trace x note (view n keys p).waiting =
-        ap (λ (f : ℕ → Option (Row N)). waiting_rows q.spans q.texts f W) change.rows ∙ (ap (λ (f : ℕ → Option KeyedData). waiting_rows f q.texts new W) change.spans ∙ (ap (λ (f : ℕ → Option Kept). waiting_rows at f new W) change.texts ∙ grown)) in
+        ap (λ (f : ℕ → Option (Row N)). waiting_rows q.spans q.texts f W) change.rows ∙ (ap (λ (f : ℕ → Option StoredData). waiting_rows f q.texts new W) change.spans ∙ (ap (λ (f : ℕ → Option Kept). waiting_rows at f new W) change.texts ∙ grown)) in
         let pending' : (view n keys q).pending ≡ (view n keys p).pending =
-        ap (λ (f : ℕ → Option KeyedData). spans_at f q.texts keys) change.spans ∙ (ap (λ (f : ℕ → Option Kept). spans_at at f keys) change.texts ∙ spans-alike p.spans p.texts at p.texts keys (alike-put key (Some span) p.spans p.texts keys in_keys)) in
+        ap (λ (f : ℕ → Option StoredData). spans_at f q.texts keys) change.spans ∙ (ap (λ (f : ℕ → Option Kept). spans_at at f keys) change.texts ∙ spans-alike p.spans p.texts at p.texts keys (alike-put key (Some span) p.spans p.texts keys in_keys)) in
         view_by (view n keys q).settled (view n keys p).settled (view n keys q).waiting (joined_rows trace x note (view n keys p).waiting) (view n keys q).pending (view n keys p).pending settled' waiting' pending'
 
-  module _ (key due : ℕ) (trace : List ℕ) (span : KeyedData) (note : N) (p q : Part N) (n : Counts) (change : Opens (suc n.opened) key due trace span note p q) (pending held : List ℕ) (sound : IsSound n pending held p) where
+  module _ (key due : ℕ) (trace : List ℕ) (span : StoredData) (note : N) (p q : Part N) (n : Counts) (change : Opens (suc n.opened) key due trace span note p q) (pending held : List ℕ) (sound : IsSound n pending held p) where
     pub opens_shows : (keys : List ℕ) → AreAmong keys pending → view (one_opened n) keys q ≡ with_opened trace due (texts_of (text_at p.texts) span) note (view n keys p)
     opens_shows keys among =
         let at' = with_span key (Some span) p.spans in
@@ -148,14 +132,14 @@ module _ {N : Type 0} where
         let settled' : (view (one_opened n) keys q).settled ≡ (view n keys p).settled = ap (λ (f : ℕ → Option (Row N)). settled_rows f S) change.rows ∙ settled-other (suc n.opened) (Some row) p.rows S others in
         let waiting' : (view (one_opened n) keys q).waiting ≡ (view n keys p).waiting ++ opened ∷ [] =
         ap (λ (f : ℕ → Option (Row N)). waiting_rows q.spans q.texts f (waiting_numbers (one_opened n))) change.rows
-        ∙ (ap (λ (f : ℕ → Option KeyedData). waiting_rows f q.texts new (waiting_numbers (one_opened n))) change.spans
+        ∙ (ap (λ (f : ℕ → Option StoredData). waiting_rows f q.texts new (waiting_numbers (one_opened n))) change.spans
         ∙ (ap (λ (f : ℕ → Option Kept). waiting_rows at' f new (waiting_numbers (one_opened n))) change.texts
         ∙ (ap (waiting_rows at' p.texts new) numbers ∙ (waiting-append at' p.texts new W (suc n.opened ∷ []) ∙ cc (front, back))))) in
         let pending' : (view (one_opened n) keys q).pending ≡ (view n keys p).pending =
-        ap (λ (f : ℕ → Option KeyedData). spans_at f q.texts keys) change.spans ∙ (ap (λ (f : ℕ → Option Kept). spans_at at' f keys) change.texts ∙ spans-alike p.spans p.texts at' p.texts keys (alike-put key (Some span) p.spans p.texts keys in_keys)) in
+        ap (λ (f : ℕ → Option StoredData). spans_at f q.texts keys) change.spans ∙ (ap (λ (f : ℕ → Option Kept). spans_at at' f keys) change.texts ∙ spans-alike p.spans p.texts at' p.texts keys (alike-put key (Some span) p.spans p.texts keys in_keys)) in
         view_by (view (one_opened n) keys q).settled (view n keys p).settled (view (one_opened n) keys q).waiting ((view n keys p).waiting ++ opened ∷ []) (view (one_opened n) keys q).pending (view n keys p).pending settled' waiting' pending'
 
-  module _ (key : ℕ) (span : KeyedData) (p q : Part N) (change : Waits key span p q) (n : Counts) (pending held : List ℕ) (sound : IsSound n pending held p) where
+  module _ (key : ℕ) (span : StoredData) (p q : Part N) (change : Waits key span p q) (n : Counts) (pending held : List ℕ) (sound : IsSound n pending held p) where
     pub waits_shows : (keys : List ℕ) → AreAmong keys pending → view n (keys ++ key ∷ []) q ≡ with_late (texts_of (text_at p.texts) span) (view n keys p)
     waits_shows keys among =
         let at' = with_span key (Some span) p.spans in
@@ -168,11 +152,11 @@ module _ {N : Type 0} where
         let here : shown p.texts (at' key) ≡ x ∷ [] = ap (shown p.texts) (span_here key (Some span) p.spans) in
         let settled' : (view n (keys ++ key ∷ []) q).settled ≡ (view n keys p).settled = ap (λ (f : ℕ → Option (Row N)). settled_rows f (settled_numbers n)) change.rows in
         let waiting' : (view n (keys ++ key ∷ []) q).waiting ≡ (view n keys p).waiting =
-        ap (λ (f : ℕ → Option (Row N)). waiting_rows q.spans q.texts f W) change.rows ∙ (ap (λ (f : ℕ → Option KeyedData). waiting_rows f q.texts p.rows W) change.spans
+        ap (λ (f : ℕ → Option (Row N)). waiting_rows q.spans q.texts f W) change.rows ∙ (ap (λ (f : ℕ → Option StoredData). waiting_rows f q.texts p.rows W) change.spans
         ∙ (ap (λ (f : ℕ → Option Kept). waiting_rows at' f p.rows W) change.texts ∙ rows-alike p.spans p.texts at' p.texts p.rows W (alike-put key (Some span) p.spans p.texts (keys_in p.rows W) in_rows))) in
         let same : spans_at at' p.texts keys ≡ spans_at p.spans p.texts keys = spans-alike p.spans p.texts at' p.texts keys (alike-put key (Some span) p.spans p.texts keys in_keys) in
         let pending' : (view n (keys ++ key ∷ []) q).pending ≡ (view n keys p).pending ++ x ∷ [] =
-        ap (λ (f : ℕ → Option KeyedData). spans_at f q.texts (keys ++ key ∷ [])) change.spans ∙ (ap (λ (f : ℕ → Option Kept). spans_at at' f (keys ++ key ∷ [])) change.texts
+        ap (λ (f : ℕ → Option StoredData). spans_at f q.texts (keys ++ key ∷ [])) change.spans ∙ (ap (λ (f : ℕ → Option Kept). spans_at at' f (keys ++ key ∷ [])) change.texts
         ∙ (spans-append at' p.texts keys (key ∷ []) ∙ cc (same, here))) in
         view_by (view n (keys ++ key ∷ []) q).settled (view n keys p).settled (view n (keys ++ key ∷ []) q).waiting (view n keys p).waiting (view n (keys ++ key ∷ []) q).pending ((view n keys p).pending ++ x ∷ []) settled' waiting' pending'
 
@@ -190,7 +174,7 @@ module _ {N : Type 0} where
         let back = range (suc d) (n.opened - suc d) in
         let others : AreOther (suc d) back = range-above (n.opened - suc d) (suc d) (suc d) (omega arith) in
         ap (λ (f : ℕ → Option (Row N)). waiting_rows q.spans q.texts f (waiting_numbers (one_decided n))) change.rows
-        ∙ (ap (λ (f : ℕ → Option KeyedData). waiting_rows f q.texts (with_at (suc d) w p.rows) (waiting_numbers (one_decided n))) change.spans
+        ∙ (ap (λ (f : ℕ → Option StoredData). waiting_rows f q.texts (with_at (suc d) w p.rows) (waiting_numbers (one_decided n))) change.spans
         ∙ (ap (λ (f : ℕ → Option Kept). waiting_rows p.spans f (with_at (suc d) w p.rows) (waiting_numbers (one_decided n))) change.texts
         ∙ (ap (λ (k : ℕ). waiting_rows p.spans p.texts (with_at (suc d) w p.rows) (range k (n.opened - k))) (add-one d)
         ∙ waiting-other p.spans p.texts (suc d) w p.rows back others)))
@@ -212,7 +196,7 @@ module _ {N : Type 0} where
         ap (λ (f : ℕ → Option (Row N)). settled_rows f (settled_numbers (one_decided n))) change.rows ∙ (ap (settled_rows new) numbers ∙ (settled-append new front (suc d ∷ []) ∙ cc (settled-other (suc d) w p.rows front others, back)))
 
     spans_kept : (keys : List ℕ) → spans_at q.spans q.texts keys ≡ spans_at p.spans p.texts keys
-    spans_kept keys = ap (λ (f : ℕ → Option KeyedData). spans_at f q.texts keys) change.spans ∙ ap (λ (f : ℕ → Option Kept). spans_at p.spans f keys) change.texts
+    spans_kept keys = ap (λ (f : ℕ → Option StoredData). spans_at f q.texts keys) change.spans ∙ ap (λ (f : ℕ → Option Kept). spans_at p.spans f keys) change.texts
 
     next_there : (row : Row N) × (p.rows (suc n.decided) ≡ Some row)
     next_there = by_row (p.rows (suc n.decided)) refl
@@ -257,7 +241,7 @@ module _ {N : Type 0} where
       let others : AreOther (suc s) S = range-above (n.decided - n.first) n.first (suc s) (omega (arith, lt)) in
       let settled' : (view (one_swept n) keys q).settled ≡ (view n keys p).settled = ap (λ (f : ℕ → Option (Row N)). settled_rows f S) rows ∙ settled-other (suc s) None p.rows S others in
       let waiting' : (view (one_swept n) keys q).waiting ≡ (view n keys p).waiting =
-      ap (λ (f : ℕ → Option (Row N)). waiting_rows q.spans q.texts f W) rows ∙ (ap (λ (f : ℕ → Option KeyedData). waiting_rows f q.texts new W) spans
+      ap (λ (f : ℕ → Option (Row N)). waiting_rows q.spans q.texts f W) rows ∙ (ap (λ (f : ℕ → Option StoredData). waiting_rows f q.texts new W) spans
       ∙ (ap (λ (f : ℕ → Option Kept). waiting_rows p.spans f new W) texts' ∙ waiting-other p.spans p.texts (suc s) None p.rows W apart)) in
-      let pending' : (view (one_swept n) keys q).pending ≡ (view n keys p).pending = ap (λ (f : ℕ → Option KeyedData). spans_at f q.texts keys) spans ∙ ap (λ (f : ℕ → Option Kept). spans_at p.spans f keys) texts' in
+      let pending' : (view (one_swept n) keys q).pending ≡ (view n keys p).pending = ap (λ (f : ℕ → Option StoredData). spans_at f q.texts keys) spans ∙ ap (λ (f : ℕ → Option Kept). spans_at p.spans f keys) texts' in
       view_by (view (one_swept n) keys q).settled (view n keys p).settled (view (one_swept n) keys q).waiting (view n keys p).waiting (view (one_swept n) keys q).pending (view n keys p).pending settled' waiting' pending'

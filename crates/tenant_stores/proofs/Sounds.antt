@@ -1,6 +1,6 @@
 -- A part stays sound as spans come and leave, and as rows open, are decided and leave.
 use Rattle.std.proofs.Common.{◌≡◌, ◌≢◌, ℕ, zero, suc, ◌+◌, ◌-◌, ◌<◌, ◌≤◌, List, [], ◌∷◌, ◌++◌, refl, sym, ap, ◌∙◌, arith, Bool, true, false, Option, Some, None, subst, add-one}
-use Rattle.span_pool.specs.Keyed.{KeyedData}
+use Rattle.span_pool.specs.Stored.{StoredData}
 use Rattle.span_pool.specs.Pool.{with_span, without}
 use Rattle.text_pool.specs.Part.{with_text, released}
 use Rattle.text_pool.specs.Part as texts
@@ -11,7 +11,7 @@ use Rattle.tenant_stores.specs.Part.{Part}
 use Rattle.tenant_stores.specs.Counts.{Counts, AreInOrder, no_rows, one_opened, one_decided, one_swept, in_table, range, count}
 use Rattle.tenant_stores.specs.View.{keys_in, text_keys, text_keys_of, text_keys_at}
 use Rattle.tenant_stores.specs.Sound.{one, uses_of, if_of, last_of, seat_in, named_keys, IsSound}
-use Rattle.tenant_stores.specs.Changes.{texts_without, Holds, Releases, Joins, Opens, Waits, new_row, Settles, Leaves, Drops, Sweeps}
+use Rattle.tenant_stores.specs.Changes.{texts_without, Joins, Opens, Waits, new_row, Settles, Leaves, Drops, Sweeps}
 use Rattle.tenant_stores.proofs.Parts.{part_by, span_here}
 use Rattle.tenant_stores.proofs.Lists.{count-append, AreOther, range-above, range-below, front_of, last}
 use Rattle.tenant_stores.proofs.Uses.{one_most, one-without, one-put, names-append, names-by_count, names-put, names-without, one_released, one_kept, uses-without, kept-without, one_held, held_kept}
@@ -29,34 +29,6 @@ module _ {N : Type 0} where
         seats = λ trace. refl;
         there = λ number above below. absurd (omega (arith, above, below));
         vacant = λ number above. refl;
-      })
-
-  pub hold_sound : (tenant key : ℕ) (text : List ℕ) (p q : Part N) → Holds tenant key text p q → (n : Counts) (pending held : List ℕ) → IsSound n pending held p → IsSound n pending (key ∷ held) q
-  hold_sound tenant key text p q change n pending held sound =
-      let new = with_text key (texts.held tenant text (p.texts key)) p.texts in
-      subst (λ (x : Part N). IsSound n pending (key ∷ held) x) (sym (part_by q.spans p.spans q.texts new q.rows p.rows q.seats p.seats change.spans change.texts change.rows change.seats)) (record {
-        order = sound.order;
-        named = sound.named;
-        bare = sound.bare;
-        used = λ t. omega (arith, sound.used t, one_held tenant key text p.texts t);
-        kept = held_kept tenant key text p.texts sound.kept;
-        seats = sound.seats;
-        there = sound.there;
-        vacant = sound.vacant;
-      })
-
-  pub release_sound : (key : ℕ) (p q : Part N) → Releases key p q → (n : Counts) (pending held : List ℕ) → IsSound n pending (key ∷ held) p → IsSound n pending held q
-  release_sound key p q change n pending held sound =
-      let new = with_text key (released (p.texts key)) p.texts in
-      subst (λ (x : Part N). IsSound n pending held x) (sym (part_by q.spans p.spans q.texts new q.rows p.rows q.seats p.seats change.spans change.texts change.rows change.seats)) (record {
-        order = sound.order;
-        named = sound.named;
-        bare = sound.bare;
-        used = λ t. omega (arith, sound.used t, one_released key p.texts t);
-        kept = one_kept key p.texts sound.kept;
-        seats = sound.seats;
-        there = sound.there;
-        vacant = sound.vacant;
       })
 
   -- spans that were pending leave
@@ -110,7 +82,7 @@ module _ {N : Type 0} where
       not_last number d ne le = omega (arith, ne, le)
 
   -- spans and texts as one more span comes
-  module _ (key : ℕ) (span : KeyedData) (p : Part N) (old_keys new_keys held : List ℕ) (vacant : p.spans key ≡ None)
+  module _ (key : ℕ) (span : StoredData) (p : Part N) (old_keys new_keys held : List ℕ) (vacant : p.spans key ≡ None)
       (named : (j : ℕ) → count j old_keys ≡ one (p.spans j)) (used : (t : ℕ) → count t (text_keys_at p.spans old_keys) + count t (text_keys span.keys ++ held) ≡ uses_of (p.texts t))
       (more : (j : ℕ) → count j new_keys ≡ count j (key ∷ old_keys)) where
     come_named : (j : ℕ) → count j new_keys ≡ one (with_span key (Some span) p.spans j)
@@ -121,12 +93,12 @@ module _ {N : Type 0} where
         let new = with_span key (Some span) p.spans in
         let none : count key old_keys ≡ 0 = named key ∙ ap one vacant in
         let whole = names-by_count new t new_keys (key ∷ old_keys) more in
-        let first : count t (text_keys_of (new key)) ≡ count t (text_keys span.keys) = ap (λ (o : Option KeyedData). count t (text_keys_of o)) (span_here key (Some span) p.spans) in
+        let first : count t (text_keys_of (new key)) ≡ count t (text_keys span.keys) = ap (λ (o : Option StoredData). count t (text_keys_of o)) (span_here key (Some span) p.spans) in
         let rest : count t (text_keys_at new old_keys) ≡ count t (text_keys_at p.spans old_keys) = ap (count t) (names-put key (Some span) p.spans old_keys none) in
         omega (arith, whole, first, rest, count-append t (text_keys_of (new key)) (text_keys_at new old_keys), count-append t (text_keys span.keys) held, used t)
 
   -- a span joins a row that waits
-  pub joins_sound : (m key : ℕ) (span : KeyedData) (note : N) (p q : Part N) (n : Counts) (pending held : List ℕ) → Joins (suc m) key span note p q → n.decided ≤ m → m < n.opened → IsSound n pending (text_keys span.keys ++ held) p → IsSound n pending held q
+  pub joins_sound : (m key : ℕ) (span : StoredData) (note : N) (p q : Part N) (n : Counts) (pending held : List ℕ) → Joins (suc m) key span note p q → n.decided ≤ m → m < n.opened → IsSound n pending (text_keys span.keys ++ held) p → IsSound n pending held q
   joins_sound m key span note p q n pending held change above_d below_o sound =
       let w = joined key note (p.rows (suc m)) in
       let new = with_at (suc m) w p.rows in
@@ -151,7 +123,7 @@ module _ {N : Type 0} where
       })
 
   -- a span waits for a batch
-  pub waits_sound : (key : ℕ) (span : KeyedData) (p q : Part N) (n : Counts) (pending held : List ℕ) → Waits key span p q → IsSound n pending (text_keys span.keys ++ held) p → IsSound n (pending ++ key ∷ []) held q
+  pub waits_sound : (key : ℕ) (span : StoredData) (p q : Part N) (n : Counts) (pending held : List ℕ) → Waits key span p q → IsSound n pending (text_keys span.keys ++ held) p → IsSound n (pending ++ key ∷ []) held q
   waits_sound key span p q n pending held change sound =
       let K = keys_in p.rows (in_table n) in
       let more : (j : ℕ) → count j (K ++ (pending ++ key ∷ [])) ≡ count j (key ∷ (K ++ pending)) = λ j.
@@ -168,7 +140,7 @@ module _ {N : Type 0} where
       })
 
   -- a span opens the next row
-  pub opens_sound : (key due : ℕ) (trace : List ℕ) (span : KeyedData) (note : N) (p q : Part N) (n : Counts) (pending held : List ℕ) → Opens (suc n.opened) key due trace span note p q → IsSound n pending (text_keys span.keys ++ held) p → IsSound (one_opened n) pending held q
+  pub opens_sound : (key due : ℕ) (trace : List ℕ) (span : StoredData) (note : N) (p q : Part N) (n : Counts) (pending held : List ℕ) → Opens (suc n.opened) key due trace span note p q → IsSound n pending (text_keys span.keys ++ held) p → IsSound (one_opened n) pending held q
   opens_sound key due trace span note p q n pending held change sound =
       let o = n.opened in
       let row : Row N = new_row trace due key note in

@@ -1,7 +1,7 @@
 -- Texts that are still named keep their bytes as uses come and go.
 use Rattle.std.proofs.Common.{◌≡◌, ◌≢◌, ℕ, zero, suc, ◌+◌, ◌-◌, ◌<◌, ◌≤◌, List, [], ◌∷◌, ◌++◌, refl, sym, ap, ◌∙◌, arith, Bool, true, false, Option, Some, None, eqb, cond}
 use Rattle.std.proofs.lemmas.Bool.Decides.{nat_tests}
-use Rattle.span_pool.specs.Keyed.{KeyedData}
+use Rattle.span_pool.specs.Stored.{StoredData}
 use Rattle.span_pool.specs.Pool.{with_span}
 use Rattle.text_pool.specs.Part.{with_text, released, held, text_of}
 use Rattle.text_pool.specs.declared.pool.Kept.{Kept}
@@ -60,7 +60,7 @@ all-stays (k ∷ ks) at t few =
     all-stays ks next t rest ∙ one-stays k at t first
 
 -- the same where spans leave
-pub without-stays : (gone : List ℕ) (s : ℕ → Option KeyedData) (at : ℕ → Option Kept) (t : ℕ) → ((j : ℕ) → count j gone ≤ 1) → count t (text_keys_at s gone) < uses_of (at t) → text_at (texts_without gone s at) t ≡ text_at at t
+pub without-stays : (gone : List ℕ) (s : ℕ → Option StoredData) (at : ℕ → Option Kept) (t : ℕ) → ((j : ℕ) → count j gone ≤ 1) → count t (text_keys_at s gone) < uses_of (at t) → text_at (texts_without gone s at) t ≡ text_at at t
 without-stays [] s at t once few = refl
 without-stays (k ∷ ks) s at t once few =
     let a = once k in

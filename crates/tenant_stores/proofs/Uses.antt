@@ -2,7 +2,7 @@
 use Rattle.std.proofs.Common.{◌≡◌, ◌≢◌, ℕ, zero, suc, ◌+◌, ◌-◌, ◌<◌, ◌≤◌, List, [], ◌∷◌, ◌++◌, refl, sym, ap, ◌∙◌, arith, Bool, true, false, Option, Some, None, eqb, cond, subst}
 use Rattle.std.specs.Prelude.{IfSome}
 use Rattle.std.proofs.lemmas.Bool.Decides.{nat_tests}
-use Rattle.span_pool.specs.Keyed.{KeyedData}
+use Rattle.span_pool.specs.Stored.{StoredData}
 use Rattle.span_pool.specs.Pool.{with_span, without}
 use Rattle.text_pool.specs.Part.{with_text, released, held}
 use Rattle.text_pool.specs.declared.pool.Kept.{Kept}
@@ -14,7 +14,7 @@ use Rattle.tenant_stores.proofs.Lists.{count-append, count-self, drop_one, count
 
 -- ---- spans at some keys are taken out
 
-without-none : (ks : List ℕ) (at : ℕ → Option KeyedData) (j : ℕ) → at j ≡ None → without ks at j ≡ None
+without-none : (ks : List ℕ) (at : ℕ → Option StoredData) (j : ℕ) → at j ≡ None → without ks at j ≡ None
 without-none [] at j none = none
 without-none (k ∷ ks) at j none = without-none ks (with_span k None at) j (by_test (eqb j k) none)
   where
@@ -22,7 +22,7 @@ without-none (k ∷ ks) at j none = without-none ks (with_span k None at) j (by_
     by_test true none = refl
     by_test false none = none
 
-pub without-other : (ks : List ℕ) (at : ℕ → Option KeyedData) (j : ℕ) → count j ks ≡ 0 → without ks at j ≡ at j
+pub without-other : (ks : List ℕ) (at : ℕ → Option StoredData) (j : ℕ) → count j ks ≡ 0 → without ks at j ≡ at j
 without-other [] at j zero' = refl
 without-other (k ∷ ks) at j zero' =
     let other : eqb j k ≡ false = grind (arith, nat_tests, zero') in
@@ -30,7 +30,7 @@ without-other (k ∷ ks) at j zero' =
     let here : with_span k None at j ≡ at j = rw other refl in
     without-other ks (with_span k None at) j rest ∙ here
 
-pub without-named : (ks : List ℕ) (at : ℕ → Option KeyedData) (j : ℕ) → 0 < count j ks → without ks at j ≡ None
+pub without-named : (ks : List ℕ) (at : ℕ → Option StoredData) (j : ℕ) → 0 < count j ks → without ks at j ≡ None
 without-named [] at j some = absurd (omega arith)
 without-named (k ∷ ks) at j some = by_test (eqb k j) refl some (without-named ks (with_span k None at) j)
   where
@@ -40,12 +40,12 @@ without-named (k ∷ ks) at j some = by_test (eqb k j) refl some (without-named 
         without-none ks (with_span k None at) j (rw same refl)
     by_test false is some ih = ih (omega arith)
 
-pub one_most : (o : Option KeyedData) → one o ≤ 1
+pub one_most : (o : Option StoredData) → one o ≤ 1
 one_most None = omega arith
 one_most (Some x) = omega arith
 
 -- what is left is named as before
-pub one-without : (ks : List ℕ) (at : ℕ → Option KeyedData) (j rest : ℕ) → count j ks + rest ≡ one (at j) → rest ≡ one (without ks at j)
+pub one-without : (ks : List ℕ) (at : ℕ → Option StoredData) (j rest : ℕ) → count j ks + rest ≡ one (at j) → rest ≡ one (without ks at j)
 one-without ks at j rest named = by_count (count j ks) refl
   where
     by_count : (n : ℕ) → count j ks ≡ n → rest ≡ one (without ks at j)
@@ -53,7 +53,7 @@ one-without ks at j rest named = by_count (count j ks) refl
     by_count (suc n) is = let some : 0 < count j ks = omega (arith, is) in let m = one_most (at j) in omega (arith, named, is, m, ap one (without-named ks at j some))
 
 -- one more span is named once more
-pub one-put : (key : ℕ) (span : KeyedData) (at : ℕ → Option KeyedData) (j rest : ℕ) → at key ≡ None → rest ≡ one (at j) → count j (key ∷ []) + rest ≡ one (with_span key (Some span) at j)
+pub one-put : (key : ℕ) (span : StoredData) (at : ℕ → Option StoredData) (j rest : ℕ) → at key ≡ None → rest ≡ one (at j) → count j (key ∷ []) + rest ≡ one (with_span key (Some span) at j)
 one-put key span at j rest vacant named = by_test (eqb j key) refl
   where
     by_test : (b : Bool) → eqb j key ≡ b → count j (key ∷ []) + rest ≡ one (cond b (Some span) (at j))
@@ -68,14 +68,14 @@ one-put key span at j rest vacant named = by_test (eqb j key) refl
 
 -- ---- the keys of texts that spans have
 
-pub names-append : (s : ℕ → Option KeyedData) (t : ℕ) (xs ys : List ℕ) → count t (text_keys_at s (xs ++ ys)) ≡ count t (text_keys_at s xs) + count t (text_keys_at s ys)
+pub names-append : (s : ℕ → Option StoredData) (t : ℕ) (xs ys : List ℕ) → count t (text_keys_at s (xs ++ ys)) ≡ count t (text_keys_at s xs) + count t (text_keys_at s ys)
 names-append s t [] ys = omega arith
 names-append s t (x ∷ xs) ys =
     let a = count-append t (text_keys_of (s x)) (text_keys_at s (xs ++ ys)) in
     let b = count-append t (text_keys_of (s x)) (text_keys_at s xs) in
     omega (arith, a, b, names-append s t xs ys)
 
-names-drop_one : (s : ℕ → Option KeyedData) (t x : ℕ) (ys : List ℕ) → 0 < count x ys → count t (text_keys_at s ys) ≡ count t (text_keys_at s (x ∷ drop_one x ys))
+names-drop_one : (s : ℕ → Option StoredData) (t x : ℕ) (ys : List ℕ) → 0 < count x ys → count t (text_keys_at s ys) ≡ count t (text_keys_at s (x ∷ drop_one x ys))
 names-drop_one s t x [] some = absurd (omega (arith, some))
 names-drop_one s t x (y ∷ ys) some = by_test (eqb y x) refl some (names-drop_one s t x ys)
   where
@@ -90,7 +90,7 @@ names-drop_one s t x (y ∷ ys) some = by_test (eqb y x) refl some (names-drop_o
         omega (arith, rest, a, b, c, d)
 
 -- they depend on how often each span is named, and not on the order
-pub names-by_count : (s : ℕ → Option KeyedData) (t : ℕ) (xs ys : List ℕ) → ((j : ℕ) → count j xs ≡ count j ys) → count t (text_keys_at s xs) ≡ count t (text_keys_at s ys)
+pub names-by_count : (s : ℕ → Option StoredData) (t : ℕ) (xs ys : List ℕ) → ((j : ℕ) → count j xs ≡ count j ys) → count t (text_keys_at s xs) ≡ count t (text_keys_at s ys)
 names-by_count s t [] [] same = refl
 names-by_count s t [] (y ∷ ys) same = absurd (omega (arith, same y, count-self y ys))
 names-by_count s t (x ∷ xs) ys same =
@@ -101,7 +101,7 @@ names-by_count s t (x ∷ xs) ys same =
     omega (arith, a, b, names-by_count s t xs (drop_one x ys) rest, names-drop_one s t x ys some)
 
 -- a key that isn't named may get any span
-pub names-put : (key : ℕ) (slot : Option KeyedData) (s : ℕ → Option KeyedData) (ks : List ℕ) → count key ks ≡ 0 → text_keys_at (with_span key slot s) ks ≡ text_keys_at s ks
+pub names-put : (key : ℕ) (slot : Option StoredData) (s : ℕ → Option StoredData) (ks : List ℕ) → count key ks ≡ 0 → text_keys_at (with_span key slot s) ks ≡ text_keys_at s ks
 names-put key slot s [] none = refl
 names-put key slot s (k ∷ ks) none =
     let other : eqb k key ≡ false = grind (arith, nat_tests, none) in
@@ -110,7 +110,7 @@ names-put key slot s (k ∷ ks) none =
     cc (here, names-put key slot s ks rest)
 
 -- and those at other keys may leave
-pub names-without : (gone : List ℕ) (s : ℕ → Option KeyedData) (ks : List ℕ) → ((j : ℕ) → count j gone + count j ks ≤ 1) → text_keys_at (without gone s) ks ≡ text_keys_at s ks
+pub names-without : (gone : List ℕ) (s : ℕ → Option StoredData) (ks : List ℕ) → ((j : ℕ) → count j gone + count j ks ≤ 1) → text_keys_at (without gone s) ks ≡ text_keys_at s ks
 names-without gone s [] apart = refl
 names-without gone s (k ∷ ks) apart =
     let a = apart k in
@@ -172,7 +172,7 @@ pub all-kept : (ks : List ℕ) (at : ℕ → Option Kept) → ((t : ℕ) → IsK
 all-kept [] at kept t = kept t
 all-kept (k ∷ ks) at kept t = all-kept ks (with_text k (released (at k)) at) (one_kept k at kept) t
 
-pub uses-without : (gone : List ℕ) (s : ℕ → Option KeyedData) (at : ℕ → Option Kept) (t : ℕ) → ((j : ℕ) → count j gone ≤ 1) → uses_of (texts_without gone s at t) ≡ uses_of (at t) - count t (text_keys_at s gone)
+pub uses-without : (gone : List ℕ) (s : ℕ → Option StoredData) (at : ℕ → Option Kept) (t : ℕ) → ((j : ℕ) → count j gone ≤ 1) → uses_of (texts_without gone s at t) ≡ uses_of (at t) - count t (text_keys_at s gone)
 uses-without [] s at t once = omega arith
 uses-without (k ∷ ks) s at t once =
     let a = once k in
@@ -182,7 +182,7 @@ uses-without (k ∷ ks) s at t once =
     let same : count t (text_keys_at (with_span k None s) ks) ≡ count t (text_keys_at s ks) = ap (count t) (names-put k None s ks none) in
     omega (arith, ih, same, all-released (text_keys_of (s k)) at t, count-append t (text_keys_of (s k)) (text_keys_at s ks))
 
-pub kept-without : (gone : List ℕ) (s : ℕ → Option KeyedData) (at : ℕ → Option Kept) → ((t : ℕ) → IsKept (at t)) → (t : ℕ) → IsKept (texts_without gone s at t)
+pub kept-without : (gone : List ℕ) (s : ℕ → Option StoredData) (at : ℕ → Option Kept) → ((t : ℕ) → IsKept (at t)) → (t : ℕ) → IsKept (texts_without gone s at t)
 kept-without [] s at kept t = kept t
 kept-without (k ∷ ks) s at kept t = kept-without ks (with_span k None s) (all_released (text_keys_of (s k)) at) (all-kept (text_keys_of (s k)) at kept) t
 

@@ -1,9 +1,8 @@
 -- What the calls change in their tenant's part.
 use Rattle.std.specs.Prelude.{◌≡◌, ℕ, List, [], ◌∷◌, Bool, false, Option, Some, None}
-use Rattle.span_pool.specs.Keyed.{KeyedData}
+use Rattle.span_pool.specs.Stored.{StoredData}
 use Rattle.span_pool.specs.Pool.{with_span, without}
 use Rattle.text_pool.specs.Part.{with_text, released}
-use Rattle.text_pool.specs.Part as texts
 use Rattle.text_pool.specs.declared.pool.Kept.{Kept}
 use Rattle.trace_rows.specs.declared.table.Row.{Row}
 use Rattle.trace_rows.specs.Part.{with_at, with_seat, joined, settled, unseated, trace_in, keys_of}
@@ -16,24 +15,10 @@ all_released [] at = at
 all_released (key ∷ keys) at = all_released keys (with_text key (released (at key)) at)
 
 -- the texts once the spans at these keys have left, each with its uses
-abbrev pub texts_without : List ℕ → (ℕ → Option KeyedData) → (ℕ → Option Kept) → ℕ → Option Kept
+abbrev pub texts_without : List ℕ → (ℕ → Option StoredData) → (ℕ → Option Kept) → ℕ → Option Kept
 texts_without [] spans at = at
 texts_without (key ∷ keys) spans at =
     texts_without keys (with_span key None spans) (all_released (text_keys_of (spans key)) at)
-
--- a text is held under the key, once more or for the first time
-pub record Holds {N : Type 0} (tenant key : ℕ) (text : List ℕ) (old new : Part N) : Type 0 where
-  pub spans : new.spans ≡ old.spans
-  pub texts : new.texts ≡ with_text key (texts.held tenant text (old.texts key)) old.texts
-  pub rows : new.rows ≡ old.rows
-  pub seats : new.seats ≡ old.seats
-
--- one use of the text at the key is given back
-pub record Releases {N : Type 0} (key : ℕ) (old new : Part N) : Type 0 where
-  pub spans : new.spans ≡ old.spans
-  pub texts : new.texts ≡ with_text key (released (old.texts key)) old.texts
-  pub rows : new.rows ≡ old.rows
-  pub seats : new.seats ≡ old.seats
 
 -- one use of each of the texts at these keys is given back
 pub record ReleasesAll {N : Type 0} (keys : List ℕ) (old new : Part N) : Type 0 where
@@ -43,7 +28,7 @@ pub record ReleasesAll {N : Type 0} (keys : List ℕ) (old new : Part N) : Type 
   pub seats : new.seats ≡ old.seats
 
 -- the span lies at a key that was vacant, which joined the row; the row has this note
-pub record Joins {N : Type 0} (number key : ℕ) (span : KeyedData) (note : N) (old new : Part N) : Type 0 where
+pub record Joins {N : Type 0} (number key : ℕ) (span : StoredData) (note : N) (old new : Part N) : Type 0 where
   pub vacant : old.spans key ≡ None
   pub spans : new.spans ≡ with_span key (Some span) old.spans
   pub texts : new.texts ≡ old.texts
@@ -55,7 +40,7 @@ abbrev pub new_row : {N : Type 0} → List ℕ → ℕ → ℕ → N → Row N
 new_row trace due key note = record { trace = trace; due = due; keys = key ∷ []; note = note; sampled = false }
 
 -- the span lies at a key that was vacant, and a row of the trace with that key opened
-pub record Opens {N : Type 0} (number key due : ℕ) (trace : List ℕ) (span : KeyedData) (note : N) (old new : Part N)
+pub record Opens {N : Type 0} (number key due : ℕ) (trace : List ℕ) (span : StoredData) (note : N) (old new : Part N)
     : Type 0 where
   pub vacant : old.spans key ≡ None
   pub spans : new.spans ≡ with_span key (Some span) old.spans
@@ -64,7 +49,7 @@ pub record Opens {N : Type 0} (number key due : ℕ) (trace : List ℕ) (span : 
   pub seats : new.seats ≡ with_seat trace (Some number) old.seats
 
 -- the span lies at a key that was vacant
-pub record Waits {N : Type 0} (key : ℕ) (span : KeyedData) (old new : Part N) : Type 0 where
+pub record Waits {N : Type 0} (key : ℕ) (span : StoredData) (old new : Part N) : Type 0 where
   pub vacant : old.spans key ≡ None
   pub spans : new.spans ≡ with_span key (Some span) old.spans
   pub texts : new.texts ≡ old.texts

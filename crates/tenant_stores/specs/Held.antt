@@ -1,6 +1,6 @@
 -- Texts that are held for spans to come, several at once.
 use Rattle.std.specs.Prelude.{◌≡◌, ◌<◌, ◌+◌, ℕ, List, Option, Some, None, IfSome}
-use Rattle.span_pool.specs.Keyed as keyed
+use Rattle.span_pool.specs.Stored as keyed
 use Rattle.span_pool.specs.Stored.{Origin, bytes_of}
 use Rattle.text_pool.specs.declared.pool.Kept.{Kept}
 use Rattle.tenant_stores.specs.declared.texts.Wanted.{Wanted}

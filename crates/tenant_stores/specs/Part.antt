@@ -1,6 +1,6 @@
 -- One tenant's part of all stores, as functions of its own keys, row numbers and traces: this project's own rule.
 use Rattle.std.specs.Prelude.{ℕ, List, Option}
-use Rattle.span_pool.specs.Keyed.{KeyedData}
+use Rattle.span_pool.specs.Stored.{StoredData}
 use Rattle.span_pool.specs.Pool as pool
 use Rattle.text_pool.specs.Part as texts
 use Rattle.text_pool.specs.declared.pool.Kept.{Kept}
@@ -10,13 +10,13 @@ use Rattle.tenant_stores.specs.declared.stores.Stores.{Stores}
 
 -- what a tenant has in the stores: spans and texts by key, rows by number, the latest row of each trace
 pub record Part (N : Type 0) : Type 0 where
-  pub spans : ℕ → Option KeyedData
+  pub spans : ℕ → Option StoredData
   pub texts : ℕ → Option Kept
   pub rows : ℕ → Option (Row N)
   pub seats : List ℕ → Option ℕ
 
 -- whose a span is
-abbrev pub owner_of : KeyedData → ℕ
+abbrev pub owner_of : StoredData → ℕ
 owner_of span = span.owner
 
 -- the part that a tenant has of these stores

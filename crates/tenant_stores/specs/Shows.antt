@@ -1,8 +1,7 @@
 -- What the calls make of what a tenant's part shows: functions from view to view. A trace's row is its latest one.
 use Rattle.std.specs.Prelude.{◌≡◌, ◌<◌, ◌≤◌, ◌+◌, ◌-◌, ◌∷◌, ◌++◌, ◌||◌, ℕ, Bool, true, false, List, [], length, map}
 use Rattle.std.specs.Prelude.{Option, Some, None, if◌then◌else◌, bytes_eq, nat_lt}
-use Rattle.span_pool.specs.Stored.{Origin}
-use Rattle.span_pool.specs.Keyed.{KeyedData, SpanTexts, texts_of}
+use Rattle.span_pool.specs.Stored.{Origin, StoredData, SpanTexts, texts_of}
 use Rattle.text_pool.specs.declared.pool.Kept.{Kept}
 use Rattle.trace_rows.specs.declared.table.Row.{Row}
 use Rattle.trace_rows.specs.Part.{keys_of}
@@ -38,7 +37,7 @@ no_span = record {
 }
 
 -- a span by its texts, and this one where there is none
-abbrev pub shown_or : (ℕ → Option Kept) → SpanTexts → Option KeyedData → SpanTexts
+abbrev pub shown_or : (ℕ → Option Kept) → SpanTexts → Option StoredData → SpanTexts
 shown_or texts other None = other
 shown_or texts other (Some span) = texts_of (text_at texts) span
 
@@ -196,7 +195,7 @@ LengthsAre N = (n : Counts) (pending held : List ℕ) (p : Part N) → IsSound n
 
 -- each key that is named has its span: so a list of such keys shows as many
 pub record KeysShow {N : Type 0} (n : Counts) (pending : List ℕ) (p : Part N) : Type 0 where
-  pub there : (key : ℕ) → 0 < count key (named_keys n pending p) → (span : KeyedData) × (p.spans key ≡ Some span)
+  pub there : (key : ℕ) → 0 < count key (named_keys n pending p) → (span : StoredData) × (p.spans key ≡ Some span)
   pub each : (keys : List ℕ) → AreAmong keys (named_keys n pending p)
       → spans_at p.spans p.texts keys ≡ map (span_at p) keys
   pub rows : (number : ℕ) → n.swept < number → number ≤ n.opened

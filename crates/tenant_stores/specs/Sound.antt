@@ -1,7 +1,7 @@
 -- What always holds of a tenant's part.
 use Rattle.std.specs.Prelude.{◌≡◌, ◌≢◌, ◌<◌, ◌≤◌, ◌+◌, ℕ, List, [], ◌∷◌, ◌++◌}
 use Rattle.std.specs.Prelude.{Option, Some, None, IfSome, if◌then◌else◌, bytes_eq}
-use Rattle.span_pool.specs.Keyed.{KeyedData}
+use Rattle.span_pool.specs.Stored.{StoredData}
 use Rattle.text_pool.specs.declared.pool.Kept.{Kept}
 use Rattle.trace_rows.specs.declared.table.Row.{Row}
 use Rattle.trace_rows.specs.Part.{keys_of}
@@ -10,7 +10,7 @@ use Rattle.tenant_stores.specs.Counts.{Counts, AreInOrder, in_table, count}
 use Rattle.tenant_stores.specs.View.{keys_in, text_keys_at}
 
 -- how many spans there are
-abbrev pub one : Option KeyedData → ℕ
+abbrev pub one : Option StoredData → ℕ
 one None = 0
 one (Some span) = 1
 

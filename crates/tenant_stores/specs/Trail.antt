@@ -1,6 +1,6 @@
 -- What several spans changed in their tenant's part, one after the other, so that it can be taken back.
 use Rattle.std.specs.Prelude.{◌≡◌, ℕ, List, [], ◌∷◌, Option, Some, None}
-use Rattle.span_pool.specs.Keyed.{KeyedData}
+use Rattle.span_pool.specs.Stored.{StoredData}
 use Rattle.trace_rows.specs.declared.table.Row.{Row}
 use Rattle.tenant_stores.specs.declared.placed.Placed.{Placed}
 use Rattle.tenant_stores.specs.declared.placed.Placed.TheVariants.{Left, Joined, Opened, Late}
@@ -20,14 +20,14 @@ pub record HoldsAll {N : Type 0} (keys : List ℕ) (old new : Part N) : Type 0 w
 abbrev pub IsPlaced : {N : Type 0} → Placed N → Part N → Part N → Type 0
 IsPlaced Left old new = new ≡ old
 IsPlaced {N} (Joined number key former) old new =
-    (span : KeyedData) × (row : Row N) × (note : N) × (middle : Part N) × (old.rows number ≡ Some row)
+    (span : StoredData) × (row : Row N) × (note : N) × (middle : Part N) × (old.rows number ≡ Some row)
     × (row.note ≡ former) × HoldsAll (text_keys span.keys) old middle × Joins number key span note middle new
 IsPlaced {N} (Opened number key trace earlier) old new =
-    (span : KeyedData) × (due : ℕ) × (note : N) × (middle : Part N) × (old.rows number ≡ None)
+    (span : StoredData) × (due : ℕ) × (note : N) × (middle : Part N) × (old.rows number ≡ None)
     × (old.seats trace ≡ earlier) × HoldsAll (text_keys span.keys) old middle
     × Opens number key due trace span note middle new
 IsPlaced {N} (Late key) old new =
-    (span : KeyedData) × (middle : Part N) × HoldsAll (text_keys span.keys) old middle × Waits key span middle new
+    (span : StoredData) × (middle : Part N) × HoldsAll (text_keys span.keys) old middle × Waits key span middle new
 
 -- the oldest first
 abbrev pub Trail : {N : Type 0} → Part N → List (Placed N) → Part N → Type 0

@@ -2,7 +2,7 @@
 -- key that names nothing shows nothing; of a sound part each names one thing.
 use Rattle.std.specs.Prelude.{ℕ, Bool, List, [], ◌∷◌, ◌++◌, Option, Some, None, option_to_list}
 use Rattle.span_pool.specs.declared.keys.TextKeys.{TextKeys}
-use Rattle.span_pool.specs.Keyed.{KeyedData, SpanTexts, texts_of}
+use Rattle.span_pool.specs.Stored.{StoredData, SpanTexts, texts_of}
 use Rattle.text_pool.specs.Part.{text_of}
 use Rattle.text_pool.specs.declared.pool.Kept.{Kept}
 use Rattle.trace_rows.specs.declared.table.Row.{Row}
@@ -33,17 +33,17 @@ abbrev pub text_at : (ℕ → Option Kept) → ℕ → Option (List ℕ)
 text_at texts key = text_of (texts key)
 
 -- the span, where there is one, by its texts
-abbrev pub shown : (ℕ → Option Kept) → Option KeyedData → List SpanTexts
+abbrev pub shown : (ℕ → Option Kept) → Option StoredData → List SpanTexts
 shown texts None = []
 shown texts (Some span) = texts_of (text_at texts) span ∷ []
 
 -- the spans at these keys
-abbrev pub spans_at : (ℕ → Option KeyedData) → (ℕ → Option Kept) → List ℕ → List SpanTexts
+abbrev pub spans_at : (ℕ → Option StoredData) → (ℕ → Option Kept) → List ℕ → List SpanTexts
 spans_at spans texts [] = []
 spans_at spans texts (key ∷ keys) = shown texts (spans key) ++ spans_at spans texts keys
 
 -- the row as one that waits
-abbrev pub as_waiting : {N : Type 0} → (ℕ → Option KeyedData) → (ℕ → Option Kept) → Option (Row N)
+abbrev pub as_waiting : {N : Type 0} → (ℕ → Option StoredData) → (ℕ → Option Kept) → Option (Row N)
     → List (WaitingRow N)
 as_waiting spans texts None = []
 as_waiting spans texts (Some row) = record {
@@ -59,7 +59,7 @@ as_settled None = []
 as_settled (Some row) = record { trace = row.trace; sampled = row.sampled } ∷ []
 
 -- the rows of these numbers, as such that wait
-abbrev pub waiting_rows : {N : Type 0} → (ℕ → Option KeyedData) → (ℕ → Option Kept) → (ℕ → Option (Row N)) → List ℕ
+abbrev pub waiting_rows : {N : Type 0} → (ℕ → Option StoredData) → (ℕ → Option Kept) → (ℕ → Option (Row N)) → List ℕ
     → List (WaitingRow N)
 waiting_rows spans texts rows [] = []
 waiting_rows spans texts rows (number ∷ numbers) =
@@ -90,11 +90,11 @@ text_keys keys =
     ++ (option_to_list keys.scope ++ option_to_list keys.scope_schema_url))
 
 -- the same of a span that may be missing
-abbrev pub text_keys_of : Option KeyedData → List ℕ
+abbrev pub text_keys_of : Option StoredData → List ℕ
 text_keys_of None = []
 text_keys_of (Some span) = text_keys span.keys
 
 -- the keys of texts that the spans at these keys have
-abbrev pub text_keys_at : (ℕ → Option KeyedData) → List ℕ → List ℕ
+abbrev pub text_keys_at : (ℕ → Option StoredData) → List ℕ → List ℕ
 text_keys_at spans [] = []
 text_keys_at spans (key ∷ keys) = text_keys_of (spans key) ++ text_keys_at spans keys

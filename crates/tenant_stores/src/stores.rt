@@ -2,14 +2,14 @@
 
 ghost use Rattle.std.specs.Prelude.{◌≡◌, ◌≢◌, ◌<◌, ◌≤◌, ◌+◌, ◌++◌, ◌∷◌, [], ℕ, List, length};
 ghost use Rattle.std.specs.Prelude.{None, Some, IfOk, OnOk, OnErr, option_copied, true, false};
-ghost use Rattle.span_pool.specs.Keyed.{origin_at, texts_of};
+ghost use Rattle.span_pool.specs.Stored.{origin_at, texts_of};
 ghost use Rattle.text_pool.specs.Part as text_part;
 ghost use Rattle.trace_rows.specs.Part.{keys_of, note_of, rows_part, seats_part, with_at, with_seat, IsSame};
 ghost use Rattle.tenant_stores.specs.Part.{Part, part};
 ghost use Rattle.tenant_stores.specs.Counts.{Counts, no_rows, one_opened, one_decided, one_swept, count};
 ghost use Rattle.tenant_stores.specs.View.{text_at, text_keys, view};
 ghost use Rattle.tenant_stores.specs.Sound.{IsSound};
-ghost use Rattle.tenant_stores.specs.Changes.{new_row, Holds, Releases, Joins, Opens, Settles};
+ghost use Rattle.tenant_stores.specs.Changes.{new_row, Joins, Opens, Settles};
 ghost use Rattle.tenant_stores.specs.Changes.{ReleasesAll, Waits, Leaves, Drops, Sweeps};
 ghost use Rattle.tenant_stores.specs.Shows.{AreAmong, Stay, SeatShows, with_joined, with_opened, with_late};
 ghost use Rattle.tenant_stores.specs.Shows.{first_kept, first_dropped};
@@ -18,7 +18,7 @@ ghost use Rattle.tenant_stores.specs.Trail.{HoldsAll, IsPlaced, Trail};
 
 use crate::placed::{Joining, Opening, Placed};
 use crate::texts::{hold_four, release_all, wanted_again, wanted_new};
-use span_pool::{KeyedSpan, Owned, SpanPool, TextKeys};
+use span_pool::{Owned, SpanPool, StoredSpan, TextKeys};
 use std::alloc::{AllocError, Global};
 use text_pool::{Text, TextPool};
 use trace_rows::{Keys, Row, TraceRows};
@@ -27,7 +27,7 @@ use trace_rows::{Keys, Row, TraceRows};
 #[derive(Drop)]
 pub struct Stores<N> {
     alloc: Global,
-    spans: SpanPool<KeyedSpan>,
+    spans: SpanPool<StoredSpan>,
     texts: TextPool,
     rows: TraceRows<N>,
 }
@@ -62,7 +62,7 @@ impl<N: Drop> Stores<N> {
     }
 
     /// The tenant's span at a key.
-    pub fn span(&self, tenant: u32, key: usize) -> Option<&KeyedSpan>
+    pub fn span(&self, tenant: u32, key: usize) -> Option<&StoredSpan>
         ensures { option_copied result ≡ (part tenant self.now).spans key }
     {
         self.spans.owned(tenant, key)
@@ -73,42 +73,6 @@ impl<N: Drop> Stores<N> {
         ensures { (tenant : ℕ) → text_part.part tenant result.now ≡ (part tenant self.now).texts }
     {
         &self.texts
-    }
-
-    /// One use more of a text of the tenant's, for a span to come. The answer is its key.
-    pub fn hold(&mut self, tenant: u32, text: Text) -> Result<usize, AllocError>
-        ensures own { IfOk result (λ key. Holds tenant key text (part tenant self.old) (part tenant self.new)) }
-        ensures sound { IfOk result (λ key. (n : Counts) (pending held : List ℕ)
-            → IsSound n pending held (part tenant self.old) → IsSound n pending (key ∷ held) (part tenant self.new)) }
-        ensures text { IfOk result (λ key. text_at (part tenant self.new).texts key ≡ Some text) }
-        ensures shows { OnOk result ((n : Counts) (pending held keys : List ℕ)
-            → IsSound n pending held (part tenant self.old) → AreAmong keys pending
-            → view n keys (part tenant self.new) ≡ view n keys (part tenant self.old)) }
-        ensures stay { OnOk result ((n : Counts) (pending held : List ℕ)
-            → IsSound n pending held (part tenant self.old)
-            → Stay held (part tenant self.old).texts (part tenant self.new).texts) }
-
-        // Other tenants' parts stay as they were, and where memory is refused this tenant's too.
-        ensures others { (other : ℕ) → other ≢ tenant → part other self.new ≡ part other self.old }
-        ensures refused { OnErr result (part tenant self.new ≡ part tenant self.old) }
-    {
-        let key = self.texts.hold(tenant, text)?;
-        Ok(key)
-    }
-
-    /// One use less of the tenant's text at this key, for which no span came. It takes no memory.
-    pub fn release(&mut self, tenant: u32, key: usize)
-        ensures own { Releases key (part tenant self.old) (part tenant self.new) }
-        ensures sound { (n : Counts) (pending held : List ℕ)
-            → IsSound n pending (key ∷ held) (part tenant self.old) → IsSound n pending held (part tenant self.new) }
-        ensures shows { (n : Counts) (pending held keys : List ℕ)
-            → IsSound n pending (key ∷ held) (part tenant self.old) → AreAmong keys pending
-            → view n keys (part tenant self.new) ≡ view n keys (part tenant self.old) }
-        ensures stay { (n : Counts) (pending held : List ℕ) → IsSound n pending (key ∷ held) (part tenant self.old)
-            → Stay held (part tenant self.old).texts (part tenant self.new).texts }
-        ensures others { (other : ℕ) → other ≢ tenant → part other self.new ≡ part other self.old }
-    {
-        self.texts.release(tenant, key);
     }
 
     /// One use more of each of an origin's four texts, for a span to come, or of none. The answer is their keys.
@@ -219,7 +183,7 @@ impl<N: Drop> Stores<N> {
 
     /// The span is stored, and its key joins the row of this number, which has this note from now on. The texts that
     /// the span names were held for it. Where memory is refused, span and note are dropped.
-    pub fn join(&mut self, number: u64, span: KeyedSpan, note: N) -> Result<Joining<N>, AllocError>
+    pub fn join(&mut self, number: u64, span: StoredSpan, note: N) -> Result<Joining<N>, AllocError>
         ensures own { IfOk result (λ joining.
             Joins number joining.key span note (part span.owner self.old) (part span.owner self.new)) }
         ensures former { IfOk result (λ joining.
@@ -256,7 +220,7 @@ impl<N: Drop> Stores<N> {
         number: u64,
         due: u64,
         trace: [u8; 16],
-        span: KeyedSpan,
+        span: StoredSpan,
         note: N,
     ) -> Result<Opening, AllocError>
         requires { (part span.owner self.old).rows number ≡ None }
@@ -298,7 +262,7 @@ impl<N: Drop> Stores<N> {
 
     /// The span is stored, and waits for a batch: its row was decided and sampled before it came. The texts that the
     /// span names were held for it. The answer is its key.
-    pub fn keep_late(&mut self, span: KeyedSpan) -> Result<usize, AllocError>
+    pub fn keep_late(&mut self, span: StoredSpan) -> Result<usize, AllocError>
         ensures own { IfOk result (λ key. Waits key span (part span.owner self.old) (part span.owner self.new)) }
         ensures sound { IfOk result (λ key. (n : Counts) (pending held : List ℕ)
             → IsSound n pending (text_keys span.keys ++ held) (part span.owner self.old)

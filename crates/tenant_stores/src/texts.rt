@@ -1,7 +1,7 @@
 //! Uses of several texts at once.
 
 ghost use Rattle.std.specs.Prelude.{◌≡◌, ◌≢◌, ◌++◌, ℕ, Option, IfOk, OnErr, option_to_list, option_copied};
-ghost use Rattle.span_pool.specs.Keyed as keyed;
+ghost use Rattle.span_pool.specs.Stored as keyed;
 ghost use Rattle.text_pool.specs.Part.{part};
 ghost use Rattle.text_pool.specs.declared.pool.Kept.{Kept};
 ghost use Rattle.tenant_stores.specs.View.{text_at, text_keys};

@@ -3,7 +3,7 @@
 ghost use Rattle.std.specs.Prelude.{◌≡◌};
 
 use bytes::Bytes;
-use span_pool::{KeyedSpan, TextKeys};
+use span_pool::{StoredSpan, TextKeys};
 use std::alloc::AllocError;
 use tenant_stores::{Joining, Opening, Stores};
 use text_pool::Text;
@@ -36,10 +36,10 @@ pub fn held(stores: &mut Stores<u64>, tenant: u32) -> Result<TextKeys, AllocErro
 }
 
 /// A span of the tenant, with these texts.
-fn span(tenant: u32, keys: TextKeys, name: &'static [u8]) -> KeyedSpan
+fn span(tenant: u32, keys: TextKeys, name: &'static [u8]) -> StoredSpan
     ensures { result.owner ≡ tenant }
 {
-    KeyedSpan::of(tenant, keys, Bytes::from_static(name))
+    StoredSpan::of(tenant, keys, Bytes::from_static(name))
 }
 
 /// A span opens a row, where its number has none.

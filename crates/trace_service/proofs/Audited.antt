@@ -4,9 +4,9 @@ use Rattle.std.specs.Prelude.{slice_get}
 use Rattle.std.proofs.lemmas.List.Elements.{All-nil, All-cons}
 use Rattle.std.proofs.lemmas.Option.{slice_get_within}
 use Rattle.tail_settings.specs.Settings.{SettingsData}
-use Rattle.shared_machine.specs.declared.view.Home.{Home}
+use Rattle.machine_hub.specs.declared.view.Home.{Home}
 use Rattle.machine_hub.specs.Hub.{AreShardRuns}
-use Rattle.worded_machine.specs.Worded.{Worded, WordedDoes}
+use Rattle.shard_machine.specs.Worded.{Worded, WordedDoes}
 use Rattle.shared_hub.specs.Logs.{Seats, LoggedShard}
 use Rattle.shared_hub.specs.Shards.{AreOpened, kept}
 

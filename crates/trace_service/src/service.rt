@@ -8,7 +8,7 @@ ghost use Rattle.machine_hub.specs.Hub.{AreCallersOf, AreShardRuns};
 ghost use Rattle.shared_hub.specs.Logs.{LoggedShard};
 ghost use Rattle.shared_hub.specs.Shards.{AreOpened, kept};
 ghost use Rattle.tail_settings.specs.Settings.{SettingsData, settings_view};
-ghost use Rattle.worded_machine.specs.Worded.{WordedDoes};
+ghost use Rattle.shard_machine.specs.Worded.{WordedDoes};
 ghost use Rattle.shared_hub.specs.declared.fault.HubFault.TheVariants as hub_faults;
 ghost use Rattle.trace_service.specs.Audit.{audit_text, IsAudited};
 ghost use Rattle.trace_service.specs.Fault.{IsOfLine};

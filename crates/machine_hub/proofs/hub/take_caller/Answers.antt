@@ -1,5 +1,5 @@
 use Rattle.std.proofs.Common.{rules}
-use Rattle.shared_machine.specs.Seats.{keeper_with}
+use Rattle.machine_hub.specs.Seats.{keeper_with}
 use Rattle.machine_hub.proofs.Lists.{zipping_on, done_none, done_next, done_all}
 use Rattle.machine_hub.proofs.Closing.{taking_from, next_seat, next_room, each_rises}
 use Rattle.machine_hub.proofs.hub.take_caller.Goals as goal

@@ -1,7 +1,8 @@
 use Rattle.std.proofs.Common.{◌≡◌, ◌++◌, map, length}
 use Rattle.std.specs.List.{AllByRecursion}
 use Rattle.std.specs.Vec.Iter.{into_iter_items, into_iter_len}
-use Rattle.otlp_prepare.specs.Found.{part_with, IsShort, IsValidRead}
+use Rattle.otlp_read.specs.RoundTrip.{IsShort}
+use Rattle.otlp_prepare.specs.Found.{part_with, IsValidRead}
 use Rattle.otlp_prepare.proofs.found.add_spans.Given as goal
 
 -- what was added and what is left are the whole, and what is left was read

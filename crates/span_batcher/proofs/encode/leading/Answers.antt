@@ -1,6 +1,6 @@
 use Rattle.std.proofs.Common.{◌≡◌, ◌+◌, ◌<◌, ◌∷◌, length, take, drop, sym, ◌∙◌, arith}
 use Rattle.std.specs.Borrow.{Bor}
-use Rattle.span_pool.specs.Keyed.{KeyedData, SpanTexts}
+use Rattle.span_pool.specs.Stored.{StoredData, SpanTexts}
 use Rattle.span_batcher.specs.ExportText.{runs}
 use Rattle.span_batcher.specs.Texts.{span_in, spans_in}
 use Rattle.span_batcher.proofs.Runs.{after, starts_in, goes_on_in, ends_in, stops_in}
@@ -9,12 +9,12 @@ use Rattle.span_batcher.proofs.encode.leading.Goals as goal
 
 pub loop-last-init : goal.loop-last-init
 loop-last-init g c =
-    let f : Bor KeyedData → SpanTexts = λ span. span_in c.args.texts.now span.now in
+    let f : Bor StoredData → SpanTexts = λ span. span_in c.args.texts.now span.now in
     record { within = c.requires; first = starts_in f g.L.Level.same c.args.spans.now c.requires }
 
 pub loop-last-preserved : goal.loop-last-preserved
 loop-last-preserved g c =
-    let f : Bor KeyedData → SpanTexts = λ span. span_in c.args.texts.now span.now in
+    let f : Bor StoredData → SpanTexts = λ span. span_in c.args.texts.now span.now in
     let within : c.loop-last.last + 1 < length c.args.spans.now = omega arith in
     record {
       within = within;
@@ -23,7 +23,7 @@ loop-last-preserved g c =
 
 pub returns-clause-first : goal.returns-clause-first
 returns-clause-first g c =
-    let f : Bor KeyedData → SpanTexts = λ span. span_in c.args.texts.now span.now in
+    let f : Bor StoredData → SpanTexts = λ span. span_in c.args.texts.now span.now in
     let spans = c.args.spans.now in
     let xs = spans_in c.args.texts.now spans in
     let same = g.L.Level.same in

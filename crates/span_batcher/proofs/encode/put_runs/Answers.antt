@@ -1,7 +1,7 @@
 use Rattle.std.proofs.Common.{◌≡◌, ℕ, ◌+◌, ◌≤◌, Bool, List, [], ◌∷◌, ◌++◌, length, map, take, drop, flat_map, sym, ap, ◌∙◌, subst, arith, append-nil}
 use Rattle.std.specs.Borrow.{Bor}
 use Rattle.std.proofs.lemmas.List.{take-map, drop-map, drop-drop, drop_all, length-map}
-use Rattle.span_pool.specs.Keyed.{KeyedData, SpanTexts}
+use Rattle.span_pool.specs.Stored.{StoredData, SpanTexts}
 use Rattle.span_batcher.specs.ExportText.{runs}
 use Rattle.span_batcher.specs.Texts.{span_in}
 use Rattle.span_batcher.proofs.Runs.{one_run}
@@ -25,7 +25,7 @@ all_written {A} {B} f same field spans start out whole all is =
 
 pub loop-start-preserved : goal.loop-start-preserved
 loop-start-preserved g c =
-    let f : Bor KeyedData → SpanTexts = λ span. span_in c.args.texts.now span.now in
+    let f : Bor StoredData → SpanTexts = λ span. span_in c.args.texts.now span.now in
     let same = g.L.Level.same in
     let spans = c.args.spans.now in
     let start = c.loop-start.start in
@@ -39,5 +39,5 @@ loop-start-preserved g c =
 
 pub returns : goal.returns
 returns g c =
-    let f : Bor KeyedData → SpanTexts = λ span. span_in c.args.texts.now span.now in
+    let f : Bor StoredData → SpanTexts = λ span. span_in c.args.texts.now span.now in
     all_written f g.L.Level.same g.L.Level.field c.args.spans.now c.loop-start.start c.loop-start.out.items _ c.loop-start-test.false c.loop-start.invariant.whole

@@ -3,7 +3,7 @@ use Rattle.std.proofs.lemmas.List.{drop_more, drop_all}
 use Rattle.std.specs.Borrow.{Bor}
 use Rattle.std.specs.Prelude.{option_copied}
 use Rattle.span_batcher.specs.Texts.{spans_in}
-use Rattle.span_pool.specs.Keyed.{KeyedData, SpanTexts}
+use Rattle.span_pool.specs.Stored.{StoredData, SpanTexts}
 use Rattle.tenant_stores.specs.Part.{part}
 use Rattle.tenant_stores.specs.View.{spans_at, shown}
 use Rattle.tenant_pipeline.proofs.Spans.{span_more}
@@ -17,6 +17,6 @@ loop-key-preserved c =
     let texts = c.args.stores.now.texts in
     let next : drop i keys ≡ get_or keys i 0 ∷ drop (i + 1) keys = drop_more keys i 0 c.loop-key-test.true in
     let there : p.spans (get_or keys i 0) ≡ Some c.in-Some.found.now = sym c.in-Some.ensures in
-    ap (λ (xs : List (Bor KeyedData)). spans_in texts xs ++ spans_at p.spans p.texts (drop (i + 1) keys)) c.in_ok-push.ensures.items
+    ap (λ (xs : List (Bor StoredData)). spans_in texts xs ++ spans_at p.spans p.texts (drop (i + 1) keys)) c.in_ok-push.ensures.items
     ∙ (span_more c.args.tenant c.args.stores.now c.loop-key.spans.items c.in-Some.found (get_or keys i 0) (drop (i + 1) keys) there
     ∙ (ap (λ (ks : List ℕ). spans_in texts c.loop-key.spans.items ++ spans_at p.spans p.texts ks) (sym next) ∙ c.loop-key.invariant))

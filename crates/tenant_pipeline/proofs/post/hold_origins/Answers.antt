@@ -1,7 +1,6 @@
 use Rattle.std.proofs.Common.{arith, ◌≡◌, ◌∙◌, ◌+◌, ◌++◌, ◌≤◌, ℕ, List, length, map, sym, ap, subst, append-nil}
 use Rattle.std.proofs.lemmas.List.{drop_all}
-use Rattle.span_pool.specs.Keyed.{origin_at}
-use Rattle.span_pool.specs.Stored.{bytes_of}
+use Rattle.span_pool.specs.Stored.{origin_at, bytes_of}
 use Rattle.tail_policy.specs.declared.note.TraceNote.{TraceNote}
 use Rattle.tenant_stores.specs.Counts.{Counts}
 use Rattle.tenant_stores.specs.Part.{Part, part}

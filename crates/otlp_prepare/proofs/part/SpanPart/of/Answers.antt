@@ -1,7 +1,7 @@
 use Rattle.std.proofs.Common.{◌≡◌, [], length, ℕ, List, sym, subst, arith}
+use Rattle.otlp_read.specs.RoundTrip.{IsShort}
 use Rattle.span_view.specs.Facts.{AreText}
 use Rattle.span_view.specs.Reading.{facts_of}
-use Rattle.otlp_prepare.specs.Found.{IsShort}
 use Rattle.otlp_prepare.proofs.Read.{alone_viewed, alone_sized}
 use Rattle.otlp_prepare.proofs.part.SpanPart.of.Goals as goal
 

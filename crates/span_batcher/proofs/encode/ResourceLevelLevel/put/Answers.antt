@@ -3,7 +3,7 @@ use Rattle.std.specs.Borrow.{Bor}
 use Rattle.std.proofs.lemmas.Option.{slice_get-map}
 use Rattle.std.proofs.lemmas.Result.{on_ok_weaker}
 use Rattle.otlp_trace.specs.Text.{bytes_field, some_bytes, embedded}
-use Rattle.span_pool.specs.Keyed.{KeyedData, SpanTexts}
+use Rattle.span_pool.specs.Stored.{StoredData, SpanTexts}
 use Rattle.span_batcher.specs.ExportText.{runs, same_scope, scope_spans_field}
 use Rattle.span_batcher.specs.Texts.{span_in, spans_in}
 use Rattle.span_batcher.proofs.Written.{wrapped, resource_field}
@@ -11,7 +11,7 @@ use Rattle.span_batcher.proofs.encode.ResourceLevelLevel.put.Goals as goal
 
 pub returns : goal.returns
 returns c =
-    let f : Bor KeyedData → SpanTexts = λ span. span_in c.args.texts.now span.now in
+    let f : Bor StoredData → SpanTexts = λ span. span_in c.args.texts.now span.now in
     let x : SpanTexts = f c.in-Some.first.now in
     let spans = spans_in c.args.texts.now c.args.spans.now in
     let out = c.args.out.now.items in

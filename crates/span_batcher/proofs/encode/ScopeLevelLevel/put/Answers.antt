@@ -3,19 +3,19 @@ use Rattle.std.specs.Borrow.{Bor}
 use Rattle.std.proofs.lemmas.Option.{slice_get-map}
 use Rattle.std.proofs.lemmas.Result.{on_ok_weaker}
 use Rattle.otlp_trace.specs.Text.{bytes_field, some_bytes, embedded, repeated}
-use Rattle.span_pool.specs.Keyed.{KeyedData, SpanTexts}
+use Rattle.span_pool.specs.Stored.{StoredData, SpanTexts}
 use Rattle.span_batcher.specs.Texts.{span_in, spans_in}
 use Rattle.span_batcher.proofs.Written.{repeated-map, wrapped, scope_field}
 use Rattle.span_batcher.proofs.encode.ScopeLevelLevel.put.Goals as goal
 
 pub returns : goal.returns
 returns c =
-    let f : Bor KeyedData → SpanTexts = λ span. span_in c.args.texts.now span.now in
+    let f : Bor StoredData → SpanTexts = λ span. span_in c.args.texts.now span.now in
     let x : SpanTexts = f c.in-Some.first.now in
     let spans = spans_in c.args.texts.now c.args.spans.now in
     let out = c.args.out.now.items in
     let inner = repeated 2 (λ (a : SpanTexts). a.text) spans in
-    let stored = repeated 2 (λ (span : Bor KeyedData). span.now.text) c.args.spans.now in
+    let stored = repeated 2 (λ (span : Bor StoredData). span.now.text) c.args.spans.now in
     let at : slice_get spans 0 ≡ Some x = slice_get-map f c.args.spans.now 0 ∙ ap (option_map f) (sym c.in-Some.ensures.value) in
     let texts : stored ≡ inner = sym (repeated-map 2 (λ (a : SpanTexts). a.text) f c.args.spans.now) in
     let start : c.len-start.result ≡ length out = omega (arith, c.len-start.ensures) in

@@ -2,7 +2,7 @@ use Rattle.std.proofs.Common.{◌≡◌, ◌+◌, ◌++◌, ◌∙◌, ℕ, List
 use Rattle.std.specs.Result.{OnOk, OnErr}
 use Rattle.drop_ledger.specs.Ledger.{LedgerData, taken}
 use Rattle.drop_ledger.specs.declared.places.Place.TheVariants.{Undecided}
-use Rattle.span_pool.specs.Keyed.{texts_of}
+use Rattle.span_pool.specs.Stored.{texts_of}
 use Rattle.span_pool.specs.declared.keys.TextKeys.{TextKeys}
 use Rattle.tail_policy.specs.declared.note.TraceNote.{TraceNote}
 use Rattle.tenant_stores.specs.declared.placed.Placed.{Placed}

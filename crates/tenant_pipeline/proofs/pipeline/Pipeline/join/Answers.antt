@@ -1,6 +1,6 @@
 use Rattle.std.proofs.Common.{◌≡◌, ◌<◌, ◌≤◌, ◌++◌, ◌∙◌, ℕ, List, refl, sym, ap, subst, Option, Some, None}
 use Rattle.drop_ledger.specs.Ledger.{LedgerData}
-use Rattle.span_pool.specs.Keyed.{texts_of}
+use Rattle.span_pool.specs.Stored.{texts_of}
 use Rattle.span_pool.specs.declared.keys.TextKeys.{TextKeys}
 use Rattle.tail_policy.specs.declared.note.TraceNote.{TraceNote}
 use Rattle.trace_rows.specs.declared.table.Row.{Row}

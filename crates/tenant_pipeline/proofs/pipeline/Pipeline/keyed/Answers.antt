@@ -1,5 +1,5 @@
 use Rattle.std.proofs.Common.{◌≡◌, ◌++◌, sym, subst}
-use Rattle.span_pool.specs.Keyed.{KeyedData, origin_at}
+use Rattle.span_pool.specs.Stored.{StoredData, origin_at}
 use Rattle.tenant_stores.specs.Part.{part}
 use Rattle.tenant_stores.specs.Sound.{IsSound}
 use Rattle.tenant_stores.specs.Trail.{HoldsAll}
@@ -9,13 +9,13 @@ use Rattle.tenant_pipeline.proofs.pipeline.Pipeline.keyed.Goals as goal
 pub returns-clause-own : goal.returns-clause-own
 returns-clause-own c = λ n pending held among sound.
     let tenant = c.args.self.now.tenant in
-    subst (λ (k : KeyedData). HoldsAll (text_keys k.keys) (part tenant c.args.stores.now) (part tenant c.hold_again.new.self)) (sym c.of.ensures)
+    subst (λ (k : StoredData). HoldsAll (text_keys k.keys) (part tenant c.args.stores.now) (part tenant c.hold_again.new.self)) (sym c.of.ensures)
     (c.in_ok-keys.ensures.own n pending held among sound)
 
 pub returns-clause-sound : goal.returns-clause-sound
 returns-clause-sound c = λ n pending held among sound.
     let tenant = c.args.self.now.tenant in
-    subst (λ (k : KeyedData). IsSound n pending (text_keys k.keys ++ held) (part tenant c.hold_again.new.self)) (sym c.of.ensures)
+    subst (λ (k : StoredData). IsSound n pending (text_keys k.keys ++ held) (part tenant c.hold_again.new.self)) (sym c.of.ensures)
     (c.in_ok-keys.ensures.sound n pending held among sound)
 
 pub returns-clause-texts : goal.returns-clause-texts
@@ -23,5 +23,5 @@ returns-clause-texts c = λ n pending held among sound.
     let tenant = c.args.self.now.tenant in
     let old = part tenant c.args.stores.now in
     let new = part tenant c.hold_again.new.self in
-    subst (λ (k : KeyedData). origin_at (text_at new.texts) k.keys ≡ origin_at (text_at old.texts) c.args.keys) (sym c.of.ensures)
+    subst (λ (k : StoredData). origin_at (text_at new.texts) k.keys ≡ origin_at (text_at old.texts) c.args.keys) (sym c.of.ensures)
     (c.in_ok-keys.ensures.texts n pending held among sound)

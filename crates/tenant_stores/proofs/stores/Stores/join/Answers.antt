@@ -1,5 +1,5 @@
 use Rattle.std.proofs.Common.{◌≡◌, ◌≢◌, ◌∙◌, ap, sym, subst, refl, arith, ℕ, suc, ◌+◌, ◌-◌, Option, Some, None}
-use Rattle.span_pool.specs.Keyed.{KeyedData}
+use Rattle.span_pool.specs.Stored.{StoredData}
 use Rattle.span_pool.specs.Pool.{with_span}
 use Rattle.span_pool.specs.Pool as pool
 use Rattle.tenant_stores.specs.Part.{part, owner_of}

@@ -1,0 +1,25 @@
+-- All seats are taken in.
+use Rattle.std.proofs.Common.{◌≡◌, ℕ, ◌+◌, ◌-◌, ◌<◌, ◌^◌, arith}
+use Rattle.atomic_table.specs.Seated.{TableId}
+use Rattle.machine_hub.specs.declared.view.SlotView.{SlotView}
+use Rattle.machine_hub.specs.declared.view.Standing.{Standing}
+use Rattle.machine_hub.specs.Slot.{all_parts, Taken}
+use Rattle.machine_hub.specs.Seats.{IsWholeRun}
+
+pub has_parts : (parts seats taken : ℕ) → parts ≡ all_parts - seats + taken → seats < 2 ^ 64 → 0 < parts
+has_parts parts seats taken is lt = omega arith
+
+pub has_all : (parts seats taken : ℕ) → parts ≡ all_parts - seats + taken → seats < 2 ^ 64 → taken ≡ seats → parts ≡ all_parts
+has_all parts seats taken is lt all = omega arith
+
+module _ {M S O : Type 0} (steps : M → S → O → M → Type 0) where
+  pub whole_run : (slot : TableId) (v w : SlotView M S O) (s : Standing M S O) (seats taken : ℕ) → v.parts ≡ all_parts → Taken steps v s w
+      → IsWholeRun steps (record { slot = slot; home = v.home; seats = seats; taken = taken; calls = v.calls; bare = v.bare; refused = v.refused }) s
+  whole_run slot v w s seats taken all t =
+      let whole = t.4 all in record {
+        run = t.1 (omega (arith, all));
+        each = whole.each;
+        blank = t.3 (omega (arith, all));
+        blame = whole.blame;
+        stops = whole.stops;
+      }

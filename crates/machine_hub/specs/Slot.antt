@@ -1,0 +1,168 @@
+-- The rule of a slot: it holds a machine with its log, or one seat has it out. The machine that `specs/Seats` is proved
+-- by.
+use Rattle.std.specs.Prelude.{◌≡◌, ℕ, ◌+◌, ◌-◌, ◌^◌, ◌<◌, List, [], ◌∷◌, ◌++◌, length, Bool, true, false, Option, Some, None, IfSome, sum_by, flat_map}
+use mathlib.Core.Option.{some}
+use lib.ListN.{get_elem?}
+use Rattle.numbered_items.specs.Numbered.{AreFrom, AreAllOf}
+use Rattle.machine_hub.specs.declared.entry.Entry.{Entry}
+use Rattle.machine_hub.specs.declared.view.Home.{Home}
+use Rattle.machine_hub.specs.declared.view.SlotView.{SlotView}
+use Rattle.machine_hub.specs.declared.view.Standing.{Standing}
+use Rattle.machine_hub.specs.Runs.{HasRun}
+
+-- more parts than a slot can have seats
+abbrev pub all_parts : ℕ
+all_parts = 2 ^ 64
+
+module _ {M S O : Type 0} where
+  -- what a pass knows
+  abbrev pub seat_view : ℕ → Home M → Option (Standing M S O) → List (ℕ × Entry S O) → ℕ → ℕ → SlotView M S O
+  seat_view parts home held calls bare refused =
+      record { parts = parts; home = home; held = held; calls = calls; bare = bare; refused = refused }
+
+  -- what a machine is at first
+  abbrev pub home_of : Standing M S O → Home M
+  home_of s = record { number = s.number; start = s.machine; keeps = s.keeps }
+
+  -- no machine
+  abbrev pub no_standing : M → Standing M S O
+  no_standing m = record { number = 0; machine = m; entries = []; keeps = true; stopped = false }
+
+  -- who makes the slot holds a machine that nobody has seen
+  abbrev pub maker : M → SlotView M S O
+  maker m = seat_view all_parts (home_of (no_standing m)) (Some (no_standing m)) [] 0 0
+
+  -- a pass that is spent
+  abbrev pub spent_view : M → SlotView M S O
+  spent_view m = seat_view 0 (home_of (no_standing m)) None [] 0 0
+
+  -- how many machines a seat has out
+  abbrev pub held_count : Option (Standing M S O) → ℕ
+  held_count None = 0
+  held_count (Some s) = 1
+
+  -- a part is cut off for a new seat
+  abbrev pub without_part : SlotView M S O → SlotView M S O
+  without_part v = seat_view (v.parts - 1) v.home v.held v.calls v.bare v.refused
+
+  abbrev pub newcomer : SlotView M S O → SlotView M S O
+  newcomer v = seat_view 1 v.home None [] 0 0
+
+  -- one has taken in another
+  abbrev pub both_views : SlotView M S O → SlotView M S O → SlotView M S O
+  both_views v w =
+      seat_view (v.parts + w.parts) v.home v.held (w.calls ++ v.calls) (w.bare + v.bare) (w.refused + v.refused)
+
+  -- the machine came in, with an empty log
+  abbrev pub Opened : SlotView M S O → Standing M S O → SlotView M S O → Type 0
+  Opened v s w = w ≡ seat_view v.parts (home_of s) None [] 0 0
+
+  -- the machine came back, with an entry more
+  abbrev pub Logged : SlotView M S O → Standing M S O → SlotView M S O → Type 0
+  Logged v s w =
+      (old : Standing M S O) × (e : Entry S O) × (v.held ≡ Some old) × (s.entries ≡ old.entries ++ e ∷ [])
+      × (w ≡ seat_view v.parts v.home None (v.calls ++ (length old.entries, e) ∷ []) v.bare v.refused)
+
+  -- the machine came back after a call without an entry
+  abbrev pub Passed : SlotView M S O → Standing M S O → SlotView M S O → Type 0
+  Passed v s w = w ≡ seat_view v.parts v.home None v.calls (v.bare + 1) v.refused
+
+  -- the machine came back after it was refused memory
+  abbrev pub Stopped : SlotView M S O → Standing M S O → SlotView M S O → Type 0
+  Stopped v s w = w ≡ seat_view v.parts v.home None v.calls v.bare (v.refused + 1)
+
+  -- the machine came back as it was
+  abbrev pub Returned : SlotView M S O → Standing M S O → SlotView M S O → Type 0
+  Returned v s w = w ≡ seat_view v.parts v.home None v.calls v.bare v.refused
+
+  -- who has the machine out knows that the slot is empty
+  abbrev pub IsOut : SlotView M S O → List (Standing M S O) → Type 0
+  IsOut v items = (s : Standing M S O) → v.held ≡ Some s → items ≡ []
+
+  -- who has all parts and not the machine knows that it is in the slot
+  abbrev pub IsIn : SlotView M S O → List (Standing M S O) → Type 0
+  IsIn v items = v.parts ≡ all_parts → v.held ≡ None → length items ≡ 1
+
+  -- these are all calls: each entry is one call's, and the log is stopped just where memory was refused
+  pub record IsWhole (v : SlotView M S O) (s : Standing M S O) : Type 0 where
+    pub each : AreAllOf s.entries v.calls
+    pub blame : s.stopped ≡ true → 0 < v.refused
+    pub stops : 0 < v.refused → s.stopped ≡ true
+
+module _ {M S O : Type 0} (steps : M → S → O → M → Type 0) where
+  -- it is the machine of this home: what it did is a run from the home's start
+  abbrev pub IsAtHome : Home M → Standing M S O → Type 0
+  IsAtHome home s = (s.number ≡ home.number) × (s.keeps ≡ home.keeps) × HasRun steps home s
+
+  -- it has these entries
+  abbrev pub IsState : Home M → List (Entry S O) → Bool → Standing M S O → Type 0
+  IsState home entries stopped s = IsAtHome home s × (s.entries ≡ entries) × (s.stopped ≡ stopped)
+
+  -- the same of each
+  abbrev pub AreStates : Home M → List (Entry S O) → Bool → List (Standing M S O) → Type 0
+  AreStates home entries stopped [] = Unit {0}
+  AreStates home entries stopped (s ∷ ss) = IsState home entries stopped s × AreStates home entries stopped ss
+
+  -- what a view has to do with the machine
+  pub record Fits (home : Home M) (entries : List (Entry S O)) (stopped : Bool) (v : SlotView M S O) : Type 0 where
+    pub homed : 0 < v.parts → v.home ≡ home
+    pub out : IfSome v.held (IsState home entries stopped)
+    pub blank : home.keeps ≡ true → 0 < v.bare → stopped ≡ true
+    pub stops : 0 < v.refused → stopped ≡ true
+    pub idle : v.parts ≡ 0 → (v.held ≡ None) × (v.calls ≡ []) × (v.bare ≡ 0) × (v.refused ≡ 0)
+
+  -- the rule
+  pub record IsSlot (items : List (Standing M S O)) (views : List (SlotView M S O)) : Type 0 where
+    pub home : Home M
+    pub entries : List (Entry S O)
+    pub stopped : Bool
+    pub parts : sum_by (λ v. v.parts) views ≡ all_parts
+    pub one : length items + sum_by (λ v. held_count v.held) views ≡ 1
+    pub stands : AreStates home entries stopped items
+    pub calls : AreAllOf entries (flat_map (λ v. v.calls) views)
+    pub blame : stopped ≡ true → 0 < sum_by (λ v. v.refused) views
+    pub fits : (i : ℕ) (v : SlotView M S O) → get_elem? views i ≡ some v → Fits home entries stopped v
+
+  -- the machine went out. Its log has all calls of this seat, and what it did is a run
+  abbrev pub Taken : SlotView M S O → Standing M S O → SlotView M S O → Type 0
+  Taken v s w =
+      (w ≡ seat_view v.parts v.home (Some s) v.calls v.bare v.refused)
+      × (0 < v.parts → IsAtHome v.home s) × AreFrom s.entries v.calls
+      × (0 < v.parts → v.home.keeps ≡ true → 0 < v.bare → s.stopped ≡ true)
+      × (v.parts ≡ all_parts → IsWhole v s)
+
+  -- the machine that this seat has out, after a step with an entry
+  pub record IsLoggedBy (v : SlotView M S O) (s : Standing M S O) : Type 0 where
+    pub old : Standing M S O
+    pub step : S
+    pub outcome : O
+    pub part : 0 < v.parts
+    pub held : v.held ≡ Some old
+    pub same : (s.number ≡ old.number) × (s.keeps ≡ old.keeps)
+    pub entries : s.entries ≡ old.entries ++ record { step = step; outcome = outcome } ∷ []
+    pub was : old.stopped ≡ false
+    pub now : s.stopped ≡ false
+    pub stepped : steps old.machine step outcome s.machine
+
+  -- the machine that this seat has out, after a step without an entry
+  pub record IsPassedBy (v : SlotView M S O) (s : Standing M S O) : Type 0 where
+    pub old : Standing M S O
+    pub step : S
+    pub outcome : O
+    pub part : 0 < v.parts
+    pub held : v.held ≡ Some old
+    pub same : (s.number ≡ old.number) × (s.keeps ≡ old.keeps)
+    pub entries : s.entries ≡ old.entries
+    pub stays : s.stopped ≡ old.stopped
+    pub why : old.keeps ≡ true → old.stopped ≡ true
+    pub stepped : steps old.machine step outcome s.machine
+
+module _ {M S O : Type 0} where
+  -- the machine that this seat has out, after it was refused memory
+  pub record IsStoppedBy (v : SlotView M S O) (s : Standing M S O) : Type 0 where
+    pub old : Standing M S O
+    pub part : 0 < v.parts
+    pub held : v.held ≡ Some old
+    pub same : (s.number ≡ old.number) × (s.keeps ≡ old.keeps)
+    pub entries : s.entries ≡ old.entries
+    pub now : s.stopped ≡ true

@@ -1,0 +1,158 @@
+//! A machine with its log.
+
+ghost use Rattle.std.specs.Prelude.{◌≡◌, ◌+◌, ◌<◌, [], length, true, false, IfOk, OnErr, option_map};
+ghost use Rattle.std.specs.Arc.{arc_value};
+ghost use Rattle.machine_hub.specs.Runs.{IsMade};
+
+use crate::entry::{Entry, EntryOf};
+use crate::log::StepLog;
+use crate::machine::Machine;
+use std::alloc::{AllocError, Global};
+use std::marker::Model;
+use std::sync::Arc;
+
+/// An entry and its position in the log, from 0.
+pub type Given<M> = Option<(u64, Arc<EntryOf<M>, Global>)>;
+
+/// A machine with its log. Unless the log is stopped it has each step that was made, where it keeps steps at all. It is
+/// stopped by the first want of memory, and from then on it takes no more entries.
+#[derive(Drop)]
+pub struct LoggedMachine<M: Machine, L: StepLog<M>> {
+    number: u32,
+    machine: M,
+    log: L,
+    // How many entries the log has.
+    made: u64,
+    stopped: bool,
+}
+
+impl<M: Machine, L: StepLog<M>> Model for LoggedMachine<M, L> {
+    ghost use Rattle.machine_hub.specs.declared.view.Standing.{Standing};
+
+    ghost Value = { Standing M M.Step M.Outcome };
+
+    ghost use Rattle.std.specs.Prelude.{◌≡◌, length};
+
+    ghost view = { λ s. record {
+      number = s.number;
+      machine = s.machine;
+      entries = L.entries s.log;
+      keeps = L.keeping s.log;
+      stopped = s.stopped;
+    } };
+
+    ghost invariant = { λ s. s.made ≡ length (L.entries s.log) };
+}
+
+impl<M: Machine, L: StepLog<M>> LoggedMachine<M, L> {
+    /// A machine with an empty log. `number` tells it from others.
+    pub fn new(machine: M, log: L, number: u32) -> LoggedMachine<M, L>
+        requires { L.entries log ≡ [] }
+        ensures { (result.number ≡ number) × (result.machine ≡ machine) × (result.entries ≡ [])
+            × (result.keeps ≡ L.keeping log) × (result.stopped ≡ false) }
+    {
+        LoggedMachine {
+            number,
+            machine,
+            log,
+            made: 0,
+            stopped: false,
+        }
+    }
+
+    /// Makes one step and logs it. Answers the outcome, and the entry with its position; none where the log keeps
+    /// nothing or is stopped. Where memory is refused the log is stopped from then on: the step isn't done, unless it
+    /// was the entry that found no room.
+    pub fn apply(
+        &mut self,
+        alloc: Global,
+        call: M::Call,
+    ) -> Result<(M::Outcome, Given<M>), AllocError>
+        ensures made { IfOk result (λ r. IsMade M.asks M.steps call self.old self.new r.0
+            (option_map (λ given. (given.0, arc_value given.1)) r.1)) }
+        ensures refused { OnErr result ((self.new.entries ≡ self.old.entries) × (self.new.stopped ≡ true)) }
+        ensures same { (self.new.number ≡ self.old.number) × (self.new.keeps ≡ self.old.keeps) }
+    {
+        if self.stopped {
+            let (_step, outcome) = self.machine.make(alloc, call)?;
+            return Ok((outcome, None));
+        }
+        let made = self.make_and_log(alloc, call);
+        if made.is_err() {
+            self.stopped = true;
+        }
+        made
+    }
+
+    /// Makes one step and logs it, where the log isn't stopped.
+    fn make_and_log(
+        &mut self,
+        alloc: Global,
+        call: M::Call,
+    ) -> Result<(M::Outcome, Given<M>), AllocError>
+        requires { self.old.stopped ≡ false }
+        ensures made { IfOk result (λ r. IsMade M.asks M.steps call self.old self.new r.0
+            (option_map (λ given. (given.0, arc_value given.1)) r.1)) }
+        ensures refused { OnErr result (self.new.entries ≡ self.old.entries) }
+        ensures same { (self.new.number ≡ self.old.number) × (self.new.keeps ≡ self.old.keeps) }
+    {
+        self.log.room(alloc, self.number)?;
+        let (step, outcome) = self.machine.make(alloc, call)?;
+        if !self.log.keeps() {
+            return Ok((outcome, None));
+        }
+        let copy = M::copied(&outcome)?;
+        let kept = self.log.keep(
+            alloc,
+            Entry {
+                step,
+                outcome: copy,
+            },
+        )?;
+        let position = self.made;
+        self.made = position + 1;
+        Ok((outcome, Some((position, kept))))
+    }
+
+    /// Whether the question's answer is yes. It makes no step.
+    pub fn tell(&self, question: &M::Question) -> bool
+        ensures { result ≡ M.is_so self.now.machine question.now }
+    {
+        self.machine.tell(question)
+    }
+
+    /// Which machine it is.
+    pub fn number(&self) -> u32
+        ensures { result ≡ self.now.number }
+    {
+        self.number
+    }
+
+    /// How many entries its log has.
+    pub fn made(&self) -> u64
+        ensures { result ≡ length self.now.entries }
+    {
+        self.made
+    }
+
+    /// Whether its log takes no more entries.
+    pub fn stopped(&self) -> bool
+        ensures { result ≡ self.now.stopped }
+    {
+        self.stopped
+    }
+
+    /// The machine and its log.
+    pub fn into_parts(self) -> (M, L)
+        ensures { (result.0 ≡ self.machine) × (L.entries result.1 ≡ self.entries) }
+    {
+        let LoggedMachine {
+            number: _,
+            machine,
+            log,
+            made: _,
+            stopped: _,
+        } = self;
+        (machine, log)
+    }
+}

@@ -1,0 +1,4 @@
+mod Words
+mod Going
+mod Seeding
+mod Runs

@@ -1,0 +1,4 @@
+pub mod Words
+pub mod Worded
+pub mod Drawing
+pub mod Run

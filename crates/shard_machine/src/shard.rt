@@ -1,0 +1,167 @@
+//! The shard with its tenants' generators.
+
+ghost use Rattle.std.specs.Prelude.{◌≡◌, ℕ, List, [], ◌∷◌, ◌++◌, IfOk, OnOk, OnErr};
+ghost use Rattle.tail_settings.specs.Settings.{settings_view};
+ghost use Rattle.tenant_shard.specs.Lists.{ShardStands};
+ghost use Rattle.tenant_shard.specs.Table.{opened};
+ghost use Rattle.shard_machine.specs.Worded.{AreSeeded, AsksFor};
+ghost use Rattle.shard_machine.specs.Drawing.{IsReady};
+
+use crate::copy::copy_of;
+use crate::step::{Call, WordOf, WordedStep};
+use crate::words::Words;
+use machine_hub::Machine;
+use std::alloc::{AllocError, Global};
+use std::marker::{Model, PhantomData};
+use tail_settings::Settings;
+use tenant_shard::{Outcome, Shard, Step};
+
+/// A shard, and a generator of words for each of its tenants. The settings outlive it, since bodies that are posted to
+/// it borrow their policies.
+#[derive(Drop)]
+pub struct WordedShard<'a> {
+    shard: Shard,
+    words: Words,
+    settings: PhantomData<&'a Settings>,
+}
+
+impl<'a> Model for WordedShard<'a> {
+    ghost use Rattle.shard_machine.specs.Worded.{Worded, AreMembers};
+
+    ghost Value = { Worded };
+
+    ghost view = { λ s. record { views = s.shard; words = s.words } };
+
+    ghost invariant = { λ s. AreMembers s.words s.shard };
+}
+
+impl<'a> WordedShard<'a> {
+    /// A shard of the tenants of the settings whose numbers stand in `members`, with no steps so far, each with a
+    /// generator at the start of its seed.
+    pub fn open(
+        alloc: Global,
+        settings: &'a Settings,
+        members: &[u32],
+    ) -> Result<WordedShard<'a>, AllocError>
+        ensures stands { IfOk result (λ s. ShardStands (opened (settings_view settings.now) members.now) s.views) }
+        ensures words { IfOk result (λ s. AreSeeded (settings_view settings.now) members.now s.words) }
+    {
+        let shard = Shard::open(alloc, settings, members)?;
+        let words = seeded(alloc, settings, members)?;
+        Ok(WordedShard {
+            shard,
+            words,
+            settings: PhantomData,
+        })
+    }
+}
+
+impl<'a> Machine for WordedShard<'a> {
+    ghost use Rattle.std.specs.Prelude.{[]};
+    ghost use Rattle.tenant_shard.specs.Empty.{is_empty};
+    ghost use Rattle.tenant_shard.specs.View.{kept_of};
+    ghost use Rattle.shard_machine.specs.Worded.{AsksFor, WordedDoes};
+    ghost use Rattle.shard_machine.specs.Drawing.{IsLost};
+
+    type Call = Call<'a>;
+
+    type Step = WordedStep<'a>;
+
+    type Outcome = Outcome;
+
+    type Question = u32;
+
+    ghost nowhere = { record { views = []; words = [] } };
+
+    ghost asks = { AsksFor };
+
+    ghost steps = { WordedDoes };
+
+    ghost is_so = { λ s tenant. is_empty (kept_of tenant s.views) };
+
+    fn make(
+        &mut self,
+        _alloc: Global,
+        call: Call<'a>,
+    ) -> Result<(WordedStep<'a>, Outcome), AllocError>
+        ensures asked { IfOk result (λ made. AsksFor call.entry made.0) }
+        ensures made { IfOk result (λ made. WordedDoes self.old made.0 made.1 self.new) }
+        ensures refused { OnErr result (IsLost call.entry self.old self.new) }
+    {
+        let made = ready(&mut self.words, call);
+        let outcome = self.shard.step(&made.step)?;
+        Ok((made, outcome))
+    }
+
+    fn tell(&self, tenant: &u32) -> bool {
+        self.shard.is_empty(*tenant)
+    }
+
+    fn copied(outcome: &Outcome) -> Result<Outcome, AllocError>
+        ensures { IfOk result (λ copy. copy ≡ outcome.now) }
+    {
+        copy_of(outcome)
+    }
+}
+
+/// The step that a call asks for, with the word that its tenant draws.
+fn ready<'a>(words: &mut Words, call: Call<'a>) -> WordedStep<'a>
+    ensures asked { AsksFor call.entry result }
+    ensures words { IsReady result.word result.step words.old words.new }
+{
+    match call {
+        Call::Step(step) => WordedStep {
+            step,
+            word: WordOf::Caller,
+        },
+        Call::Answer {
+            tenant,
+            now,
+            ticket,
+            answer,
+        } => match words.draw(tenant) {
+            Some(word) => WordedStep {
+                step: Step::Answer {
+                    tenant,
+                    now,
+                    ticket,
+                    word,
+                    answer,
+                },
+                word: WordOf::Generator,
+            },
+            None => WordedStep {
+                step: Step::Answer {
+                    tenant,
+                    now,
+                    ticket,
+                    word: 0,
+                    answer,
+                },
+                word: WordOf::Nobody,
+            },
+        },
+    }
+}
+
+/// A generator for each tenant of the settings whose number stands in `members`.
+fn seeded(alloc: Global, settings: &Settings, members: &[u32]) -> Result<Words, AllocError>
+    ensures { IfOk result (AreSeeded (settings_view settings.now) members.now) }
+{
+    let mut words = Words::new(alloc);
+    for tenant in members {
+        seed_member(settings, &mut words, *tenant)?;
+    }
+    Ok(words)
+}
+
+/// A generator for a tenant of the settings.
+fn seed_member(settings: &Settings, words: &mut Words, tenant: u32) -> Result<(), AllocError>
+    ensures { OnOk result ((earlier : List ℕ) → AreSeeded (settings_view settings.now) earlier words.old →
+        AreSeeded (settings_view settings.now) (earlier ++ tenant ∷ []) words.new) }
+{
+    if let Some(section) = settings.section(tenant) {
+        words.seed(tenant, section.seed)?;
+    }
+    Ok(())
+}

@@ -1,4 +1,0 @@
-pub mod Kept
-mod Moves
-mod Stepping
-mod Ending

@@ -1,7 +1,0 @@
-use Rattle.std.proofs.Common.{rules}
-use Rattle.shared_machine.proofs.Moves.{takes, learns_in}
-use Rattle.shared_machine.proofs.Ending.{has_parts}
-use Rattle.shared_machine.proofs.slot.SlotKeeper.finish.Goals as goal
-
-pub pop_as-requires-clause-rule : goal.pop_as-requires-clause-rule
-pop_as-requires-clause-rule g c = let i = c.self.invariant in (takes _ _ _ (has_parts _ _ _ i.2 (search rules)) i.3, learns_in _ _ _)

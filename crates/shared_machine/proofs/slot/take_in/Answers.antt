@@ -1,5 +1,0 @@
-use Rattle.shared_machine.proofs.Moves.{merges}
-use Rattle.shared_machine.proofs.slot.take_in.Goals as goal
-
-pub absorb-requires-clause-rule : goal.absorb-requires-clause-rule
-absorb-requires-clause-rule g c = merges _ _ _ _ _ _ c.requires.root.1 c.last.invariant.2

@@ -1,3 +1,0 @@
-pub mod Runs
-pub mod Slot
-pub mod Seats

@@ -1,3 +1,0 @@
-mod Going
-mod Seeding
-mod Runs

@@ -1,5 +1,0 @@
-use Rattle.worded_machine.proofs.Runs.{shard_runs}
-use Rattle.worded_machine.proofs.runs_are_shard_runs.Goals as goal
-
-pub returns : goal.returns
-returns c = shard_runs

@@ -1,8 +1,0 @@
-use Rattle.std.proofs.Common.{refl, sym, ◌∙◌}
-use Rattle.worded_machine.proofs.Going.{no_generator}
-use Rattle.worded_machine.proofs.shard.ready.Goals as goal
-
-pub returns-in-None-clause-words : goal.returns-in-None-clause-words
-returns-in-None-clause-words c =
-    let none = no_generator _ (sym c.draw.ensures.word_is ∙ c.in-None.is) in
-    (refl, none, c.draw.ensures.kept none)

@@ -1,7 +1,0 @@
-use Rattle.std.proofs.Common.{take}
-use Rattle.tail_settings.specs.Settings.{settings_view}
-use Rattle.worded_machine.specs.Worded.{AreSeeded}
-use Rattle.worded_machine.proofs.shard.seeded.Given as goal
-
-abbrev pub invariant-loop-tenant : goal.invariant-loop-tenant
-invariant-loop-tenant l = AreSeeded (settings_view l.settings) (take l.tenant-index l.members) l.words

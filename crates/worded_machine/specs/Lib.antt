@@ -1,3 +1,0 @@
-pub mod Worded
-pub mod Drawing
-pub mod Run
