@@ -22,44 +22,24 @@ fn with_dropped(alloc: Global, count: u8) -> Result<Bytes, Fail> {
     Ok(Bytes::from_vec(body)?)
 }
 
-/// Whether the parts of this body hold it.
-fn are_slices(alloc: Global, body: &Bytes) -> Result<bool, Fail> {
-    let parts = read_parts(alloc, body)?;
-    let held = !body.is_unique();
-    Ok(held && parts.resources.len() == 1)
-}
-
-#[test]
-fn slices_make_up_half_of_what_they_hold(rt: HostRuntime) -> Result<(), Fail> {
-    let alloc = rt.alloc();
-    assert!(rt; are_slices(alloc, &Bytes::copy_from_slice(alloc, &SPAN)?)?);
-    // A span of 28 bytes, of 56 and of 57.
-    assert!(rt; are_slices(alloc, &with_dropped(alloc, 20)?)?);
-    assert!(rt; !are_slices(alloc, &with_dropped(alloc, 21)?)?);
-    assert!(rt; !are_slices(alloc, &with_dropped(alloc, 100)?)?);
-    Ok(())
-}
-
-#[test]
-fn a_body_is_let_go_with_its_parts(rt: HostRuntime) -> Result<(), Fail> {
-    let alloc = rt.alloc();
-    let body = Bytes::copy_from_slice(alloc, &SPAN)?;
-    assert!(rt; are_slices(alloc, &body)?);
-    assert!(rt; body.is_unique());
-    Ok(())
-}
-
-/// How many bytes of the body's parts are slices of it.
+/// How many bytes of the body's parts are slices of it, which hold it where there are any.
 fn sliced(alloc: Global, body: &Bytes) -> Result<usize, Fail> {
     let parts = read_parts(alloc, body)?;
+    if body.is_unique() != (parts.sliced == 0) {
+        return Err("the body is held without slices of it, or not held by them".into());
+    }
     Ok(parts.sliced)
 }
 
 #[test]
-fn slices_are_counted(rt: HostRuntime) -> Result<(), Fail> {
-    let alloc = rt.alloc();
-    assert!(rt; sliced(alloc, &Bytes::copy_from_slice(alloc, &SPAN)?)? == 28);
-    assert!(rt; sliced(alloc, &with_dropped(alloc, 21)?)? == 0);
+fn slices_make_up_half_of_what_they_hold(rt: HostRuntime) -> Result<(), Fail> {
+    // A span of 28 bytes, in bodies of 36, of 56, of 57 and of 136.
+    for (dropped, slices) in [(0u8, 28), (20, 28), (21, 0), (100, 0)] {
+        let body = with_dropped(rt.alloc(), dropped)?;
+        assert!(rt; sliced(rt.alloc(), &body)? == slices);
+        // It is let go with its parts.
+        assert!(rt; body.is_unique());
+    }
     Ok(())
 }
 
@@ -77,19 +57,22 @@ const WRITTEN: [(&[u8], &[u8]); 3] = [
     ),
 ];
 
+/// A body whose long message has to be written anew, and the span behind it.
+fn written_anew(alloc: Global, front: &[u8], back: &[u8]) -> Result<Bytes, Fail> {
+    let mut body = Vec::new(alloc);
+    body.extend_from_slice(front)?;
+    body.extend_from_slice(&[0x2e; 60])?;
+    body.extend_from_slice(back)?;
+    body.extend_from_slice(&SPAN[6..])?;
+    Ok(Bytes::from_vec(body)?)
+}
+
 /// What is written of a message isn't a slice, however long it is: what is left of slices is less than half.
 #[test]
 fn what_is_written_is_no_slice(rt: HostRuntime) -> Result<(), Fail> {
-    let alloc = rt.alloc();
     for (front, back) in WRITTEN {
-        let mut body = Vec::new(alloc);
-        body.extend_from_slice(front)?;
-        body.extend_from_slice(&[0x2e; 60])?;
-        body.extend_from_slice(back)?;
-        body.extend_from_slice(&SPAN[6..])?;
-        let body = Bytes::from_vec(body)?;
-        assert!(rt; !are_slices(alloc, &body)?);
-        assert!(rt; sliced(alloc, &body)? == 0);
+        let body = written_anew(rt.alloc(), front, back)?;
+        assert!(rt; sliced(rt.alloc(), &body)? == 0);
     }
     Ok(())
 }

@@ -15,6 +15,7 @@ use Rattle.pb_wire.proofs.Whole.{fields_whole}
 use Rattle.otlp_trace.specs.Data.{SpanData}
 use Rattle.otlp_trace.specs.Examples.{example_bytes, example_request}
 use Rattle.otlp_read.specs.declared.fault.ReadFault.{ReadFault}
+use Rattle.otlp_read.specs.Numbers.{utf8}
 use Rattle.otlp_read.specs.Walk.{Known, Piece, no_pieces, more_pieces, walk_in, walk, read_with}
 use Rattle.otlp_read.specs.AnyValue.{read_any, read_array, read_list, read_key_value}
 use Rattle.otlp_read.specs.Value.{no_span, span_known, value_of}

@@ -1,5 +1,5 @@
 use Rattle.std.proofs.Common.{length}
 use Rattle.codec_tests.proofs.wire.told.Given as goal
 
-abbrev pub decreases-loop-numbers : goal.decreases-loop-numbers
-decreases-loop-numbers g l = length l.left
+abbrev pub decreases-loop-told : goal.decreases-loop-told
+decreases-loop-told g l = length l.left

@@ -72,8 +72,8 @@ a_and_b =
       sections = All-cons HasSection a (b ∷ []) section_is (All-cons HasSection b [] section_is (All-nil HasSection));
     }
 
-pub returns-clause-sound : goal.returns-clause-sound
-returns-clause-sound c = record {
+pub returns : goal.returns
+returns c = record {
   smallest_is = record {
     global = record {
       shards = (lit≤ tt, lit≤ tt);
