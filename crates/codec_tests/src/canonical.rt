@@ -9,7 +9,10 @@ use otlp_read::{
     resource_is_typed, scope_is_typed, span_is_typed, written_request_reads_back,
     written_resource_reads_back, written_scope_reads_back, written_span_reads_back,
 };
-use otlp_trace::{write_request, write_resource, write_scope, write_span};
+use otlp_trace::{
+    ExportTraceServiceRequest, InstrumentationScope, Resource, Span, write_request, write_resource,
+    write_scope, write_span,
+};
 use std::alloc::Global;
 use std::test::Fail;
 
@@ -203,13 +206,33 @@ fn is_canonical(kind: Kind, room: u32, text: &[u8]) -> bool {
     }
 }
 
-/// What is written of a span that is read. The laws of what was read are called, here and below.
+/// The laws of what was read, called once.
+fn laws_of_span(span: &Span) {
+    span_is_typed(span);
+    written_span_reads_back(span);
+}
+
+fn laws_of_resource(resource: &Resource) {
+    resource_is_typed(resource);
+    written_resource_reads_back(resource);
+}
+
+fn laws_of_scope(scope: &InstrumentationScope) {
+    scope_is_typed(scope);
+    written_scope_reads_back(scope);
+}
+
+fn laws_of_request(request: &ExportTraceServiceRequest) {
+    request_is_typed(request);
+    written_request_reads_back(request);
+}
+
+/// What is written of a span that is read.
 fn span_again(alloc: Global, text: &[u8], room: u32) -> Result<Vec<u8>, ReadFault>
     requires { room ≤ 101 }
 {
     let span = read_span(alloc, text, room)?;
-    span_is_typed(&span);
-    written_span_reads_back(&span);
+    laws_of_span(&span);
     let mut out = Vec::new(alloc);
     write_span(alloc, &mut out, &span)?;
     Ok(out)
@@ -219,8 +242,7 @@ fn resource_again(alloc: Global, text: &[u8], room: u32) -> Result<Vec<u8>, Read
     requires { room ≤ 101 }
 {
     let resource = read_resource(alloc, text, room)?;
-    resource_is_typed(&resource);
-    written_resource_reads_back(&resource);
+    laws_of_resource(&resource);
     let mut out = Vec::new(alloc);
     write_resource(alloc, &mut out, &resource)?;
     Ok(out)
@@ -230,8 +252,7 @@ fn scope_again(alloc: Global, text: &[u8], room: u32) -> Result<Vec<u8>, ReadFau
     requires { room ≤ 101 }
 {
     let scope = read_scope(alloc, text, room)?;
-    scope_is_typed(&scope);
-    written_scope_reads_back(&scope);
+    laws_of_scope(&scope);
     let mut out = Vec::new(alloc);
     write_scope(alloc, &mut out, &scope)?;
     Ok(out)
@@ -239,8 +260,7 @@ fn scope_again(alloc: Global, text: &[u8], room: u32) -> Result<Vec<u8>, ReadFau
 
 fn request_again(alloc: Global, text: &[u8]) -> Result<Vec<u8>, ReadFault> {
     let request = read_request(alloc, text)?;
-    request_is_typed(&request);
-    written_request_reads_back(&request);
+    laws_of_request(&request);
     let mut out = Vec::new(alloc);
     write_request(alloc, &mut out, &request)?;
     Ok(out)

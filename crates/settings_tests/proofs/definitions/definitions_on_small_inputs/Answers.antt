@@ -74,31 +74,33 @@ a_and_b =
 
 pub returns : goal.returns
 returns c = record {
-  smallest_is = record {
-    global = record {
-      shards = (lit≤ tt, lit≤ tt);
-      parts = (lit≤ tt, lit≤ tt);
-      receivers = (lit≤ tt, lit≤ tt);
-      senders = (lit≤ tt, lit≤ tt);
-      lane_size = (lit≤ tt, lit≤ tt);
-      listen = refl;
-      tenant_header = refl;
+  sound = record {
+    smallest_is = record {
+      global = record {
+        shards = (lit≤ tt, lit≤ tt);
+        parts = (lit≤ tt, lit≤ tt);
+        receivers = (lit≤ tt, lit≤ tt);
+        senders = (lit≤ tt, lit≤ tt);
+        lane_size = (lit≤ tt, lit≤ tt);
+        listen = refl;
+        tenant_header = refl;
+      };
+      some_tenant = lit< tt;
+      few_tenants = lit≤ tt;
+      few_spans = lit≤ tt;
+      tenants = one_is;
     };
-    some_tenant = lit< tt;
-    few_tenants = lit≤ tt;
-    few_spans = lit≤ tt;
-    tenants = one_is;
+    slow_is = lit≤ tt;
+    slow_is_not = λ sound. let short : 1099511627777 ≤ 2 ^ 40 = sound in omega (arith, short);
+    no_values = λ sound. let some : 1 ≤ 0 = sound.1.0 in omega (arith, some);
+    batch_is = record {
+      send_batch_size = (lit≤ tt, lit≤ tt);
+      timeout = lit≤ tt;
+      send_batch_max_size = lit≤ tt;
+      none_or_more = λ more. lit≤ tt;
+    };
+    batch_is_not = λ sound. let below : 8192 ≤ 8191 = sound.none_or_more (lit< tt) in omega (arith, below);
+    tenants_are = a_and_b;
+    tenants_are_not = λ sound. sound.distinct 0 1 (named (codes "a")) (lit< tt) (lit< tt) refl;
   };
-  slow_is = lit≤ tt;
-  slow_is_not = λ sound. let short : 1099511627777 ≤ 2 ^ 40 = sound in omega (arith, short);
-  no_values = λ sound. let some : 1 ≤ 0 = sound.1.0 in omega (arith, some);
-  batch_is = record {
-    send_batch_size = (lit≤ tt, lit≤ tt);
-    timeout = lit≤ tt;
-    send_batch_max_size = lit≤ tt;
-    none_or_more = λ more. lit≤ tt;
-  };
-  batch_is_not = λ sound. let below : 8192 ≤ 8191 = sound.none_or_more (lit< tt) in omega (arith, below);
-  tenants_are = a_and_b;
-  tenants_are_not = λ sound. sound.distinct 0 1 (named (codes "a")) (lit< tt) (lit< tt) refl;
 }
