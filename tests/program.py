@@ -10,6 +10,7 @@ import select
 import subprocess
 import sys
 import tempfile
+import tomllib
 from pathlib import Path
 
 HERE = Path(__file__).resolve().parent.parent
@@ -155,6 +156,38 @@ UNKNOWN = [
 ]
 
 
+POLICIES = [
+    {"type": "always_sample"},
+    {"type": "latency", "threshold_ms": 5000},
+    {"type": "status_code", "status_codes": ["ERROR", "UNSET", "OK"]},
+    {"type": "string_attribute", "key": "http.route", "values": ["/cart", "/checkout"]},
+    {"type": "numeric_attribute", "key": "http.response.status_code", "min_value": 500, "max_value": 599},
+    {"type": "and", "and_sub_policy": [{"type": "latency", "threshold_ms": 1000},
+                                       {"type": "status_code", "status_codes": ["ERROR"]}]},
+]
+SHOP = {"decision_wait_ms": 10000, "num_traces": 20000, "policy": [
+    {"type": "status_code", "status_codes": ["ERROR"]},
+    {"type": "latency", "threshold_ms": 2000},
+    {"type": "and", "and_sub_policy": [
+        {"type": "string_attribute", "key": "payment.state", "values": ["declined", "timeout"]},
+        {"type": "numeric_attribute", "key": "payment.amount", "min_value": 100, "max_value": 2**63 - 1}]},
+]}
+# the keys of the tenants of examples/ that aren't as in the smallest document
+IN_EXAMPLES = {
+    "two-tenants.toml": [{"name": "checkout", "endpoint": "10.0.0.11:4318"},
+                         {"name": "search", "endpoint": "10.0.0.12:4318", "max_spans": 20000}],
+    "errors-and-slow-traces.toml": [{"name": "shop", "endpoint": "tracing.internal:4318", "tail_sampling": SHOP}],
+    "everything.toml": [{"name": "everything",
+                         "tail_sampling": {"decision_wait_ms": 30000, "num_traces": 50000, "policy": POLICIES}}],
+}
+
+
+def in_force(*tenants):
+    """All settings, where those of the tenants differ in these keys from those of the smallest document."""
+    smallest = tomllib.loads(IN_FORCE)
+    return {**smallest, "tenant": [{**smallest["tenant"][0], **tenant} for tenant in tenants]}
+
+
 def checks():
     """What `check` says of documents; what it prints of a good one is a document that it says the same of."""
     with tempfile.TemporaryDirectory() as folder:
@@ -185,6 +218,8 @@ def checks():
             status, out = said(example.read_text())
             check(f"{example.name} is good", (status, "# warning" in out), (0, False))
             check(f"{example.name} twice", said(out), (0, out))
+            if example.name in IN_EXAMPLES:
+                check(f"what {example.name} says", tomllib.loads(out), in_force(*IN_EXAMPLES[example.name]))
         with open("/dev/full", "wb") as full:
             check("a full disk at a check", ended(["check", SETTINGS], stdout=full), (1, None, b"input or output fault\n"))
 
@@ -258,6 +293,49 @@ def page_of_faults():
     check("keys of the page", of_kind, set(re.findall('Key::\\w+ => "(\\w+)"', KEYS.read_text())))
 
 
+TABLES = HERE / "tests/settings"
+# what is told of a key whose value is a number, by the value
+NUMBER = {"settings": (), "settings fault 13 ": ("-9223372036854775808", "9223372036854775807"),
+          "settings fault 12 ": ('"1"', "1.0", "true", "[1]", "{}", "2026-11-22")}
+
+
+def numbers_of(row):
+    """The cases of a row of tests/settings/numbers.txt."""
+    key, rest = row.split(" ", 1)
+    fine, out = (numbers.split(" ") for numbers in rest.split(" not "))
+    for (told, more), values in zip(NUMBER.items(), (fine, out, [])):
+        for value in (*values, *more):
+            yield f"{told}{key if more else ''}\n{key} = {value}"
+
+
+def cases_of(file):
+    """Of each case of a table of tests/settings/ the line that is told and the document."""
+    for section in file.read_text().split("\n====\n"):
+        before, cases, after = section.split("\n----\n")
+        if file.name == "numbers.txt":
+            cases = [case for row in cases.splitlines() for case in numbers_of(row)]
+        else:
+            cases = cases.split("\n\n")
+        for case in cases:
+            told, _, part = case.partition("\n")
+            text = before + part + after
+            yield told, re.sub(r"\^(\d+)\^([^^]*)\^", lambda repeated: repeated[2] * int(repeated[1]), text)
+
+
+def tables_of_settings():
+    """What is told of each document of tests/settings/, and of a thousand tenants and one more."""
+    tenants = [TENANT.replace('"a"', f'"t{number}"') for number in range(1001)]
+    cases = [("settings", "".join(tenants[:1000])), ("settings fault 15", "".join(tenants))]
+    cases += [case for file in sorted(TABLES.glob("*.txt")) for case in cases_of(file)]
+    check("documents of tests/settings/", len(cases), 387)
+    with tempfile.TemporaryDirectory() as folder:
+        file = Path(folder, "settings.toml")
+        for told, text in cases:
+            file.write_text(text)
+            wanted = (0, b"", b"") if told == "settings" else (1, b"", f"{told}\n".encode())
+            check(text, ended(["replay", str(file)]), wanted)
+
+
 def answer(run, line, most=4096):
     """What the program prints within ten seconds of a line, so many bytes at most."""
     run.stdin.write(line)
@@ -322,6 +400,7 @@ faults()
 course()
 checks()
 page_of_faults()
+tables_of_settings()
 answers_at_once()
 print("the program prints and ends as it has to" if not failed else f"{failed} wrong")
 sys.exit(min(failed, 1))

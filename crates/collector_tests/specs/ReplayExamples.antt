@@ -5,16 +5,8 @@ use Rattle.tail_settings.specs.Fault.{not_toml}
 use Rattle.tail_settings.specs.Examples.{default_global}
 use Rattle.tail_settings.specs.Settings.{SettingsData, TenantData, settings_of}
 use Rattle.tail_settings.specs.declared.fault.SettingsFault.TheVariants.{NotToml, TooMany}
-<<<<<<< HEAD
 use Rattle.send_retry.specs.Class.{Failed}
 use Rattle.collector_tests.specs.Parts.{plain, body}
-=======
-use Rattle.send_retry.specs.Class.{Http, Failed}
-use Rattle.tenant_rules.specs.Own.{Own}
-use Rattle.tenant_rules.specs.Own as own
-use Rattle.processor_tests.specs.Parts.{plain, span, body}
-use Rattle.tenant_shard.specs.declared.step.Outcome.TheVariants as outcome
->>>>>>> storetests
 use Rattle.replay_script.specs.Command.{Post, Turn, Answer, Report, Drain}
 use Rattle.trace_collector.specs.declared.engine.ReplayFault.TheVariants.{Settings, Script, Line, OutOfMemory}
 use Rattle.trace_collector.specs.Script.{ScriptText, BeginsScriptText}

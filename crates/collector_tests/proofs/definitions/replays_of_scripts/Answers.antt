@@ -7,19 +7,11 @@ use Rattle.tail_settings.specs.Settings.{SettingsData, settings_of}
 use Rattle.send_retry.specs.Class.{Failed}
 use Rattle.tenant_rules.specs.Own.{Own}
 use Rattle.tenant_rules.specs.Own as own
-<<<<<<< HEAD:crates/collector_tests/proofs/definitions/replays_of_scripts/Answers.antt
-=======
-use Rattle.processor_tests.specs.Parts.{body}
->>>>>>> storetests:crates/collector_tests/proofs/replay_definitions/definitions_on_small_replays/Answers.antt
 use Rattle.tenant_shard.specs.declared.step.Outcome.{Outcome}
 use Rattle.tenant_shard.specs.declared.step.Outcome.TheVariants as outcome
 use Rattle.tenant_shard.specs.Outcomes.{OwnStep, plain as plain_step}
 use Rattle.tenant_shard.specs.Pick.{ready_after, ready_at}
 use Rattle.shard_agenda.specs.Pick.{NotAfter}
-<<<<<<< HEAD:crates/collector_tests/proofs/definitions/replays_of_scripts/Answers.antt
-=======
-use Rattle.processor_tests.proofs.OnLiterals.{values_on_literals, pipelines_on_literals}
->>>>>>> storetests:crates/collector_tests/proofs/replay_definitions/definitions_on_small_replays/Answers.antt
 use Rattle.replay_script.proofs.OnLiterals.{script_on_literals, answers_on_literals}
 use Rattle.replay_script.specs.Command.{Post, Turn, Answer, Report, Drain}
 use Rattle.replay_script.specs.Line.{lines_of}

@@ -1,0 +1,93 @@
+//! When bodies that were prepared are equal.
+
+use crate::sections::{ALWAYS, THREE, section_of};
+use bytes::Bytes;
+use otlp_prepare::{Prepared, equal_bodies_are_the_same, prepare};
+use std::alloc::Global;
+use std::test::Fail;
+use std::thread::Threads;
+use tail_settings::Section;
+
+/// One span of a resource without attributes.
+const ONE: &str = "0a220a00121e121c0a100000000000000000000000000000000112080000000000000001";
+
+/// The same, whose schemas have empty URLs, with a scope spans without spans and a resource spans without any.
+const SAME: &str = "\
+0a280a001a0012001220121c0a1000000000000000000000000000000001120800000000000000011a000a00";
+
+/// Others, one by one: no resource, another resource, a scope, a schema, a span id, a trace id, a span more, and one
+/// that isn't valid beside it.
+const OTHERS: &str = "\
+0a20121e121c0a100000000000000000000000000000000112080000000000000001\n\
+0a270a050a030a0161121e121c0a100000000000000000000000000000000112080000000000000001\n\
+0a240a0012200a00121c0a100000000000000000000000000000000112080000000000000001\n\
+0a250a001a0175121e121c0a100000000000000000000000000000000112080000000000000001\n\
+0a220a00121e121c0a100000000000000000000000000000000112080000000000000002\n\
+0a220a00121e121c0a100000000000000000000000000000000212080000000000000001\n\
+0a400a00123c121c0a100000000000000000000000000000000112080000000000000001\
+121c0a100000000000000000000000000000000112080000000000000001\n\
+0a240a001220121c0a1000000000000000000000000000000001120800000000000000011200";
+
+/// The body that these digits spell, prepared for a tenant.
+fn ready<'a, R: Threads + Sync>(
+    rt: &R,
+    alloc: Global,
+    tenant: u32,
+    section: &'a Section,
+    digits: &str,
+) -> Result<Prepared<'a>, Fail> {
+    let body = Bytes::from_vec(hex::decode(alloc, digits)?)?;
+    Ok(prepare(rt, alloc, tenant, section, body, 1)?)
+}
+
+/// Whether a body is equal to `ONE` for the same tenant.
+fn is_as_one<R: Threads + Sync>(
+    rt: &R,
+    alloc: Global,
+    section: &Section,
+    digits: &str,
+) -> Result<bool, Fail> {
+    let one = ready(rt, alloc, 1, section, ONE)?;
+    let other = ready(rt, alloc, 1, section, digits)?;
+    Ok(one == other && other == one)
+}
+
+#[test]
+fn bodies_are_equal_by_their_value(rt: HostRuntime) -> Result<(), Fail> {
+    let section = section_of(rt.alloc(), THREE)?;
+    assert!(rt; is_as_one(&rt, rt.alloc(), &section, ONE)?);
+    assert!(rt; is_as_one(&rt, rt.alloc(), &section, SAME)?);
+    assert_eq!(rt; OTHERS.lines().count(), 8);
+    for line in OTHERS.lines() {
+        assert!(rt; !is_as_one(&rt, rt.alloc(), &section, line)?, "{line}");
+    }
+    Ok(())
+}
+
+/// Whether a body is told from the same one for another tenant and for other policies.
+fn differs_by_tenant_and_policies<R: Threads + Sync>(
+    rt: &R,
+    alloc: Global,
+    three: &Section,
+    always: &Section,
+) -> Result<bool, Fail> {
+    let one = ready(rt, alloc, 1, three, ONE)?;
+    let second = ready(rt, alloc, 2, three, ONE)?;
+    let other = ready(rt, alloc, 1, always, ONE)?;
+    equal_bodies_are_the_same(&one, &other);
+    Ok(
+        one != second
+            && second.tenant() == 2
+            && one != other
+            && one.has_policies(three.tail_sampling.policies.as_slice())
+            && !one.has_policies(always.tail_sampling.policies.as_slice()),
+    )
+}
+
+#[test]
+fn bodies_of_other_tenants_and_policies_differ(rt: HostRuntime) -> Result<(), Fail> {
+    let three = section_of(rt.alloc(), THREE)?;
+    let always = section_of(rt.alloc(), ALWAYS)?;
+    assert!(rt; differs_by_tenant_and_policies(&rt, rt.alloc(), &three, &always)?);
+    Ok(())
+}

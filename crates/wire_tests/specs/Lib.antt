@@ -1,2 +1,0 @@
-pub mod MessageExamples
-pub mod WireExamples
