@@ -10,8 +10,9 @@ ghost use Rattle.shared_hub.specs.declared.fault.HubFault.TheVariants as faults;
 
 use crate::copy::copy_of;
 use crate::fault::{CallersMissing, HubFault};
+use crate::log::OptionalLog;
 use crate::shards::shards_of;
-use crate::{Caller, HubKeeper, OptionalLog, ShardLog};
+use crate::{Caller, HubKeeper, ShardLog};
 use machine_hub::{Hub, Receipt};
 use send_retry::Answer;
 use shard_machine::{Call, WordedShard, runs_are_shard_runs, words_are_in_order};

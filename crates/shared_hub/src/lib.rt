@@ -15,19 +15,18 @@ ghost use Rattle.shared_hub.specs.Logs.{EachCallEndsARun, LogsTellByOwnSteps};
 mod copy;
 mod fault;
 mod hub;
+mod log;
 mod shards;
 
 pub use fault::{CallersMissing, HubFault};
 pub use hub::SharedHub;
+pub use log::OptionalLog;
 pub use machine_hub::Receipt;
 pub use shard_machine::{Call, WordOf, WordedShard, WordedStep};
 use tenant_shard::Outcome;
 
 /// A step that was made, and what it gave.
 pub type Entry<'a> = machine_hub::Entry<WordedStep<'a>, Outcome>;
-
-/// What keeps a shard's entries, or nothing.
-pub type OptionalLog<'a> = machine_hub::OptionalLog<WordedShard<'a>>;
 
 /// Who calls a hub, one for each thread.
 pub type Caller<'a> = machine_hub::Caller<WordedShard<'a>, OptionalLog<'a>>;

@@ -6,7 +6,8 @@ ghost use Rattle.machine_hub.specs.Hub.{AreNew, homes_of};
 ghost use Rattle.shared_hub.specs.Shards.{AreOpened, kept};
 
 use crate::ShardLog;
-use machine_hub::{LoggedMachine, OptionalLog};
+use crate::log::OptionalLog;
+use machine_hub::LoggedMachine;
 use shard_machine::WordedShard;
 use std::alloc::{AllocError, Global};
 use tail_settings::Settings;

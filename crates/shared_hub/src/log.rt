@@ -1,0 +1,80 @@
+//! The log of a shard.
+
+ghost use Rattle.std.specs.Prelude.{◌≡◌, ◌<◌, ◌+◌, ◌^◌, ◌++◌, ◌∷◌, [], map, length, true, false, IfOk, OnOk, OnErr};
+ghost use Rattle.std.specs.Prelude.{vec_len, vec_capacity};
+ghost use Rattle.std.specs.Arc.{arc_value};
+
+use machine_hub::{Entry, StepLog};
+use shard_machine::{WordedShard, WordedStep};
+use std::alloc::{AllocError, Global};
+use std::sync::Arc;
+use tenant_shard::Outcome;
+
+/// Keeps each entry, or nothing, as it was opened.
+///
+/// It stands beside `OptionalLog` of `machine_hub`, which is for machines that borrow nothing: the prover doesn't cover a call
+/// that passes that one at a shard's lifetime.
+#[derive(Drop)]
+pub struct OptionalLog<'a> {
+    pub keeps: bool,
+    /// Empty where it doesn't keep.
+    pub kept: Vec<Arc<Entry<WordedStep<'a>, Outcome>, Global>>,
+}
+
+impl<'a> OptionalLog<'a> {
+    /// A log without entries.
+    pub fn new(alloc: Global, keeps: bool) -> OptionalLog<'a>
+        ensures { (result.keeps ≡ keeps) × (map arc_value result.kept.items ≡ []) }
+    {
+        OptionalLog {
+            keeps,
+            kept: Vec::new(alloc),
+        }
+    }
+}
+
+impl<'a> StepLog<WordedShard<'a>> for OptionalLog<'a> {
+    ghost use Rattle.std.specs.Prelude.{map};
+    ghost use Rattle.std.specs.Arc.{arc_value};
+
+    ghost entries = { λ s. map arc_value s.kept.items };
+
+    ghost keeping = { λ s. s.keeps };
+
+    fn keeps(&self) -> bool {
+        self.keeps
+    }
+
+    fn room(&mut self, _alloc: Global, _number: u32) -> Result<(), AllocError>
+        ensures same { (map arc_value self.new.kept.items ≡ map arc_value self.old.kept.items)
+            × (self.new.keeps ≡ self.old.keeps) }
+        ensures room { OnOk result (length (map arc_value self.new.kept.items) + 1 < 2 ^ 64) }
+        ensures grown { OnOk result ((self.old.keeps ≡ true) → vec_len self.new.kept < vec_capacity self.new.kept) }
+    {
+        if !self.keeps {
+            return Ok(());
+        }
+        self.kept.reserve(1)
+    }
+
+    fn keep(
+        &mut self,
+        alloc: Global,
+        entry: Entry<WordedStep<'a>, Outcome>,
+    ) -> Result<Arc<Entry<WordedStep<'a>, Outcome>, Global>, AllocError>
+        ensures same { self.new.keeps ≡ self.old.keeps }
+        ensures kept { IfOk result (λ kept. (arc_value kept ≡ entry.entry)
+            × ((self.old.keeps ≡ true) →
+            map arc_value self.new.kept.items ≡ map arc_value self.old.kept.items ++ entry.entry ∷ [])) }
+        ensures nothing { (self.old.keeps ≡ false) →
+            map arc_value self.new.kept.items ≡ map arc_value self.old.kept.items }
+        ensures refused { OnErr result (map arc_value self.new.kept.items ≡ map arc_value self.old.kept.items) }
+    {
+        let theirs = Arc::new(alloc, entry)?;
+        if self.keeps {
+            let mine = Arc::try_clone(&theirs)?;
+            self.kept.push(mine)?;
+        }
+        Ok(theirs)
+    }
+}
