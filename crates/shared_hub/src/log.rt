@@ -12,8 +12,8 @@ use tenant_shard::Outcome;
 
 /// Keeps each entry, or nothing, as it was opened.
 ///
-/// It stands beside `OptionalLog` of `machine_hub`, which is for machines that borrow nothing: the prover doesn't cover a call
-/// that passes that one at a shard's lifetime.
+/// It stands beside `OptionalLog` of `machine_hub`, which is for machines that borrow nothing: the prover doesn't cover
+/// a call that passes that one at a shard's lifetime.
 #[derive(Drop)]
 pub struct OptionalLog<'a> {
     pub keeps: bool,
