@@ -5,4 +5,4 @@ use Rattle.processor_tests.proofs.policies.definitions_of_no_policies.Goals as g
 
 pub returns : goal.returns
 unfolding keeps verdict_of
-returns c = record { no_trace = refl; no_note = refl }
+returns c = record { none = record { no_trace = refl; no_note = refl } }
