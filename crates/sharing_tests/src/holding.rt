@@ -64,6 +64,6 @@ impl<M: Machine> StepLog<M> for HoldingLog {
             × ((false ≡ true) → no_entries M.Step M.Outcome ≡ no_entries M.Step M.Outcome ++ entry ∷ [])) }
         ensures refused { OnErr result (no_entries M.Step M.Outcome ≡ no_entries M.Step M.Outcome) }
     {
-        Arc::new(alloc, entry)
+        Ok(Arc::new(alloc, entry)?)
     }
 }
