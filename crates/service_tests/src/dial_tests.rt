@@ -55,8 +55,8 @@ fn push_body(told: &mut Vec<u8>, answer: &Answer) -> Result<(), AllocError> {
             body,
             ..
         } => told.extend_from_slice(body),
-        Answer::Http { .. } => told.push(b'?'),
-        Answer::Failed => told.push(b'-'),
+        Answer::Http { .. } => Ok(told.push(b'?')?),
+        Answer::Failed => Ok(told.push(b'-')?),
     }
 }
 

@@ -1,25 +1,26 @@
 //! Two threads at two shards at once.
 
-ghost use Rattle.std.specs.Prelude.{◌≡◌, ◌<◌, [], length, false, IfSome};
+ghost use Rattle.std.specs.Prelude.{◌≡◌, ◌<◌, [], length, false, IfOk};
 ghost use Rattle.machine_hub.specs.Hub.{slots_of};
 
 use crate::counter::Counter;
 use crate::holding::HoldingLog;
 use machine_hub::{Caller, Hub, LoggedMachine};
-use std::alloc::Global;
+use std::alloc::{AllocError, Global};
 use std::sync::atomic::{AtomicU64, Ordering};
 use std::sync::{Arc, Wait};
+use std::test::Fail;
 use std::thread::{Threads, join};
 
 /// A counter from 0 with a log that holds steps.
 fn held(
     returned: &Arc<AtomicU64, Global>,
     number: u32,
-) -> Option<LoggedMachine<Counter, HoldingLog>>
-    ensures { IfSome result (λ machine. (machine.entries ≡ []) × (machine.stopped ≡ false)) }
+) -> Result<LoggedMachine<Counter, HoldingLog>, AllocError>
+    ensures { IfOk result (λ machine. (machine.entries ≡ []) × (machine.stopped ≡ false)) }
 {
-    let returned = Arc::try_clone(returned).ok()?;
-    Some(LoggedMachine::new(Counter { count: 0 }, HoldingLog { returned }, number))
+    let returned = Arc::try_clone(returned)?;
+    Ok(LoggedMachine::new(Counter { count: 0 }, HoldingLog { returned }, number))
 }
 
 /// A call at a shard, after which `returned` counts one more. Gives what `returned` was when the call had its answer.
@@ -39,17 +40,18 @@ fn call<R: Wait>(
 }
 
 /// The call at shard 0 is held until the one at shard 1 has returned. How many calls had returned before each.
-fn two_threads<R: Threads + Wait + Sync>(rt: &R, alloc: Global) -> Option<(u64, u64)> {
-    let returned = Arc::new(alloc, AtomicU64::new(0)).ok()?;
+fn two_threads<R: Threads + Wait + Sync>(rt: &R, alloc: Global) -> Result<(u64, u64), Fail> {
+    let returned = Arc::new(alloc, AtomicU64::new(0))?;
     let mut machines = Vec::new(alloc);
-    machines.push(held(&returned, 0)?).ok()?;
-    machines.push(held(&returned, 1)?).ok()?;
-    let (hub, _keeper, mut callers) = Hub::open(rt, alloc, machines, 2).ok()?;
-    let one = callers.pop()?;
-    let two = callers.pop()?;
+    machines.push(held(&returned, 0)?)?;
+    machines.push(held(&returned, 1)?)?;
+    let (hub, _keeper, mut callers) = Hub::open(rt, alloc, machines, 2)?;
+    let (Some(one), Some(two)) = (callers.pop(), callers.pop()) else {
+        return Err("two callers".into());
+    };
     let shared = &hub;
     let counter = &*returned;
-    Some(join(
+    Ok(join(
         rt,
         move || -> u64
             requires { (0 < length shared.now) × (slots_of one ≡ shared.now) }
@@ -62,6 +64,7 @@ fn two_threads<R: Threads + Wait + Sync>(rt: &R, alloc: Global) -> Option<(u64, 
 
 /// A step on shard 0 that waits for one on shard 1 doesn't keep it from being made.
 #[test]
-fn shards_are_stepped_at_once(rt: HostRuntime) {
-    assert_eq!(rt; two_threads(&rt, rt.alloc()), Some((1, 0)));
+fn shards_are_stepped_at_once(rt: HostRuntime) -> Result<(), Fail> {
+    assert_eq!(rt; two_threads(&rt, rt.alloc())?, (1, 0));
+    Ok(())
 }

@@ -7,6 +7,7 @@ use crate::counter::Counter;
 use machine_hub::{Caller, Hub, LoggedMachine, OptionalLog};
 use std::alloc::Global;
 use std::sync::Wait;
+use std::test::Fail;
 use std::thread::{Threads, join};
 
 /// A caller, and the positions of its three calls.
@@ -50,12 +51,13 @@ fn three_calls<R: Wait>(
 fn two_threads<R: Threads + Wait + Sync>(
     rt: &R,
     alloc: Global,
-) -> Option<(u64, [u64; 3], [u64; 3])> {
+) -> Result<(u64, [u64; 3], [u64; 3]), Fail> {
     let mut machines = Vec::new(alloc);
-    machines.push(logged(alloc)).ok()?;
-    let (hub, keeper, mut callers) = Hub::open(rt, alloc, machines, 2).ok()?;
-    let one = callers.pop()?;
-    let two = callers.pop()?;
+    machines.push(logged(alloc))?;
+    let (hub, keeper, mut callers) = Hub::open(rt, alloc, machines, 2)?;
+    let (Some(one), Some(two)) = (callers.pop(), callers.pop()) else {
+        return Err("two callers".into());
+    };
     let shared = &hub;
     let (one, two) = join(
         rt,
@@ -72,15 +74,19 @@ fn two_threads<R: Threads + Wait + Sync>(
         caller,
         positions: ones,
     } = one;
-    callers.push(caller).ok()?;
+    callers.push(caller)?;
     let Took {
         caller,
         positions: others,
     } = two;
-    callers.push(caller).ok()?;
-    let mut shards = hub.close(rt, keeper, callers).ok()?;
-    let shard = shards.pop()?;
-    Some((shard.made(), ones, others))
+    callers.push(caller)?;
+    let Ok(mut shards) = hub.close(rt, keeper, callers) else {
+        return Err("all callers came".into());
+    };
+    let Some(shard) = shards.pop() else {
+        return Err("a shard".into());
+    };
+    Ok((shard.made(), ones, others))
 }
 
 /// A bit for each of the first six positions.
@@ -106,9 +112,10 @@ fn rise(positions: [u64; 3]) -> bool {
 
 /// Six calls of two threads are six entries, and nobody's receipts are another's.
 #[test]
-fn each_call_has_its_entry(rt: HostRuntime) {
-    let (entries, ones, others) = two_threads(&rt, rt.alloc()).unwrap_or((0, [0; 3], [0; 3]));
+fn each_call_has_its_entry(rt: HostRuntime) -> Result<(), Fail> {
+    let (entries, ones, others) = two_threads(&rt, rt.alloc())?;
     assert_eq!(rt; entries, 6);
     assert!(rt; rise(ones) && rise(others));
     assert_eq!(rt; bits(ones) | bits(others), 63);
+    Ok(())
 }

@@ -103,16 +103,12 @@ fn is_logged(alloc: Global, shard: ShardLog<'_>, next: &[u64; 2]) -> bool {
 }
 
 /// The same of both shards.
-fn are_logged(alloc: Global, mut logs: Vec<ShardLog<'_>>, next: &[u64; 2]) -> bool {
-    if logs.len() != 2 {
-        return false;
+fn are_logged(alloc: Global, logs: Vec<ShardLog<'_>>, next: &[u64; 2]) -> bool {
+    let mut is_well = logs.len() == 2;
+    for shard in logs {
+        is_well = is_logged(alloc, shard, next) && is_well;
     }
-    while let Some(shard) = logs.pop() {
-        if !is_logged(alloc, shard, next) {
-            return false;
-        }
-    }
-    true
+    is_well
 }
 
 /// Opens a hub, makes the calls of the story, closes it and looks at its logs.
@@ -175,9 +171,15 @@ fn call_after_all<R: Wait>(
     alloc: Global,
     settings: &Settings,
 ) -> Option<(Outcome, Option<Receipt>)> {
-    let (hub, keeper, mut callers) = SharedHub::open(rt, alloc, settings, 1, true).ok()?;
-    let mut away = callers.pop()?;
-    let hub = kept_open(rt, alloc, hub, keeper)?;
+    let Ok((hub, keeper, mut callers)) = SharedHub::open(rt, alloc, settings, 1, true) else {
+        return None;
+    };
+    let Some(mut away) = callers.pop() else {
+        return None;
+    };
+    let Some(hub) = kept_open(rt, alloc, hub, keeper) else {
+        return None;
+    };
     stepped(rt, alloc, &hub, &mut away, 1, Step::Turn { now: 0 })
 }
 
