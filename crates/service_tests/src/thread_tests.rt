@@ -9,6 +9,7 @@ use send_retry::Answer;
 use std::alloc::Global;
 use std::sync::Wait;
 use std::sync::atomic::{AtomicU64, Ordering};
+use std::test::Fail;
 use std::thread;
 use std::thread::{Threads, join};
 
@@ -99,10 +100,11 @@ fn send<R: Wait>(
 }
 
 /// Runs two senders at a lane with two jobs. How many answers each handed in, and how many of both were whole.
-fn send_both<R: Threads + Wait + Sync>(rt: &R, alloc: Global) -> Option<(u32, u32, u64)> {
-    let (lane, _keeper, mut seats) = Lane::open(alloc, 2, 2).ok()?;
-    let mut one = seats.pop()?;
-    let two = seats.pop()?;
+fn send_both<R: Threads + Wait + Sync>(rt: &R, alloc: Global) -> Result<(u32, u32, u64), Fail> {
+    let (lane, _keeper, mut seats) = Lane::open(alloc, 2, 2)?;
+    let (Some(mut one), Some(two)) = (seats.pop(), seats.pop()) else {
+        return Err("two seats".into());
+    };
     let _ = lane.push(rt, &mut one, job(0, 1));
     let _ = lane.push(rt, &mut one, job(0, 2));
     let answered = AtomicU64::new(0);
@@ -117,12 +119,13 @@ fn send_both<R: Threads + Wait + Sync>(rt: &R, alloc: Global) -> Option<(u32, u3
             requires { two.lane ≡ shared.now.name }
         { send(rt, alloc, shared, two, counter) },
     );
-    Some((one, two, answered.load(Ordering::SeqCst)))
+    Ok((one, two, answered.load(Ordering::SeqCst)))
 }
 
 /// A back end that holds the first answer back until the second job was answered keeps one sender, and not both: else
 /// one sender would hand in both, the first of them failed.
 #[test]
-fn a_back_end_that_holds_one_answer_does_not_hold_the_others(rt: HostRuntime) {
-    assert_eq!(rt; send_both(&rt, rt.alloc()), Some((1, 1, 2)));
+fn a_back_end_that_holds_one_answer_does_not_hold_the_others(rt: HostRuntime) -> Result<(), Fail> {
+    assert_eq!(rt; send_both(&rt, rt.alloc())?, (1, 1, 2));
+    Ok(())
 }

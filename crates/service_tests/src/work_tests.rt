@@ -1,10 +1,13 @@
 //! What a turner did, and what a sender did.
 
+ghost use Rattle.std.specs.Prelude.{◌≡◌};
+
 use crate::notes::{Answers, FewRounds, Tickets, Turns, job};
 use export_edge::{run_sender, run_turner};
-use job_lane::{Job, Lane};
+use job_lane::{Job, Lane, LaneSeat};
 use std::alloc::Global;
 use std::sync::Wait;
+use std::test::Fail;
 
 fn ticket(job: Option<Job>) -> u64 {
     match job {
@@ -43,12 +46,22 @@ fn jobs_are_pushed_in_order_and_kept_where_the_lane_is_full(rt: HostRuntime) {
     assert_eq!(rt; turned(&rt, rt.alloc()), Some(([3, 1, 2, 0], 3, 5, 2)));
 }
 
+/// Pushes a job, for which there is room.
+fn push<R: Wait>(rt: &R, lane: &Lane, seat: &mut LaneSeat, job: Job)
+    requires { seat.old.lane ≡ lane.now.name }
+    ensures { seat.new.lane ≡ seat.old.lane }
+{
+    let _ = lane.push(rt, seat, job);
+}
+
 /// Which tickets a sender posted, which answers it handed in, how often it paused, and how many jobs it took.
-fn sent<R: Wait>(rt: &R, alloc: Global) -> Option<(u64, u64, u32, u128)> {
-    let (lane, keeper, mut seats) = Lane::open(alloc, 2, 1).ok()?;
-    let mut seat = seats.pop()?;
-    let _ = lane.push(rt, &mut seat, job(7, 200));
-    let _ = lane.push(rt, &mut seat, job(8, 503));
+fn sent<R: Wait>(rt: &R, alloc: Global) -> Result<(u64, u64, u32, u128), Fail> {
+    let (lane, keeper, mut seats) = Lane::open(alloc, 2, 1)?;
+    let Some(mut seat) = seats.pop() else {
+        return Err("a seat".into());
+    };
+    push(rt, &lane, &mut seat, job(7, 200));
+    push(rt, &lane, &mut seat, job(8, 503));
     let mut back_end = Tickets { alloc, posted: 0 };
     let mut sink = Answers {
         refusals: 2,
@@ -61,16 +74,17 @@ fn sent<R: Wait>(rt: &R, alloc: Global) -> Option<(u64, u64, u32, u128)> {
         pauses: 0,
     };
     run_sender(rt, &lane, &mut seat, &mut back_end, &mut sink, &mut beat);
-    seats.push(seat).ok()?;
+    seats.push(seat)?;
     let taken = lane.close(rt, keeper, seats).taken;
-    Some((back_end.posted, sink.taken, beat.pauses, taken))
+    Ok((back_end.posted, sink.taken, beat.pauses, taken))
 }
 
 /// Two jobs of two tenants. The first answer is refused twice, and handed in at the third moment.
 #[test]
-fn jobs_are_posted_once_and_their_answers_handed_in(rt: HostRuntime) {
+fn jobs_are_posted_once_and_their_answers_handed_in(rt: HostRuntime) -> Result<(), Fail> {
     assert_eq!(rt;
-        sent(&rt, rt.alloc()),
-        Some((200_503, 73_200_200_84_503_503, 3, 2))
+        sent(&rt, rt.alloc())?,
+        (200_503, 73_200_200_84_503_503, 3, 2)
     );
+    Ok(())
 }
