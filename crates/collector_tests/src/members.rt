@@ -7,7 +7,7 @@ use std::alloc::Global;
 use std::test::Fail;
 use std::thread::Threads;
 use tail_settings::Settings;
-use tenant_shard::Shard;
+use tenant_shard::{Shard, members_of};
 
 /// A turn that finds no job says so once, and then nothing is due. Spans of no error are dropped. A body for other
 /// policies, and any step of a stranger, change nothing.
@@ -127,6 +127,8 @@ fn a_member_is_empty_once_its_batches_are_answered(rt: HostRuntime) -> Result<()
     let settings = settings_of(rt.alloc(), &[BASE, ERRORS])?;
     let mut shard = Shard::open(rt.alloc(), &settings, &[0])?;
     assert!(rt; shard.is_empty(0));
+    assert!(rt; members_of(rt.alloc(), &settings, 0)?.as_slice() == &[0, 1]);
+    assert!(rt; members_of(rt.alloc(), &settings, 1)?.is_empty());
     for line in HELD.lines() {
         assert!(rt;
             is_left(&rt, rt.alloc(), &settings, &mut shard, line)?,

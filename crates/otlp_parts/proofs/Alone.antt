@@ -9,20 +9,14 @@ use Rattle.otlp_trace.specs.Text.{bytes_field}
 use Rattle.otlp_read.specs.declared.fault.ReadFault.{ReadFault}
 use Rattle.otlp_read.specs.Stands.{Stands, no_field, unsound, behind}
 use Rattle.otlp_read.specs.Walk.{Step, Piece, Pieces, no_pieces, more_pieces, numbered, fold_fields, walk, read_with}
-use Rattle.otlp_read.proofs.Laws.{bind_ok, front_taken, apart}
+use Rattle.otlp_read.proofs.Laws.{bind_ok, begins_at, front_taken, front_failed, apart}
 use Rattle.otlp_read.proofs.Opened.{opened_at}
-use Rattle.otlp_read.proofs.Walks.{before_rest, turn_end, turn_fault}
-
-begins_at : (d : ℕ) (front rest : List ℕ) (field : Entry) → IsField d front field → next_at d (front ++ rest) ≡ Ok (Some (field, rest))
-begins_at d front rest field first = next_again d (front ++ rest) field rest (record { front = front; parts = refl; first = first })
-
-failed_at : {A : Type 0} (step : Step A) (d : ℕ) (a : A) (front rest : List ℕ) (e : Entry) (f : ReadFault) → IsField d front e → step a e front ≡ Err f → walk step d a (front ++ rest) ≡ Err f
-failed_at step d a front rest e f first failed = turn_fault step d a (front ++ rest) rest e f (begins_at d front rest e first) (ap (step a e) (before_rest front rest) ∙ failed)
+use Rattle.otlp_read.proofs.Walks.{turn_end}
 
 -- one field is taken, and that's all
 pub alone : {A : Type 0} (step : Step A) (d : ℕ) (a : A) (front : List ℕ) (e : Entry) → IsField d front e → (r : Result A ReadFault) → step a e front ≡ r → walk step d a front ≡ r
 alone step d a front e first (Ok b) is = ap (walk step d a) (sym (append-nil front)) ∙ front_taken step d a b front [] e first is ∙ turn_end step d b [] refl
-alone step d a front e first (Err f) is = ap (walk step d a) (sym (append-nil front)) ∙ failed_at step d a front [] e f first is
+alone step d a front e first (Err f) is = ap (walk step d a) (sym (append-nil front)) ∙ front_failed step d a front [] e f first is
 
 -- bytes as a field of this number
 pub one_field : {A : Type 0} (step : ℕ → Step A) (room n : ℕ) (a : A) (bs : List ℕ) → is_number n ≡ true → length bs < 2 ^ 64
@@ -56,6 +50,6 @@ rest_is d text rest field e first whole =
 pub fault_met : {A : Type 0} (step : Step A) (d : ℕ) {a : A} {bytes : List ℕ} {fault : ReadFault} → Stands step d a bytes fault → (e : Entry) → IsField d bytes e → walk step d a bytes ≡ Err fault
 fault_met step d (no_field {text = text} {wire = wire} faulty is) e whole =
     absurd (fault_or_fields d text wire (e ∷ []) faulty (subst (λ (t : List ℕ). Fields d t (e ∷ [])) (append-nil text) (more_fields whole no_fields)))
-fault_met step d (unsound {a = a} {text = text} {field = field} {fault = fault} rest first failed) e whole = failed_at step d a text rest field fault first failed
+fault_met step d (unsound {a = a} {text = text} {field = field} {fault = fault} rest first failed) e whole = front_failed step d a text rest field fault first failed
 fault_met step d (behind {b = b} {text = text} {rest = rest} {field = field} {fault = fault} first taken inner) e whole =
     absurd (nothing_stands step d b rest fault (rest_is d text rest field e first whole) inner)

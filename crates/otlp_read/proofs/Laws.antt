@@ -33,14 +33,14 @@ pub pieces_fields : {d : ℕ} {text : List ℕ} {pieces : List Piece} → Pieces
 pieces_fields no_pieces = no_fields
 pieces_fields (more_pieces first inner) = more_fields first (pieces_fields inner)
 
-begins_at : (d : ℕ) (front rest : List ℕ) (field : Entry) → IsField d front field → next_at d (front ++ rest) ≡ Ok (Some (field, rest))
+pub begins_at : (d : ℕ) (front rest : List ℕ) (field : Entry) → IsField d front field → next_at d (front ++ rest) ≡ Ok (Some (field, rest))
 begins_at d front rest field first = next_again d (front ++ rest) field rest (record { front = front; parts = refl; first = first })
 
 -- a field at the front is taken
 pub front_taken : {A : Type 0} (step : Step A) (d : ℕ) (a b : A) (front rest : List ℕ) (e : Entry) → IsField d front e → step a e front ≡ Ok b → walk step d a (front ++ rest) ≡ walk step d b rest
 front_taken step d a b front rest e first taken = turn_more step d a b (front ++ rest) rest e (begins_at d front rest e first) (ap (step a e) (before_rest front rest) ∙ taken)
 
-front_failed : {A : Type 0} (step : Step A) (d : ℕ) (a : A) (front rest : List ℕ) (e : Entry) (f : ReadFault) → IsField d front e → step a e front ≡ Err f → walk step d a (front ++ rest) ≡ Err f
+pub front_failed : {A : Type 0} (step : Step A) (d : ℕ) (a : A) (front rest : List ℕ) (e : Entry) (f : ReadFault) → IsField d front e → step a e front ≡ Err f → walk step d a (front ++ rest) ≡ Err f
 front_failed step d a front rest e f first failed = turn_fault step d a (front ++ rest) rest e f (begins_at d front rest e first) (ap (step a e) (before_rest front rest) ∙ failed)
 
 -- pieces are walked

@@ -134,10 +134,10 @@ link_sound F room x text are e = link_reads F room no_link x text are (fresh Nes
 
 -- ---- span
 
-empty_span : (room : ℕ) → NestedSpan (suc room) no_span
+pub empty_span : (room : ℕ) → NestedSpan (suc room) no_span
 empty_span room = record { attributes = tt; events = tt; links = tt; status = tt; unknown = nothing_kept span_known room }
 
-empty_span_typed : TypedSpan no_span
+pub empty_span_typed : TypedSpan no_span
 empty_span_typed = record { trace_state = IsUtf8-nil; name = IsUtf8-nil; kind = int32_fits 0; start_time_unix_nano = omega arith; end_time_unix_nano = omega arith; attributes = tt; dropped_attributes_count = omega arith; events = tt; dropped_events_count = omega arith; links = tt; dropped_links_count = omega arith; status = tt; flags = omega arith }
 
 span_fine : (F : Type 0) (room : ℕ) → FieldsFine F NestedSpan TypedSpan span_known room
