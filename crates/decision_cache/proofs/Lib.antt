@@ -1,0 +1,4 @@
+pub mod Lists
+pub mod Same
+pub mod Entries
+pub mod Hits

@@ -1,0 +1,4 @@
+pub mod Recent
+pub mod Ids
+pub mod Caches
+pub mod Law
