@@ -12,9 +12,11 @@ use Rattle.span_batcher.specs.Batches.{IsSound, Group, batches}
 use Rattle.span_batcher.specs.State as batcher
 use Rattle.span_batcher.specs.Machine.{cuts, uncut, added}
 use Rattle.tenant_rules.specs.Arrivals.{Arrival, trace_of}
-use Rattle.tenant_rules.specs.Rows.{Taken, Opened, Seat, Seated, present_seat, opened, seated}
+use Rattle.tenant_rules.specs.Rows.{Taken, Opened, Seat, Seated, Placed, Sits, seats, present_seat}
 use Rattle.tenant_rules.specs.Fate.{most_of, is_sampled, SettledData, WaitingData, settled, waiting, dropped, late_dropped, too_early}
-use Rattle.tenant_rules.specs.Groups.{decided, cut_short, late, by_moment, groups_of, groups}
+use Rattle.tenant_rules.specs.Decisions.{by_moment}
+use Rattle.tenant_rules.specs.Seating.{known, seating, opened, placed, seated}
+use Rattle.tenant_rules.specs.Groups.{decided, cut_short, late, groups_of, groups}
 use Rattle.tenant_rules.specs.Sender.{BatchData, SenderData, sizes, active_sizes}
 use Rattle.tenant_rules.specs.Batching.{rules_of, as_sent, all_sent, formed, pending, waiting_rows, spans_in}
 use Rattle.tenant_rules.specs.Intake.{IntakeData}
@@ -31,7 +33,7 @@ use Rattle.tenant_rules.proofs.Elapsed.{state_with, ended_met}
 use Rattle.tenant_rules.proofs.Closing.{one_more}
 use Rattle.tenant_rules.proofs.Lookups.{waits_at, sampled_at, waiting_found, settled_found}
 use Rattle.tenant_rules.proofs.Rooms.{rest_of, room_left, room_made}
-use Rattle.tenant_rules.proofs.Coming.{SeatedUpTo-seated, over_of, settled_same, waiting_same, decided_same, dropped_same, early_same, same_late, same_join, waiting_joined, early_joined, seat_found, opened_some, seated_some, opened_none, seated_none}
+use Rattle.tenant_rules.proofs.Coming.{SeatedUpTo-seated, over_of, settled_same, waiting_same, decided_same, dropped_same, early_same, same_late, same_join, waiting_joined, early_joined, seat_found, opened_some, placed_some, opened_none, placed_none}
 use Rattle.tenant_rules.proofs.Opening.{first_of, row_of, settled_first, waiting_first, decided_first, dropped_first, late_first, late_dropped_first, spans_append, early_first}
 
 -- ---- the counters
@@ -46,14 +48,14 @@ based_same l c c' t t' u u' p p' q x n n' f f' e1 e2 e3 e4 e5 e6 = cc (e1, e2, e
 -- of other spans, from those of these
 counts_came : (w : SectionData) (i : IntakeData) (B : List Taken) (e : ℕ) (D D' : SenderData) (P : Places) (f : ℕ) →
     ledger_at w (record i { spans = B }) e None D' (record P { queue_full = f })
-    ≡ set_counts (based (ledger_at w i e None D P) (length B) (too_early w (seated (most_of w) B) (opened (most_of w) B) (opened (most_of w) B))) (spans_in (waiting_rows w e None B)) (length (pending w e None B).spans) (sizes D'.queue) (active_sizes D'.active) (not_sampled w e None B) f
+    ≡ set_counts (based (ledger_at w i e None D P) (length B) (too_early w (seated w B) (opened w B) (opened w B))) (spans_in (waiting_rows w e None B)) (length (pending w e None B).spans) (sizes D'.queue) (active_sizes D'.active) (not_sampled w e None B) f
 unfolding ledger_at
 counts_came w i B e D D' P f = refl
 
 -- one more is counted, undecided at first
 counted : (w : SectionData) (i : IntakeData) (e : ℕ) (D : SenderData) (es : List EndedData) →
     taken 1 (ledger_at w i e None D (ended_places es))
-    ≡ set_counts (based (ledger_at w i e None D (ended_places es)) (length i.spans + 1) (too_early w (seated (most_of w) i.spans) (opened (most_of w) i.spans) (opened (most_of w) i.spans))) (spans_in (waiting_rows w e None i.spans) + 1) (length (pending w e None i.spans).spans) (sizes D.queue) (active_sizes D.active) (not_sampled w e None i.spans) (ended_places es).queue_full
+    ≡ set_counts (based (ledger_at w i e None D (ended_places es)) (length i.spans + 1) (too_early w (seated w i.spans) (opened w i.spans) (opened w i.spans))) (spans_in (waiting_rows w e None i.spans) + 1) (length (pending w e None i.spans).spans) (sizes D.queue) (active_sizes D.active) (not_sampled w e None i.spans) (ended_places es).queue_full
 unfolding ledger_at
 counted w i e D es = refl
 
@@ -65,8 +67,8 @@ parts_same s k k' S S' W W' P P' D L L' e1 e2 e3 e4 e5 = cc (e1, e2, e3, e4, e5)
 
 came_is : (w : SectionData) (i : IntakeData) (B : List Taken) (e : ℕ) (D : SenderData) (es : List EndedData) (new : List BatchData)
     (k : ℕ) (S : List SettledData) (W : List WaitingData) (P : batcher.State Arrival) (accepted early ns : ℕ) (L : LedgerData) →
-    length (opened (most_of w) B) ≡ k → settled w e None (seated (most_of w) B) (length (opened (most_of w) B)) (opened (most_of w) B) ≡ S → waiting_rows w e None B ≡ W → pending w e None B ≡ P →
-    length B ≡ accepted → too_early w (seated (most_of w) B) (opened (most_of w) B) (opened (most_of w) B) ≡ early → not_sampled w e None B ≡ ns →
+    length (opened w B) ≡ k → settled w e None (seated w B) (length (opened w B)) (opened w B) ≡ S → waiting_rows w e None B ≡ W → pending w e None B ≡ P →
+    length B ≡ accepted → too_early w (seated w B) (opened w B) (opened w B) ≡ early → not_sampled w e None B ≡ ns →
     L ≡ set_counts (based (ledger_at w i e None D (ended_places es)) accepted early) (spans_in W) (length P.spans) (sizes (all_offered new D).queue) (active_sizes (all_offered new D).active) ns ((ended_places es).queue_full + sizes (overflow new D)) →
     state_with w (record i { spans = B }) e None (all_offered new D) (map met_full_queue (overflow new D) ++ es)
     ≡ record (state_with w i e None D es) { opened = k; settled = S; waiting = W; pending = P; sender = all_offered new D; ledger = L }
@@ -75,46 +77,46 @@ came_is w i B e D es new k S W P accepted early ns L opens settles waits pends t
     let D' = all_offered new D in
     let f = (ended_places es).queue_full + sizes (overflow new D) in
     let now : ledger_at w (record i { spans = B }) e None D' (ended_places (map met_full_queue (overflow new D) ++ es))
-    ≡ set_counts (based l (length B) (too_early w (seated (most_of w) B) (opened (most_of w) B) (opened (most_of w) B))) (spans_in (waiting_rows w e None B)) (length (pending w e None B).spans) (sizes D'.queue) (active_sizes D'.active) (not_sampled w e None B) f =
+    ≡ set_counts (based l (length B) (too_early w (seated w B) (opened w B) (opened w B))) (spans_in (waiting_rows w e None B)) (length (pending w e None B).spans) (sizes D'.queue) (active_sizes D'.active) (not_sampled w e None B) f =
     ap (λ (q : Places). ledger_at w (record i { spans = B }) e None D' q) (ended_met (overflow new D) es) ∙ counts_came w i B e D D' (ended_places es) f in
     let same = based_same l (length B) accepted _ early (spans_in (waiting_rows w e None B)) (spans_in W) (length (pending w e None B).spans) (length P.spans) (sizes D'.queue) (active_sizes D'.active) (not_sampled w e None B) ns f f
     takes evicts (ap spans_in waits) (ap (λ (q : batcher.State Arrival). length q.spans) pends) drops refl in
     let ledger_is : ledger_at w (record i { spans = B }) e None D' (ended_places (map met_full_queue (overflow new D) ++ es)) ≡ L = now ∙ (same ∙ sym counts) in
-    parts_same (state_with w i e None D es) (length (opened (most_of w) B)) k _ S (waiting_rows w e None B) W (pending w e None B) P D' (ledger_at w (record i { spans = B }) e None D' (ended_places (map met_full_queue (overflow new D) ++ es))) L opens settles waits pends ledger_is
+    parts_same (state_with w i e None D es) (length (opened w B)) k _ S (waiting_rows w e None B) W (pending w e None B) P D' (ledger_at w (record i { spans = B }) e None D' (ended_places (map met_full_queue (overflow new D) ++ es))) L opens settles waits pends ledger_is
 
 -- ---- groups and batches
 
 -- a function of seats and rows
-both : (C : Type 0) (f : List Seated → List Opened → C) (N N' : List Seated) (R R' : List Opened) → N ≡ N' → R ≡ R' → f N R ≡ f N' R'
-both C f N N' R R' seats rows = ap (λ (X : List Seated). f X R) seats ∙ ap (λ (Y : List Opened). f N' Y) rows
+both : {S : Type 0} (C : Type 0) (f : S → List Opened → C) (N N' : S) (R R' : List Opened) → N ≡ N' → R ≡ R' → f N R ≡ f N' R'
+both C f N N' R R' sits rows = ap (λ X. f X R) sits ∙ ap (λ (Y : List Opened). f N' Y) rows
 
-groups_are : (w : SectionData) (e : ℕ) (B : List Taken) (N : List Seated) (R : List Opened) → seated (most_of w) B ≡ N → opened (most_of w) B ≡ R → groups w e None B ≡ by_moment (decided w e None N R R ++ late w N)
+groups_are : (w : SectionData) (e : ℕ) (B : List Taken) (Q : List Placed) (R : List Opened) → placed w B ≡ Q → opened w B ≡ R → groups w e None B ≡ by_moment (decided w e None (seats Q) R R ++ late w Q)
 unfolding groups
-groups_are w e B N R seats rows =
-    let none : late w N ++ cut_short w e None N R R ≡ late w N = ap (λ (gs : List (Group Arrival)). late w N ++ gs) (cut_none w e N R R) ∙ append-nil (late w N) in
-    both (List (Group Arrival)) (λ X Y. groups_of w e None X Y) (seated (most_of w) B) N (opened (most_of w) B) R seats rows ∙ ap (λ (gs : List (Group Arrival)). by_moment (decided w e None N R R ++ gs)) none
+groups_are w e B Q R spots rows =
+    let none : late w Q ++ cut_short w e None (seats Q) R R ≡ late w Q = ap (λ (gs : List (Group Arrival)). late w Q ++ gs) (cut_none w e (seats Q) R R) ∙ append-nil (late w Q) in
+    both (List (Group Arrival)) (λ X Y. groups_of w e None X Y) (placed w B) Q (opened w B) R spots rows ∙ ap (λ (gs : List (Group Arrival)). by_moment (decided w e None (seats Q) R R ++ gs)) none
 
-groups_same : (w : SectionData) (e : ℕ) (A B : List Taken) (N : List Seated) (R : List Opened) → seated (most_of w) B ≡ N → opened (most_of w) B ≡ R →
-    decided w e None N R R ≡ decided w e None (seated (most_of w) A) (opened (most_of w) A) (opened (most_of w) A) → late w N ≡ late w (seated (most_of w) A) → groups w e None B ≡ groups w e None A
-groups_same w e A B N R seats rows decides lates =
-    groups_are w e B N R seats rows
-    ∙ (ap (λ (gs : List (Group Arrival)). by_moment (gs ++ late w N)) decides
-    ∙ (ap (λ (gs : List (Group Arrival)). by_moment (decided w e None (seated (most_of w) A) (opened (most_of w) A) (opened (most_of w) A) ++ gs)) lates
-    ∙ sym (groups_are w e A (seated (most_of w) A) (opened (most_of w) A) refl refl)))
+groups_same : (w : SectionData) (e : ℕ) (A B : List Taken) (Q : List Placed) (R : List Opened) → placed w B ≡ Q → opened w B ≡ R →
+    decided w e None (seats Q) R R ≡ decided w e None (seated w A) (opened w A) (opened w A) → late w Q ≡ late w (placed w A) → groups w e None B ≡ groups w e None A
+groups_same w e A B Q R spots rows decides lates =
+    groups_are w e B Q R spots rows
+    ∙ (ap (λ (gs : List (Group Arrival)). by_moment (gs ++ late w Q)) decides
+    ∙ (ap (λ (gs : List (Group Arrival)). by_moment (decided w e None (seated w A) (opened w A) (opened w A) ++ gs)) lates
+    ∙ sym (groups_are w e A (placed w A) (opened w A) refl refl)))
 
-groups_more : (w : SectionData) (e : ℕ) (A B : List Taken) (N : List Seated) (R : List Opened) (g : Group Arrival) → TakenBy e A → g.moment ≡ e → seated (most_of w) B ≡ N → opened (most_of w) B ≡ R →
-    decided w e None N R R ≡ decided w e None (seated (most_of w) A) (opened (most_of w) A) (opened (most_of w) A) → late w N ≡ late w (seated (most_of w) A) ++ g ∷ [] → groups w e None B ≡ groups w e None A ++ g ∷ []
-groups_more w e A B N R g by moment seats rows decides lates =
-    let N' = seated (most_of w) A in
-    let R' = opened (most_of w) A in
-    let X = decided w e None N' R' R' in
-    let up = AllUpTo-append e X (late w N') (AllUpTo-decided w e N' R' R') (AllUpTo-late w e (most_of w) A by) in
-    groups_are w e B N R seats rows
-    ∙ (ap (λ (gs : List (Group Arrival)). by_moment (gs ++ late w N)) decides
+groups_more : (w : SectionData) (e : ℕ) (A B : List Taken) (Q : List Placed) (R : List Opened) (g : Group Arrival) → TakenBy e A → g.moment ≡ e → placed w B ≡ Q → opened w B ≡ R →
+    decided w e None (seats Q) R R ≡ decided w e None (seated w A) (opened w A) (opened w A) → late w Q ≡ late w (placed w A) ++ g ∷ [] → groups w e None B ≡ groups w e None A ++ g ∷ []
+groups_more w e A B Q R g by moment spots rows decides lates =
+    let Q' = placed w A in
+    let R' = opened w A in
+    let X = decided w e None (seats Q') R' R' in
+    let up = AllUpTo-append e X (late w Q') (AllUpTo-decided w e (seats Q') R' R') (AllUpTo-late w e A by) in
+    groups_are w e B Q R spots rows
+    ∙ (ap (λ (gs : List (Group Arrival)). by_moment (gs ++ late w Q)) decides
     ∙ (ap (λ (gs : List (Group Arrival)). by_moment (X ++ gs)) lates
-    ∙ (ap by_moment (sym (append_assoc X (late w N') (g ∷ [])))
-    ∙ (by_moment-push (X ++ late w N') g (rw moment up)
-    ∙ ap (λ (gs : List (Group Arrival)). gs ++ g ∷ []) (sym (groups_are w e A N' R' refl refl))))))
+    ∙ (ap by_moment (sym (append_assoc X (late w Q') (g ∷ [])))
+    ∙ (by_moment-push (X ++ late w Q') g (rw moment up)
+    ∙ ap (λ (gs : List (Group Arrival)). gs ++ g ∷ []) (sym (groups_are w e A Q' R' refl refl))))))
 
 formed_same : (w : SectionData) (e : ℕ) (A B : List Taken) → groups w e None B ≡ groups w e None A → formed w e None B ≡ formed w e None A ++ []
 unfolding formed
@@ -167,23 +169,25 @@ one_taken e a A = omega arith
 -- ---- a late span
 
 -- the state's parts, whatever becomes of the span
-late_parts : (w : SectionData) (e : ℕ) (a : Arrival) (s : Seat) (A : List Taken) → present_seat (most_of w) (trace_of a) (opened (most_of w) A) ≡ Some s → s.opening + w.tail_sampling.decision_wait ≤ e →
-    (length (opened (most_of w) (more e a A)) ≡ length (opened (most_of w) A))
-    × (settled w e None (seated (most_of w) (more e a A)) (length (opened (most_of w) (more e a A))) (opened (most_of w) (more e a A)) ≡ settled w e None (seated (most_of w) A) (length (opened (most_of w) A)) (opened (most_of w) A))
+late_parts : (w : SectionData) (e : ℕ) (a : Arrival) (s : Seat) (A : List Taken) → present_seat (most_of w) (trace_of a) (opened w A) ≡ Some s → s.opening + w.tail_sampling.decision_wait ≤ e →
+    (length (opened w (more e a A)) ≡ length (opened w A))
+    × (settled w e None (seated w (more e a A)) (length (opened w (more e a A))) (opened w (more e a A)) ≡ settled w e None (seated w A) (length (opened w A)) (opened w A))
     × (waiting_rows w e None (more e a A) ≡ waiting_rows w e None A)
-    × (too_early w (seated (most_of w) (more e a A)) (opened (most_of w) (more e a A)) (opened (most_of w) (more e a A)) ≡ too_early w (seated (most_of w) A) (opened (most_of w) A) (opened (most_of w) A))
+    × (too_early w (seated w (more e a A)) (opened w (more e a A)) (opened w (more e a A)) ≡ too_early w (seated w A) (opened w A) (opened w A))
 late_parts w e a s A is due =
     let B = more e a A in
-    let R = opened (most_of w) A in
-    let N = seated (most_of w) A in
+    let R = opened w A in
+    let Q = placed w A in
+    let N = seats Q in
     let n : Seated = record { row = s.row; opening = s.opening; moment = e; arrival = a } in
-    let rows = opened_some (most_of w) e a A s is in
-    let seats = seated_some (most_of w) e a A s is in
+    let rows = opened_some w e a A s is in
+    let spots = placed_some w e a A s is in
+    let sits = ap seats spots in
     let same = same_late w n N R due in (
       ap (λ (X : List Opened). length X) rows,
-      both (List SettledData) (λ X Y. settled w e None X (length Y) Y) (seated (most_of w) B) (n ∷ N) (opened (most_of w) B) R seats rows ∙ settled_same w e (length R) (n ∷ N) N R (over_of w e (n ∷ N) N R same),
-      both (List WaitingData) (λ X Y. waiting w e None X (length Y) Y) (seated (most_of w) B) (n ∷ N) (opened (most_of w) B) R seats rows ∙ waiting_same w e (length R) (n ∷ N) N R same,
-      both ℕ (λ X Y. too_early w X Y Y) (seated (most_of w) B) (n ∷ N) (opened (most_of w) B) R seats rows ∙ early_same w (n ∷ N) N R R same,
+      both (List SettledData) (λ X Y. settled w e None X (length Y) Y) (seated w B) (n ∷ N) (opened w B) R sits rows ∙ settled_same w e (length R) (n ∷ N) N R (over_of w e (n ∷ N) N R same),
+      both (List WaitingData) (λ X Y. waiting w e None X (length Y) Y) (seated w B) (n ∷ N) (opened w B) R sits rows ∙ waiting_same w e (length R) (n ∷ N) N R same,
+      both ℕ (λ X Y. too_early w X Y Y) (seated w B) (n ∷ N) (opened w B) R sits rows ∙ early_same w (n ∷ N) N R R same,
     )
 
 late_decided : (w : SectionData) (e : ℕ) (a : Arrival) (s : Seat) (N : List Seated) (R : List Opened) → s.opening + w.tail_sampling.decision_wait ≤ e →
@@ -193,41 +197,44 @@ late_decided w e a s N R due =
     decided_same w e (n ∷ N) N R R (over_of w e (n ∷ N) N R (same_late w n N R due))
 
 -- the machine finds its row among those that were decided
-late_found : (w : SectionData) (i : IntakeData) (e : ℕ) (D : SenderData) (es : List EndedData) (a : Arrival) (s : Seat) → present_seat (most_of w) (trace_of a) (opened (most_of w) i.spans) ≡ Some s → s.opening + w.tail_sampling.decision_wait ≤ e → TakenBy e i.spans →
-    goes e a (counted_in (state_with w i e None D es)) ≡ late_or_opens e a (Some (is_sampled w s.row (seated (most_of w) i.spans))) (counted_in (state_with w i e None D es))
+late_found : (w : SectionData) (i : IntakeData) (e : ℕ) (D : SenderData) (es : List EndedData) (a : Arrival) (s : Seat) → present_seat (most_of w) (trace_of a) (opened w i.spans) ≡ Some s → s.opening + w.tail_sampling.decision_wait ≤ e → TakenBy e i.spans →
+    goes e a (counted_in (state_with w i e None D es)) ≡ late_or_opens e a (Some (is_sampled w s.row (seated w i.spans))) (counted_in (state_with w i e None D es))
 late_found w i e D es a s is due by =
-    let R = opened (most_of w) i.spans in
-    let N = seated (most_of w) i.spans in
+    let R = opened w i.spans in
+    let N = seated w i.spans in
     let t = trace_of a in
     let over : leb (s.opening + w.tail_sampling.decision_wait) e ≡ true = grind (arith, nat_tests, due) in
     let idle : waits_at w e (present_seat (most_of w) t R) ≡ false = ap (waits_at w e) is ∙ ap not over in
-    let waits = waiting_found t w e e N R (OpenedBy-opened (most_of w) e i.spans by) in
+    let waits = waiting_found t w e e N R (OpenedBy-opened w e i.spans by) in
     let settles = settled_found t w e N R idle in
     goes_by e a (counted_in (state_with w i e None D es)) (Some (is_sampled w s.row N)) (waits ∙ idle) (settles ∙ ap (sampled_at w N) is)
 
-late_drops : (w : SectionData) (e : ℕ) (a : Arrival) (s : Seat) (A : List Taken) (b : Bool) → present_seat (most_of w) (trace_of a) (opened (most_of w) A) ≡ Some s → s.opening + w.tail_sampling.decision_wait ≤ e → is_sampled w s.row (seated (most_of w) A) ≡ b →
+late_drops : (w : SectionData) (e : ℕ) (a : Arrival) (s : Seat) (A : List Taken) (b : Bool) → present_seat (most_of w) (trace_of a) (opened w A) ≡ Some s → s.opening + w.tail_sampling.decision_wait ≤ e → is_sampled w s.row (seated w A) ≡ b →
     not_sampled w e None (more e a A) ≡ not_sampled w e None A + cond (not b) 1 0
 late_drops w e a s A b is due sampled =
     let B = more e a A in
-    let R = opened (most_of w) A in
-    let N = seated (most_of w) A in
+    let R = opened w A in
+    let Q = placed w A in
+    let N = seats Q in
     let n : Seated = record { row = s.row; opening = s.opening; moment = e; arrival = a } in
-    let rows = opened_some (most_of w) e a A s is in
-    let seats = seated_some (most_of w) e a A s is in
+    let rows = opened_some w e a A s is in
+    let spots = placed_some w e a A s is in
+    let sits = ap seats spots in
     let over : leb (s.opening + w.tail_sampling.decision_wait) e ≡ true = grind (arith, nat_tests, due) in
     let same = dropped_same w e (n ∷ N) N R R (over_of w e (n ∷ N) N R (same_late w n N R due)) in
-    let lates : late_dropped w (n ∷ N) ≡ late_dropped w N + cond (not b) 1 0 = rw (over, sampled) refl in
-    let all : not_sampled w e None B ≡ dropped w e None (n ∷ N) R R + late_dropped w (n ∷ N) = both ℕ (λ X Y. dropped w e None X Y Y + late_dropped w X) (seated (most_of w) B) (n ∷ N) (opened (most_of w) B) R seats rows in
+    let lates : late_dropped w (Sits n ∷ Q) ≡ late_dropped w Q + cond (not b) 1 0 = rw (over, sampled) refl in
+    let all : not_sampled w e None B ≡ dropped w e None (n ∷ N) R R + late_dropped w (Sits n ∷ Q) = both ℕ (λ X Y. dropped w e None (seats X) Y Y + late_dropped w X) (placed w B) (Sits n ∷ Q) (opened w B) R spots rows in
     omega (arith, all, same, lates)
 
 -- of a row that isn't sampled: it is dropped
-late_lost : (w : SectionData) (i : IntakeData) (e : ℕ) (D : SenderData) (es : List EndedData) (a : Arrival) (s : Seat) → present_seat (most_of w) (trace_of a) (opened (most_of w) i.spans) ≡ Some s → s.opening + w.tail_sampling.decision_wait ≤ e → TakenBy e i.spans →
-    is_sampled w s.row (seated (most_of w) i.spans) ≡ false → Came w i e D es a
+late_lost : (w : SectionData) (i : IntakeData) (e : ℕ) (D : SenderData) (es : List EndedData) (a : Arrival) (s : Seat) → present_seat (most_of w) (trace_of a) (opened w i.spans) ≡ Some s → s.opening + w.tail_sampling.decision_wait ≤ e → TakenBy e i.spans →
+    is_sampled w s.row (seated w i.spans) ≡ false → Came w i e D es a
 late_lost w i e D es a s is due by sampled =
     let A = i.spans in
     let B = more e a A in
-    let R = opened (most_of w) A in
-    let N = seated (most_of w) A in
+    let R = opened w A in
+    let Q = placed w A in
+    let N = seats Q in
     let n : Seated = record { row = s.row; opening = s.opening; moment = e; arrival = a } in
     let st = state_with w i e None D es in
     let l = ledger_at w i e None D (ended_places es) in
@@ -236,13 +243,14 @@ late_lost w i e D es a s is due by sampled =
     let early = too_early w N R R in
     let ns = not_sampled w e None A in
     let f = (ended_places es).queue_full in
-    let rows = opened_some (most_of w) e a A s is in
-    let seats = seated_some (most_of w) e a A s is in
+    let rows = opened_some w e a A s is in
+    let spots = placed_some w e a A s is in
+    let sits = ap seats spots in
     let over : leb (s.opening + w.tail_sampling.decision_wait) e ≡ true = grind (arith, nat_tests, due) in
     let parts = late_parts w e a s A is due in
     let drops : not_sampled w e None B ≡ ns + 1 = late_drops w e a s A false is due sampled in
-    let lates : late w (n ∷ N) ≡ late w N = rw (over, sampled) (append-nil (late w N)) in
-    let groups_is = groups_same w e A B (n ∷ N) R seats rows (late_decided w e a s N R due) lates in
+    let lates : late w (Sits n ∷ Q) ≡ late w Q = rw (over, sampled) (append-nil (late w Q)) in
+    let groups_is = groups_same w e A B (Sits n ∷ Q) R spots rows (late_decided w e a s N R due) lates in
     let L = moved Undecided NotSampled 1 (taken 1 l) in
     let counts : L ≡ set_counts (based l (length A + 1) early) (spans_in W) (length P.spans) (sizes D.queue) (active_sizes D.active) (ns + 1) (f + 0) =
     ap (λ (z : LedgerData). moved Undecided NotSampled 1 z) (counted w i e D es)
@@ -252,14 +260,15 @@ late_lost w i e D es a s is due by sampled =
     ([], formed_same w e A B groups_is, came ∙ sym found)
 
 -- of one that is: it leaves alone
-late_kept : (w : SectionData) (i : IntakeData) (e : ℕ) (D : SenderData) (es : List EndedData) (a : Arrival) (s : Seat) → IsSound (rules_of w) → present_seat (most_of w) (trace_of a) (opened (most_of w) i.spans) ≡ Some s → s.opening + w.tail_sampling.decision_wait ≤ e → TakenBy e i.spans →
-    is_sampled w s.row (seated (most_of w) i.spans) ≡ true → Came w i e D es a
+late_kept : (w : SectionData) (i : IntakeData) (e : ℕ) (D : SenderData) (es : List EndedData) (a : Arrival) (s : Seat) → IsSound (rules_of w) → present_seat (most_of w) (trace_of a) (opened w i.spans) ≡ Some s → s.opening + w.tail_sampling.decision_wait ≤ e → TakenBy e i.spans →
+    is_sampled w s.row (seated w i.spans) ≡ true → Came w i e D es a
 unfolding added
 late_kept w i e D es a s sound is due by sampled =
     let A = i.spans in
     let B = more e a A in
-    let R = opened (most_of w) A in
-    let N = seated (most_of w) A in
+    let R = opened w A in
+    let Q = placed w A in
+    let N = seats Q in
     let n : Seated = record { row = s.row; opening = s.opening; moment = e; arrival = a } in
     let st = state_with w i e None D es in
     let l = ledger_at w i e None D (ended_places es) in
@@ -270,13 +279,14 @@ late_kept w i e D es a s sound is due by sampled =
     let f = (ended_places es).queue_full in
     let q = sizes D.queue in
     let x = active_sizes D.active in
-    let rows = opened_some (most_of w) e a A s is in
-    let seats = seated_some (most_of w) e a A s is in
+    let rows = opened_some w e a A s is in
+    let spots = placed_some w e a A s is in
+    let sits = ap seats spots in
     let over : leb (s.opening + w.tail_sampling.decision_wait) e ≡ true = grind (arith, nat_tests, due) in
     let parts = late_parts w e a s A is due in
     let drops : not_sampled w e None B ≡ ns = late_drops w e a s A true is due sampled ∙ (omega arith) in
-    let lates : late w (n ∷ N) ≡ late w N ++ record { moment = e; spans = a ∷ [] } ∷ [] = rw (over, sampled) refl in
-    let groups_is = groups_more w e A B (n ∷ N) R (record { moment = e; spans = a ∷ [] }) by refl seats rows (late_decided w e a s N R due) lates in
+    let lates : late w (Sits n ∷ Q) ≡ late w Q ++ record { moment = e; spans = a ∷ [] } ∷ [] = rw (over, sampled) refl in
+    let groups_is = groups_more w e A B (Sits n ∷ Q) R (record { moment = e; spans = a ∷ [] }) by refl spots rows (late_decided w e a s N R due) lates in
     let all = P.spans ++ a ∷ [] in
     let new = all_sent (cuts P.rules e all) in
     let s0 : State = recount Undecided Pending (length (a ∷ [])) (record (counted_in st) { pending = added e (a ∷ []) P }) in
@@ -303,12 +313,13 @@ spans_joined a (r ∷ rs) is = by_tests (has_row (trace_of a) rs) (same_bytes (t
     by_tests false true here ih = let all : length (r.spans ++ a ∷ []) + spans_in rs ≡ length r.spans + spans_in rs + 1 = omega (arith, length-append r.spans (a ∷ [])) in all
     by_tests false false here ih = absurd (cc)
 
-joins_row : (w : SectionData) (i : IntakeData) (e : ℕ) (D : SenderData) (es : List EndedData) (a : Arrival) (s : Seat) → present_seat (most_of w) (trace_of a) (opened (most_of w) i.spans) ≡ Some s → e < s.opening + w.tail_sampling.decision_wait → TakenBy e i.spans → Came w i e D es a
+joins_row : (w : SectionData) (i : IntakeData) (e : ℕ) (D : SenderData) (es : List EndedData) (a : Arrival) (s : Seat) → present_seat (most_of w) (trace_of a) (opened w i.spans) ≡ Some s → e < s.opening + w.tail_sampling.decision_wait → TakenBy e i.spans → Came w i e D es a
 joins_row w i e D es a s is lt by =
     let A = i.spans in
     let B = more e a A in
-    let R = opened (most_of w) A in
-    let N = seated (most_of w) A in
+    let R = opened w A in
+    let Q = placed w A in
+    let N = seats Q in
     let t = trace_of a in
     let n : Seated = record { row = s.row; opening = s.opening; moment = e; arrival = a } in
     let st = state_with w i e None D es in
@@ -318,23 +329,24 @@ joins_row w i e D es a s is lt by =
     let early = too_early w N R R in
     let ns = not_sampled w e None A in
     let f = (ended_places es).queue_full in
-    let opens_by = OpenedBy-opened (most_of w) e A by in
-    let rows = opened_some (most_of w) e a A s is in
-    let seats = seated_some (most_of w) e a A s is in
+    let opens_by = OpenedBy-opened w e A by in
+    let rows = opened_some w e a A s is in
+    let spots = placed_some w e a A s is in
+    let sits = ap seats spots in
     let there = seat_found (most_of w) t R s is in
     let early_yet : leb (s.opening + w.tail_sampling.decision_wait) e ≡ false = grind (arith, nat_tests, lt) in
     let same = same_join t w e n N R there.0 lt in
-    let settles : settled w e None (seated (most_of w) B) (length (opened (most_of w) B)) (opened (most_of w) B) ≡ settled w e None N (length R) R =
-    both (List SettledData) (λ X Y. settled w e None X (length Y) Y) (seated (most_of w) B) (n ∷ N) (opened (most_of w) B) R seats rows ∙ settled_same w e (length R) (n ∷ N) N R same in
+    let settles : settled w e None (seated w B) (length (opened w B)) (opened w B) ≡ settled w e None N (length R) R =
+    both (List SettledData) (λ X Y. settled w e None X (length Y) Y) (seated w B) (n ∷ N) (opened w B) R sits rows ∙ settled_same w e (length R) (n ∷ N) N R same in
     let waits : waiting_rows w e None B ≡ joined a W =
-    both (List WaitingData) (λ X Y. waiting w e None X (length Y) Y) (seated (most_of w) B) (n ∷ N) (opened (most_of w) B) R seats rows ∙ waiting_joined w e (length R) n N R there.0 there.1 lt refl in
-    let evicts : too_early w (seated (most_of w) B) (opened (most_of w) B) (opened (most_of w) B) ≡ early =
-    both ℕ (λ X Y. too_early w X Y Y) (seated (most_of w) B) (n ∷ N) (opened (most_of w) B) R seats rows ∙ early_joined t w e n N R R there.0 there.1 lt opens_by in
-    let lates : late w (n ∷ N) ≡ late w N = rw early_yet (append-nil (late w N)) in
-    let late_drops_is : late_dropped w (n ∷ N) ≡ late_dropped w N + 0 = rw early_yet refl in
-    let drops_all : not_sampled w e None B ≡ dropped w e None (n ∷ N) R R + late_dropped w (n ∷ N) = both ℕ (λ X Y. dropped w e None X Y Y + late_dropped w X) (seated (most_of w) B) (n ∷ N) (opened (most_of w) B) R seats rows in
+    both (List WaitingData) (λ X Y. waiting w e None X (length Y) Y) (seated w B) (n ∷ N) (opened w B) R sits rows ∙ waiting_joined w e (length R) n N R there.0 there.1 lt refl in
+    let evicts : too_early w (seated w B) (opened w B) (opened w B) ≡ early =
+    both ℕ (λ X Y. too_early w X Y Y) (seated w B) (n ∷ N) (opened w B) R sits rows ∙ early_joined t w e n N R R there.0 there.1 lt opens_by in
+    let lates : late w (Sits n ∷ Q) ≡ late w Q = rw early_yet (append-nil (late w Q)) in
+    let late_drops_is : late_dropped w (Sits n ∷ Q) ≡ late_dropped w Q + 0 = rw early_yet refl in
+    let drops_all : not_sampled w e None B ≡ dropped w e None (n ∷ N) R R + late_dropped w (Sits n ∷ Q) = both ℕ (λ X Y. dropped w e None (seats X) Y Y + late_dropped w X) (placed w B) (Sits n ∷ Q) (opened w B) R spots rows in
     let drops : not_sampled w e None B ≡ ns = omega (arith, drops_all, dropped_same w e (n ∷ N) N R R same, late_drops_is) in
-    let groups_is = groups_same w e A B (n ∷ N) R seats rows (decided_same w e (n ∷ N) N R R same) lates in
+    let groups_is = groups_same w e A B (Sits n ∷ Q) R spots rows (decided_same w e (n ∷ N) N R R same) lates in
     let found : has_row t W ≡ true = waiting_found t w e e N R opens_by ∙ (ap (waits_at w e) is ∙ ap not early_yet) in
     let L = taken 1 l in
     let counts : L ≡ set_counts (based l (length A + 1) early) (spans_in (joined a W)) (length P.spans) (sizes D.queue) (active_sizes D.active) ns (f + 0) =
@@ -390,9 +402,9 @@ pub record Room (w : SectionData) (i : IntakeData) (e : ℕ) (D : SenderData) (e
   pub early : ℕ
   pub left : IsLeft (counted_in (state_with w i e None D es)) decided_ones waiting_ones t
   pub counts : t.ledger ≡ set_counts (based (ledger_at w i e None D (ended_places es)) (length i.spans + 1) early) (spans_in waiting_ones + 1) (length (pending w e None i.spans).spans) (sizes D.queue) (active_sizes D.active) (not_sampled w e None i.spans) (ended_places es).queue_full
-  pub settled_is : settled w e None (seated (most_of w) i.spans) (length (opened (most_of w) i.spans) + 1) (opened (most_of w) i.spans) ≡ decided_ones
-  pub waiting_is : waiting w e None (seated (most_of w) i.spans) (length (opened (most_of w) i.spans) + 1) (opened (most_of w) i.spans) ≡ waiting_ones
-  pub gone : too_early w (seated (most_of w) i.spans) (opened (most_of w) i.spans) (opened (most_of w) i.spans) + spans_in (waiting_rows w e None i.spans) ≡ early + spans_in waiting_ones
+  pub settled_is : settled w e None (seated w i.spans) (length (opened w i.spans) + 1) (opened w i.spans) ≡ decided_ones
+  pub waiting_is : waiting w e None (seated w i.spans) (length (opened w i.spans) + 1) (opened w i.spans) ≡ waiting_ones
+  pub gone : too_early w (seated w i.spans) (opened w i.spans) (opened w i.spans) + spans_in (waiting_rows w e None i.spans) ≡ early + spans_in waiting_ones
 
 room : (w : SectionData) (i : IntakeData) (e : ℕ) (D : SenderData) (es : List EndedData) → TakenBy e i.spans → Room w i e D es (evicted (counted_in (state_with w i e None D es)))
 room w i e D es by = by_test (ltb (length R) w.tail_sampling.num_traces) refl
@@ -401,10 +413,10 @@ room w i e D es by = by_test (ltb (length R) w.tail_sampling.num_traces) refl
     A = i.spans
 
     R : List Opened
-    R = opened (most_of w) A
+    R = opened w A
 
     N : List Seated
-    N = seated (most_of w) A
+    N = seated w A
 
     c : State
     c = counted_in (state_with w i e None D es)
@@ -425,7 +437,7 @@ room w i e D es by = by_test (ltb (length R) w.tail_sampling.num_traces) refl
     by_test false is =
         let S = settled w e None N (length R) R in
         let W = waiting_rows w e None A in
-        let made = room_made w e e (length R) N R (grind (arith, nat_tests, is)) (omega arith) (OpenedBy-opened (most_of w) e A by) in
+        let made = room_made w e e (length R) N R (grind (arith, nat_tests, is)) (omega arith) (OpenedBy-opened w e A by) in
         record {
           decided_ones = drop 1 S;
           waiting_ones = rest_of S W;
@@ -437,12 +449,13 @@ room w i e D es by = by_test (ltb (length R) w.tail_sampling.num_traces) refl
           gone = omega (arith, gone_spans S W);
         }
 
-opens_row : (w : SectionData) (i : IntakeData) (e : ℕ) (D : SenderData) (es : List EndedData) (a : Arrival) → 0 < w.tail_sampling.num_traces → 0 < w.tail_sampling.decision_wait → present_seat (most_of w) (trace_of a) (opened (most_of w) i.spans) ≡ None → TakenBy e i.spans → Came w i e D es a
-opens_row w i e D es a pos wait is by =
+opens_row : (w : SectionData) (i : IntakeData) (e : ℕ) (D : SenderData) (es : List EndedData) (a : Arrival) → 0 < w.tail_sampling.num_traces → 0 < w.tail_sampling.decision_wait → present_seat (most_of w) (trace_of a) (opened w i.spans) ≡ None → known w e (trace_of a) (seating w i.spans) ≡ None → TakenBy e i.spans → Came w i e D es a
+opens_row w i e D es a pos wait is new by =
     let A = i.spans in
     let B = more e a A in
-    let R = opened (most_of w) A in
-    let N = seated (most_of w) A in
+    let R = opened w A in
+    let Q = placed w A in
+    let N = seats Q in
     let t = trace_of a in
     let n = first_of e a R in
     let r = row_of e a in
@@ -454,26 +467,27 @@ opens_row w i e D es a pos wait is by =
     let x = active_sizes D.active in
     let ns = not_sampled w e None A in
     let f = (ended_places es).queue_full in
-    let opens_by = OpenedBy-opened (most_of w) e A by in
-    let rows = opened_none (most_of w) e a A is in
-    let seats = seated_none (most_of w) e a A is in
+    let opens_by = OpenedBy-opened w e A by in
+    let rows = opened_none w e a A is new in
+    let spots = placed_none w e a A is new in
+    let sits = ap seats spots in
     let left = room w i e D es by in
     let S = left.decided_ones in
     let row : WaitingData = record { trace = t; due = e + w.tail_sampling.decision_wait; spans = a ∷ [] } in
     let W = left.waiting_ones ++ row ∷ [] in
     let L = (evicted c).ledger in
-    let number : length (opened (most_of w) B) ≡ length R + 1 = ap (λ (X : List Opened). length X) rows ∙ (omega arith) in
-    let settles : settled w e None (seated (most_of w) B) (length (opened (most_of w) B)) (opened (most_of w) B) ≡ S =
-    both (List SettledData) (λ X Y. settled w e None X (length Y) Y) (seated (most_of w) B) (n ∷ N) (opened (most_of w) B) (r ∷ R) seats rows ∙ (settled_first w e a N R wait ∙ left.settled_is) in
+    let number : length (opened w B) ≡ length R + 1 = ap (λ (X : List Opened). length X) rows ∙ (omega arith) in
+    let settles : settled w e None (seated w B) (length (opened w B)) (opened w B) ≡ S =
+    both (List SettledData) (λ X Y. settled w e None X (length Y) Y) (seated w B) (n ∷ N) (opened w B) (r ∷ R) sits rows ∙ (settled_first w e a N R wait ∙ left.settled_is) in
     let waits : waiting_rows w e None B ≡ W =
-    both (List WaitingData) (λ X Y. waiting w e None X (length Y) Y) (seated (most_of w) B) (n ∷ N) (opened (most_of w) B) (r ∷ R) seats rows
-    ∙ (waiting_first w e a N R pos wait (SeatedUpTo-seated (most_of w) A) ∙ ap (λ (ws : List WaitingData). ws ++ row ∷ []) left.waiting_is) in
+    both (List WaitingData) (λ X Y. waiting w e None X (length Y) Y) (seated w B) (n ∷ N) (opened w B) (r ∷ R) sits rows
+    ∙ (waiting_first w e a N R pos wait (SeatedUpTo-seated w A) ∙ ap (λ (ws : List WaitingData). ws ++ row ∷ []) left.waiting_is) in
     let left_spans : spans_in (waiting w e None N (length R + 1) R) ≡ spans_in left.waiting_ones = ap spans_in left.waiting_is in
     let new_early : too_early w (n ∷ N) (r ∷ R) (r ∷ R) ≡ left.early = omega (arith, early_first w e a N R pos opens_by, left_spans, left.gone) in
-    let evicts : too_early w (seated (most_of w) B) (opened (most_of w) B) (opened (most_of w) B) ≡ left.early = both ℕ (λ X Y. too_early w X Y Y) (seated (most_of w) B) (n ∷ N) (opened (most_of w) B) (r ∷ R) seats rows ∙ new_early in
-    let drops_all : not_sampled w e None B ≡ dropped w e None (n ∷ N) (r ∷ R) (r ∷ R) + late_dropped w (n ∷ N) = both ℕ (λ X Y. dropped w e None X Y Y + late_dropped w X) (seated (most_of w) B) (n ∷ N) (opened (most_of w) B) (r ∷ R) seats rows in
-    let drops : not_sampled w e None B ≡ ns = omega (arith, drops_all, dropped_first w e a N R wait, late_dropped_first w e a N R wait) in
-    let groups_is = groups_same w e A B (n ∷ N) (r ∷ R) seats rows (decided_first w e a N R wait) (late_first w e a N R wait) in
+    let evicts : too_early w (seated w B) (opened w B) (opened w B) ≡ left.early = both ℕ (λ X Y. too_early w X Y Y) (seated w B) (n ∷ N) (opened w B) (r ∷ R) sits rows ∙ new_early in
+    let drops_all : not_sampled w e None B ≡ dropped w e None (n ∷ N) (r ∷ R) (r ∷ R) + late_dropped w (Sits n ∷ Q) = both ℕ (λ X Y. dropped w e None (seats X) Y Y + late_dropped w X) (placed w B) (Sits n ∷ Q) (opened w B) (r ∷ R) spots rows in
+    let drops : not_sampled w e None B ≡ ns = omega (arith, drops_all, dropped_first w e a N R wait, late_dropped_first w e a Q R wait) in
+    let groups_is = groups_same w e A B (Sits n ∷ Q) (r ∷ R) spots rows (decided_first w e a N R wait) (late_first w e a Q R wait) in
     let alone : spans_in (row ∷ []) ≡ 1 = refl in
     let sum : spans_in left.waiting_ones + 1 ≡ spans_in W = omega (arith, alone, spans_append left.waiting_ones (row ∷ [])) in
     let counts : L ≡ set_counts (based l (length A + 1) left.early) (spans_in W) (length P.spans) q x ns (f + 0) =
@@ -487,16 +501,16 @@ opens_row w i e D es a pos wait is by =
 -- ---- any span
 
 pub came : (w : SectionData) (i : IntakeData) (e : ℕ) (D : SenderData) (es : List EndedData) (a : Arrival) → 0 < w.tail_sampling.num_traces → 0 < w.tail_sampling.decision_wait → IsSound (rules_of w) → TakenBy e i.spans → Came w i e D es a
-came w i e D es a pos wait sound by = by_seat (present_seat (most_of w) (trace_of a) (opened (most_of w) i.spans)) refl
+came w i e D es a pos wait sound by = by_seat (present_seat (most_of w) (trace_of a) (opened w i.spans)) refl
   where
-    by_seat : (o : Option Seat) → present_seat (most_of w) (trace_of a) (opened (most_of w) i.spans) ≡ o → Came w i e D es a
-    by_seat None is = opens_row w i e D es a pos wait is by
+    by_seat : (o : Option Seat) → present_seat (most_of w) (trace_of a) (opened w i.spans) ≡ o → Came w i e D es a
+    by_seat None is = opens_row w i e D es a pos wait is refl by
     by_seat (Some s) is = by_due (leb (s.opening + w.tail_sampling.decision_wait) e) refl
       where
         by_due : (b : Bool) → leb (s.opening + w.tail_sampling.decision_wait) e ≡ b → Came w i e D es a
         by_due false late = joins_row w i e D es a s is (grind (arith, nat_tests, late)) by
-        by_due true late = by_kept (is_sampled w s.row (seated (most_of w) i.spans)) refl
+        by_due true late = by_kept (is_sampled w s.row (seated w i.spans)) refl
           where
-            by_kept : (b : Bool) → is_sampled w s.row (seated (most_of w) i.spans) ≡ b → Came w i e D es a
+            by_kept : (b : Bool) → is_sampled w s.row (seated w i.spans) ≡ b → Came w i e D es a
             by_kept true kept = late_kept w i e D es a s sound is (grind (arith, nat_tests, late)) by kept
             by_kept false kept = late_lost w i e D es a s is (grind (arith, nat_tests, late)) by kept

@@ -1,6 +1,6 @@
 -- What a drain makes of rows, groups and batches: the rows that wait are decided at its moment, and what is pending then
 -- is one batch.
-use Rattle.std.proofs.Common.{◌≡◌, ℕ, ◌+◌, ◌<◌, ◌≤◌, List, [], ◌∷◌, ◌++◌, length, map, refl, sym, subst, ap, ◌∙◌, arith, append_assoc, append-nil, length-append, Bool, true, false, cond, leb, ltb, ◌&&◌, not, Option, Some, None}
+use Rattle.std.proofs.Common.{◌≡◌, ℕ, ◌+◌, ◌<◌, ◌≤◌, List, [], ◌∷◌, ◌++◌, length, refl, sym, subst, ap, ◌∙◌, arith, append_assoc, append-nil, Bool, true, false, cond, leb, Some, None}
 use Rattle.std.specs.Prelude.{min, option_to_list, if◌then◌else◌}
 use Rattle.std.proofs.lemmas.Bool.Decides.{nat_tests}
 use Rattle.std.proofs.lemmas.List.{map-append}
@@ -14,11 +14,12 @@ use Rattle.span_batcher.specs.Machine as machine
 use Rattle.span_batcher.proofs.Timers.{passes}
 use Rattle.span_batcher.proofs.Laws.{adds, drains}
 use Rattle.tenant_rules.specs.Arrivals.{Arrival}
-use Rattle.tenant_rules.specs.Rows.{Taken, Opened, Seated, opened, seated}
-use Rattle.tenant_rules.specs.Fate.{most_of, are_sampled, is_evicted, SettledData, WaitingData, settled, waiting, dropped}
-use Rattle.tenant_rules.specs.Groups.{decided, cut_short, late, by_moment, groups}
+use Rattle.tenant_rules.specs.Rows.{Taken, Opened, Seated}
+use Rattle.tenant_rules.specs.Fate.{are_sampled, is_evicted, SettledData, WaitingData, settled, waiting, dropped}
+use Rattle.tenant_rules.specs.Seating.{opened, placed, seated}
+use Rattle.tenant_rules.specs.Decisions.{by_moment}
+use Rattle.tenant_rules.specs.Groups.{decided, cut_short, late, groups}
 use Rattle.tenant_rules.specs.Batching.{rules_of, as_sent, all_sent, formed, pending, waiting_rows}
-use Rattle.tenant_rules.specs.Sender.{BatchData}
 use Rattle.tenant_rules.proofs.Order.{AllUpTo, AllUpTo-append, by_moment-push}
 use Rattle.tenant_rules.proofs.Times.{TakenBy, OpenedBy, OpenedBy-opened, evicted_late, waiting_none, cut_none}
 use Rattle.tenant_rules.proofs.Later.{AllUpTo-decided, AllUpTo-late, IsUpTo-groups, some_spans}
@@ -117,16 +118,16 @@ pub groups_drained : (w : SectionData) (e : ℕ) (A : List Taken) → 0 < w.tail
 unfolding groups
 groups_drained w e A pos by =
     let p = w.tail_sampling.policies in
-    let N = seated (most_of w) A in
-    let R = opened (most_of w) A in
+    let N = seated w A in
+    let R = opened w A in
     let W = waiting_rows w e None A in
-    let L = late w N in
+    let L = late w (placed w A) in
     let D = decided w e None N R R in
-    let opens = OpenedBy-opened (most_of w) e A by in
+    let opens = OpenedBy-opened w e A by in
     let one : by_moment (decided w e (Some e) N R R ++ (L ++ cut_short w e (Some e) N R R)) ≡ by_moment (D ++ (L ++ cut_groups p e W)) =
     ap (λ (gs : List (Group Arrival)). by_moment (gs ++ (L ++ cut_short w e (Some e) N R R))) (decided_drained w e N R R) ∙ ap (λ (gs : List (Group Arrival)). by_moment (D ++ (L ++ gs))) (cut_drained w e e N R R pos opens) in
     let two : by_moment (D ++ (L ++ cut_groups p e W)) ≡ by_moment (D ++ L) ++ cut_groups p e W =
-    ap by_moment (sym (append_assoc D L (cut_groups p e W))) ∙ last_ones p e (D ++ L) W (AllUpTo-append e D L (AllUpTo-decided w e N R R) (AllUpTo-late w e (most_of w) A by)) in
+    ap by_moment (sym (append_assoc D L (cut_groups p e W))) ∙ last_ones p e (D ++ L) W (AllUpTo-append e D L (AllUpTo-decided w e N R R) (AllUpTo-late w e A by)) in
     let none : L ++ cut_short w e None N R R ≡ L = ap (λ (gs : List (Group Arrival)). L ++ gs) (cut_none w e N R R) ∙ append-nil L in
     one ∙ (two ∙ ap (λ (gs : List (Group Arrival)). by_moment (D ++ gs) ++ cut_groups p e W) (sym none))
 

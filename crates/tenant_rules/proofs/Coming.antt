@@ -1,12 +1,12 @@
 -- What one more span changes of rows: its seat, and the spans that are on time in a row.
 use Rattle.std.proofs.Common.{◌≡◌, ◌≢◌, ℕ, suc, ◌+◌, ◌<◌, ◌≤◌, List, [], ◌∷◌, ◌++◌, length, refl, sym, ap, ◌∙◌, arith, append-nil, Bool, true, false, leb, ltb, cond, ◌&&◌, not, Option, Some, None}
-use Rattle.std.specs.Prelude.{is_some, unwrap_or}
 use Rattle.std.proofs.lemmas.Bool.Decides.{nat_tests}
 use Rattle.tail_settings.specs.Section.{SectionData}
 use Rattle.span_pool.specs.Stored.{same_bytes}
 use Rattle.tenant_rules.specs.Arrivals.{Arrival, trace_of}
-use Rattle.tenant_rules.specs.Rows.{Taken, Opened, Seat, Seated, latest, is_present, if_present, present_seat, opened, seated}
+use Rattle.tenant_rules.specs.Rows.{Taken, Opened, Seat, Seated, latest, is_present, if_present, present_seat, Sits, seats}
 use Rattle.tenant_rules.specs.Fate.{most_of, due_of, on_time, is_evicted, WaitingData, settled, waiting, dropped, too_early}
+use Rattle.tenant_rules.specs.Seating.{place_by, known, seating, opened, placed, seated}
 use Rattle.tenant_rules.specs.Groups.{decided}
 use Rattle.tenant_rules.specs.Machine.{has_row, joined}
 use Rattle.tenant_rules.proofs.Times.{OpenedBy, evicted_late}
@@ -33,15 +33,15 @@ SeatedUpTo_more : (m n : ℕ) (N : List Seated) → m ≤ n → SeatedUpTo m N �
 SeatedUpTo_more m n [] le s = tt
 SeatedUpTo_more m n (x ∷ N) le s = (omega (arith, le, s.0), SeatedUpTo_more m n N le s.1)
 
-pub SeatedUpTo-seated : (most : ℕ) (A : List Taken) → SeatedUpTo (length (opened most A)) (seated most A)
-SeatedUpTo-seated most [] = tt
-SeatedUpTo-seated most (x ∷ A) = by_seat (present_seat most (trace_of x.arrival) (opened most A)) refl (SeatedUpTo-seated most A)
+pub SeatedUpTo-seated : (w : SectionData) (A : List Taken) → SeatedUpTo (length (opened w A)) (seated w A)
+SeatedUpTo-seated w [] = tt
+SeatedUpTo-seated w (x ∷ A) = by_seat (present_seat (most_of w) (trace_of x.arrival) (opened w A)) (known w x.moment (trace_of x.arrival) (seating w A)) refl (SeatedUpTo-seated w A)
   where
-    by_seat : (o : Option Seat) → present_seat most (trace_of x.arrival) (opened most A) ≡ o → SeatedUpTo (length (opened most A)) (seated most A) →
-        ((unwrap_or o (record { row = length (opened most A) + 1; opening = x.moment })).row ≤ length (cond (is_some o) (opened most A) (record { trace = trace_of x.arrival; moment = x.moment } ∷ opened most A)))
-        × SeatedUpTo (length (cond (is_some o) (opened most A) (record { trace = trace_of x.arrival; moment = x.moment } ∷ opened most A))) (seated most A)
-    by_seat None is rest = (omega arith, SeatedUpTo_more (length (opened most A)) (suc (length (opened most A))) (seated most A) (omega arith) rest)
-    by_seat (Some s) is rest = let row = latest_row (trace_of x.arrival) (opened most A) s (seat_found most (trace_of x.arrival) (opened most A) s is).0 in (row.1, rest)
+    by_seat : (o : Option Seat) (h : Option Bool) → present_seat (most_of w) (trace_of x.arrival) (opened w A) ≡ o → SeatedUpTo (length (opened w A)) (seated w A) →
+        SeatedUpTo (length (place_by x (seating w A) o h).rows) (seats (place_by x (seating w A) o h).placed)
+    by_seat None None is rest = (omega arith, SeatedUpTo_more (length (opened w A)) (suc (length (opened w A))) (seated w A) (omega arith) rest)
+    by_seat None (Some b) is rest = rest
+    by_seat (Some s) h is rest = let row = latest_row (trace_of x.arrival) (opened w A) s (seat_found (most_of w) (trace_of x.arrival) (opened w A) s is).0 in (row.1, rest)
 
 -- ---- spans on time in a row
 
@@ -208,22 +208,22 @@ early_joined t w e n N all (r ∷ R) is here lt by = by_test (same_bytes t r.tra
 -- ---- the next span among seats and rows
 
 -- it goes to its trace's latest row, where that is present, and opens none
-pub opened_some : (most e : ℕ) (a : Arrival) (A : List Taken) (s : Seat) → present_seat most (trace_of a) (opened most A) ≡ Some s → opened most (record { moment = e; arrival = a } ∷ A) ≡ opened most A
-opened_some most e a A s is = ap (λ (o : Option Seat). cond (is_some o) (opened most A) (record { trace = trace_of a; moment = e } ∷ opened most A)) is
+pub opened_some : (w : SectionData) (e : ℕ) (a : Arrival) (A : List Taken) (s : Seat) → present_seat (most_of w) (trace_of a) (opened w A) ≡ Some s → opened w (record { moment = e; arrival = a } ∷ A) ≡ opened w A
+opened_some w e a A s is = ap (λ (o : Option Seat). (place_by (record { moment = e; arrival = a }) (seating w A) o (known w e (trace_of a) (seating w A))).rows) is
 
-pub seated_some : (most e : ℕ) (a : Arrival) (A : List Taken) (s : Seat) → present_seat most (trace_of a) (opened most A) ≡ Some s →
-    seated most (record { moment = e; arrival = a } ∷ A) ≡ record { row = s.row; opening = s.opening; moment = e; arrival = a } ∷ seated most A
-seated_some most e a A s is =
-    ap (λ (z : Seat). record { row = z.row; opening = z.opening; moment = e; arrival = a } ∷ seated most A)
-    (ap (λ (o : Option Seat). unwrap_or o (record { row = length (opened most A) + 1; opening = e })) is)
+pub placed_some : (w : SectionData) (e : ℕ) (a : Arrival) (A : List Taken) (s : Seat) → present_seat (most_of w) (trace_of a) (opened w A) ≡ Some s →
+    placed w (record { moment = e; arrival = a } ∷ A) ≡ Sits (record { row = s.row; opening = s.opening; moment = e; arrival = a }) ∷ placed w A
+placed_some w e a A s is = ap (λ (o : Option Seat). (place_by (record { moment = e; arrival = a }) (seating w A) o (known w e (trace_of a) (seating w A))).placed) is
 
--- or it opens the next row
-pub opened_none : (most e : ℕ) (a : Arrival) (A : List Taken) → present_seat most (trace_of a) (opened most A) ≡ None →
-    opened most (record { moment = e; arrival = a } ∷ A) ≡ record { trace = trace_of a; moment = e } ∷ opened most A
-opened_none most e a A is = ap (λ (o : Option Seat). cond (is_some o) (opened most A) (record { trace = trace_of a; moment = e } ∷ opened most A)) is
+-- or it opens the next row, where no verdict is known
+pub opened_none : (w : SectionData) (e : ℕ) (a : Arrival) (A : List Taken) → present_seat (most_of w) (trace_of a) (opened w A) ≡ None → known w e (trace_of a) (seating w A) ≡ None →
+    opened w (record { moment = e; arrival = a } ∷ A) ≡ record { trace = trace_of a; moment = e } ∷ opened w A
+opened_none w e a A is new =
+    ap (λ (o : Option Seat). (place_by (record { moment = e; arrival = a }) (seating w A) o (known w e (trace_of a) (seating w A))).rows) is
+    ∙ ap (λ (h : Option Bool). (place_by (record { moment = e; arrival = a }) (seating w A) None h).rows) new
 
-pub seated_none : (most e : ℕ) (a : Arrival) (A : List Taken) → present_seat most (trace_of a) (opened most A) ≡ None →
-    seated most (record { moment = e; arrival = a } ∷ A) ≡ record { row = length (opened most A) + 1; opening = e; moment = e; arrival = a } ∷ seated most A
-seated_none most e a A is =
-    ap (λ (z : Seat). record { row = z.row; opening = z.opening; moment = e; arrival = a } ∷ seated most A)
-    (ap (λ (o : Option Seat). unwrap_or o (record { row = length (opened most A) + 1; opening = e })) is)
+pub placed_none : (w : SectionData) (e : ℕ) (a : Arrival) (A : List Taken) → present_seat (most_of w) (trace_of a) (opened w A) ≡ None → known w e (trace_of a) (seating w A) ≡ None →
+    placed w (record { moment = e; arrival = a } ∷ A) ≡ Sits (record { row = length (opened w A) + 1; opening = e; moment = e; arrival = a }) ∷ placed w A
+placed_none w e a A is new =
+    ap (λ (o : Option Seat). (place_by (record { moment = e; arrival = a }) (seating w A) o (known w e (trace_of a) (seating w A))).placed) is
+    ∙ ap (λ (h : Option Bool). (place_by (record { moment = e; arrival = a }) (seating w A) None h).placed) new

@@ -12,11 +12,10 @@ use Rattle.span_batcher.specs.Batches.{IsSound, Batch}
 use Rattle.span_batcher.specs.State as batcher
 use Rattle.span_batcher.specs.Machine.{added, fired}
 use Rattle.span_batcher.specs.Machine as machine
-use Rattle.tenant_rules.specs.declared.told.Told.TheVariants as tell
 use Rattle.tenant_rules.specs.Arrivals.{Arrival}
 use Rattle.tenant_rules.specs.Own.{Own, Drain, clock, drained}
-use Rattle.tenant_rules.specs.Rows.{Taken, opened, seated}
-use Rattle.tenant_rules.specs.Fate.{most_of, are_sampled, SettledData, WaitingData, settled, late_dropped}
+use Rattle.tenant_rules.specs.Fate.{are_sampled, SettledData, WaitingData, settled}
+use Rattle.tenant_rules.specs.Seating.{opened, seated}
 use Rattle.tenant_rules.specs.Sender.{BatchData, SenderData, sizes, active_sizes}
 use Rattle.tenant_rules.specs.Batching.{rules_of, as_sent, all_sent, formed, pending, waiting_rows, spans_in}
 use Rattle.tenant_rules.specs.Intake.{IntakeData, intake}
@@ -24,12 +23,12 @@ use Rattle.tenant_rules.specs.Sending.{EndedData, newly_formed, all_offered, ove
 use Rattle.tenant_rules.specs.State.{State, ended_places, not_sampled, ledger_at, state_at, state}
 use Rattle.tenant_rules.specs.Answers.{answer}
 use Rattle.tenant_rules.specs.Timers.{recount, all_queued, settle, sample, decide_row, advanced}
-use Rattle.tenant_rules.specs.Machine.{all_decided, closed, drain, next, told}
+use Rattle.tenant_rules.specs.Machine.{all_decided, drain, next, told}
 use Rattle.tenant_rules.proofs.Times.{TakenBy, TakenBy_more, OpenedBy-opened}
 use Rattle.tenant_rules.proofs.Later.{formed_later}
 use Rattle.tenant_rules.proofs.Fronts.{resent, all_queued-is}
 use Rattle.tenant_rules.proofs.Walked.{set_to, became, became_same, all_offered-append, decide_row-is, pending_with, batches_with}
-use Rattle.tenant_rules.proofs.Tally.{set_counts, set_same, sizes-append, sizes_cons, overflow-append, lost_in, Tally, queued_tally, decide_row_tally}
+use Rattle.tenant_rules.proofs.Tally.{set_counts, set_same, sizes-append, overflow-append, lost_in, Tally, queued_tally, decide_row_tally}
 use Rattle.tenant_rules.proofs.Elapsed.{state_with, state_same, between, ended_met, tally_at, elapsed}
 use Rattle.tenant_rules.proofs.Stays.{stays, formed_stay, waits_none}
 use Rattle.tenant_rules.proofs.Closing.{all_done, all_lost, all_added, all_cut, closing, settled_drained, dropped_drained, formed_drained, pending_drained}
@@ -127,13 +126,13 @@ drain_first : (w : SectionData) (i : IntakeData) (e : ℕ) (D : SenderData) (es 
 drain_first w i e D es M pos sound by same =
     let A = i.spans in
     let p = w.tail_sampling.policies in
-    let N = seated (most_of w) A in
-    let R = opened (most_of w) A in
+    let N = seated w A in
+    let R = opened w A in
     let s = state_with w i e None D es in
     let l = ledger_at w i e None D (ended_places es) in
     let W = waiting_rows w e None A in
     let P = pending w e None A in
-    let opens = OpenedBy-opened (most_of w) e A by in
+    let opens = OpenedBy-opened w e A by in
     let t = all_decided e W s in
     let fields = all_decided-is e e p W s refl refl in
     let tally = all_decided_tally l (not_sampled w e None A) (ended_places es).queue_full e p W s refl refl (tally_at w i e D es) in

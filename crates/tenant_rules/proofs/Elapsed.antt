@@ -1,17 +1,18 @@
 -- What a tenant is at a later moment, where nothing but time went on.
-use Rattle.std.proofs.Common.{◌≡◌, ℕ, ◌+◌, ◌<◌, ◌≤◌, List, [], ◌∷◌, ◌++◌, length, map, refl, sym, ap, ◌∙◌, arith, Bool, true, false, cond, Option, Some, None}
+use Rattle.std.proofs.Common.{◌≡◌, ℕ, ◌+◌, ◌<◌, ◌≤◌, List, [], ◌∷◌, ◌++◌, length, map, refl, sym, ap, ◌∙◌, arith, Option, None}
 use Rattle.tail_settings.specs.Section.{SectionData}
 use Rattle.drop_ledger.specs.declared.places.Places.{Places}
 use Rattle.drop_ledger.specs.Ledger.{LedgerData}
 use Rattle.span_batcher.specs.Batches.{IsSound}
-use Rattle.tenant_rules.specs.Rows.{Taken, opened, seated}
-use Rattle.tenant_rules.specs.Fate.{most_of, SettledData, WaitingData, settled, dropped, late_dropped}
+use Rattle.tenant_rules.specs.Rows.{Taken}
+use Rattle.tenant_rules.specs.Fate.{SettledData, WaitingData, settled}
+use Rattle.tenant_rules.specs.Seating.{opened, seated}
 use Rattle.tenant_rules.specs.Sender.{BatchData, SenderData, sizes, active_sizes}
 use Rattle.tenant_rules.specs.Batching.{rules_of, all_sent, pending, waiting_rows, spans_in}
 use Rattle.tenant_rules.specs.Intake.{IntakeData}
 use Rattle.tenant_rules.specs.Sending.{EndedData, all_offered, overflow, met_full_queue}
 use Rattle.tenant_rules.specs.State.{State, ended_places, not_sampled, ledger_at, state_at}
-use Rattle.tenant_rules.specs.Timers.{enough, ran, advanced}
+use Rattle.tenant_rules.specs.Timers.{advanced}
 use Rattle.tenant_rules.proofs.Times as times
 use Rattle.tenant_rules.proofs.Times.{TakenBy, OpenedBy-opened, done, later, Ascends-waiting, waiting_later, settled_later, dropped_later}
 use Rattle.tenant_rules.proofs.Later.{meanwhile, left_then, pending_later}
@@ -62,8 +63,8 @@ pub elapsed : (w : SectionData) (i : IntakeData) (d e : ℕ) (D : SenderData) (e
 elapsed w i d e D es pos sound le by =
     let A = i.spans in
     let p = w.tail_sampling.policies in
-    let N = seated (most_of w) A in
-    let R = opened (most_of w) A in
+    let N = seated w A in
+    let R = opened w A in
     let s = state_with w i d None D es in
     let l = ledger_at w i d None D (ended_places es) in
     let W = waiting_rows w d None A in
@@ -71,7 +72,7 @@ elapsed w i d e D es pos sound le by =
     let M = between w d e A in
     let D' = all_offered M D in
     let f = (ended_places es).queue_full + sizes (overflow M D) in
-    let opens = OpenedBy-opened (most_of w) d A by in
+    let opens = OpenedBy-opened w d A by in
     let asc = Ascends-waiting w d d (length R) N R opens in
     let t = walk e W s in
     let fields = walk-is e e (d + 1) p W s refl refl asc in

@@ -1,5 +1,5 @@
 -- Timers that run one at a time.
-use Rattle.std.proofs.Common.{◌≡◌, ℕ, zero, suc, ◌+◌, ◌-◌, ◌*◌, ◌<◌, ◌≤◌, List, [], ◌∷◌, ◌++◌, length, refl, sym, ap, ◌∙◌, arith, Bool, true, false, cond, Option, Some, None}
+use Rattle.std.proofs.Common.{◌≡◌, ℕ, zero, suc, ◌+◌, ◌<◌, ◌≤◌, List, [], ◌∷◌, ◌++◌, length, refl, sym, ap, ◌∙◌, arith, Bool, true, false, cond, Option, Some, None}
 use Rattle.std.proofs.lemmas.Bool.Decides.{nat_tests}
 use Rattle.span_batcher.specs.State.{next_due}
 use Rattle.span_batcher.specs.State as batcher
@@ -13,7 +13,7 @@ use Rattle.tenant_rules.specs.Sending.{all_offered}
 use Rattle.tenant_rules.specs.Batching.{all_sent}
 use Rattle.tenant_rules.specs.Ready.{lesser}
 use Rattle.tenant_rules.specs.State.{State}
-use Rattle.tenant_rules.specs.Timers.{recount, queued, all_queued, grouped, flushed, settle, sample, decide_row, decide, first_due, next_timer, is_batch, one_run, ran, IsFront, enough}
+use Rattle.tenant_rules.specs.Timers.{recount, queued, all_queued, flushed, settle, sample, decide, first_due, next_timer, is_batch, one_run, ran, IsFront, enough}
 
 -- when none is due, no more run
 pub ran_none : (n e : ℕ) (s : State) → is_due (next_timer s) e ≡ false → ran n e s ≡ s

@@ -1,6 +1,5 @@
 -- Some first timers, in terms of a state's lists.
-use Rattle.std.proofs.Common.{◌≡◌, ℕ, zero, suc, ◌+◌, ◌<◌, ◌≤◌, List, [], ◌∷◌, ◌++◌, length, take, drop, refl, sym, subst, ap, ◌∙◌, arith, append_assoc, append-nil, Bool, true, false, cond, leb, Option, Some, None}
-use Rattle.std.specs.Prelude.{max, if◌then◌else◌}
+use Rattle.std.proofs.Common.{◌≡◌, ℕ, zero, suc, ◌≤◌, List, [], ◌∷◌, ◌++◌, length, take, drop, refl, sym, subst, ap, ◌∙◌, arith, append_assoc, append-nil, Bool, true, false, cond, leb, Option, Some, None}
 use Rattle.std.proofs.lemmas.Bool.Decides.{nat_tests}
 use Rattle.std.proofs.lemmas.List.{map-append}
 use Rattle.tail_settings.specs.Policy.{PolicyData}
@@ -16,11 +15,11 @@ use Rattle.tenant_rules.specs.Batching.{as_sent, all_sent}
 use Rattle.tenant_rules.specs.Sending.{all_offered}
 use Rattle.tenant_rules.specs.State.{State}
 use Rattle.tenant_rules.specs.Ready.{lesser}
-use Rattle.tenant_rules.specs.Timers.{recount, all_queued, flushed, settle, sample, decide_row, decide, first_due, next_timer, is_batch, one_run, ran, IsFront}
+use Rattle.tenant_rules.specs.Timers.{recount, flushed, settle, sample, decide, first_due, next_timer, is_batch, one_run, ran}
 use Rattle.tenant_rules.specs.Fronts.{decided_rows, groups_made, AllDueBy, AreInOrder, rest_after, last_batch, RanOut, IsFrontAt, FrontsAre}
-use Rattle.tenant_rules.proofs.Fronts.{all_queued-is, ran_none}
+use Rattle.tenant_rules.proofs.Fronts.{all_queued-is}
 use Rattle.drop_ledger.specs.declared.places.Place.TheVariants.{Undecided, Pending}
-use Rattle.tenant_rules.proofs.Walked.{set_to, all_offered-append, after_rules, decide_row-is, pending_with, batches_with}
+use Rattle.tenant_rules.proofs.Walked.{all_offered-append, after_rules, decide_row-is, pending_with, batches_with}
 
 -- ---- one row more
 

@@ -1,14 +1,15 @@
 -- How timers stand after every past.
-use Rattle.std.proofs.Common.{◌≡◌, ℕ, ◌+◌, ◌<◌, ◌≤◌, List, [], ◌∷◌, length, refl, sym, subst, ap, ◌∙◌, arith, Bool, false, Option, Some, None}
+use Rattle.std.proofs.Common.{◌≡◌, ℕ, ◌+◌, ◌<◌, ◌≤◌, List, [], ◌∷◌, length, refl, sym, subst, ap, ◌∙◌, arith, false, Option, Some, None}
 use Rattle.std.specs.Prelude.{min}
 use Rattle.std.proofs.lemmas.Bool.Decides.{nat_tests}
 use Rattle.tail_settings.specs.Section.{SectionData}
 use Rattle.span_batcher.specs.Batches.{IsSound}
 use Rattle.span_batcher.specs.State.{next_due, IsAfter}
 use Rattle.span_batcher.specs.Timers.{is_due}
-use Rattle.tenant_rules.specs.Own.{Own, clock, drained}
-use Rattle.tenant_rules.specs.Rows.{Taken, opened, seated}
-use Rattle.tenant_rules.specs.Fate.{most_of, WaitingData}
+use Rattle.tenant_rules.specs.Own.{clock, drained}
+use Rattle.tenant_rules.specs.Rows.{Taken}
+use Rattle.tenant_rules.specs.Fate.{WaitingData}
+use Rattle.tenant_rules.specs.Seating.{opened, seated}
 use Rattle.tenant_rules.specs.Groups.{groups}
 use Rattle.tenant_rules.specs.Batching.{rules_of, pending, waiting_rows}
 use Rattle.tenant_rules.specs.Intake.{intake}
@@ -25,11 +26,11 @@ use Rattle.tenant_rules.proofs.Intakes.{TakenBy-intake, DrainedBy, DrainedBy-int
 
 -- before a drain they ascend from the moment reached
 rows_ascend : (w : SectionData) (e : ℕ) (A : List Taken) → TakenBy e A → Ascends (e + 1) (waiting_rows w e None A)
-rows_ascend w e A by = let R = opened (most_of w) A in Ascends-waiting w e e (length R) (seated (most_of w) A) R (OpenedBy-opened (most_of w) e A by)
+rows_ascend w e A by = let R = opened w A in Ascends-waiting w e e (length R) (seated w A) R (OpenedBy-opened w e A by)
 
 -- after it none wait
 none_wait : (w : SectionData) (x e : ℕ) (A : List Taken) → x ≤ e → waiting_rows w e (Some x) A ≡ []
-none_wait w x e A le = let R = opened (most_of w) A in waits_none w x e (length R) (seated (most_of w) A) R le
+none_wait w x e A le = let R = opened w A in waits_none w x e (length R) (seated w A) R le
 
 order_is : (m : ℕ) (ws : List WaitingData) → Ascends m ws → AreInOrder m ws
 order_is m [] asc = tt

@@ -1,5 +1,5 @@
 -- Spans are taken in order of their moments, and none after a drain.
-use Rattle.std.proofs.Common.{◌≡◌, ℕ, ◌<◌, ◌≤◌, List, [], ◌∷◌, length, refl, sym, ap, ◌∙◌, arith, Bool, true, false, cond, Option, Some, None}
+use Rattle.std.proofs.Common.{ℕ, ◌≤◌, List, [], ◌∷◌, arith, Bool, true, false, cond, Option, Some, None}
 use Rattle.std.specs.Prelude.{is_some, unwrap_or, nat_lt}
 use Rattle.tail_settings.specs.Section.{SectionData}
 use Rattle.tenant_rules.specs.Arrivals.{Arrival, valid}

@@ -1,7 +1,6 @@
 -- The groups and batches at a later moment, from those at an earlier one: the rows that are decided meanwhile make one
 -- group after the other.
-use Rattle.std.proofs.Common.{◌≡◌, ℕ, ◌+◌, ◌<◌, ◌≤◌, List, [], ◌∷◌, ◌++◌, length, map, refl, sym, subst, ap, ◌∙◌, arith, append_assoc, append-nil, Bool, true, false, leb, ltb, cond, ◌&&◌, not, Option, Some, None}
-use Rattle.std.specs.Prelude.{if◌then◌else◌}
+use Rattle.std.proofs.Common.{◌≡◌, ℕ, ◌+◌, ◌<◌, ◌≤◌, List, [], ◌∷◌, ◌++◌, length, refl, sym, subst, ap, ◌∙◌, arith, append_assoc, append-nil, Bool, true, false, leb, cond, ◌&&◌, Option, Some, None}
 use Rattle.std.proofs.lemmas.Bool.Decides.{nat_tests}
 use Rattle.std.proofs.lemmas.List.{map-append}
 use Rattle.tail_settings.specs.Policy.{PolicyData}
@@ -11,14 +10,15 @@ use Rattle.span_batcher.specs.State.{IsUpTo}
 use Rattle.span_batcher.specs.State as batcher
 use Rattle.span_batcher.specs.Timers.{passed, after, come, come_batches, InOrder, last_moment}
 use Rattle.span_batcher.proofs.Timers.{passes, all_come}
-use Rattle.tenant_rules.specs.Arrivals.{Arrival}
-use Rattle.tenant_rules.specs.Rows.{Taken, Opened, Seated, opened, seated}
-use Rattle.tenant_rules.specs.Fate.{most_of, on_time, are_sampled, is_sampled, is_decided, WaitingData, waiting}
-use Rattle.tenant_rules.specs.Groups.{group_of, is_cut_short, decided, cut_short, late, by_moment, groups_of, groups}
-use Rattle.tenant_rules.specs.Sender.{BatchData}
+use Rattle.tenant_rules.specs.Arrivals.{Arrival, trace_of}
+use Rattle.tenant_rules.specs.Rows.{Taken, Opened, Seated, Seat, present_seat}
+use Rattle.tenant_rules.specs.Fate.{most_of, on_time, are_sampled, is_sampled, WaitingData}
+use Rattle.tenant_rules.specs.Seating.{place_by, known, seating, opened, placed, seated}
+use Rattle.tenant_rules.specs.Decisions.{by_moment}
+use Rattle.tenant_rules.specs.Groups.{decided, cut_short, late, groups}
 use Rattle.tenant_rules.specs.Batching.{rules_of, as_sent, all_sent, formed, pending, waiting_rows}
 use Rattle.tenant_rules.proofs.Order.{AllUpTo, AllFrom, Ascending, AllUpTo-append, AllUpTo_more, AllFrom_less, AllUpTo-by_moment, by_moment-middle}
-use Rattle.tenant_rules.proofs.Times.{TakenBy, OpenedBy, OpenedBy-opened, fired, Ascends, Ascends-waiting, decided_later, cut_none}
+use Rattle.tenant_rules.proofs.Times.{TakenBy, OpenedBy-opened, fired, Ascends, Ascends-waiting, decided_later, cut_none}
 
 -- ---- what is there is of moments up to the one reached
 
@@ -38,11 +38,19 @@ AllUpTo-decided w e N all (r ∷ R) = AllUpTo-append e (decided w e None N all R
     by_test true false is = tt
     by_test false b is = tt
 
-pub AllUpTo-late : (w : SectionData) (e most : ℕ) (A : List Taken) → TakenBy e A → AllUpTo e (late w (seated most A))
-AllUpTo-late w e most [] by = tt
-AllUpTo-late w e most (x ∷ A) by =
-    AllUpTo-append e (late w (seated most A)) _ (AllUpTo_more x.moment e (late w (seated most A)) by.0 (AllUpTo-late w x.moment most A by.1))
-    (AllUpTo_if e (record { moment = x.moment; spans = x.arrival ∷ [] }) _ (λ _. by.0))
+pub AllUpTo-late : (w : SectionData) (e : ℕ) (A : List Taken) → TakenBy e A → AllUpTo e (late w (placed w A))
+AllUpTo-late w e [] by = tt
+AllUpTo-late w e (x ∷ A) by =
+    by_seat (present_seat (most_of w) (trace_of x.arrival) (opened w A)) (known w x.moment (trace_of x.arrival) (seating w A))
+    (AllUpTo_more x.moment e (late w (placed w A)) by.0 (AllUpTo-late w x.moment A by.1))
+  where
+    one : Group Arrival
+    one = record { moment = x.moment; spans = x.arrival ∷ [] }
+
+    by_seat : (o : Option Seat) (h : Option Bool) → AllUpTo e (late w (placed w A)) → AllUpTo e (late w (place_by x (seating w A) o h).placed)
+    by_seat None None rest = AllUpTo-append e (late w (placed w A)) _ rest (AllUpTo_if e one _ (λ _. by.0))
+    by_seat None (Some b) rest = AllUpTo-append e (late w (placed w A)) _ rest (AllUpTo_if e one b (λ _. by.0))
+    by_seat (Some s) h rest = AllUpTo-append e (late w (placed w A)) _ rest (AllUpTo_if e one _ (λ _. by.0))
 
 -- ---- the groups of rows that are decided meanwhile
 
@@ -68,12 +76,12 @@ pub groups_later : (w : SectionData) (d e : ℕ) (A : List Taken) → 0 < w.tail
 unfolding groups
 groups_later w d e A pos le by =
     let p = w.tail_sampling.policies in
-    let N = seated (most_of w) A in
-    let R = opened (most_of w) A in
+    let N = seated w A in
+    let R = opened w A in
     let W = waiting_rows w d None A in
-    let opens = OpenedBy-opened (most_of w) d A by in
+    let opens = OpenedBy-opened w d A by in
     let asc = Ascends-waiting w d d (length R) N R opens in
-    let L = late w N in
+    let L = late w (placed w A) in
     let more : decided w e None N R R ≡ decided w d None N R R ++ fired p e W = decided_later w d e d N R R pos le opens opens in
     let none : L ++ cut_short w e None N R R ≡ L = ap (λ (gs : List (Group Arrival)). L ++ gs) (cut_none w e N R R) ∙ append-nil L in
     let none' : L ++ cut_short w d None N R R ≡ L = ap (λ (gs : List (Group Arrival)). L ++ gs) (cut_none w d N R R) ∙ append-nil L in
@@ -81,7 +89,7 @@ groups_later w d e A pos le by =
     ap (λ (gs : List (Group Arrival)). by_moment (decided w e None N R R ++ gs)) none ∙ ap (λ (gs : List (Group Arrival)). by_moment (gs ++ L)) more in
     let before : by_moment (decided w d None N R R ++ (L ++ cut_short w d None N R R)) ≡ by_moment (decided w d None N R R ++ L) =
     ap (λ (gs : List (Group Arrival)). by_moment (decided w d None N R R ++ gs)) none' in
-    now ∙ (by_moment-middle d (decided w d None N R R) (fired p e W) L (AllUpTo-decided w d N R R) (AllFrom_fired p (d + 1) e W asc) (Ascending_fired p (d + 1) e W asc) (AllUpTo-late w d (most_of w) A by)
+    now ∙ (by_moment-middle d (decided w d None N R R) (fired p e W) L (AllUpTo-decided w d N R R) (AllFrom_fired p (d + 1) e W asc) (Ascending_fired p (d + 1) e W asc) (AllUpTo-late w d A by)
     ∙ ap (λ (gs : List (Group Arrival)). gs ++ fired p e W) (sym before))
 
 -- groups that came up to a moment, as the batcher has it
@@ -92,10 +100,11 @@ IsUpTo_is m (g ∷ gs) up = (up.0, IsUpTo_is m gs up.1)
 pub IsUpTo-groups : (w : SectionData) (e : ℕ) (A : List Taken) → TakenBy e A → IsUpTo e (groups w e None A)
 unfolding groups
 IsUpTo-groups w e A by =
-    let N = seated (most_of w) A in
-    let R = opened (most_of w) A in
-    let none : late w N ++ cut_short w e None N R R ≡ late w N = ap (λ (gs : List (Group Arrival)). late w N ++ gs) (cut_none w e N R R) ∙ append-nil (late w N) in
-    IsUpTo_is e _ (AllUpTo-by_moment e _ (AllUpTo-append e (decided w e None N R R) _ (AllUpTo-decided w e N R R) (rw none (AllUpTo-late w e (most_of w) A by))))
+    let N = seated w A in
+    let R = opened w A in
+    let L = late w (placed w A) in
+    let none : L ++ cut_short w e None N R R ≡ L = ap (λ (gs : List (Group Arrival)). L ++ gs) (cut_none w e N R R) ∙ append-nil L in
+    IsUpTo_is e _ (AllUpTo-by_moment e _ (AllUpTo-append e (decided w e None N R R) _ (AllUpTo-decided w e N R R) (rw none (AllUpTo-late w e A by))))
 
 -- ---- batches
 
@@ -171,10 +180,10 @@ pub formed_later : (w : SectionData) (d e : ℕ) (A : List Taken) → 0 < w.tail
 unfolding formed pending
 formed_later w d e A pos sound le by =
     let p = w.tail_sampling.policies in
-    let R = opened (most_of w) A in
+    let R = opened w A in
     let W = waiting_rows w d None A in
     let G = groups w d None A in
-    let asc = Ascends-waiting w d d (length R) (seated (most_of w) A) R (OpenedBy-opened (most_of w) d A by) in
+    let asc = Ascends-waiting w d d (length R) (seated w A) R (OpenedBy-opened w d A by) in
     let ord = InOrder_less d (d + 1) (fired p e W) (omega arith) (InOrder-fired p (d + 1) e W asc) in
     let more = batches_more (rules_of w) d e G (fired p e W) sound (IsUpTo-groups w d A by) ord (last_fired p d e W le) in
     let P = batcher.state (rules_of w) d None G in
@@ -186,10 +195,10 @@ pub pending_later : (w : SectionData) (d e : ℕ) (A : List Taken) → 0 < w.tai
 unfolding pending
 pending_later w d e A pos sound le by =
     let p = w.tail_sampling.policies in
-    let R = opened (most_of w) A in
+    let R = opened w A in
     let W = waiting_rows w d None A in
     let G = groups w d None A in
-    let asc = Ascends-waiting w d d (length R) (seated (most_of w) A) R (OpenedBy-opened (most_of w) d A by) in
+    let asc = Ascends-waiting w d d (length R) (seated w A) R (OpenedBy-opened w d A by) in
     let ord = InOrder_less d (d + 1) (fired p e W) (omega arith) (InOrder-fired p (d + 1) e W asc) in
     let more = batches_more (rules_of w) d e G (fired p e W) sound (IsUpTo-groups w d A by) ord (last_fired p d e W le) in
     ap (batcher.state (rules_of w) e None) (groups_later w d e A pos le by) ∙ more.1

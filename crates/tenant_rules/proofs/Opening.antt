@@ -3,9 +3,10 @@ use Rattle.std.proofs.Common.{◌≡◌, ℕ, suc, ◌+◌, ◌<◌, ◌≤◌, 
 use Rattle.std.proofs.lemmas.Bool.Decides.{nat_tests}
 use Rattle.tail_settings.specs.Section.{SectionData}
 use Rattle.tenant_rules.specs.Arrivals.{Arrival, trace_of}
-use Rattle.tenant_rules.specs.Rows.{Opened, Seated, is_present}
+use Rattle.tenant_rules.specs.Rows.{Opened, Seated, Placed, Sits, seats, is_present}
 use Rattle.tenant_rules.specs.Fate.{most_of, due_of, on_time, is_sampled, is_evicted, is_before, opening_of, WaitingData, settled, waiting, dropped, late_dropped, too_early}
-use Rattle.tenant_rules.specs.Groups.{group_of, is_cut_short, decided, late}
+use Rattle.tenant_rules.specs.Decisions.{is_cut_short}
+use Rattle.tenant_rules.specs.Groups.{group_of, decided, late}
 use Rattle.tenant_rules.specs.Batching.{spans_in}
 use Rattle.tenant_rules.proofs.Times.{OpenedBy, evicted_late}
 use Rattle.tenant_rules.proofs.Coming.{SeatedUpTo, on_time_none, on_time_own, over_of, settled_same, waiting_same, decided_same, dropped_same, early_same, same_behind}
@@ -105,11 +106,11 @@ dropped_first w e a N R wait =
     zero_whole (dropped w e None (n ∷ N) (r ∷ R) R) (length (on_time w (length R + 1) (n ∷ N))) (leb (e + w.tail_sampling.decision_wait) e) (not (is_evicted w (length R + 1) (due_of w e) (r ∷ R))) (not (is_sampled w (length R + 1) (n ∷ N))) (not_over w e wait)
     ∙ (dropped_same w e (n ∷ N) N (r ∷ R) R same ∙ dropped_opened w e (trace_of a) N R R)
 
-pub late_first : (w : SectionData) (e : ℕ) (a : Arrival) (N : List Seated) (R : List Opened) → 0 < w.tail_sampling.decision_wait → late w (first_of e a R ∷ N) ≡ late w N
-late_first w e a N R wait = none_first (late w N) (record { moment = e; spans = a ∷ [] } ∷ []) (leb (e + w.tail_sampling.decision_wait) e) (is_sampled w (length R + 1) N) (not_over w e wait)
+pub late_first : (w : SectionData) (e : ℕ) (a : Arrival) (Q : List Placed) (R : List Opened) → 0 < w.tail_sampling.decision_wait → late w (Sits (first_of e a R) ∷ Q) ≡ late w Q
+late_first w e a Q R wait = none_first (late w Q) (record { moment = e; spans = a ∷ [] } ∷ []) (leb (e + w.tail_sampling.decision_wait) e) (is_sampled w (length R + 1) (seats Q)) (not_over w e wait)
 
-pub late_dropped_first : (w : SectionData) (e : ℕ) (a : Arrival) (N : List Seated) (R : List Opened) → 0 < w.tail_sampling.decision_wait → late_dropped w (first_of e a R ∷ N) ≡ late_dropped w N
-late_dropped_first w e a N R wait = zero_first (late_dropped w N) 1 (leb (e + w.tail_sampling.decision_wait) e) (not (is_sampled w (length R + 1) N)) (not_over w e wait)
+pub late_dropped_first : (w : SectionData) (e : ℕ) (a : Arrival) (Q : List Placed) (R : List Opened) → 0 < w.tail_sampling.decision_wait → late_dropped w (Sits (first_of e a R) ∷ Q) ≡ late_dropped w Q
+late_dropped_first w e a Q R wait = zero_first (late_dropped w Q) 1 (leb (e + w.tail_sampling.decision_wait) e) (not (is_sampled w (length R + 1) (seats Q))) (not_over w e wait)
 
 -- ---- the row that it leaves no room for
 

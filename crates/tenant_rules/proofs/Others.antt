@@ -4,8 +4,8 @@ use Rattle.std.specs.Prelude.{is_some, unwrap_or}
 use Rattle.tail_settings.specs.Section.{SectionData}
 use Rattle.tenant_rules.specs.Arrivals.{Arrival}
 use Rattle.tenant_rules.specs.Own.{Own, Post, Turn, Answer, Report, Drain, moment_of, clock, drained}
-use Rattle.tenant_rules.specs.Rows.{opened, seated}
-use Rattle.tenant_rules.specs.Fate.{most_of, settled}
+use Rattle.tenant_rules.specs.Fate.{settled}
+use Rattle.tenant_rules.specs.Seating.{opened, seated}
 use Rattle.tenant_rules.specs.Groups.{groups}
 use Rattle.tenant_rules.specs.Batching.{formed, pending, waiting_rows}
 use Rattle.tenant_rules.specs.Intake.{IntakeData, verdict, intake_by, intake}
@@ -46,8 +46,8 @@ all_alike w one other drain_is clock_is intake_is =
       drained_is = drain_is;
       groups_is = alike (λ (z : Option ℕ) (m : ℕ) (j : IntakeData). groups w m z j.spans) o o' e e' i i' drain_is clock_is intake_is;
       formed_is = alike (λ (z : Option ℕ) (m : ℕ) (j : IntakeData). formed w m z j.spans) o o' e e' i i' drain_is clock_is intake_is;
-      opened_is = ap (λ (j : IntakeData). length (opened (most_of w) j.spans)) intake_is;
-      settled_is = alike (λ (z : Option ℕ) (m : ℕ) (j : IntakeData). settled w m z (seated (most_of w) j.spans) (length (opened (most_of w) j.spans)) (opened (most_of w) j.spans)) o o' e e' i i' drain_is clock_is intake_is;
+      opened_is = ap (λ (j : IntakeData). length (opened w j.spans)) intake_is;
+      settled_is = alike (λ (z : Option ℕ) (m : ℕ) (j : IntakeData). settled w m z (seated w j.spans) (length (opened w j.spans)) (opened w j.spans)) o o' e e' i i' drain_is clock_is intake_is;
       waiting_is = alike (λ (z : Option ℕ) (m : ℕ) (j : IntakeData). waiting_rows w m z j.spans) o o' e e' i i' drain_is clock_is intake_is;
       pending_is = alike (λ (z : Option ℕ) (m : ℕ) (j : IntakeData). pending w m z j.spans) o o' e e' i i' drain_is clock_is intake_is;
       counters_are = λ sender ended. alike (λ (z : Option ℕ) (m : ℕ) (j : IntakeData). ledger_at w j m z sender ended) o o' e e' i i' drain_is clock_is intake_is;

@@ -7,8 +7,7 @@ use Rattle.span_batcher.specs.Batches.{IsSound}
 use Rattle.span_batcher.specs.Timers.{is_due}
 use Rattle.tenant_rules.specs.Arrivals.{Arrival}
 use Rattle.tenant_rules.specs.Own.{Own, Post, Report, Drain, clock, drained}
-use Rattle.tenant_rules.specs.Rows.{opened, seated}
-use Rattle.tenant_rules.specs.Fate.{most_of}
+use Rattle.tenant_rules.specs.Seating.{opened, seated}
 use Rattle.tenant_rules.specs.Sender.{BatchData, SenderData}
 use Rattle.tenant_rules.specs.Batching.{rules_of, formed, waiting_rows}
 use Rattle.tenant_rules.specs.Intake.{IntakeData, verdict, intake_by, intake}
@@ -28,9 +27,9 @@ rests : (w : SectionData) (i : IntakeData) (x d e : ℕ) (D : SenderData) (es : 
     state_with w i e (Some x) D es ≡ set_to e (state_with w i d (Some x) D es)
 rests w i x d e D es sound le by =
     let A = i.spans in
-    let R = opened (most_of w) A in
+    let R = opened w A in
     let s = state_with w i d (Some x) D es in
-    let none : next_timer s ≡ None = ap (λ (o : Option ℕ). lesser o (first_due (waiting_rows w d (Some x) A))) (pending_none w x d A sound by.1 by.0) ∙ ap first_due (waits_none w x d (length R) (seated (most_of w) A) R by.0) in
+    let none : next_timer s ≡ None = ap (λ (o : Option ℕ). lesser o (first_due (waiting_rows w d (Some x) A))) (pending_none w x d A sound by.1 by.0) ∙ ap first_due (waits_none w x d (length R) (seated w A) R by.0) in
     let idle : is_due (next_timer s) e ≡ false = ap (λ (o : Option ℕ). is_due o e) none in
     stays w i x d e D es sound by.0 le by.1 ∙ ap (set_to e) (ran_none (enough s) e s idle)
 

@@ -1,28 +1,28 @@
 -- What a tenant is at a later moment after a drain: nothing waits any more, and time changes the clock alone.
-use Rattle.std.proofs.Common.{◌≡◌, ℕ, ◌+◌, ◌<◌, ◌≤◌, List, [], ◌∷◌, ◌++◌, length, map, refl, sym, subst, ap, ◌∙◌, arith, append-nil, Bool, true, false, cond, leb, ◌&&◌, not, Option, Some, None}
+use Rattle.std.proofs.Common.{◌≡◌, ℕ, ◌+◌, ◌<◌, ◌≤◌, List, [], ◌∷◌, ◌++◌, length, refl, sym, subst, ap, ◌∙◌, arith, Bool, true, false, cond, leb, ◌&&◌, Option, Some, None}
 use Rattle.std.specs.Prelude.{min}
 use Rattle.std.proofs.lemmas.Bool.Decides.{nat_tests}
 use Rattle.tail_settings.specs.Section.{SectionData}
 use Rattle.drop_ledger.specs.declared.places.Places.{Places}
-use Rattle.drop_ledger.specs.Ledger.{LedgerData}
-use Rattle.span_batcher.specs.Batches.{Rules, IsSound, Group, Batch, batches}
+use Rattle.span_batcher.specs.Batches.{Rules, IsSound, Group, batches}
 use Rattle.span_batcher.specs.State.{IsUpTo, IsAfter, next_due}
 use Rattle.span_batcher.specs.State as batcher
-use Rattle.span_batcher.specs.Machine.{fired}
 use Rattle.span_batcher.specs.Timers.{is_due, after}
 use Rattle.span_batcher.proofs.Timers.{passes}
 use Rattle.span_batcher.proofs.Laws.{drains, stays_drained}
 use Rattle.tenant_rules.specs.Arrivals.{Arrival}
-use Rattle.tenant_rules.specs.Rows.{Taken, Opened, Seated, is_present, opened, seated}
-use Rattle.tenant_rules.specs.Fate.{most_of, due_of, on_time, is_sampled, is_evicted, is_over, is_decided, SettledData, WaitingData, settled, waiting, dropped, late_dropped}
-use Rattle.tenant_rules.specs.Groups.{group_of, is_cut_short, decided, cut_short, late, by_moment, groups_of, groups}
+use Rattle.tenant_rules.specs.Rows.{Taken, Opened, Seated, is_present}
+use Rattle.tenant_rules.specs.Fate.{most_of, due_of, on_time, is_sampled, is_over, WaitingData, settled, waiting, dropped, late_dropped}
+use Rattle.tenant_rules.specs.Seating.{opened, placed, seated}
+use Rattle.tenant_rules.specs.Decisions.{by_moment}
+use Rattle.tenant_rules.specs.Groups.{group_of, decided, cut_short, late, groups}
 use Rattle.tenant_rules.specs.Sender.{SenderData}
 use Rattle.tenant_rules.specs.Batching.{rules_of, all_sent, formed, pending, waiting_rows, spans_in}
 use Rattle.tenant_rules.specs.Intake.{IntakeData}
 use Rattle.tenant_rules.specs.Sending.{EndedData}
 use Rattle.tenant_rules.specs.Ready.{lesser}
-use Rattle.tenant_rules.specs.State.{State, ended_places, not_sampled, ledger_at}
-use Rattle.tenant_rules.specs.Timers.{enough, ran, next_timer, first_due, advanced}
+use Rattle.tenant_rules.specs.State.{ended_places, not_sampled, ledger_at}
+use Rattle.tenant_rules.specs.Timers.{enough, next_timer, first_due, advanced}
 use Rattle.tenant_rules.proofs.Order.{AllUpTo, AllUpTo-append, AllUpTo-by_moment}
 use Rattle.tenant_rules.proofs.Times.{TakenBy}
 use Rattle.tenant_rules.proofs.Later.{AllUpTo-late}
@@ -74,10 +74,10 @@ dropped_stay w x d e N all (r ∷ R) le le' =
 groups_stay : (w : SectionData) (x d e : ℕ) (A : List Taken) → x ≤ d → x ≤ e → groups w e (Some x) A ≡ groups w d (Some x) A
 unfolding groups
 groups_stay w x d e A le le' =
-    let N = seated (most_of w) A in
-    let R = opened (most_of w) A in
-    ap (λ (gs : List (Group Arrival)). by_moment (gs ++ (late w N ++ cut_short w e (Some x) N R R))) (decided_stay w x d e N R R le le')
-    ∙ ap (λ (gs : List (Group Arrival)). by_moment (decided w d (Some x) N R R ++ (late w N ++ gs))) (cut_stay w x d e N R R le le')
+    let N = seated w A in
+    let R = opened w A in
+    ap (λ (gs : List (Group Arrival)). by_moment (gs ++ (late w (placed w A) ++ cut_short w e (Some x) N R R))) (decided_stay w x d e N R R le le')
+    ∙ ap (λ (gs : List (Group Arrival)). by_moment (decided w d (Some x) N R R ++ (late w (placed w A) ++ gs))) (cut_stay w x d e N R R le le')
 
 -- ---- all groups are of moments up to the drain
 
@@ -104,9 +104,9 @@ IsUpTo_is m (g ∷ gs) up = (up.0, IsUpTo_is m gs up.1)
 groups_up : (w : SectionData) (x e : ℕ) (A : List Taken) → TakenBy x A → IsUpTo x (groups w e (Some x) A)
 unfolding groups
 groups_up w x e A by =
-    let N = seated (most_of w) A in
-    let R = opened (most_of w) A in
-    IsUpTo_is x _ (AllUpTo-by_moment x _ (AllUpTo-append x (decided w e (Some x) N R R) _ (decided_up w x e N R R) (AllUpTo-append x (late w N) _ (AllUpTo-late w x (most_of w) A by) (cut_up w x e N R R))))
+    let N = seated w A in
+    let R = opened w A in
+    IsUpTo_is x _ (AllUpTo-by_moment x _ (AllUpTo-append x (decided w e (Some x) N R R) _ (decided_up w x e N R R) (AllUpTo-append x (late w (placed w A)) _ (AllUpTo-late w x A by) (cut_up w x e N R R))))
 
 -- ---- a batcher that was drained
 
@@ -157,10 +157,10 @@ counts_are w i x d e D P = refl
 counts_stay : (w : SectionData) (i : IntakeData) (x d e : ℕ) (D : SenderData) (P : Places) → x ≤ d → x ≤ e → ledger_at w i e (Some x) D P ≡ ledger_at w i d (Some x) D P
 counts_stay w i x d e D P le le' =
     let A = i.spans in
-    let N = seated (most_of w) A in
-    let R = opened (most_of w) A in
+    let N = seated w A in
+    let R = opened w A in
     let waits : waiting_rows w e (Some x) A ≡ waiting_rows w d (Some x) A = waits_none w x e (length R) N R le' ∙ sym (waits_none w x d (length R) N R le) in
-    let drops : not_sampled w e (Some x) A ≡ not_sampled w d (Some x) A = ap (λ (n : ℕ). n + late_dropped w N) (dropped_stay w x d e N R R le le') in
+    let drops : not_sampled w e (Some x) A ≡ not_sampled w d (Some x) A = ap (λ (n : ℕ). n + late_dropped w (placed w A)) (dropped_stay w x d e N R R le le') in
     counts_are w i x d e D P
     ∙ (set_same (ledger_at w i d (Some x) D P) _ _ _ _ _ _ _ _ _ _ P.queue_full P.queue_full (ap spans_in waits) (ap (λ (q : batcher.State Arrival). length q.spans) (pending_stay w x d e A le le')) refl refl drops refl
     ∙ sym (counts_are w i x d d D P))
@@ -169,8 +169,8 @@ pub stays : (w : SectionData) (i : IntakeData) (x d e : ℕ) (D : SenderData) (e
     state_with w i e (Some x) D es ≡ advanced e (state_with w i d (Some x) D es)
 stays w i x d e D es sound le le' by =
     let A = i.spans in
-    let N = seated (most_of w) A in
-    let R = opened (most_of w) A in
+    let N = seated w A in
+    let R = opened w A in
     let s = state_with w i d (Some x) D es in
     let lt : x ≤ e = omega (arith, le, le') in
     let none : next_timer s ≡ None = ap (λ (o : Option ℕ). lesser o (first_due (waiting_rows w d (Some x) A))) (pending_none w x d A sound by le) ∙ ap first_due (waits_none w x d (length R) N R le) in

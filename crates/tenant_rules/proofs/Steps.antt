@@ -14,17 +14,17 @@ use Rattle.send_retry.specs.Delay.{StateData, NextData, Delay, GiveUp, next_dela
 use Rattle.send_queue.specs.declared.active.Retry.{Retry}
 use Rattle.send_queue.specs.declared.settled.Settled.TheVariants as settleds
 use Rattle.span_batcher.specs.Batches.{IsSound}
-use Rattle.tenant_rules.specs.Own.{Own, Post, Turn, Answer, Report, Drain, clock, drained}
+use Rattle.tenant_rules.specs.Own.{Own, Turn, Answer, Report, clock, drained}
 use Rattle.tenant_rules.specs.Rows.{Taken}
 use Rattle.tenant_rules.specs.Sender.{BatchData, ActiveData, SenderData, sizes, active_sizes, first_retry, due_by, has_consumer, has_tickets, under, retried, oldest, Choice, Retried, Oldest, NoBatch, choice_by, choice, without, replaced, sent_again, sent_first, handed_of, asked, FateData, Leaves, Stays, fate_next, fate_by, fate, settled_by, flying, in_flight, left_by, answered_by, answered}
 use Rattle.tenant_rules.specs.Batching.{rules_of, formed}
 use Rattle.tenant_rules.specs.Intake.{IntakeData, intake}
-use Rattle.tenant_rules.specs.Sending.{EndedData, formed_by, newly_formed, all_offered, overflow, before_acting, sender, met_full_queue, ended_in_flight, ended_by, ended}
+use Rattle.tenant_rules.specs.Sending.{EndedData, formed_by, newly_formed, all_offered, overflow, sender, met_full_queue, ended_in_flight, ended_by, ended}
 use Rattle.tenant_rules.specs.State.{State, ended_places, ledger_at, state}
 use Rattle.tenant_rules.specs.declared.told.Told.TheVariants as tell
 use Rattle.drop_ledger.specs.Report.{report_text}
 use Rattle.tenant_rules.specs.Answers.{answer, turn_told, heard}
-use Rattle.tenant_rules.specs.Timers.{recount, advanced}
+use Rattle.tenant_rules.specs.Timers.{advanced}
 use Rattle.tenant_rules.specs.Machine.{turned_by, turned, all_moved, settled, next, told}
 use Rattle.tenant_rules.proofs.Times.{TakenBy}
 use Rattle.tenant_rules.proofs.Later.{formed_later}

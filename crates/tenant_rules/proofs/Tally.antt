@@ -1,5 +1,5 @@
 -- The counters along a walk: what waits, is pending, queued and active is counted where it is.
-use Rattle.std.proofs.Common.{◌≡◌, ℕ, ◌+◌, ◌-◌, ◌<◌, ◌≤◌, List, [], ◌∷◌, ◌++◌, length, map, sum, refl, sym, ap, ◌∙◌, arith, length-append, Bool, true, false, cond, leb, ltb, ◌&&◌, not, Option, Some, None}
+use Rattle.std.proofs.Common.{◌≡◌, ℕ, ◌+◌, ◌-◌, ◌<◌, ◌≤◌, List, [], ◌∷◌, ◌++◌, length, refl, sym, ap, ◌∙◌, arith, length-append, Bool, true, false, cond, leb, ◌&&◌, not, Option, Some, None}
 use Rattle.std.specs.Prelude.{if◌then◌else◌, unwrap_or}
 use Rattle.std.proofs.lemmas.Bool.Decides.{nat_tests}
 use Rattle.std.proofs.lemmas.List.{map-append}
@@ -8,14 +8,13 @@ use Rattle.drop_ledger.specs.declared.places.Place.TheVariants.{Undecided, Pendi
 use Rattle.drop_ledger.specs.Ledger.{LedgerData, moved}
 use Rattle.span_batcher.specs.Batches.{Rules, Batch}
 use Rattle.span_batcher.specs.State.{next_due}
-use Rattle.span_batcher.specs.State as batcher
 use Rattle.span_batcher.specs.Machine.{cuts, uncut, added, fired}
 use Rattle.span_batcher.specs.Maps.{spans_of}
 use Rattle.span_batcher.specs.Timers.{is_due, passed, after}
 use Rattle.span_batcher.proofs.Maps.{cuts-whole}
 use Rattle.tenant_rules.specs.Arrivals.{Arrival}
 use Rattle.tenant_rules.specs.Fate.{WaitingData, are_sampled}
-use Rattle.tenant_rules.specs.Sender.{BatchData, SenderData, sizes, active_sizes, is_full, offered}
+use Rattle.tenant_rules.specs.Sender.{BatchData, SenderData, sizes, active_sizes, is_full}
 use Rattle.tenant_rules.specs.Sending.{all_offered, overflow}
 use Rattle.tenant_rules.specs.Batching.{as_sent, all_sent, spans_in}
 use Rattle.tenant_rules.specs.State.{State}
@@ -25,7 +24,7 @@ use Rattle.tenant_rules.proofs.Times.{Ascends}
 use Rattle.tenant_rules.proofs.Later.{meanwhile}
 use Rattle.tenant_rules.proofs.Fronts.{resent, all_queued-is}
 use Rattle.tenant_rules.proofs.Walks.{flush_by, walk, flush_by-waiting, decide-waiting}
-use Rattle.tenant_rules.proofs.Walked.{became, set_to, all_offered-append, flush_by-is, decide_row-is, pending_with, batches_with, step_pending, none_due}
+use Rattle.tenant_rules.proofs.Walked.{flush_by-is, decide_row-is, pending_with, batches_with, step_pending, none_due}
 
 -- counters with these six numbers
 abbrev pub set_counts : LedgerData → ℕ → ℕ → ℕ → ℕ → ℕ → ℕ → LedgerData

@@ -1,15 +1,15 @@
 -- As time goes on, rows that wait are decided, the first ones first.
-use Rattle.std.proofs.Common.{◌≡◌, ℕ, ◌+◌, ◌<◌, ◌≤◌, List, [], ◌∷◌, ◌++◌, length, map, refl, sym, ap, ◌∙◌, arith, append_assoc, append-nil, length-append, Bool, true, false, leb, ltb, cond, ◌&&◌, not, Option, Some, None}
+use Rattle.std.proofs.Common.{◌≡◌, ℕ, ◌+◌, ◌<◌, ◌≤◌, List, [], ◌∷◌, ◌++◌, length, refl, ap, arith, append_assoc, append-nil, Bool, true, false, leb, ltb, cond, ◌&&◌, not, Option, Some, None}
 use Rattle.std.specs.Prelude.{if◌then◌else◌}
 use Rattle.std.proofs.lemmas.Bool.Decides.{nat_tests}
 use Rattle.tail_settings.specs.Policy.{PolicyData}
 use Rattle.tail_settings.specs.Section.{SectionData}
 use Rattle.span_batcher.specs.Batches.{Group}
-use Rattle.tenant_rules.specs.Arrivals.{Arrival}
-use Rattle.tenant_rules.specs.Rows.{Taken, Opened, Seated, is_present, opened, seated, present_seat}
-use Rattle.tenant_rules.specs.Fate.{most_of, due_of, on_time, are_sampled, is_sampled, opening_of, is_before, is_evicted, is_over, is_decided, SettledData, WaitingData, settled, waiting, dropped}
-use Rattle.tenant_rules.specs.Groups.{group_of, is_cut_short, decided, cut_short}
-use Rattle.tenant_rules.specs.Batching.{spans_in}
+use Rattle.tenant_rules.specs.Arrivals.{Arrival, trace_of}
+use Rattle.tenant_rules.specs.Rows.{Taken, Opened, Seated, is_present, present_seat, Seat}
+use Rattle.tenant_rules.specs.Fate.{most_of, on_time, are_sampled, opening_of, is_before, is_evicted, is_decided, SettledData, WaitingData, settled, waiting, dropped}
+use Rattle.tenant_rules.specs.Seating.{place_by, known, seating, opened}
+use Rattle.tenant_rules.specs.Groups.{group_of, decided, cut_short}
 
 -- no span was taken after this moment, and moments don't fall
 abbrev pub TakenBy : ℕ → List Taken → Type 0
@@ -29,13 +29,14 @@ pub OpenedBy_more : (d e : ℕ) (R : List Opened) → d ≤ e → OpenedBy d R �
 OpenedBy_more d e [] le by = tt
 OpenedBy_more d e (r ∷ R) le by = (omega (arith, le, by.0), by.1)
 
-pub OpenedBy-opened : (most e : ℕ) (A : List Taken) → TakenBy e A → OpenedBy e (opened most A)
-OpenedBy-opened most e [] by = tt
-OpenedBy-opened most e (x ∷ A) by = by_seat (present_seat most x.arrival.facts.trace_id (opened most A)) (OpenedBy-opened most x.moment A by.1)
+pub OpenedBy-opened : (w : SectionData) (e : ℕ) (A : List Taken) → TakenBy e A → OpenedBy e (opened w A)
+OpenedBy-opened w e [] by = tt
+OpenedBy-opened w e (x ∷ A) by = by_seat (present_seat (most_of w) (trace_of x.arrival) (opened w A)) (known w x.moment (trace_of x.arrival) (seating w A)) (OpenedBy-opened w x.moment A by.1)
   where
-    by_seat : (o : Option Rattle.tenant_rules.specs.Rows.Seat) → OpenedBy x.moment (opened most A) → OpenedBy e (cond (Rattle.std.specs.Prelude.is_some o) (opened most A) (record { trace = x.arrival.facts.trace_id; moment = x.moment } ∷ opened most A))
-    by_seat None rest = (by.0, rest)
-    by_seat (Some s) rest = OpenedBy_more x.moment e (opened most A) by.0 rest
+    by_seat : (o : Option Seat) (h : Option Bool) → OpenedBy x.moment (opened w A) → OpenedBy e (place_by x (seating w A) o h).rows
+    by_seat None None rest = (by.0, rest)
+    by_seat None (Some b) rest = OpenedBy_more x.moment e (opened w A) by.0 rest
+    by_seat (Some s) h rest = OpenedBy_more x.moment e (opened w A) by.0 rest
 
 -- the rows that are not due by then, those that are, and the groups that these make
 abbrev pub later : ℕ → List WaitingData → List WaitingData

@@ -1,10 +1,10 @@
 -- What a walk over the rows that wait makes of a state.
-use Rattle.std.proofs.Common.{◌≡◌, ℕ, ◌+◌, ◌<◌, ◌≤◌, List, [], ◌∷◌, ◌++◌, length, map, refl, sym, ap, ◌∙◌, arith, append_assoc, append-nil, Bool, true, false, cond, leb, ltb, ◌&&◌, Option, Some, None}
+use Rattle.std.proofs.Common.{◌≡◌, ℕ, ◌<◌, ◌≤◌, List, [], ◌∷◌, ◌++◌, length, refl, sym, ap, ◌∙◌, arith, append_assoc, append-nil, Bool, true, false, cond, leb, ltb, ◌&&◌, Option, Some, None}
 use Rattle.std.specs.Prelude.{if◌then◌else◌, unwrap_or}
 use Rattle.std.proofs.lemmas.Bool.Decides.{nat_tests}
 use Rattle.std.proofs.lemmas.List.{map-append}
 use Rattle.tail_settings.specs.Policy.{PolicyData}
-use Rattle.drop_ledger.specs.declared.places.Place.TheVariants.{Undecided, Pending, NotSampled}
+use Rattle.drop_ledger.specs.declared.places.Place.TheVariants.{Undecided, Pending}
 use Rattle.drop_ledger.specs.Ledger.{LedgerData}
 use Rattle.span_batcher.specs.Batches.{Group, Batch}
 use Rattle.span_batcher.specs.State.{next_due}
@@ -17,11 +17,11 @@ use Rattle.tenant_rules.specs.Sender.{BatchData, SenderData, offered}
 use Rattle.tenant_rules.specs.Sending.{all_offered}
 use Rattle.tenant_rules.specs.Batching.{as_sent, all_sent}
 use Rattle.tenant_rules.specs.State.{State}
-use Rattle.tenant_rules.specs.Timers.{recount, all_queued, grouped, flushed, settle, sample, decide_row, decide}
+use Rattle.tenant_rules.specs.Timers.{recount, flushed, settle, sample, decide_row, decide}
 use Rattle.tenant_rules.proofs.Times as times
 use Rattle.tenant_rules.proofs.Times.{later, done, Ascends}
 use Rattle.tenant_rules.proofs.Later.{meanwhile, left_then}
-use Rattle.tenant_rules.proofs.Fronts.{resent, all_queued-is}
+use Rattle.tenant_rules.proofs.Fronts.{all_queued-is}
 use Rattle.tenant_rules.proofs.Walks.{flush_by, walk, decide-waiting}
 
 -- a state at another moment

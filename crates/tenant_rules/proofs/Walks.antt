@@ -1,5 +1,5 @@
 -- Timers that run one at a time do what a walk over the rows that wait does.
-use Rattle.std.proofs.Common.{◌≡◌, ℕ, zero, suc, ◌+◌, ◌<◌, ◌≤◌, List, [], ◌∷◌, ◌++◌, length, refl, sym, ap, ◌∙◌, arith, Bool, true, false, cond, leb, Option, Some, None, subst}
+use Rattle.std.proofs.Common.{◌≡◌, ℕ, ◌+◌, ◌<◌, ◌≤◌, List, [], ◌∷◌, ◌++◌, length, refl, sym, ap, ◌∙◌, arith, Bool, true, false, cond, leb, Option, Some, None, subst}
 use Rattle.std.specs.Prelude.{if◌then◌else◌}
 use Rattle.std.proofs.lemmas.Bool.Decides.{nat_tests}
 use Rattle.span_batcher.specs.State.{next_due}
@@ -10,8 +10,8 @@ use Rattle.tenant_rules.specs.Fate.{WaitingData, are_sampled}
 use Rattle.tenant_rules.specs.Batching.{all_sent}
 use Rattle.tenant_rules.specs.Ready.{lesser}
 use Rattle.tenant_rules.specs.State.{State}
-use Rattle.tenant_rules.specs.Timers.{recount, all_queued, flushed, settle, sample, decide, first_due, next_timer, is_batch, one_run, ran, IsFront, enough}
-use Rattle.tenant_rules.proofs.Fronts.{ran_none, ran-more, IsFront-push, resent, all_queued-is, enough_done}
+use Rattle.tenant_rules.specs.Timers.{recount, flushed, settle, sample, decide, first_due, next_timer, is_batch, one_run, ran, IsFront, enough}
+use Rattle.tenant_rules.proofs.Fronts.{ran_none, ran-more, IsFront-push, all_queued-is, enough_done}
 
 -- the batch timer runs where it is due by then
 abbrev pub flush_by : ℕ → State → State

@@ -1,5 +1,5 @@
 -- What a tenant is told of its next own step: the answers of a pipeline that serves this tenant alone.
-use Rattle.std.specs.Prelude.{ℕ, ◌+◌, pos, Bool, List, [], ◌∷◌, ◌++◌, codes, Option, Some, None, is_some, if◌then◌else◌, ◌==◌, ◌&&◌}
+use Rattle.std.specs.Prelude.{ℕ, ◌+◌, pos, List, [], ◌∷◌, ◌++◌, codes, Option, Some, None, is_some, if◌then◌else◌, ◌==◌, ◌&&◌}
 use Rattle.std.specs.Fmt.{decimal}
 use Rattle.otlp_trace.specs.Text.{response_text, refusal_text}
 use Rattle.tail_settings.specs.Section.{SectionData}

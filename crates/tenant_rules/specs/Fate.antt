@@ -9,7 +9,7 @@ use Rattle.tail_settings.specs.Policy.{PolicyData}
 use Rattle.tail_settings.specs.Section.{SectionData}
 use Rattle.tail_policy.specs.Meaning.{keeps}
 use Rattle.tenant_rules.specs.Arrivals.{Arrival}
-use Rattle.tenant_rules.specs.Rows.{Opened, Seated, is_present}
+use Rattle.tenant_rules.specs.Rows.{Opened, Seated, Placed, Sits, Hits, seats, is_present}
 
 -- a tenant holds so many rows
 abbrev pub most_of : SectionData → ℕ
@@ -110,12 +110,13 @@ dropped section reached drain spans all (row ∷ rows) =
     + (if is_decided section reached drain all row (length rows + 1) && not (is_sampled section (length rows + 1) spans)
     then length (on_time section (length rows + 1) spans) else 0)
 
--- late spans of such rows
-abbrev pub late_dropped : SectionData → List Seated → ℕ
+-- late spans of such rows, and spans without a seat of traces that weren't sampled
+abbrev pub late_dropped : SectionData → List Placed → ℕ
 late_dropped section [] = 0
-late_dropped section (x ∷ before) =
+late_dropped section (Sits x ∷ before) =
     late_dropped section before
-    + (if nat_le (due_of section x.opening) x.moment && not (is_sampled section x.row before) then 1 else 0)
+    + (if nat_le (due_of section x.opening) x.moment && not (is_sampled section x.row (seats before)) then 1 else 0)
+late_dropped section (Hits h ∷ before) = late_dropped section before + (if h.sampled then 0 else 1)
 
 -- spans of evicted rows
 abbrev pub too_early : SectionData → List Seated → List Opened → List Opened → ℕ

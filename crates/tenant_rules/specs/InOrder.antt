@@ -1,5 +1,5 @@
 -- How timers stand after every past.
-use Rattle.std.specs.Prelude.{◌≡◌, ℕ, false, List}
+use Rattle.std.specs.Prelude.{◌≡◌, false, List}
 use Rattle.tail_settings.specs.Section.{SectionData}
 use Rattle.span_batcher.specs.Batches.{IsSound}
 use Rattle.span_batcher.specs.Timers.{is_due}

@@ -1,6 +1,6 @@
 -- Which spans of a tenant's posts are taken: a span that isn't valid is refused by itself (OTLP/HTTP, "Partial
 -- Success"), and so is one for which there is no room. The budget of spans held at a time is our own.
-use Rattle.std.specs.Prelude.{ℕ, ◌+◌, ◌-◌, Bool, List, [], ◌∷◌, length, Option, None, is_some, if◌then◌else◌, ◌==◌, nat_lt}
+use Rattle.std.specs.Prelude.{ℕ, ◌+◌, ◌-◌, Bool, List, [], ◌∷◌, length, None, is_some, if◌then◌else◌, ◌==◌, nat_lt}
 use Rattle.tail_settings.specs.Section.{SectionData}
 use Rattle.drop_ledger.specs.Ledger.{most_counted}
 use Rattle.tenant_rules.specs.Arrivals.{Arrival, valid}

@@ -2,6 +2,8 @@ pub mod Arrivals
 pub mod Own
 pub mod Rows
 pub mod Fate
+pub mod Decisions
+pub mod Seating
 pub mod Groups
 pub mod ExportText
 pub mod Sender

@@ -1,9 +1,9 @@
--- Which row each span goes to. A span goes to its trace's latest row while that is present; at most `num_traces` rows
--- are (the Collector's tailsamplingprocessor; the numbering of rows is our own). Lists of spans and of rows have the
--- newest first.
-use Rattle.std.specs.Prelude.{ℕ, ◌+◌, Bool, List, [], ◌∷◌, length, Option, Some, None, unwrap_or, is_some, if◌then◌else◌, nat_lt}
+-- Rows of traces, and seats of spans in them: a trace's latest row while that is present; at most `num_traces` rows are
+-- (the Collector's tailsamplingprocessor; the numbering of rows is our own). Lists of spans and of rows have the newest
+-- first.
+use Rattle.std.specs.Prelude.{ℕ, ◌+◌, Bool, List, [], ◌∷◌, length, Option, Some, None, if◌then◌else◌, nat_lt}
 use Rattle.span_pool.specs.Stored.{same_bytes}
-use Rattle.tenant_rules.specs.Arrivals.{Arrival, trace_of}
+use Rattle.tenant_rules.specs.Arrivals.{Arrival}
 
 -- a span that was taken, with the moment at which its post took effect
 pub record Taken : Type 0 where
@@ -27,6 +27,24 @@ pub record Seated : Type 0 where
   pub moment : ℕ
   pub arrival : Arrival
 
+-- a span that has no seat, since its trace has no row that is present, but whose trace's verdict is known from an
+-- earlier row: its moment, and whether that row was sampled
+pub record Hit : Type 0 where
+  pub moment : ℕ
+  pub arrival : Arrival
+  pub sampled : Bool
+
+-- a span has a seat, or has none
+pub data Placed : Type 0 where
+  Sits : Seated → Placed
+  Hits : Hit → Placed
+
+-- those that have one
+abbrev pub seats : List Placed → List Seated
+seats [] = []
+seats (Sits x ∷ placed) = x ∷ seats placed
+seats (Hits h ∷ placed) = seats placed
+
 -- the latest row of a trace
 abbrev pub latest : List ℕ → List Opened → Option Seat
 latest trace [] = None
@@ -47,26 +65,3 @@ if_present most n (Some seat) = if is_present most n seat.row then Some seat els
 -- the latest row of a trace, where that is present
 abbrev pub present_seat : ℕ → List ℕ → List Opened → Option Seat
 present_seat most trace rows = if_present most (length rows) (latest trace rows)
-
--- the rows that the spans open: a span opens one where its trace has none that is present
-abbrev pub opened : ℕ → List Taken → List Opened
-opened most [] = []
-opened most (x ∷ before) =
-    if is_some (present_seat most (trace_of x.arrival) (opened most before)) then opened most before
-    else record { trace = trace_of x.arrival; moment = x.moment } ∷ opened most before
-
--- the seat of a span after these rows were opened: its trace's latest row where that is present, else the next row
-abbrev pub seat : ℕ → Taken → List Opened → Seat
-seat most x rows =
-    unwrap_or (present_seat most (trace_of x.arrival) rows) (record { row = length rows + 1; opening = x.moment })
-
--- each span with its seat
-abbrev pub seated : ℕ → List Taken → List Seated
-seated most [] = []
-seated most (x ∷ before) =
-    record {
-      row = (seat most x (opened most before)).row;
-      opening = (seat most x (opened most before)).opening;
-      moment = x.moment;
-      arrival = x.arrival;
-    } ∷ seated most before

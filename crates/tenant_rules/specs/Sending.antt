@@ -1,6 +1,6 @@
 -- What is kept of a tenant's batches after its own steps, and where the spans of the others ended. At each step the
 -- batches that form by then are offered first, in order; then a worker's turn or a back end's answer acts.
-use Rattle.std.specs.Prelude.{ℕ, Bool, List, [], ◌∷◌, ◌++◌, map, length, drop, Option, Some, None, if◌then◌else◌}
+use Rattle.std.specs.Prelude.{ℕ, List, [], ◌∷◌, ◌++◌, map, length, drop, Option, Some, None, if◌then◌else◌}
 use Rattle.tail_settings.specs.Section.{SectionData}
 use Rattle.drop_ledger.specs.declared.places.Place.{Place}
 use Rattle.drop_ledger.specs.declared.places.Place.TheVariants.{Exported, QueueFull, RetryExhausted, BackEndRefused, BackEndRejected}

@@ -6,8 +6,9 @@ use Rattle.drop_ledger.specs.Ledger.{LedgerData, no_places, with_more}
 use Rattle.span_batcher.specs.State as batcher
 use Rattle.tenant_rules.specs.Arrivals.{Arrival}
 use Rattle.tenant_rules.specs.Own.{Own, clock, drained}
-use Rattle.tenant_rules.specs.Rows.{Taken, Opened, Seated, opened, seated}
-use Rattle.tenant_rules.specs.Fate.{most_of, SettledData, WaitingData, settled, waiting, dropped, late_dropped, too_early}
+use Rattle.tenant_rules.specs.Rows.{Taken}
+use Rattle.tenant_rules.specs.Fate.{SettledData, WaitingData, settled, dropped, late_dropped, too_early}
+use Rattle.tenant_rules.specs.Seating.{opened, placed, seated}
 use Rattle.tenant_rules.specs.Batching.{pending, waiting_rows, spans_in}
 use Rattle.tenant_rules.specs.Intake.{IntakeData, intake}
 use Rattle.tenant_rules.specs.Sender.{SenderData, sizes, active_sizes}
@@ -38,9 +39,8 @@ ended_places (e ∷ es) = with_more e.place e.spans (ended_places es)
 -- spans that leave in no group since their row isn't sampled
 abbrev pub not_sampled : SectionData → ℕ → Option ℕ → List Taken → ℕ
 not_sampled section reached drain spans =
-    dropped section reached drain (seated (most_of section) spans) (opened (most_of section) spans)
-    (opened (most_of section) spans)
-    + late_dropped section (seated (most_of section) spans)
+    dropped section reached drain (seated section spans) (opened section spans) (opened section spans)
+    + late_dropped section (placed section spans)
 
 -- where the spans are by the moment, from what came in, the sender, and the spans of settled batches by place
 unfoldable pub ledger_at : SectionData → IntakeData → ℕ → Option ℕ → SenderData → Places → LedgerData
@@ -53,8 +53,7 @@ ledger_at section i reached drain sender ended = record {
     active = active_sizes sender.active;
     exported = ended.exported;
     not_sampled = not_sampled section reached drain i.spans;
-    too_early = too_early section (seated (most_of section) i.spans) (opened (most_of section) i.spans)
-        (opened (most_of section) i.spans);
+    too_early = too_early section (seated section i.spans) (opened section i.spans) (opened section i.spans);
     queue_full = ended.queue_full;
     retry_exhausted = ended.retry_exhausted;
     back_end_refused = ended.back_end_refused;
@@ -76,9 +75,8 @@ state_at section spans reached drain sender ledger = record {
   section = section;
   clock = reached;
   drained = is_some drain;
-  opened = length (opened (most_of section) spans);
-  settled = settled section reached drain (seated (most_of section) spans) (length (opened (most_of section) spans))
-      (opened (most_of section) spans);
+  opened = length (opened section spans);
+  settled = settled section reached drain (seated section spans) (length (opened section spans)) (opened section spans);
   waiting = waiting_rows section reached drain spans;
   pending = pending section reached drain spans;
   sender = sender;

@@ -4,12 +4,11 @@ use Rattle.std.specs.Prelude.{◌≡◌, ℕ, zero, suc, ◌+◌, Bool, true, fa
 use Rattle.drop_ledger.specs.declared.places.Place.{Place}
 use Rattle.drop_ledger.specs.declared.places.Place.TheVariants.{Undecided, Pending, Queued, NotSampled, QueueFull}
 use Rattle.drop_ledger.specs.Ledger.{moved}
-use Rattle.span_batcher.specs.Batches.{Batch}
 use Rattle.span_batcher.specs.State.{next_due}
 use Rattle.span_batcher.specs.Machine.{cuts, added, fired}
 use Rattle.span_batcher.specs.Timers.{is_due}
 use Rattle.tenant_rules.specs.Arrivals.{Arrival}
-use Rattle.tenant_rules.specs.Fate.{SettledData, WaitingData, are_sampled}
+use Rattle.tenant_rules.specs.Fate.{WaitingData, are_sampled}
 use Rattle.tenant_rules.specs.Sender.{BatchData, is_full, offered}
 use Rattle.tenant_rules.specs.Batching.{all_sent}
 use Rattle.tenant_rules.specs.Ready.{lesser}
