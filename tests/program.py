@@ -108,6 +108,10 @@ queue_size = 1000
 decision_wait_ms = 30000
 num_traces = 50000
 
+[tenant.tail_sampling.decision_cache]
+non_sampled_cache_size = 0
+sampled_cache_size = 0
+
 [[tenant.tail_sampling.policy]]
 type = "always_sample"
 """
@@ -145,6 +149,8 @@ UNKNOWN = [
     ("", TENANT.replace("[[tenant.", "spans = 1\n[[tenant."), "tenant 1 (a): no setting has the key spans"),
     ("", TENANT.replace("[[tenant.tail_sampling.policy]]", WAIT % ' = "10s"'), "tenant 1 (a), table tail_sampling: no setting "
      "has the key decision_wait", "decision_wait_ms"),
+    ("", TENANT + "[tenant.tail_sampling.decision_cache]\nsize = 1\n", "tenant 1 (a), table decision_cache: no setting has the "
+     "key size"),
     ("", TENANT + "[tenant.batch]\ntimeout_s = 1\n", "tenant 1 (a), table batch: no setting has the key timeout_s",
      "timeout_ms"),
     ("", TENANT + "[tenant.sending_queue]\nenabled = true\n", "tenant 1 (a), table sending_queue: no setting has the key "
@@ -165,7 +171,8 @@ POLICIES = [
     {"type": "and", "and_sub_policy": [{"type": "latency", "threshold_ms": 1000},
                                        {"type": "status_code", "status_codes": ["ERROR"]}]},
 ]
-SHOP = {"decision_wait_ms": 10000, "num_traces": 20000, "policy": [
+NO_CACHE = {"sampled_cache_size": 0, "non_sampled_cache_size": 0}
+SHOP = {"decision_wait_ms": 10000, "num_traces": 20000, "decision_cache": NO_CACHE, "policy": [
     {"type": "status_code", "status_codes": ["ERROR"]},
     {"type": "latency", "threshold_ms": 2000},
     {"type": "and", "and_sub_policy": [
@@ -178,7 +185,8 @@ IN_EXAMPLES = {
                          {"name": "search", "endpoint": "10.0.0.12:4318", "max_spans": 20000}],
     "errors-and-slow-traces.toml": [{"name": "shop", "endpoint": "tracing.internal:4318", "tail_sampling": SHOP}],
     "everything.toml": [{"name": "everything",
-                         "tail_sampling": {"decision_wait_ms": 30000, "num_traces": 50000, "policy": POLICIES}}],
+                         "tail_sampling": {"decision_wait_ms": 30000, "num_traces": 50000, "decision_cache": NO_CACHE,
+                                           "policy": POLICIES}}],
 }
 
 
@@ -212,6 +220,11 @@ def checks():
         both = said(TENANT.replace("policy]]", "polcy]]"))
         check("a warning beside a fault", both[1].split("\n")[0::3], ["settings fault 11 policy", "# warning: tenant 1 (a), "
               "table tail_sampling: no setting has the key polcy, so it is ignored"])
+        cached = TENANT + "[tenant.tail_sampling.decision_cache]\nsampled_cache_size = 2\nnon_sampled_cache_size = 1\n"
+        sizes = IN_FORCE.replace("non_sampled_cache_size = 0\nsampled_cache_size = 0", "non_sampled_cache_size = 1\n"
+                                 "sampled_cache_size = 2")
+        check("sizes of caches", said(cached), (0, sizes))
+        check("sizes of caches twice", said(sizes), (0, sizes))
         missing = str(Path(folder, "missing"))
         check("no file to check", ended(["check", missing]), (1, b"", b"input or output fault\n"))
         for example in sorted((HERE / "examples").glob("*.toml")):
@@ -327,7 +340,7 @@ def tables_of_settings():
     tenants = [TENANT.replace('"a"', f'"t{number}"') for number in range(1001)]
     cases = [("settings", "".join(tenants[:1000])), ("settings fault 15", "".join(tenants))]
     cases += [case for file in sorted(TABLES.glob("*.txt")) for case in cases_of(file)]
-    check("documents of tests/settings/", len(cases), 387)
+    check("documents of tests/settings/", len(cases), 421)
     with tempfile.TemporaryDirectory() as folder:
         file = Path(folder, "settings.toml")
         for told, text in cases:

@@ -2,8 +2,8 @@
 """Lists where a want of memory is made in the code of crates/, and fails on a place that isn't known.
 
 No contract can say that `OutOfMemory` is answered only where a growth was refused. So this looks at each place where a
-value that says so is made: `AllocError`, `AllocFailed`, a variant `OutOfMemory`, or `Stopped` of `tenant_shard`. Such a
-value may be made
+value that says so is made: `AllocError`, `AllocFailed`, a variant `OutOfMemory`, `Stopped` of `tenant_shard`, or a reply with
+the status 503, by `without_memory` or by hand. Such a value may be made
 - in `from` of a conversion from `AllocError` or `AllocFailed`, where it is all that stands there;
 - in an arm of a `match` whose one pattern is itself a want of memory, and so in what maps one to another;
 - in the block of an `if` that asks only whether an error's kind is `ErrorKind::OutOfMemory`;
@@ -20,7 +20,8 @@ import sys
 
 ROOT = pathlib.Path(__file__).resolve().parent.parent
 TYPES = {"AllocError", "AllocFailed", "Stopped"}
-WORDS = TYPES | {"OutOfMemory"}
+REPLY = "without_memory"
+WORDS = TYPES | {"OutOfMemory", REPLY}
 
 # the file under crates/, the function, how often, and why
 KNOWN = [
@@ -29,6 +30,7 @@ KNOWN = [
     ("tail_settings/src/document.rt", "load", 1, "the TOML reader's error says that it is want of memory"),
     ("trace_collector_program/src/serve.rt", "from", 1, "a thread wasn't started for want of what one is started with"),
     ("tenant_shard/src/shard.rt", "run", 2, "room for the outcomes was refused, or a step was"),
+    ("trace_service/src/post.rt", "without_memory", 1, "the reply itself"),
 ]
 
 CLAUSE = re.compile(r"(?:ensures|requires|decreases|invariant|variant)\b\*?\s*(?:[a-z_]\w*\s*)?\{")
@@ -370,6 +372,11 @@ def is_asked(code, i):
     return False
 
 
+def is_503(code, i):
+    """Whether the number is the status of a reply that is made here."""
+    return code.words[max(i - 2, 0) : i + 1] == ["status", ":", "503"]
+
+
 def made_in(text):
     """Each place where a want of memory is made: the line, the function, the word, and why it may be, if it may."""
     code = Code(text)
@@ -378,7 +385,9 @@ def made_in(text):
     for i in wrong:
         found.append((code.lines[i], "", code.words[i], "", "is given another name, under which this check can't find it"))
     for i, word in enumerate(code.words):
-        if word not in WORDS or i in skip:
+        if i in skip or word not in WORDS and not is_503(code, i):
+            continue
+        if word == REPLY and code.word(i - 1) == "fn":
             continue
         if word == "Stopped" and code.word(i + 1) not in ("{", "("):
             continue
@@ -462,6 +471,10 @@ FOUND = [
     "fn f(e: Fault) -> Refusal { match e { Fault::OutOfMemory => match g() { _ => Refusal::OutOfMemory } } }",
     "const GONE: Refusal = Refusal::OutOfMemory; fn f(x: Option<u8>) -> Result<u8, AllocError> { x.ok_or_else(|| AllocError) }",
     "fn f(n: u64) -> R { let Some(x) = n else { return Err(AllocError) }; match x { A => 1, B => 2 } }",
+    "fn f(x: R) -> Reply { match x { Ok(y) => y, Err(Refusal::Bad(_)) => without_memory(a) } }",
+    "fn f(x: R) -> Reply { match x { Ok(y) => y, Err(_) => without_memory(a) } }",
+    "use crate::post::without_memory as other; fn f() -> Reply { other(a) }",
+    "fn f(a: Global) -> Reply { Reply { status: 503, body: Vec::new(a) } }",
 ]
 PASSED = [
     "use std::alloc::{AllocError, Global}; fn f(x: Global) -> Result<Vec<u8>, AllocError> { g(x) }",
@@ -484,6 +497,8 @@ PASSED = [
     "fn f(x: R) -> Q { match x { Fault::Deep { at } => Q::Deep { at }, Fault::OutOfMemory => Q::OutOfMemory } }",
     "fn f(x: R) -> Q { match x { Ok(y) => { g(y) } Err(Refusal::OutOfMemory) => { Err(Q::OutOfMemory) } } }",
     "fn f(g: Vec<AllocError>, h: &AllocError) -> Option<AllocError> { h.go::<AllocError>() }",
+    "fn f(x: R) -> Reply { match x { Ok(y) => y, Err(HubFault::OutOfMemory) => without_memory(a) } }",
+    "fn f(reply: &Reply) -> bool { reply.status == 503 }",
 ]
 
 

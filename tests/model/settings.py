@@ -6,12 +6,13 @@ import datetime
 TEXT = "abcdefghijklmnopqrstuvwxyz0123456789-"
 NUMBERS = {"shards": (1, 64), "parts": (1, 16), "receivers": (1, 64), "senders": (1, 64), "lane_size": (1, 4096),
            "max_spans": (1, 2**31), "seed": (0, 2**62), "decision_wait_ms": (1, 86_400_000),
-           "num_traces": (1, 1_000_000),
+           "num_traces": (1, 1_000_000), "sampled_cache_size": (0, 1_000_000), "non_sampled_cache_size": (0, 1_000_000),
            "send_batch_size": (1, 1_000_000), "timeout_ms": (0, 86_400_000), "send_batch_max_size": (0, 1_000_000),
            "queue_size": (1, 100_000), "num_consumers": (1, 1000), "initial_interval_ms": (1, 86_400_000),
            "max_interval_ms": (1, 86_400_000), "max_elapsed_time_ms": (0, 2**40), "multiplier": (1000, 100_000),
            "randomization_factor": (0, 1000)}
 GLOBAL = ("shards", "parts", "receivers", "senders", "lane_size")
+CACHE = ("sampled_cache_size", "non_sampled_cache_size")
 QUEUE = ("queue_size", "num_consumers")
 RETRY = ("initial_interval_ms", "max_interval_ms", "max_elapsed_time_ms", "multiplier", "randomization_factor")
 ANY_NUMBER = (-2**63, 2**63 - 1)
@@ -126,6 +127,7 @@ def tenant(table, names):
     number(table, "seed")
     sampling = inside(table, "tail_sampling")
     numbers(sampling, ("decision_wait_ms", "num_traces"))
+    numbers(inside(sampling, "decision_cache"), CACHE)
     if sum(leaves(policy) for policy in array(sampling, "policy", dict)) > 64:
         raise Fault(15)
     batch = inside(table, "batch")
@@ -222,6 +224,8 @@ class Documents:
         policies = [self.policy() for _ in range(self.or_rarely(1, 2, 3, 33, 64, 65))]
         policies += self.or_rarely([], [1], ["x"], [])
         sampling = {**self.numbers(("decision_wait_ms", "num_traces")), "policy": policies}
+        if self.one_in(3):
+            sampling["decision_cache"] = self.spoilt(self.numbers(CACHE), 10)
         table["tail_sampling"] = self.spoilt(sampling, 20)
         for name, keys in (("batch", ("send_batch_size", "timeout_ms", "send_batch_max_size")),
                            ("sending_queue", QUEUE), ("retry_on_failure", RETRY)):

@@ -127,7 +127,8 @@ def reading_nothing(folder):
 
 
 def an_idle_service(folder):
-    """Nobody asks anything: a decision, a batch's timer and a retry come when they are due, in each shard."""
+    """Nobody asks anything: a decision, a batch's timer and a retry come when they are due, in each shard. So does what
+    is posted after a rest that is longer than the wait."""
     with BackEnd() as decided, BackEnd() as timed, BackEnd(lambda count: BUSY if count == 1 else TAKEN) as busy:
         sections = [tenant("a", decided, wait=400), tenant("b", timed, wait=200, timeout=200),
                     tenant("c", busy, retry=400)]
@@ -138,9 +139,11 @@ def an_idle_service(folder):
             wait_for(lambda: decided.posts and timed.posts and len(busy.posts) == 2, "all three come")
             times = [decided.posts[0][2] - start, timed.posts[0][2] - start, busy.posts[1][2] - busy.posts[0][2]]
             check("none before it was due", [time > 0.398 for time in times], [True] * 3)
-            # And once more, after a rest.
+            time.sleep(0.5)
+            start = time.monotonic()
             check("a post", service.post("a", body(2, 1)), (200, b""))
             wait_for(lambda: len(decided.posts) == 2, "the next comes")
+            check("the next not before it was due", decided.posts[1][2] - start > 0.398, True)
             check("the end", service.end(), (0, line_of("a", accepted=2, exported=2)
                                              + line_of("b", accepted=1, exported=1)
                                              + line_of("c", accepted=1, exported=1), b""))

@@ -1,10 +1,14 @@
 """Clients that go away, that come in pieces, that rest half way, and that are many."""
 
+import itertools
+import os
 import re
+import resource
 import socket
 import struct
 import threading
 import time
+from contextlib import ExitStack
 
 from replay.make_script import piece
 from serving.loopback import CHUNKED, HEAD, REPLY, refused
@@ -202,4 +206,57 @@ def posts_beside(service, trace):
     return sum(start < first and last < start + (end - start) * 3 / 4 for first, last in times["b"])
 
 
-TESTS = (cut, gone, in_pieces, half_a_request, sends_all_first, never_stops, many_connections, a_long_step)
+def without_files(folder):
+    """While the process may open no file more, a receiver that is free takes no connection, and who has one is served;
+    once it may, who waited is served."""
+    with BackEnd() as back_end, Service(folder, [tenant("a", back_end, policies=ERRORS)], receivers=2) as service:
+        process = service.run.pid
+        with service.connect() as first:
+            check("a post", service.post("a", body(1, 1), first), (200, b""))
+            most = resource.prlimit(process, resource.RLIMIT_NOFILE)
+            used = set(os.listdir(f"/proc/{process}/fd"))
+            free = next(number for number in itertools.count() if str(number) not in used)
+            resource.prlimit(process, resource.RLIMIT_NOFILE, (free, most[1]))
+            # Who waits for a connection has the place for one already.
+            check("the last one", service.post("a", body(3, 1)), (200, b""))
+            with service.connect() as late:
+                late.sendall(LENGTH)
+                late.settimeout(0.3)
+                check("nobody takes it", raises(TimeoutError, lambda: late.recv(1)), True)
+                check("who has one", service.post("a", body(2, 1), first), (200, b""))
+                resource.prlimit(process, resource.RLIMIT_NOFILE, most)
+                late.settimeout(MOST)
+                check("it is taken", read_message(late.recv), REPLY)
+        check("the end", service.end(), (0, line_of("a", accepted=4, not_sampled=4), b""))
+
+
+def raises(kind, work):
+    """Whether the work ends so."""
+    try:
+        work()
+    except kind:
+        return True
+    return False
+
+
+def no_room_to_wait(folder):
+    """Where the one receiver is held, and no more connections can wait for it, the end isn't held up: what was taken is
+    sent, and the reports are printed."""
+    with BackEnd() as back_end, Service(
+            folder, [tenant("a", back_end, wait=86_400_000)], receivers=1) as service:
+        with ExitStack() as stack:
+            kept = stack.enter_context(service.connect())
+            check("a post", service.post("a", body(1, 1), kept), (200, b""))
+            for _ in range(CONNECTIONS):
+                peer = stack.enter_context(socket.socket())
+                peer.setblocking(False)
+                peer.connect_ex(("127.0.0.1", service.port))
+            start = time.monotonic()
+            service.run.stdin.close()
+            check("the report", service.hear(), line_of("a", accepted=1, exported=1))
+            check("within seconds", time.monotonic() - start < 10, True)
+        check("the end", service.end(), (0, "", b""))
+
+
+TESTS = (cut, gone, in_pieces, half_a_request, sends_all_first, never_stops, many_connections, a_long_step,
+         without_files, no_room_to_wait)

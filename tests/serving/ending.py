@@ -19,8 +19,9 @@ def drained(folder):
     """What waits for its decision, for a batch or for a retry is sent at once or when it is due; then all reports are
     printed, in the order of the settings."""
     with BackEnd() as ones, BackEnd() as others, BackEnd(lambda count: BUSY if count < 4 else TAKEN) as busy:
-        sections = [tenant("zeta", ones, wait=86_400_000), tenant("mid", others, timeout=86_400_000),
-                    tenant("alpha", busy, wait=86_400_000, timeout=86_400_000), tenant("none", ones)]
+        # The last of them holds spans too.
+        sections = [tenant("zeta", ones, wait=86_400_000), tenant("none", ones), tenant("mid", others, timeout=86_400_000),
+                    tenant("alpha", busy, wait=86_400_000, timeout=86_400_000)]
         with Service(folder, sections) as service:
             for name in ("zeta", "mid", "alpha"):
                 for trace in (1, 2, 3):
@@ -29,8 +30,8 @@ def drained(folder):
                 waits = line_of(name, accepted=3, **{where: 3})
                 wait_for(lambda n=name, w=waits: service.report(n) == w, f"{name}'s spans wait")
             check("nothing was sent", (ones.posts, others.posts, busy.posts), ([], [], []))
-            done = "".join(line_of(name, accepted=3, exported=3) for name in ("zeta", "mid", "alpha"))
-            check("the end", service.end(), (0, done + line_of("none"), b""))
+            zeta, mid, alpha = (line_of(name, accepted=3, exported=3) for name in ("zeta", "mid", "alpha"))
+            check("the end", service.end(), (0, zeta + line_of("none") + mid + alpha, b""))
         together = request(*((bytes([trace]) * 16, b"\1" * 8, b"") for trace in (1, 2, 3)))
         check("a batch each", sorted(ones.bodies()), [body(trace, 1) for trace in (1, 2, 3)])
         check("one batch", others.bodies(), [together])

@@ -105,7 +105,7 @@ def longest_body(folder):
 
 
 def reports(folder):
-    """A line `report NAME` prints that tenant's counters at once, and any other line nothing."""
+    """A line `report NAME` prints that tenant's counters at once, and any other line nothing, however long it is."""
     with BackEnd(None) as back_end, BackEnd() as others, Service(
             folder, [tenant("zeta", back_end, policies=ERRORS), tenant("alpha", others, wait=86_400_000)]) as service:
         check("a new tenant's", service.report("zeta"), line_of("zeta"))
@@ -117,7 +117,7 @@ def reports(folder):
         sent = line_of("zeta", accepted=3, active=1, not_sampled=2)
         wait_for(lambda: service.report("zeta") == sent, "the others are dropped")
         service.say("report beta\nreport\n\nanything\nreport zeta \nreport  zeta\nREPORT zeta\nreport al")
-        service.say("pha\nreport zeta\nreport alpha\n")
+        service.say("pha\nreport zeta\n" + "report " + "zeta" * 100_000 + "\nreport zeta" + " " * 61 + "\nreport alpha\n")
         waiting = line_of("alpha", accepted=1, undecided=1)
         check("many lines", [service.hear() for _ in range(3)], [waiting, sent, waiting])
         back_end.release()

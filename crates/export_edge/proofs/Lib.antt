@@ -1,4 +1,5 @@
-mod Throughs
+pub mod Throughs
+mod Ticking
 mod Rounds
 mod Notes
 mod Addresses

@@ -1,5 +1,5 @@
 -- What turners and senders do, over their whole work. This project's own rules.
-use Rattle.std.specs.Prelude.{◌≡◌, ℕ, List, [], ◌∷◌, ◌++◌, map, flat_map, Option, option_to_list}
+use Rattle.std.specs.Prelude.{◌≡◌, ℕ, List, [], ◌∷◌, ◌++◌, map, flat_map, Option, Some, None, option_to_list}
 use Rattle.numbered_items.specs.Numbered.{items_of}
 use Rattle.job_lane.specs.declared.job.Job.{Job}
 use Rattle.job_lane.specs.Lane.{Entry}
@@ -11,6 +11,18 @@ use Rattle.export_edge.specs.declared.work.Turned.TheVariants as turned
 abbrev pub Through : {S X : Type 0} → (S → X → S → Type 0) → S → List X → S → Type 0
 Through step old [] new = new ≡ old
 Through {S} step old (x ∷ xs) new = (mid : S) × step old x mid × Through step mid xs new
+
+-- one call of a beat: it gave this moment, or none
+abbrev pub Beats : {B : Type 0} → (B → ℕ → B → Type 0) → (B → B → Type 0) → B → Option ℕ → B → Type 0
+Beats gives rests old (Some moment) new = gives old moment new
+Beats gives rests old None new = rests old new
+
+-- between two states of a beat it gave these moments, each once and in order, and no others
+pub record Ticks {B : Type 0} (gives : B → ℕ → B → Type 0) (rests : B → B → Type 0) (old : B) (moments : List ℕ)
+    (new : B) : Type 0 where
+  pub calls : List (Option ℕ)
+  pub through : Through (Beats gives rests) old calls new
+  pub are : flat_map option_to_list calls ≡ moments
 
 -- a turn: its moment, and what it came to
 pub record Turn : Type 0 where
@@ -31,12 +43,18 @@ job_of turned.Idle = []
 abbrev pub jobs_in : Turn → List Job
 jobs_in t = job_of t.came_to
 
--- What a turner did: turns, and their jobs, in order, are those that it pushed, each once, and the one that it still
--- holds.
-pub record Turning {S : Type 0} (turns : S → Turn → S → Type 0) (old new : S) (before after : List Entry)
-    (held : Option Job) : Type 0 where
+-- the moment of a turn
+abbrev pub moment_of : Turn → ℕ
+moment_of t = t.now
+
+-- What a turner did: turns, each at the moment that the beat then gave, and their jobs, in order, are those that it
+-- pushed, each once, and the one that it still holds.
+pub record Turning {S B : Type 0} (turns : S → Turn → S → Type 0) (gives : B → ℕ → B → Type 0)
+    (rests : B → B → Type 0) (old new : S) (beat beat' : B) (before after : List Entry) (held : Option Job)
+    : Type 0 where
   pub made : List Turn
   pub runs : Through turns old made new
+  pub moments : Ticks gives rests beat (map moment_of made) beat'
   pub pushed : List Entry
   pub pushes : after ≡ before ++ pushed
   pub jobs : flat_map jobs_in made ≡ items_of pushed ++ option_to_list held
@@ -65,20 +83,43 @@ given tenant now ticket answer = record { tenant = tenant; now = now; ticket = t
 abbrev pub given_for : Posted → ℕ → Given
 given_for p now = given p.job.tenant now p.job.ticket p.answer
 
--- The answer to a job was handed in until it was taken, which was once.
-pub record Hands {S : Type 0} (takes refuses : S → Given → S → Type 0) (old : S) (p : Posted) (new : S) : Type 0 where
+-- a job that was posted, the moments at which the answer to it was refused, and the one at which it was taken
+pub record Handed : Type 0 where
+  pub post : Posted
   pub refusals : List ℕ
-  pub mid : S
-  pub refused : Through (λ s now t. refuses s (given_for p now) t) old refusals mid
   pub now : ℕ
-  pub taken : takes mid (given_for p now) new
 
--- What a sender did: the jobs that it popped were posted, in order, each once, and to each its answer was handed in.
-pub record Sending {B S : Type 0} (posts : B → Posted → B → Type 0) (takes refuses : S → Given → S → Type 0)
-    (back_end back_end' : B) (sink sink' : S) (before after : List Entry) : Type 0 where
-  pub sent : List Posted
-  pub posting : Through posts back_end sent back_end'
+-- the same of its parts
+abbrev pub handed : Posted → List ℕ → ℕ → Handed
+handed p refusals now = record { post = p; refusals = refusals; now = now }
+
+-- what was posted, and handed in
+abbrev pub posted_of : Handed → Posted
+posted_of h = h.post
+
+-- the moments at which it was handed in, in order
+abbrev pub attempts : Handed → List ℕ
+attempts h = h.refusals ++ h.now ∷ []
+
+-- the answer that was taken
+abbrev pub taken_of : Handed → Given
+taken_of h = given_for h.post h.now
+
+-- The answer to a job was handed in at these moments until it was taken, which was once.
+pub record Hands {S : Type 0} (takes refuses : S → Given → S → Type 0) (old : S) (h : Handed) (new : S) : Type 0 where
+  pub mid : S
+  pub refused : Through (λ s now t. refuses s (given_for h.post now) t) old h.refusals mid
+  pub taken : takes mid (taken_of h) new
+
+-- What a sender did: the jobs that it popped were posted, in order, each once, and to each its answer was handed in,
+-- each time at the moment that the beat then gave.
+pub record Sending {B S T : Type 0} (posts : B → Posted → B → Type 0) (takes refuses : S → Given → S → Type 0)
+    (gives : T → ℕ → T → Type 0) (rests : T → T → Type 0) (back_end back_end' : B) (sink sink' : S) (beat beat' : T)
+    (before after : List Entry) : Type 0 where
+  pub sent : List Handed
+  pub posting : Through posts back_end (map posted_of sent) back_end'
   pub handing : Through (Hands takes refuses) sink sent sink'
+  pub moments : Ticks gives rests beat (flat_map attempts sent) beat'
   pub popped : List Entry
   pub pops : after ≡ before ++ popped
-  pub jobs : map (λ p. p.job) sent ≡ items_of popped
+  pub jobs : map (λ h. h.post.job) sent ≡ items_of popped

@@ -11,7 +11,7 @@
 //! answers. The bytes of a post are OTLP/HTTP's; the rules of turners and senders are this project's own.
 #![tactic(auto)]
 
-ghost use Rattle.export_edge.specs.Law.{TurnsAreNoted, PostsAreNoted, AnswersAreNoted};
+ghost use Rattle.export_edge.specs.Law.{TurnsAreNoted, PostsAreNoted, AnswersAreNoted, MomentsAreNoted};
 
 mod back_end;
 mod dial;
@@ -39,8 +39,14 @@ pub fn posts_are_noted<B: BackEnd>()
     ensures { PostsAreNoted B.posts }
 {}
 
-/// A sink that notes the answers that it takes has noted one to each job that a sender is said to have sent: a law over
-/// the definitions.
+/// A sink that notes the answers that it takes has noted one to each job that a sender is said to have sent, at the
+/// moment at which it was taken: a law over the definitions.
 pub fn answers_are_noted<S: AnswerSink>()
     ensures { AnswersAreNoted S.takes S.refuses }
+{}
+
+/// A beat that notes the moments that it gives has noted those at which a turner's turns or a sender's answers are said
+/// to have been made: a law over the definitions.
+pub fn moments_are_noted<B: Beat>()
+    ensures { MomentsAreNoted B.gives B.rests }
 {}

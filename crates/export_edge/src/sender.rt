@@ -1,8 +1,8 @@
 //! Who takes jobs from the lane, posts them and hands in the answers.
-ghost use Rattle.std.specs.Prelude.{◌≡◌, List};
+ghost use Rattle.std.specs.Prelude.{◌≡◌, ℕ, List, [], ◌∷◌, ◌++◌};
 ghost use Rattle.job_lane.specs.Lane.{Entry};
 ghost use Rattle.send_retry.specs.Class.{AnswerData, answer_view};
-ghost use Rattle.export_edge.specs.Work.{posted, Hands, Sending};
+ghost use Rattle.export_edge.specs.Work.{posted, handed, Hands, Sending, Ticks};
 
 use crate::back_end::BackEnd;
 use crate::work::{AnswerRefused, AnswerSink, Beat};
@@ -22,8 +22,8 @@ pub fn run_sender<B: BackEnd, S: AnswerSink, T: Beat, R: Wait>(
 )
     requires { seat.old.lane ≡ lane.now.name }
     ensures same { (seat.new.lane ≡ seat.old.lane) × (seat.new.pushes ≡ seat.old.pushes) }
-    ensures work { Sending B.posts S.takes S.refuses back_end.old back_end.new sink.old sink.new seat.old.pops
-        seat.new.pops }
+    ensures work { Sending B.posts S.takes S.refuses T.gives T.rests back_end.old back_end.new sink.old sink.new
+        beat.old beat.new seat.old.pops seat.new.pops }
 {
     'rounds: for _ in rt.forever() {
         if beat.is_over() {
@@ -46,8 +46,9 @@ fn go_on<B: BackEnd, S: AnswerSink, T: Beat, R: Wait>(
     requires { seat.old.lane ≡ lane.now.name }
     ensures same { (seat.new.lane ≡ seat.old.lane) × (seat.new.pushes ≡ seat.old.pushes) }
     // Whatever was done before.
-    ensures work { (b : B) (s : S) (before : List Entry) → Sending B.posts S.takes S.refuses b back_end.old s sink.old
-        before seat.old.pops → Sending B.posts S.takes S.refuses b back_end.new s sink.new before seat.new.pops }
+    ensures work { (b : B) (s : S) (t : T) (before : List Entry)
+        → Sending B.posts S.takes S.refuses T.gives T.rests b back_end.old s sink.old t beat.old before seat.old.pops
+        → Sending B.posts S.takes S.refuses T.gives T.rests b back_end.new s sink.new t beat.new before seat.new.pops }
 {
     match lane.pop(rt, seat) {
         Some(job) => send(rt, back_end, sink, beat, &job),
@@ -63,8 +64,10 @@ fn send<B: BackEnd, S: AnswerSink, T: Beat, R: Wait>(
     beat: &mut T,
     job: &Job,
 )
-    ensures { (answer : AnswerData) × B.posts back_end.old (posted job.now answer) back_end.new
-        × Hands S.takes S.refuses sink.old (posted job.now answer) sink.new }
+    ensures { (answer : AnswerData) × (refusals : List ℕ) × (now : ℕ)
+        × B.posts back_end.old (posted job.now answer) back_end.new
+        × Hands S.takes S.refuses sink.old (handed (posted job.now answer) refusals now) sink.new
+        × Ticks T.gives T.rests beat.old (refusals ++ now ∷ []) beat.new }
 {
     let answer = back_end.post(job);
     hand_in(rt, sink, beat, job, &answer);
@@ -78,7 +81,9 @@ fn hand_in<S: AnswerSink, T: Beat, R: Wait>(
     job: &Job,
     answer: &Answer,
 )
-    ensures { Hands S.takes S.refuses sink.old (posted job.now (answer_view answer.now)) sink.new }
+    ensures { (refusals : List ℕ) × (now : ℕ)
+        × Hands S.takes S.refuses sink.old (handed (posted job.now (answer_view answer.now)) refusals now) sink.new
+        × Ticks T.gives T.rests beat.old (refusals ++ now ∷ []) beat.new }
 {
     'attempts: for _ in rt.forever() {
         let now = beat.now();

@@ -1,13 +1,14 @@
 //! Who makes turns and hands their jobs to the lane.
-ghost use Rattle.std.specs.Prelude.{◌≡◌, ℕ, List, ◌++◌, ◌∷◌, [], MatchOption, option_to_list};
+ghost use Rattle.std.specs.Prelude.{◌≡◌, ◌⊎◌, ℕ, List, ◌++◌, ◌∷◌, [], MatchOption, option_to_list};
 ghost use Rattle.job_lane.specs.Lane.{Entry};
-ghost use Rattle.export_edge.specs.Work.{Turn, Turning, jobs_in};
+ghost use Rattle.export_edge.specs.Work.{Turn, Turning, jobs_in, job_of};
 
 use crate::work::{Beat, JobSource, Turned};
 use job_lane::{Job, Lane, LaneSeat};
 use std::sync::Wait;
 
-/// Makes turns until the work is over, and hands their jobs to the lane: in order, each once. It pauses where a turn
+/// Makes turns until the work is over, each at the moment that it then is, and hands their jobs to the lane: in order,
+/// each once. It pauses where a turn
 /// had nothing to do and where the lane is full, keeping the job meanwhile. The job that it has at the end comes back.
 pub fn run_turner<S: JobSource, B: Beat, R: Wait>(
     rt: &R,
@@ -18,7 +19,8 @@ pub fn run_turner<S: JobSource, B: Beat, R: Wait>(
 ) -> Option<Job>
     requires { seat.old.lane ≡ lane.now.name }
     ensures same { (seat.new.lane ≡ seat.old.lane) × (seat.new.pops ≡ seat.old.pops) }
-    ensures work { Turning S.turns source.old source.new seat.old.pushes seat.new.pushes result }
+    ensures work { Turning S.turns B.gives B.rests source.old source.new beat.old beat.new seat.old.pushes
+        seat.new.pushes result }
 {
     let mut held = None;
     'rounds: for _ in rt.forever() {
@@ -42,8 +44,9 @@ fn go_on<S: JobSource, B: Beat, R: Wait>(
     requires { seat.old.lane ≡ lane.now.name }
     ensures same { (seat.new.lane ≡ seat.old.lane) × (seat.new.pops ≡ seat.old.pops) }
     // Whatever was done before.
-    ensures work { (start : S) (before : List Entry) → Turning S.turns start source.old before seat.old.pushes held
-        → Turning S.turns start source.new before seat.new.pushes result }
+    ensures work { (start : S) (b : B) (before : List Entry)
+        → Turning S.turns B.gives B.rests start source.old b beat.old before seat.old.pushes held
+        → Turning S.turns B.gives B.rests start source.new b beat.new before seat.new.pushes result }
 {
     match held {
         Some(job) => offer(rt, lane, seat, beat, job),
@@ -63,6 +66,7 @@ fn offer<B: Beat, R: Wait>(
     ensures same { (seat.new.lane ≡ seat.old.lane) × (seat.new.pops ≡ seat.old.pops) }
     ensures pushed { MatchOption result ((n : ℕ) × (seat.new.pushes ≡ seat.old.pushes ++ (n, job) ∷ []))
         (λ back. (back ≡ job) × (seat.new.pushes ≡ seat.old.pushes)) }
+    ensures rests { (beat.new ≡ beat.old) ⊎ B.rests beat.old beat.new }
 {
     match lane.push(rt, seat, job) {
         Ok(()) => None,
@@ -73,12 +77,23 @@ fn offer<B: Beat, R: Wait>(
     }
 }
 
-/// Makes a turn, and pauses where there was nothing to do. The job that it gave, if it gave one.
+/// Makes a turn at the moment that it is, and pauses where there was nothing to do. The job that it gave, if it gave
+/// one.
 fn next_job<S: JobSource, B: Beat>(source: &mut S, beat: &mut B) -> Option<Job>
-    ensures { (made : Turn) × S.turns source.old made source.new × (jobs_in made ≡ option_to_list result) }
+    ensures { (made : Turn) × S.turns source.old made source.new × (jobs_in made ≡ option_to_list result)
+        × ((mid : B) × B.gives beat.old made.now mid × ((beat.new ≡ mid) ⊎ B.rests mid beat.new)) }
 {
     let now = beat.now();
-    match source.turn(now) {
+    let turned = source.turn(now);
+    job_in(turned, beat)
+}
+
+/// The job that a turn gave, if it gave one. Pauses where there was nothing to do.
+fn job_in<B: Beat>(turned: Turned, beat: &mut B) -> Option<Job>
+    ensures job { job_of turned ≡ option_to_list result }
+    ensures rests { (beat.new ≡ beat.old) ⊎ B.rests beat.old beat.new }
+{
+    match turned {
         Turned::Job(job) => Some(job),
         Turned::Worked => None,
         Turned::Idle => {

@@ -23,6 +23,10 @@ pub(crate) struct FewRounds {
 }
 
 impl Beat for FewRounds {
+    ghost gives = { λ _ _ _. Unit {0} };
+
+    ghost rests = { λ _ _. Unit {0} };
+
     fn is_over(&mut self) -> bool {
         if self.rounds == 0 {
             return true;

@@ -41,12 +41,12 @@ const BOTH: &[u8] = b"\x0a\x3e\x12\x3c\
 \x12\x1c\x0a\x10\x11\x11\x11\x11\x11\x11\x11\x11\x11\x11\x11\x11\x11\x11\x11\x11\x12\x08!!!!!!!!";
 
 /// What is told of a body that is posted to this tenant, and read under that tenant's section.
-fn told<'a, R: Threads + Wait + Sync>(
+fn told<R: Threads + Wait + Sync>(
     rt: &R,
     alloc: Global,
-    settings: &'a Settings,
-    hub: &SharedHub<'a>,
-    me: &mut Caller<'a>,
+    settings: &Settings,
+    hub: &SharedHub,
+    me: &mut Caller,
     tenant: u32,
     section_of: u32,
     body: &[u8],
@@ -62,12 +62,12 @@ fn told<'a, R: Threads + Wait + Sync>(
 }
 
 /// Whether such a body is told this.
-fn is_told<'a, R: Threads + Wait + Sync>(
+fn is_told<R: Threads + Wait + Sync>(
     rt: &R,
     alloc: Global,
-    settings: &'a Settings,
-    hub: &SharedHub<'a>,
-    me: &mut Caller<'a>,
+    settings: &Settings,
+    hub: &SharedHub,
+    me: &mut Caller,
     tenant: u32,
     section_of: u32,
     body: &[u8],
@@ -85,12 +85,12 @@ fn is_told<'a, R: Threads + Wait + Sync>(
 
 /// Whether bodies are told what came of them: one of each tenant, which is taken; one that is cut; one for nobody; one
 /// that is ready for another tenant's policies.
-fn are_told<'a, R: Threads + Wait + Sync>(
+fn are_told<R: Threads + Wait + Sync>(
     rt: &R,
     alloc: Global,
-    settings: &'a Settings,
-    hub: &SharedHub<'a>,
-    me: &mut Caller<'a>,
+    settings: &Settings,
+    hub: &SharedHub,
+    me: &mut Caller,
 ) -> bool
     requires { slots_of me.old ≡ hub.now }
 {
@@ -126,12 +126,12 @@ fn each_is_told_what_came_of_its_body(rt: HostRuntime) -> Result<(), Fail> {
 }
 
 /// How many of two posts of the span to the second tenant are told 200. The others are told of memory: else None.
-fn count_taken<'a, R: Threads + Wait + Sync>(
+fn count_taken<R: Threads + Wait + Sync>(
     rt: &R,
     alloc: Global,
-    settings: &'a Settings,
-    hub: &SharedHub<'a>,
-    me: &mut Caller<'a>,
+    settings: &Settings,
+    hub: &SharedHub,
+    me: &mut Caller,
 ) -> Result<Option<u32>, AllocError>
     requires { slots_of me.old ≡ hub.now }
     ensures { slots_of me.new ≡ hub.now }
@@ -154,11 +154,11 @@ fn status_of(reply: Option<Reply>) -> u16 {
 }
 
 /// Whether a turn gives a job with so many spans.
-fn is_due<'a, R: Wait>(
+fn is_due<R: Wait>(
     rt: &R,
     alloc: Global,
-    hub: &SharedHub<'a>,
-    me: &mut Caller<'a>,
+    hub: &SharedHub,
+    me: &mut Caller,
     count: Option<u32>,
 ) -> Result<bool, HubFault>
     requires { slots_of me.old ≡ hub.now }

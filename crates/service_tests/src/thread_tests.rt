@@ -58,6 +58,10 @@ struct UntilAnswered<'a> {
 }
 
 impl Beat for UntilAnswered<'_> {
+    ghost gives = { λ _ _ _. Unit {0} };
+
+    ghost rests = { λ _ _. Unit {0} };
+
     fn is_over(&mut self) -> bool {
         if self.turns == 0 {
             return true;

@@ -3,4 +3,5 @@ pub mod Audited
 pub mod Lines
 pub mod Unread
 pub mod Places
-pub mod Written
+pub mod Rising
+pub mod Heard

@@ -1,17 +1,115 @@
--- A line of the input, as it was read.
-use Rattle.std.proofs.Common.{◌≡◌, ℕ, zero, suc, ◌+◌, true, nat_lt, List, [], ◌++◌, length, Option, Some, None, IfSome, sym, ap, subst, ◌∙◌, arith}
-use Rattle.std.specs.Io.BufRead.{take_through, strip_last, DropsThrough}
-use Rattle.std.proofs.BufReadLemmas.{take_through_nonempty, take_through-nil}
+-- A line of the input, one more byte at a time.
+use Rattle.std.proofs.Common.{◌≡◌, ℕ, zero, suc, ◌+◌, ◌-◌, ◌≤◌, ◌<◌, ◌==◌, Bool, true, false, not, List, [], ◌∷◌, ◌++◌, length, take, drop, Option, Some, None, IfSome, refl, sym, ap, subst, ◌∙◌, append-nil, append_assoc, length-append, arith}
+use Rattle.std.specs.Io.BufRead.{drop_through}
+use Rattle.std.proofs.Math.Seq.{take-nil}
 use Rattle.std.proofs.lemmas.Bool.Decides.{nat_tests}
-use Rattle.trace_service.specs.Told.{TakesLine}
+use Rattle.std.proofs.lemmas.List.{take-append-drop, take-append-le, take_all, length-drop, nil_from_length}
+use Rattle.trace_service.specs.Told.{line_in, line_room, TakesLine, Comes}
+use Rattle.trace_service.specs.declared.input.Came.TheVariants.{Byte, Nothing, End}
 
-pub line_taken : (before after : Option (List ℕ)) (none read kept : List ℕ) (n : ℕ) → none ≡ [] → IfSome before (λ xs. read ≡ none ++ take_through 10 xs) → DropsThrough before after 10
-    → length read ≡ length none + n → kept ≡ strip_last 10 read → IfSome before (λ text. TakesLine text after kept (nat_lt 0 n))
-line_taken None after none read kept n empty bytes rest long cut = tt
-line_taken (Some text) after none read kept zero empty bytes rest long cut =
-    let all : read ≡ take_through 10 text = bytes ∙ ap (λ l. l ++ take_through 10 text) empty in
-    take_through-nil 10 text (omega (arith, ap length all, long, ap length empty))
-line_taken (Some text) after none read kept (suc n) empty bytes rest long cut =
-    let all : read ≡ take_through 10 text = bytes ∙ ap (λ l. l ++ take_through 10 text) empty in
-    let found : nat_lt 0 (suc n) ≡ true = grind (arith, nat_tests) in
-    subst (TakesLine text after kept) (sym found) (take_through_nonempty 10 text (omega (arith, ap length all, long)), cut ∙ ap (strip_last 10) all, rest)
+-- of a known text these bytes of its first line were read, of which the first are kept, and the rest is left
+pub record Part (text : List ℕ) (now : Option (List ℕ)) (kept : List ℕ) : Type 0 where
+  pub front : List ℕ
+  pub rest : List ℕ
+  pub left : now ≡ Some rest
+  pub keeps : kept ≡ take line_room front
+  pub line : line_in text ≡ front ++ line_in rest
+  pub behind : drop_through 10 text ≡ drop_through 10 rest
+  pub long : length text ≡ length front + length rest
+
+-- the same where the text is known
+abbrev pub Reading : Option (List ℕ) → Option (List ℕ) → List ℕ → Type 0
+Reading before now kept = IfSome before (λ text. Part text now kept)
+
+pub reading_none : (before : Option (List ℕ)) (kept : List ℕ) → kept ≡ [] → Reading before before kept
+reading_none None kept none = tt
+reading_none (Some text) kept none = record {
+  front = [];
+  rest = text;
+  left = refl;
+  keeps = none ∙ sym (take-nil line_room);
+  line = refl;
+  behind = refl;
+  long = omega arith;
+}
+
+line_further : (b : ℕ) (rest : List ℕ) → (b == 10) ≡ false → line_in (b ∷ rest) ≡ b ∷ line_in rest
+line_further b rest other = rw other refl
+
+behind_further : (b : ℕ) (rest : List ℕ) → (b == 10) ≡ false → drop_through 10 (b ∷ rest) ≡ drop_through 10 rest
+behind_further b rest other = rw other refl
+
+line_ended : (b : ℕ) (rest : List ℕ) → (b == 10) ≡ true → line_in (b ∷ rest) ≡ []
+line_ended b rest feed = rw feed refl
+
+behind_ended : (b : ℕ) (rest : List ℕ) → (b == 10) ≡ true → drop_through 10 (b ∷ rest) ≡ rest
+behind_ended b rest feed = rw feed refl
+
+-- what was left when this came
+next_of : (rest : List ℕ) (now after : Option (List ℕ)) (b : ℕ) → now ≡ Some rest → Comes now after (Byte b) → (more : List ℕ) × (rest ≡ b ∷ more) × (after ≡ Some more)
+next_of rest now after b is came = subst (λ (n : Option (List ℕ)). IfSome n (λ text. (more : List ℕ) × (text ≡ b ∷ more) × (after ≡ Some more))) is came
+
+pub reading_more : (before now after : Option (List ℕ)) (kept more : List ℕ) (b : ℕ) → Reading before now kept → Comes now after (Byte b) → (b == 10) ≡ false
+    → ((front : List ℕ) → kept ≡ take line_room front → more ≡ take line_room (front ++ b ∷ [])) → Reading before after more
+reading_more None now after kept more b r came other keep = tt
+reading_more (Some text) now after kept more b r came other keep =
+    let next = next_of r.rest now after b r.left came in
+    record {
+      front = r.front ++ b ∷ [];
+      rest = next.0;
+      left = next.2;
+      keeps = keep r.front r.keeps;
+      line = r.line ∙ (ap (λ l. r.front ++ line_in l) next.1 ∙ (ap (λ l. r.front ++ l) (line_further b next.0 other) ∙ sym (append_assoc r.front (b ∷ []) (line_in next.0))));
+      behind = r.behind ∙ (ap (drop_through 10) next.1 ∙ behind_further b next.0 other);
+      long = omega (arith, r.long, ap length next.1, length-append r.front (b ∷ []));
+    }
+
+pub reading_same : (before now after : Option (List ℕ)) (kept : List ℕ) → Reading before now kept → Comes now after Nothing → Reading before after kept
+reading_same None now after kept r came = tt
+reading_same (Some text) now after kept r came =
+    let left : after ≡ Some r.rest = subst (λ (n : Option (List ℕ)). IfSome n (λ t. after ≡ Some t)) r.left came in
+    record { front = r.front; rest = r.rest; left = left; keeps = r.keeps; line = r.line; behind = r.behind; long = r.long }
+
+pub line_taken : (before now after : Option (List ℕ)) (kept : List ℕ) (b : ℕ) → Reading before now kept → Comes now after (Byte b) → (b == 10) ≡ true → IfSome before (λ text. TakesLine text after kept true)
+line_taken None now after kept b r came feed = tt
+line_taken (Some text) now after kept b r came feed =
+    let next = next_of r.rest now after b r.left came in
+    let line : line_in text ≡ r.front =
+    r.line ∙ (ap (λ l. r.front ++ line_in l) next.1 ∙ (ap (λ l. r.front ++ l) (line_ended b next.0 feed) ∙ append-nil r.front)) in
+    let some : 0 < length text = omega (arith, r.long, ap length next.1) in (
+      some,
+      r.keeps ∙ ap (take line_room) (sym line),
+      next.2 ∙ ap Some (sym (r.behind ∙ (ap (drop_through 10) next.1 ∙ behind_ended b next.0 feed))),
+    )
+
+-- of what is kept of so many bytes
+parts_of : (front kept : List ℕ) → kept ≡ take 72 front → length kept + (length front - 72) ≡ length front
+parts_of front kept is =
+    omega (arith, ap length is, length-append (take 72 front) (drop 72 front), length-drop 72 front, ap length (take-append-drop 72 front))
+
+pub kept_one : (front old new : List ℕ) (b : ℕ) → old ≡ take line_room front → length old < 72 → new ≡ old ++ b ∷ [] → new ≡ take line_room (front ++ b ∷ [])
+kept_one front old new b is room pushed =
+    let short : length front < 72 = omega (arith, parts_of front old is, room) in
+    let all : length (front ++ b ∷ []) ≤ 72 = omega (arith, length-append front (b ∷ []), short) in
+    pushed ∙ (ap (λ l. l ++ b ∷ []) (is ∙ take_all 72 front (omega (arith, short))) ∙ sym (take_all 72 (front ++ b ∷ []) all))
+
+pub kept_none : (front old : List ℕ) (b : ℕ) → old ≡ take line_room front → length old ≡ 72 → old ≡ take line_room (front ++ b ∷ [])
+kept_none front old b is full =
+    let long : 72 ≤ length front = omega (arith, parts_of front old is, full) in
+    is ∙ sym (take-append-le 72 front (b ∷ []) long)
+
+pub last_taken : (before now after : Option (List ℕ)) (kept : List ℕ) (none : Bool) → Reading before now kept → Comes now after End → none ≡ (length kept == 0) → IfSome before (λ text. TakesLine text after kept (not none))
+last_taken None now after kept none r came is = tt
+last_taken (Some text) now after kept true r came is =
+    let over = subst (λ (n : Option (List ℕ)). IfSome n (λ t. (t ≡ []) × (after ≡ Some []))) r.left came in
+    let empty : length kept ≡ 0 = grind (arith, nat_tests, is) in
+    nil_from_length text (omega (arith, parts_of r.front kept r.keeps, empty, r.long, ap length over.0))
+last_taken (Some text) now after kept false r came is =
+    let over = subst (λ (n : Option (List ℕ)). IfSome n (λ t. (t ≡ []) × (after ≡ Some []))) r.left came in
+    let some : 0 < length kept = grind (arith, nat_tests, is) in
+    let line : line_in text ≡ r.front = r.line ∙ (ap (λ l. r.front ++ line_in l) over.0 ∙ append-nil r.front) in
+    let long : 0 < length text = omega (arith, parts_of r.front kept r.keeps, some, r.long) in (
+      long,
+      r.keeps ∙ ap (take line_room) (sym line),
+      over.1 ∙ ap Some (sym (r.behind ∙ ap (drop_through 10) over.0)),
+    )

@@ -14,6 +14,7 @@ use Rattle.tenant_shard.specs.Table.{section_at}
 use Rattle.tenant_shard.specs.declared.step.Step.TheVariants as steps
 use Rattle.tenant_shard.specs.declared.step.Outcome.{Outcome}
 use Rattle.tenant_shard.specs.declared.step.Outcome.TheVariants as outcomes
+use Rattle.trace_service.specs.Moments.{Rises}
 
 -- an answer of this status and content
 abbrev pub answer : ℕ → List ℕ → Answer
@@ -55,19 +56,20 @@ pub data IsPosted (old new : Seats) (shards now tenant : ℕ) (section : Section
       → IsPosted old new shards now tenant section body told
   not_read : new ≡ old → told ≡ no_memory → IsPosted old new shards now tenant section body told
 
--- the body of a tenant with this section is posted, at some moment; where there is no such tenant, nothing is done
-abbrev pub IsSent : Option SectionData → Seats → Seats → ℕ → ℕ → List ℕ → Answer → Type 0
-IsSent (Some section) old new shards tenant body told =
-    (now : ℕ) × IsPosted old new shards now tenant section body told
-IsSent None old new shards tenant body told = (new ≡ old) × MayTell unknown_tenant told
+-- the body of a tenant with this section is posted, at the moment that the beat gave, which is its last one then and
+-- not below the one before; where there is no such tenant, nothing is done
+abbrev pub IsSent : Option SectionData → ℕ → ℕ → Seats → Seats → ℕ → ℕ → List ℕ → Answer → Type 0
+IsSent (Some section) before last old new shards tenant body told =
+    (now : ℕ) × Rises before (now ∷ []) last × IsPosted old new shards now tenant section body told
+IsSent None before last old new shards tenant body told = (new ≡ old) × MayTell unknown_tenant told
 
 -- a message that goes to no tenant is refused, and makes no step; the body of one that goes to a tenant is posted
-abbrev pub IsSentBy : Route → SettingsData → Seats → Seats → ℕ → List ℕ → Answer → Type 0
-IsSentBy (refuse due) settings old new shards body told = (new ≡ old) × MayTell due told
-IsSentBy (post tenant) settings old new shards body told =
-    IsSent (section_at settings tenant) old new shards tenant body told
+abbrev pub IsSentBy : Route → SettingsData → ℕ → ℕ → Seats → Seats → ℕ → List ℕ → Answer → Type 0
+IsSentBy (refuse due) settings before last old new shards body told = (new ≡ old) × MayTell due told
+IsSentBy (post tenant) settings before last old new shards body told =
+    IsSent (section_at settings tenant) before last old new shards tenant body told
 
--- a message is handled so
-abbrev pub IsHandled : SettingsData → Seats → Seats → ℕ → Request → Answer → Type 0
-IsHandled settings old new shards request told =
-    IsSentBy (route_of (names_in settings) request) settings old new shards request.body told
+-- a message is handled so, by who has a beat whose last moments these are, before and after
+abbrev pub IsHandled : SettingsData → ℕ → ℕ → Seats → Seats → ℕ → Request → Answer → Type 0
+IsHandled settings before last old new shards request told =
+    IsSentBy (route_of (names_in settings) request) settings before last old new shards request.body told

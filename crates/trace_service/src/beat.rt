@@ -96,6 +96,13 @@ impl<'b, C: Clock> ServiceBeat<'b, C> {
 }
 
 impl<C: Clock> Beat for ServiceBeat<'_, C> {
+    ghost use Rattle.std.specs.Prelude.{◌≡◌, ◌≤◌};
+
+    // The moment that it gives is its last one, and not below the one before.
+    ghost gives = { λ old moment new. (old.last ≤ moment) × (new.last ≡ moment) };
+
+    ghost rests = { λ old new. new.last ≡ old.last };
+
     fn is_over(&mut self) -> bool {
         self.signals.is_over()
     }

@@ -1,38 +1,42 @@
 //! Who reads the input, and ends the service.
 
-ghost use Rattle.std.specs.Prelude.{◌≡◌, length, OnOk, IfNone};
+ghost use Rattle.std.specs.Prelude.{◌≡◌, length, OnOk, IfNone, option_map};
 ghost use Rattle.tail_settings.specs.Settings.{settings_view};
-ghost use Rattle.trace_service.specs.Told.{AreEmptyOn, AreReported, IsDrained, IsReported};
+ghost use Rattle.trace_service.specs.Told.{AreDrained, AreEmptyOn, AreReported, IsAnswered, IsHeard, IsMade, IsReported, report_line, step_of};
 
 use crate::beat::ServiceBeat;
+use crate::chore::Chore;
 use crate::course::{Observer, Stage};
 use crate::crew::all_arrive;
-use crate::input::{asked_report, next_line};
+use crate::input::{Line, asked_report, next_line};
 use crate::naming::Naming;
-use crate::reports::write_outcome;
+use crate::reports::{line_of, write_text};
 use crate::service::ServiceFault;
 use crate::station::Station;
 use export_edge::Beat;
-use std::alloc::Global;
+use std::alloc::{AllocError, Global};
 use std::io::{BufRead, Write};
 use std::net::{Net, TcpListener, TcpStream};
 use std::sync::Wait;
-use std::time::Clock;
+use std::time::{Clock, Duration};
 use tail_settings::Settings;
-use tenant_shard::Step;
+use tenant_shard::Outcome;
+
+/// So many milliseconds a connection that wakes a receiver may take.
+const LONGEST_WAKE: u64 = 100;
 
 /// Who reads the input: its station, and how it reaches the listener.
 #[derive(Drop)]
-pub(crate) struct Control<'h, 'a, J: Naming, R> {
+pub(crate) struct Control<'h, J: Naming, R> {
     pub rt: &'h R,
     pub alloc: Global,
-    pub settings: &'a Settings,
+    pub settings: &'h Settings,
     pub listener: &'h TcpListener,
-    pub station: Station<'h, 'a, J, R>,
+    pub station: Station<'h, J, R>,
     pub beat: ServiceBeat<'h, R>,
 }
 
-impl<'h, 'a, J, R> Control<'h, 'a, J, R>
+impl<'h, J, R> Control<'h, J, R>
 where
     J: Naming,
     R: Net<Listener = TcpListener, Stream = TcpStream> + Wait + Clock,
@@ -68,38 +72,59 @@ where
         &mut self,
         input: &mut I,
         output: &mut O,
-    ) -> Result<(), ServiceFault> {
-        let mut line = Vec::new(self.alloc);
-        for _ in self.rt.forever() {
-            if !next_line(input, &mut line)? {
+    ) -> Result<(), ServiceFault>
+        ensures heard { OnOk result (IsHeard (settings_view self.old.settings.now)
+            (length self.old.station.hub.now) (I.remaining input.old) self.old.station.caller self.old.beat.last
+            (O.contents output.old) self.new.station.caller self.new.beat.last (O.contents output.new)) }
+    {
+        let mut line = Line::new();
+        'lines: for _ in self.rt.forever() {
+            if !next_line(self.rt, input, &mut line)? {
                 return Ok(());
             }
-            if let Some(tenant) = asked_report(self.settings, &line) {
-                self.tell(output, tenant)?;
-            }
+            self.answer(output, line.as_slice())?;
         }
         unreachable!()
+    }
+
+    /// Answers a line: by a report where it asks for one, and any other by nothing.
+    fn answer<O: Write>(&mut self, output: &mut O, line: &[u8]) -> Result<(), ServiceFault>
+        ensures answered { OnOk result (IsAnswered (settings_view self.old.settings.now)
+            (length self.old.station.hub.now) line.now self.old.station.caller self.old.beat.last
+            (O.contents output.old) self.new.station.caller self.new.beat.last (O.contents output.new)) }
+        ensures settings { self.new.settings ≡ self.old.settings }
+        ensures hub { self.new.station.hub ≡ self.old.station.hub }
+    {
+        match asked_report(self.settings, line) {
+            Some(tenant) => {
+                self.tell(output, tenant)?;
+                Ok(())
+            }
+            None => Ok(()),
+        }
     }
 
     /// Prints a tenant's report.
     fn tell<O: Write>(&mut self, output: &mut O, tenant: u32) -> Result<(), ServiceFault>
         ensures told { OnOk result (IsReported (settings_view self.old.settings.now) self.old.station.caller
-            self.new.station.caller (length self.old.station.hub.now) tenant
+            self.new.station.caller (length self.old.station.hub.now) tenant self.old.beat.last self.new.beat.last
             (O.contents output.old) (O.contents output.new)) }
         ensures settings { self.new.settings ≡ self.old.settings }
         ensures hub { self.new.station.hub ≡ self.old.station.hub }
     {
-        let now = self.beat.now();
-        let step = Step::Report { tenant, now };
-        let outcome = self.station.step(tenant, step)?;
-        write_outcome(self.alloc, output, self.settings.name(tenant), &outcome)?;
+        let settings = self.settings;
+        let outcome = self.make(tenant, Chore::Report);
+        let name = settings.name(tenant);
+        let line = line_again(self.rt, self.alloc, &mut self.beat, name, &outcome);
+        write_text(output, line.as_slice())?;
         Ok(())
     }
 
     /// Prints the reports of all tenants, in their order.
     fn tell_all<O: Write>(&mut self, output: &mut O) -> Result<(), ServiceFault>
         ensures told { OnOk result (AreReported (settings_view self.old.settings.now) self.old.station.caller
-            self.new.station.caller (length self.old.station.hub.now) (O.contents output.old) (O.contents output.new)
+            self.new.station.caller (length self.old.station.hub.now) self.old.beat.last self.new.beat.last
+            (O.contents output.old) (O.contents output.new)
             (length (settings_view self.old.settings.now).tenants)) }
     {
         for tenant in 0..self.settings.tenants_len() {
@@ -109,34 +134,43 @@ where
     }
 
     /// No tenant takes spans any more, and all send what they hold.
-    fn drain_all(&mut self) {
+    fn drain_all(&mut self)
+        ensures drained { AreDrained self.old.station.caller self.new.station.caller
+            (length self.old.station.hub.now) self.old.beat.last self.new.beat.last
+            (length (settings_view self.old.settings.now).tenants) }
+    {
         for tenant in 0..self.settings.tenants_len() {
-            self.drain(tenant);
+            self.make(tenant, Chore::Drain);
         }
     }
 
-    /// Drains a tenant: again, after a pause, where memory was refused.
-    fn drain(&mut self, tenant: u32)
-        ensures drained { IsDrained self.new.station.caller (length self.old.station.hub.now) tenant }
+    /// Makes a step of a tenant, at the moment that it now is: again, after a pause, where memory was refused.
+    fn make(&mut self, tenant: u32, chore: Chore) -> Outcome
+        ensures made { IsMade self.old.station.caller self.new.station.caller (length self.old.station.hub.now)
+            tenant self.old.beat.last self.new.beat.last (step_of chore tenant) result }
+        ensures settings { self.new.settings ≡ self.old.settings }
+        ensures hub { self.new.station.hub ≡ self.old.station.hub }
     {
         'attempts: for _ in self.rt.forever() {
             let now = self.beat.now();
-            let step = Step::Drain { tenant, now };
-            if let Ok(_drained) = self.station.step(tenant, step) {
-                return;
+            let step = chore.at(tenant, now);
+            match self.station.step(tenant, step) {
+                Ok(outcome) => return outcome,
+                Err(_) => self.beat.pause(),
             }
-            self.beat.pause();
         }
         unreachable!()
     }
 
-    /// Makes a connection for each receiver to the listener's own address, so that none waits for one.
+    /// Makes a connection for each receiver to the listener's own address, so that none waits for one. Where the
+    /// listener has no room for more, none waits: what came before wakes them.
     fn wake_receivers(&self) {
         let Ok(address) = self.listener.local_addr() else {
             return;
         };
+        let longest = Duration::from_millis(LONGEST_WAKE);
         for _ in 0..self.settings.global.receivers {
-            let _woken = TcpStream::connect(self.rt, address);
+            let _woken = TcpStream::connect_timeout(self.rt, &address, longest);
         }
     }
 
@@ -167,4 +201,24 @@ where
         }
         None
     }
+}
+
+/// The line of what a tenant's report came to. Tries again, after a pause, where memory is refused.
+fn line_again<R: Wait + Clock>(
+    rt: &R,
+    alloc: Global,
+    beat: &mut ServiceBeat<'_, R>,
+    name: Option<&str>,
+    outcome: &Outcome,
+) -> Vec<u8>
+    ensures line { result.items ≡ report_line (option_map (λ n. n.now) name.entry) outcome.now }
+    ensures last { beat.new.last ≡ beat.old.last }
+{
+    'attempts: for _ in rt.forever() {
+        match line_of(alloc, name, outcome) {
+            Ok(line) => return line,
+            Err(AllocError) => beat.pause(),
+        }
+    }
+    unreachable!()
 }

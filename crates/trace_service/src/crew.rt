@@ -6,6 +6,7 @@ ghost use Rattle.std.specs.Thread.{IsSync};
 use crate::beat::ServiceBeat;
 use crate::lingering::linger;
 use crate::naming::Naming;
+use crate::receiving::{Reception, receive_all};
 use crate::shared::Shared;
 use crate::station::Station;
 use export_edge::{Beat, TcpBackEnd, run_sender, run_turner};
@@ -33,18 +34,18 @@ pub(crate) enum Role {
 
 /// One thread's things.
 #[derive(Drop)]
-pub(crate) struct Worker<'h, 'a, J: Naming, R> {
+pub(crate) struct Worker<'h, J: Naming, R> {
     role: Role,
-    station: Station<'h, 'a, J, R>,
+    station: Station<'h, J, R>,
     seat: LaneSeat,
     ghost seated: { seat.lane ≡ J.lane },
 }
 
-impl<'h, 'a, J: Naming, R: Wait + Clock> Worker<'h, 'a, J, R> {
+impl<'h, J: Naming, R: Wait + Clock> Worker<'h, J, R> {
     ghost use Rattle.std.specs.Prelude.{◌≡◌};
 
     /// A thread's things, before its work.
-    pub fn new(role: Role, station: Station<'h, 'a, J, R>, seat: LaneSeat) -> Worker<'h, 'a, J, R>
+    pub fn new(role: Role, station: Station<'h, J, R>, seat: LaneSeat) -> Worker<'h, J, R>
         requires { seat.lane ≡ J.lane }
         ensures role { result.role ≡ role }
         ensures shard { result.station.shard ≡ station.entry.shard }
@@ -57,13 +58,13 @@ impl<'h, 'a, J: Naming, R: Wait + Clock> Worker<'h, 'a, J, R> {
     }
 
     /// The station, after the work.
-    pub fn into_station(self) -> Station<'h, 'a, J, R> {
+    pub fn into_station(self) -> Station<'h, J, R> {
         self.station
     }
 }
 
 /// All threads' work, each in a thread of its own. Where one can't be started, all give up.
-pub(crate) fn work_all<'h, 'a, J, R>(shared: &Shared<'h, 'a, R>, crew: &mut [Worker<'h, 'a, J, R>])
+pub(crate) fn work_all<'h, J, R>(shared: &Shared<'h, R>, crew: &mut [Worker<'h, J, R>])
 where
     J: Naming + Send + Sync,
     R: Net<Listener = TcpListener, Stream = TcpStream> + Threads + Wait + Clock + Sync,
@@ -84,7 +85,7 @@ where
 }
 
 /// One thread's work, once all are there.
-fn work<J, R>(shared: &Shared<'_, '_, R>, worker: &mut Worker<'_, '_, J, R>)
+fn work<J, R>(shared: &Shared<'_, R>, worker: &mut Worker<'_, J, R>)
 where
     J: Naming,
     R: Net<Listener = TcpListener, Stream = TcpStream> + Threads + Wait + Clock + Sync,
@@ -116,7 +117,7 @@ where
                 &mut beat,
             );
         }
-        Role::Receiver => receive_all(shared, &mut worker.station, &mut beat),
+        Role::Receiver => receive_all(shared.rt, shared.listener, &mut worker.station),
     }
 }
 
@@ -137,46 +138,41 @@ pub(crate) fn all_arrive<C: Clock>(beat: &mut ServiceBeat<'_, C>, threads: usize
     false
 }
 
-/// Serves connections, one after another, until no more are to be served.
-fn receive_all<J, R>(
-    shared: &Shared<'_, '_, R>,
-    station: &mut Station<'_, '_, J, R>,
-    beat: &mut ServiceBeat<'_, R>,
-)
-where
-    J: Naming,
-    R: Threads + Wait + Clock + Sync,
-{
-    let signals = beat.signals();
-    for _ in shared.rt.forever() {
-        if signals.is_closing() {
-            return;
-        }
-        match shared.listener.accept() {
-            Ok((stream, _peer)) => {
-                if !signals.is_closing() {
-                    receive(shared, &stream, station, beat);
-                }
-            }
-            Err(_) => beat.pause(),
+impl<'h, J: Naming, R: Wait + Clock> Reception for Station<'h, J, R> {
+    type Guest = TcpStream;
+
+    type Door = TcpListener;
+
+    // What threads told one another, who comes, and what is said over a socket is not known.
+    ghost looks = { λ _ _ _. Unit {0} };
+
+    ghost takes = { λ _ _ _. Unit {0} };
+
+    ghost serves = { λ _ _ _. Unit {0} };
+
+    ghost rests = { λ _ _. Unit {0} };
+
+    fn is_closing(&mut self) -> bool {
+        self.signals().is_closing()
+    }
+
+    fn next(&mut self, door: &TcpListener) -> Option<TcpStream> {
+        match door.accept() {
+            Ok((stream, _peer)) => Some(stream),
+            Err(_) => None,
         }
     }
-}
 
-/// Serves a connection to its end. Its faults are nobody's but its own.
-fn receive<J, R>(
-    shared: &Shared<'_, '_, R>,
-    stream: &TcpStream,
-    station: &mut Station<'_, '_, J, R>,
-    beat: &mut ServiceBeat<'_, R>,
-)
-where
-    J: Naming,
-    R: Threads + Wait + Clock + Sync,
-{
-    let mut line = StreamLine::new(stream);
-    // A connection that failed is given up, and what was posted over it stands.
-    if serve(shared.rt, shared.alloc, &mut line, station).is_ok() {
-        linger(stream, beat);
+    /// Its faults are nobody's but its own: a connection that failed is given up, and what was posted over it stands.
+    fn serve<T: Threads + Sync>(&mut self, rt: &T, guest: TcpStream) {
+        let mut beat = self.beat();
+        let mut line = StreamLine::new(&guest);
+        if serve(rt, self.alloc(), &mut line, self).is_ok() {
+            linger(&guest, &mut beat);
+        }
+    }
+
+    fn pause(&mut self) {
+        self.beat().pause();
     }
 }

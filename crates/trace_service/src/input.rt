@@ -1,13 +1,31 @@
 //! What the input asks for.
 
-ghost use Rattle.std.specs.Prelude.{◌≡◌, IfSome, IfNone, IfOk};
-ghost use Rattle.std.specs.Io.BufRead.{strip_last};
+ghost use Rattle.std.specs.Prelude.{◌≡◌, List, ℕ, [], ◌∷◌, ◌++◌, take, IfSome, IfNone, IfOk};
 ghost use Rattle.tail_settings.specs.Settings.{settings_view};
-ghost use Rattle.trace_service.specs.Told.{Asks, AsksNobody, TakesLine};
+ghost use Rattle.trace_service.specs.Told.{Asks, AsksNobody, Comes, TakesLine, line_room};
 
-use std::io::BufRead;
+use arrayvec::ArrayVec;
+use std::io::{BufRead, ErrorKind};
+use std::sync::Wait;
 use std::{io, str};
 use tail_settings::Settings;
+
+/// Of a line so many bytes are kept, one more than the longest has that asks for counters.
+const LINE_ROOM: usize = 72;
+
+/// The first bytes of a line. They lie in the value itself, so that a line takes no memory.
+pub(crate) type Line = ArrayVec<u8, LINE_ROOM>;
+
+/// What came of one read.
+#[derive(Clone, Copy, PartialEq, Eq, Debug)]
+pub(crate) enum Came {
+    /// The next byte.
+    Byte(u8),
+    /// Nothing, since the read was interrupted.
+    Nothing,
+    /// The end of the input.
+    End,
+}
 
 /// The number of the tenant whose counters a line asks for: `report`, a space and its name. None where the line is any
 /// other.
@@ -22,23 +40,59 @@ pub(crate) fn asked_report(settings: &Settings, line: &[u8]) -> Option<u32>
     }
 }
 
-/// Reads the next line, without its end. False where there is none.
-pub(crate) fn next_line<I: BufRead>(input: &mut I, line: &mut Vec<u8>) -> io::Result<bool>
+/// Reads the next line, without its end, and keeps its first bytes. False where there is none.
+pub(crate) fn next_line<I: BufRead, R: Wait>(
+    rt: &R,
+    input: &mut I,
+    line: &mut Line,
+) -> io::Result<bool>
     ensures { IfOk result (λ found. IfSome (I.remaining input.old)
         (λ text. TakesLine text (I.remaining input.new) line.new.items found)) }
 {
     line.clear();
-    let read = input.read_until(b'\n', line)?;
-    cut_end(line);
-    Ok(read > 0)
+    'bytes: for _ in rt.forever() {
+        match next_byte(input)? {
+            Came::Byte(byte) => {
+                if byte == b'\n' {
+                    return Ok(true);
+                }
+                keep(line, byte);
+            }
+            Came::Nothing => {}
+            Came::End => return Ok(!line.is_empty()),
+        }
+    }
+    unreachable!()
 }
 
-/// Takes off the line feed at the end, if there is one.
-fn cut_end(line: &mut Vec<u8>)
-    ensures { line.new.items ≡ strip_last 10 line.old.items }
+/// Keeps one more byte of a line, where there is room.
+fn keep(line: &mut Line, byte: u8)
+    ensures { (front : List ℕ) → line.old.items ≡ take line_room front
+        → line.new.items ≡ take line_room (front ++ byte ∷ []) }
 {
-    let len = line.len();
-    if len > 0 && line[len - 1] == b'\n' {
-        line.truncate(len - 1);
+    if line.is_full() {
+        return;
+    }
+    line.push(byte);
+}
+
+/// Reads one byte.
+fn next_byte<I: BufRead>(input: &mut I) -> io::Result<Came>
+    ensures { IfOk result (λ came. Comes (I.remaining input.old) (I.remaining input.new) came) }
+{
+    let mut room = [0; 1];
+    match input.read(&mut room) {
+        Ok(count) => {
+            if count == 0 {
+                return Ok(Came::End);
+            }
+            Ok(Came::Byte(room[0]))
+        }
+        Err(error) => {
+            if error.kind() == ErrorKind::Interrupted {
+                return Ok(Came::Nothing);
+            }
+            Err(error)
+        }
     }
 }

@@ -12,6 +12,7 @@
 #![tactic(auto)]
 
 mod beat;
+mod chore;
 mod control;
 mod course;
 mod crew;
@@ -19,6 +20,7 @@ mod input;
 mod lingering;
 mod naming;
 mod post;
+mod receiving;
 mod reports;
 mod service;
 mod shared;

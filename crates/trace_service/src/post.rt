@@ -11,7 +11,7 @@ use bytes::Bytes;
 use http_edge::Reply;
 use otlp_front::RouteRefusal;
 use otlp_prepare::{Prepared, Refusal, prepare};
-use shared_hub::{Caller, SharedHub};
+use shared_hub::{Caller, HubFault, SharedHub};
 use std::alloc::{AllocError, Global};
 use std::sync::Wait;
 use std::thread::Threads;
@@ -22,15 +22,15 @@ use tenant_shard::{Outcome, Step};
 /// section: a body without a value is no step, and any other is one. Its notes are made before, in at most `parts`
 /// threads, this one among them, which `threads` starts. A 503 without a body says that memory was refused; whether the
 /// step was made then is for the caller to know.
-pub fn post_body<'a, T: Threads + Sync, R: Wait>(
+pub fn post_body<T: Threads + Sync, R: Wait>(
     threads: &T,
     rt: &R,
     alloc: Global,
-    hub: &SharedHub<'a>,
-    me: &mut Caller<'a>,
+    hub: &SharedHub,
+    me: &mut Caller,
     now: u64,
     tenant: u32,
-    section: &'a Section,
+    section: &Section,
     body: Bytes,
     parts: u32,
 ) -> Reply
@@ -48,23 +48,24 @@ pub fn post_body<'a, T: Threads + Sync, R: Wait>(
 }
 
 /// Posts a body that is ready.
-fn post_prepared<'a, R: Wait>(
+fn post_prepared<R: Wait>(
     rt: &R,
     alloc: Global,
-    hub: &SharedHub<'a>,
-    me: &mut Caller<'a>,
+    hub: &SharedHub,
+    me: &mut Caller,
     now: u64,
     tenant: u32,
-    prepared: Prepared<'a>,
+    prepared: Prepared,
 ) -> Reply
     requires mine { slots_of me.old ≡ hub.now }
     ensures mine { slots_of me.new ≡ hub.now }
-    ensures stepped { IsStepped me.old me.new (tenant % length hub.now) now prepared.entry (answer_of result) }
+    ensures stepped { IsStepped me.old me.new (tenant % length hub.now) now prepared (answer_of result) }
 {
     let shard = tenant as usize % hub.shards();
     match hub.step(rt, alloc, me, shard, Step::Post { now, prepared }) {
         Ok((outcome, _receipt)) => told(alloc, outcome),
-        Err(_) => without_memory(alloc),
+        Err(HubFault::OutOfMemory) => without_memory(alloc),
+        Err(HubFault::Behind { .. } | HubFault::OtherEntry { .. }) => unreachable!(),
     }
 }
 
@@ -87,7 +88,7 @@ pub(crate) fn refused(alloc: Global, refusal: RouteRefusal) -> Reply
 {
     match refusal.reply(alloc) {
         Ok(reply) => reply,
-        Err(_) => without_memory(alloc),
+        Err(AllocError) => without_memory(alloc),
     }
 }
 
@@ -97,7 +98,7 @@ fn bad_protobuf(alloc: Global) -> Reply
 {
     match bad_protobuf_reply(alloc) {
         Ok(reply) => reply,
-        Err(_) => without_memory(alloc),
+        Err(AllocError) => without_memory(alloc),
     }
 }
 

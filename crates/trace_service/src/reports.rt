@@ -1,8 +1,7 @@
 //! What the service prints.
 
-ghost use Rattle.std.specs.Prelude.{◌≡◌, ◌++◌, OnOk, option_map};
+ghost use Rattle.std.specs.Prelude.{◌≡◌, ◌++◌, IfOk, OnOk, option_map};
 ghost use Rattle.std.specs.Io.KnownBytes.{Appends};
-ghost use Rattle.replay_script.specs.Answer.{report_text};
 ghost use Rattle.trace_service.specs.Audit.{audit_line, audit_text};
 ghost use Rattle.trace_service.specs.Told.{report_line};
 
@@ -13,39 +12,32 @@ use std::io;
 use std::io::Write;
 use tenant_shard::Outcome;
 
-/// Writes what a tenant's report came to: its counters as a line. Any other outcome is none.
-#[tactic(auto, using(crate::proofs::Written::appends_nothing))]
-pub(crate) fn write_outcome<W: Write>(
+/// The line of what a tenant's report came to: its counters. Any other outcome has none.
+pub(crate) fn line_of(
     alloc: Global,
-    output: &mut W,
     name: Option<&str>,
     outcome: &Outcome,
-) -> io::Result<()>
-    ensures { OnOk result (Appends (W.contents output.old) (W.contents output.new)
-        (report_line (option_map (λ n. n.now) name.entry) outcome.now)) }
+) -> Result<Vec<u8>, AllocError>
+    ensures { IfOk result (λ line. line.items ≡ report_line (option_map (λ n. n.now) name.entry) outcome.now) }
 {
+    let mut line = Vec::new(alloc);
     let Some(name) = name else {
-        return Ok(());
+        return Ok(line);
     };
     match outcome {
-        Outcome::Report(_, counters) => write_report(alloc, output, name, counters.as_slice()),
-        _ => Ok(()),
+        Outcome::Report(_, counters) => {
+            put_report(alloc, &mut line, name, counters.as_slice())?;
+            Ok(line)
+        }
+        _ => Ok(line),
     }
 }
 
-/// Writes a tenant's counters as a line.
-fn write_report<W: Write>(
-    alloc: Global,
-    output: &mut W,
-    name: &str,
-    counters: &[u8],
-) -> io::Result<()>
-    ensures { OnOk result (Appends (W.contents output.old) (W.contents output.new)
-        (report_text name.now counters.now)) }
+/// Writes a text at once.
+pub(crate) fn write_text<W: Write>(output: &mut W, text: &[u8]) -> io::Result<()>
+    ensures { OnOk result (Appends (W.contents output.old) (W.contents output.new) text.now) }
 {
-    let mut line = Vec::new(alloc);
-    put_report(alloc, &mut line, name, counters)?;
-    output.write_all(line.as_slice())?;
+    output.write_all(text)?;
     output.flush()
 }
 
@@ -53,22 +45,17 @@ fn write_report<W: Write>(
 pub(crate) fn write_audit<W: Write>(
     alloc: Global,
     output: &mut W,
-    shards: &[ShardLog<'_>],
+    shards: &[ShardLog],
 ) -> io::Result<()>
     ensures { OnOk result (Appends (W.contents output.old) (W.contents output.new) (audit_text shards.now)) }
 {
     let mut text = Vec::new(alloc);
     put_audit(alloc, &mut text, shards)?;
-    output.write_all(text.as_slice())?;
-    output.flush()
+    write_text(output, text.as_slice())
 }
 
 /// Appends a line for each shard's log.
-fn put_audit(
-    alloc: Global,
-    out: &mut Vec<u8>,
-    mut shards: &[ShardLog<'_>],
-) -> Result<(), AllocError>
+fn put_audit(alloc: Global, out: &mut Vec<u8>, mut shards: &[ShardLog]) -> Result<(), AllocError>
     ensures { OnOk result (out.new.items ≡ out.old.items ++ audit_text shards.entry.now) }
 {
     while let [first, rest @ ..] = shards {

@@ -114,14 +114,14 @@ where
 }
 
 /// The same, with a hub and a lane that have a name.
-fn run_named<'a, J, R, I, O, L>(
+fn run_named<J, R, I, O, L>(
     rt: &R,
     alloc: Global,
-    settings: &'a Settings,
+    settings: &Settings,
     listener: &TcpListener,
-    hub: SharedHub<'a>,
-    keeper: HubKeeper<'a>,
-    callers: Vec<Caller<'a>>,
+    hub: SharedHub,
+    keeper: HubKeeper,
+    callers: Vec<Caller>,
     lane: &Lane,
     seats: Vec<LaneSeat>,
     input: &mut I,
@@ -158,22 +158,22 @@ where
 }
 
 /// Ends the hub, and writes how many entries each shard's log has.
-fn write_logs<'a, R: Wait, O: Write>(
+fn write_logs<R: Wait, O: Write>(
     rt: &R,
     alloc: Global,
-    hub: SharedHub<'a>,
-    keeper: HubKeeper<'a>,
-    callers: Vec<Caller<'a>>,
+    hub: SharedHub,
+    keeper: HubKeeper,
+    callers: Vec<Caller>,
     output: &mut O,
 ) -> Result<(), ServiceFault>
     requires keeper { keeper.slots ≡ hub }
     requires callers { AreCallersOf hub callers.items }
     requires all { vec_len callers ≡ keeper.callers }
     ensures lines { OnOk result ((shards : List LoggedShard)
-        × AreShardRuns WordedDoes keeper.entry.homes callers.entry.items shards
+        × AreShardRuns WordedDoes keeper.homes callers.items shards
         × Appends (O.contents output.old) (O.contents output.new) (audit_text shards)) }
-    ensures audit { OnOk result ((table : SettingsData) → AreOpened table keeper.entry.homes →
-        kept keeper.entry.homes ≡ replicate table.global.shards true → IsAudited table (O.contents output.new)) }
+    ensures audit { OnOk result ((table : SettingsData) → AreOpened table keeper.homes →
+        kept keeper.homes ≡ replicate table.global.shards true → IsAudited table (O.contents output.new)) }
 {
     let Ok(shards) = hub.close(rt, keeper, callers) else {
         unreachable!()
@@ -183,19 +183,19 @@ fn write_logs<'a, R: Wait, O: Write>(
 }
 
 /// All threads' work, to its end: the callers, and how the input and the output fared.
-fn at_work<'a, J, R, I, O, L>(
+fn at_work<J, R, I, O, L>(
     rt: &R,
     alloc: Global,
-    settings: &'a Settings,
+    settings: &Settings,
     listener: &TcpListener,
-    hub: &SharedHub<'a>,
-    callers: Vec<Caller<'a>>,
+    hub: &SharedHub,
+    callers: Vec<Caller>,
     lane: &Lane,
     seats: Vec<LaneSeat>,
     input: &mut I,
     output: &mut O,
     observer: &mut L,
-) -> Result<(Vec<Caller<'a>>, Result<(), ServiceFault>), ServiceFault>
+) -> Result<(Vec<Caller>, Result<(), ServiceFault>), ServiceFault>
 where
     J: Naming + Send + Sync,
     R: Net<Listener = TcpListener, Stream = TcpStream> + Threads + Wait + Clock + Sync,
@@ -209,11 +209,59 @@ where
     requires some { 0 < vec_len callers }
     requires enough { vec_len callers ≤ vec_len seats }
     ensures theirs { IfOk result (λ r. AreCallersOf J.slots r.0.items) }
-    ensures all { IfOk result (λ r. vec_len r.0 ≡ vec_len callers.entry) }
+    ensures all { IfOk result (λ r. vec_len r.0 ≡ vec_len callers) }
 {
     let signals = Signals::new();
-    let start = Instant::now(rt)?;
     let addresses = addresses_of(alloc, settings)?;
+    sharing::<J, R, I, O, L>(
+        rt,
+        alloc,
+        settings,
+        listener,
+        hub,
+        lane,
+        addresses.as_slice(),
+        &signals,
+        callers,
+        seats,
+        input,
+        output,
+        observer,
+    )
+}
+
+/// The same, with all that is shared lent for one time.
+fn sharing<'h, J, R, I, O, L>(
+    rt: &'h R,
+    alloc: Global,
+    settings: &'h Settings,
+    listener: &'h TcpListener,
+    hub: &'h SharedHub,
+    lane: &'h Lane,
+    addresses: &'h [String],
+    signals: &'h Signals,
+    callers: Vec<Caller>,
+    seats: Vec<LaneSeat>,
+    input: &mut I,
+    output: &mut O,
+    observer: &mut L,
+) -> Result<(Vec<Caller>, Result<(), ServiceFault>), ServiceFault>
+where
+    J: Naming + Send + Sync,
+    R: Net<Listener = TcpListener, Stream = TcpStream> + Threads + Wait + Clock + Sync,
+    I: BufRead,
+    O: Write,
+    L: Observer,
+    requires hub { hub.now ≡ J.slots }
+    requires callers { AreCallersOf J.slots callers.items }
+    requires lane { lane.now.name ≡ J.lane }
+    requires seats { All (λ s. s.lane ≡ J.lane) seats.items }
+    requires some { 0 < vec_len callers }
+    requires enough { vec_len callers ≤ vec_len seats }
+    ensures theirs { IfOk result (λ r. AreCallersOf J.slots r.0.items) }
+    ensures all { IfOk result (λ r. vec_len r.0 ≡ vec_len callers) }
+{
+    let start = Instant::now(rt)?;
     let shared = Shared {
         rt,
         alloc,
@@ -221,22 +269,22 @@ where
         hub,
         lane,
         listener,
-        addresses: addresses.as_slice(),
-        beat: ServiceBeat::new(rt, &signals, start),
+        addresses,
+        beat: ServiceBeat::new(rt, signals, start),
         threads: callers.len(),
     };
     work_on::<J, R, I, O, L>(&shared, callers, seats, input, output, observer)
 }
 
 /// The same, with what is shared.
-fn work_on<'h, 'a, J, R, I, O, L>(
-    shared: &Shared<'h, 'a, R>,
-    mut callers: Vec<Caller<'a>>,
+fn work_on<'h, J, R, I, O, L>(
+    shared: &Shared<'h, R>,
+    mut callers: Vec<Caller>,
     seats: Vec<LaneSeat>,
     input: &mut I,
     output: &mut O,
     observer: &mut L,
-) -> Result<(Vec<Caller<'a>>, Result<(), ServiceFault>), ServiceFault>
+) -> Result<(Vec<Caller>, Result<(), ServiceFault>), ServiceFault>
 where
     J: Naming + Send + Sync,
     R: Net<Listener = TcpListener, Stream = TcpStream> + Threads + Wait + Clock + Sync,
@@ -250,7 +298,7 @@ where
     requires some { 0 < vec_len callers }
     requires enough { vec_len callers ≤ vec_len seats }
     ensures theirs { IfOk result (λ r. AreCallersOf J.slots r.0.items) }
-    ensures all { IfOk result (λ r. vec_len r.0 ≡ vec_len callers.entry) }
+    ensures all { IfOk result (λ r. vec_len r.0 ≡ vec_len callers) }
 {
     let shards = shared.hub.shards();
     prove!(0 < shards);
@@ -279,10 +327,10 @@ where
 }
 
 /// The crew's work, with that of who reads the input beside it: how the input and the output fared.
-fn work_beside<'h, 'a, J, R, I, O, L>(
-    shared: &Shared<'h, 'a, R>,
-    crew: &mut [Worker<'h, 'a, J, R>],
-    control: &mut Control<'h, 'a, J, R>,
+fn work_beside<'h, J, R, I, O, L>(
+    shared: &Shared<'h, R>,
+    crew: &mut [Worker<'h, J, R>],
+    control: &mut Control<'h, J, R>,
     input: &mut I,
     output: &mut O,
     observer: &mut L,

@@ -16,11 +16,11 @@ use tail_settings::Settings;
 
 /// What all threads share.
 #[derive(Drop)]
-pub(crate) struct Shared<'h, 'a, R> {
+pub(crate) struct Shared<'h, R> {
     pub rt: &'h R,
     pub alloc: Global,
-    pub settings: &'a Settings,
-    pub hub: &'h SharedHub<'a>,
+    pub settings: &'h Settings,
+    pub hub: &'h SharedHub,
     pub lane: &'h Lane,
     pub listener: &'h TcpListener,
     /// Each tenant's back end, at the tenant's number.
@@ -30,11 +30,11 @@ pub(crate) struct Shared<'h, 'a, R> {
     pub threads: usize,
 }
 
-impl<'h, 'a, R: Wait + Clock> Shared<'h, 'a, R> {
+impl<'h, R: Wait + Clock> Shared<'h, R> {
     ghost use Rattle.std.specs.Prelude.{◌≡◌, ◌<◌, length};
 
     /// A station here, for who makes turns of this shard.
-    pub fn station<J: Naming>(&self, caller: Caller<'a>, shard: usize) -> Station<'h, 'a, J, R>
+    pub fn station<J: Naming>(&self, caller: Caller, shard: usize) -> Station<'h, J, R>
         requires hub { self.now.hub.now ≡ J.slots }
         requires mine { slots_of caller ≡ J.slots }
         requires shard { shard < length J.slots }

@@ -14,18 +14,18 @@ use std::sync::Wait;
 use std::time::Clock;
 
 /// A worker for each caller: turners first, one for each shard, then senders, then receivers.
-pub(crate) fn staff<'h, 'a, J: Naming, R: Wait + Clock>(
-    shared: &Shared<'h, 'a, R>,
-    mut callers: Vec<Caller<'a>>,
+pub(crate) fn staff<'h, J: Naming, R: Wait + Clock>(
+    shared: &Shared<'h, R>,
+    mut callers: Vec<Caller>,
     mut seats: Vec<LaneSeat>,
-) -> Result<Vec<Worker<'h, 'a, J, R>>, AllocError>
+) -> Result<Vec<Worker<'h, J, R>>, AllocError>
     requires hub { shared.now.hub.now ≡ J.slots }
     requires callers { AreCallersOf J.slots callers.items }
     requires seats { All (λ s. s.lane ≡ J.lane) seats.items }
     requires enough { vec_len callers ≤ vec_len seats }
     ensures places { IfOk result (λ crew. map (λ w. (w.role, w.station.shard)) crew.items
-        ≡ places (length shared.now.hub.now) shared.now.settings.now.global.senders (vec_len callers.entry)) }
-    ensures count { IfOk result (λ crew. vec_len crew ≡ vec_len callers.entry) }
+        ≡ places (length shared.now.hub.now) shared.now.settings.now.global.senders (vec_len callers)) }
+    ensures count { IfOk result (λ crew. vec_len crew ≡ vec_len callers) }
 {
     let shards = shared.hub.shards();
     let senders = shared.settings.global.senders as usize;
@@ -56,11 +56,11 @@ fn place(number: usize, shards: usize, senders: usize) -> (Role, usize)
 }
 
 /// The callers of all workers, after their work, and the caller of who read the input.
-pub(crate) fn dismiss<'h, 'a, J: Naming, R: Wait + Clock>(
+pub(crate) fn dismiss<'h, J: Naming, R: Wait + Clock>(
     alloc: Global,
-    mut crew: Vec<Worker<'h, 'a, J, R>>,
-    own: Caller<'a>,
-) -> Result<Vec<Caller<'a>>, AllocError>
+    mut crew: Vec<Worker<'h, J, R>>,
+    own: Caller,
+) -> Result<Vec<Caller>, AllocError>
     requires { slots_of own ≡ J.slots }
     ensures theirs { IfOk result (λ all. AreCallersOf J.slots all.items) }
     ensures all { IfOk result (λ all. vec_len all ≡ 1 + vec_len crew.entry) }

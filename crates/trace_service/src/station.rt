@@ -4,7 +4,7 @@ ghost use Rattle.std.specs.Prelude.{◌≡◌, ◌<◌, length};
 ghost use Rattle.machine_hub.specs.Hub.{slots_of};
 ghost use Rattle.trace_service.specs.Work.{turned_of};
 
-use crate::beat::ServiceBeat;
+use crate::beat::{ServiceBeat, Signals};
 use crate::naming::Naming;
 use crate::post::{post_body, refused, without_memory};
 use bytes::Bytes;
@@ -14,7 +14,7 @@ use job_lane::Job;
 use otlp_front::{Route, RouteRefusal, route};
 use send_retry::Answer;
 use shared_hub::{Caller, HubFault, SharedHub};
-use std::alloc::Global;
+use std::alloc::{AllocError, Global};
 use std::marker::PhantomData;
 use std::sync::Wait;
 use std::thread::Threads;
@@ -24,12 +24,12 @@ use tenant_shard::{Outcome, Step};
 
 /// One thread's place at the shards.
 #[derive(Drop)]
-pub(crate) struct Station<'h, 'a, J: Naming, R> {
+pub(crate) struct Station<'h, J: Naming, R> {
     rt: &'h R,
     alloc: Global,
-    settings: &'a Settings,
-    hub: &'h SharedHub<'a>,
-    caller: Caller<'a>,
+    settings: &'h Settings,
+    hub: &'h SharedHub,
+    caller: Caller,
     // Whose turns it makes.
     shard: usize,
     beat: ServiceBeat<'h, R>,
@@ -39,7 +39,7 @@ pub(crate) struct Station<'h, 'a, J: Naming, R> {
     ghost shard_is: { shard < length J.slots },
 }
 
-impl<'h, 'a, J: Naming, R: Wait + Clock> Station<'h, 'a, J, R> {
+impl<'h, J: Naming, R: Wait + Clock> Station<'h, J, R> {
     ghost use Rattle.std.specs.Prelude.{◌≡◌, ◌<◌, ◌%◌, length, Option, IfOk, OnErr};
     ghost use Rattle.machine_hub.specs.declared.receipt.Receipt.{Receipt};
     ghost use Rattle.machine_hub.specs.Hub.{IsRefusedOn};
@@ -49,16 +49,16 @@ impl<'h, 'a, J: Naming, R: Wait + Clock> Station<'h, 'a, J, R> {
     pub fn new(
         rt: &'h R,
         alloc: Global,
-        settings: &'a Settings,
-        hub: &'h SharedHub<'a>,
-        caller: Caller<'a>,
+        settings: &'h Settings,
+        hub: &'h SharedHub,
+        caller: Caller,
         shard: usize,
         beat: ServiceBeat<'h, R>,
-    ) -> Station<'h, 'a, J, R>
+    ) -> Station<'h, J, R>
         requires hub { hub.now ≡ J.slots }
         requires mine { slots_of caller ≡ J.slots }
         requires shard { shard < length J.slots }
-        ensures caller { result.caller ≡ caller.entry }
+        ensures caller { result.caller ≡ caller }
         ensures shard { result.shard ≡ shard }
     {
         Station {
@@ -74,7 +74,7 @@ impl<'h, 'a, J: Naming, R: Wait + Clock> Station<'h, 'a, J, R> {
     }
 
     /// The caller, once the work is done.
-    pub fn into_caller(self) -> Caller<'a>
+    pub fn into_caller(self) -> Caller
         ensures ours { slots_of result ≡ J.slots }
         ensures is { result ≡ self.entry.caller }
     {
@@ -86,10 +86,19 @@ impl<'h, 'a, J: Naming, R: Wait + Clock> Station<'h, 'a, J, R> {
         self.beat.again()
     }
 
+    /// What threads tell one another.
+    pub fn signals(&self) -> &'h Signals {
+        self.beat.signals()
+    }
+
+    pub fn alloc(&self) -> Global {
+        self.alloc
+    }
+
     /// Makes one step at this tenant's shard.
-    pub fn step(&mut self, tenant: u32, step: Step<'a>) -> Result<Outcome, HubFault>
+    pub fn step(&mut self, tenant: u32, step: Step) -> Result<Outcome, HubFault>
         ensures call { IfOk result (λ outcome. (receipt : Option Receipt)
-            × IsStepOn self.old.caller self.new.caller (tenant % length self.old.hub.now) step.entry outcome receipt) }
+            × IsStepOn self.old.caller self.new.caller (tenant % length self.old.hub.now) step outcome receipt) }
         ensures refused { OnErr result (IsRefusedOn self.old.caller self.new.caller
             (tenant % length self.old.hub.now)) }
         ensures hub { self.new.hub ≡ self.old.hub }
@@ -111,7 +120,7 @@ impl<'h, 'a, J: Naming, R: Wait + Clock> Station<'h, 'a, J, R> {
     }
 }
 
-impl<'h, 'a, J: Naming, R: Wait + Clock> JobSource for Station<'h, 'a, J, R> {
+impl<'h, J: Naming, R: Wait + Clock> JobSource for Station<'h, J, R> {
     ghost use Rattle.std.specs.Prelude.{◌≡◌};
     ghost use Rattle.trace_service.specs.Work.{MakesTurn};
 
@@ -144,7 +153,7 @@ fn turned(outcome: Outcome) -> Turned
     }
 }
 
-impl<'h, 'a, J: Naming, R: Wait + Clock> AnswerSink for Station<'h, 'a, J, R> {
+impl<'h, J: Naming, R: Wait + Clock> AnswerSink for Station<'h, J, R> {
     ghost use Rattle.std.specs.Prelude.{◌≡◌, length};
     ghost use Rattle.trace_service.specs.Work.{TakesAnswer, RefusesAnswer};
 
@@ -174,13 +183,14 @@ impl<'h, 'a, J: Naming, R: Wait + Clock> AnswerSink for Station<'h, 'a, J, R> {
     }
 }
 
-impl<'h, 'a, J: Naming, R: Wait + Clock> Handler for Station<'h, 'a, J, R> {
+impl<'h, J: Naming, R: Wait + Clock> Handler for Station<'h, J, R> {
     ghost use Rattle.std.specs.Prelude.{◌≡◌, length};
     ghost use Rattle.tail_settings.specs.Settings.{settings_view};
     ghost use Rattle.trace_service.specs.Post.{IsHandled};
 
     ghost answers = { λ old request told new. (new.settings ≡ old.settings)
-        × IsHandled (settings_view old.settings.now) old.caller new.caller (length old.hub.now) request told };
+        × IsHandled (settings_view old.settings.now) old.beat.last new.beat.last old.caller new.caller
+        (length old.hub.now) request told };
 
     fn handle<T: Threads + Sync>(&mut self, rt: &T, message: &HttpMessage) -> Reply {
         match route(self.settings, message) {
@@ -190,7 +200,7 @@ impl<'h, 'a, J: Naming, R: Wait + Clock> Handler for Station<'h, 'a, J, R> {
     }
 }
 
-impl<'h, 'a, J: Naming, R: Wait + Clock> Station<'h, 'a, J, R> {
+impl<'h, J: Naming, R: Wait + Clock> Station<'h, J, R> {
     ghost use Rattle.std.specs.Prelude.{◌≡◌, length};
     ghost use Rattle.http_edge.specs.Seen.{answer_of};
     ghost use Rattle.tail_settings.specs.Settings.{settings_view};
@@ -200,29 +210,30 @@ impl<'h, 'a, J: Naming, R: Wait + Clock> Station<'h, 'a, J, R> {
     /// Posts a body to a tenant, at the moment that it now is.
     fn post<T: Threads + Sync>(&mut self, rt: &T, tenant: u32, body: &[u8]) -> Reply
         ensures settings { self.new.settings ≡ self.old.settings }
-        ensures sent { IsSent (section_at (settings_view self.old.settings.now) tenant) self.old.caller self.new.caller
-            (length self.old.hub.now) tenant body.now (answer_of result) }
+        ensures sent { IsSent (section_at (settings_view self.old.settings.now) tenant) self.old.beat.last
+            self.new.beat.last self.old.caller self.new.caller (length self.old.hub.now) tenant body.now
+            (answer_of result) }
     {
         let settings = self.settings;
         let Some(section) = settings.section(tenant) else {
             return refused(self.alloc, RouteRefusal::UnknownTenant);
         };
-        let Ok(body) = Bytes::copy_from_slice(self.alloc, body) else {
-            return without_memory(self.alloc);
-        };
         let now = self.beat.now();
         let parts = settings.global.parts;
-        post_body(
-            rt,
-            self.rt,
-            self.alloc,
-            self.hub,
-            &mut self.caller,
-            now,
-            tenant,
-            section,
-            body,
-            parts,
-        )
+        match Bytes::copy_from_slice(self.alloc, body) {
+            Ok(body) => post_body(
+                rt,
+                self.rt,
+                self.alloc,
+                self.hub,
+                &mut self.caller,
+                now,
+                tenant,
+                section,
+                body,
+                parts,
+            ),
+            Err(AllocError) => without_memory(self.alloc),
+        }
     }
 }

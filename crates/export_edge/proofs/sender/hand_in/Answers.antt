@@ -1,14 +1,32 @@
-use Rattle.std.proofs.Common.{ℕ, ◌++◌, ◌∷◌, []}
+use Rattle.std.proofs.Common.{ℕ, ◌++◌, ◌∷◌, [], refl}
 use Rattle.send_retry.specs.Class.{answer_view}
 use Rattle.export_edge.specs.Work.{posted, given_for}
 use Rattle.export_edge.proofs.Throughs.{through_more}
+use Rattle.export_edge.proofs.Ticking.{unasked, given_more, rested}
 use Rattle.export_edge.proofs.sender.hand_in.Goals as goal
+
+pub attempts-init : goal.attempts-init
+attempts-init g c = ([], refl, unasked g.T.Beat.gives g.T.Beat.rests c.args.beat.now)
 
 pub attempts-preserved : goal.attempts-preserved
 attempts-preserved g c =
     let inv = c.attempts.invariant in
-    let p = posted c.args.job.now (answer_view c.args.answer.now) in (
+    let p = posted c.args.job.now (answer_view c.args.answer.now) in
+    let more = given_more g.T.Beat.gives g.T.Beat.rests c.args.beat.now c.attempts.beat c.now-now.new.self inv.0
+    c.now-now.result inv.2 c.now-now.ensures in (
       inv.0 ++ c.now-now.result ∷ [],
       through_more (λ (s : g.row.S.Denot) (now : ℕ) (t : g.row.S.Denot). g.S.AnswerSink.refuses s (given_for p now) t)
           c.args.sink.now c.attempts.sink c.answer.new.self inv.0 c.now-now.result inv.1 c.in-Err.ensures.refused,
+      rested g.T.Beat.gives g.T.Beat.rests c.args.beat.now c.now-now.new.self c.pause.new.self
+          (inv.0 ++ c.now-now.result ∷ []) more c.pause.ensures,
+    )
+
+pub returns-in-Ok : goal.returns-in-Ok
+returns-in-Ok g c =
+    let inv = c.attempts.invariant in (
+      inv.0,
+      c.now-now.result,
+      record { mid = c.attempts.sink; refused = inv.1; taken = c.in-Ok.ensures.taken },
+      given_more g.T.Beat.gives g.T.Beat.rests c.args.beat.now c.attempts.beat c.now-now.new.self inv.0 c.now-now.result
+          inv.2 c.now-now.ensures,
     )

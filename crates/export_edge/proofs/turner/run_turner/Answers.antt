@@ -1,10 +1,27 @@
-use Rattle.std.proofs.Common.{refl}
-use Rattle.export_edge.proofs.Rounds.{unturned}
+use Rattle.std.proofs.Common.{refl, ◌∙◌}
+use Rattle.export_edge.proofs.Rounds.{unturned, turner_rested}
 use Rattle.export_edge.proofs.turner.run_turner.Goals as goal
 
 pub rounds-init : goal.rounds-init
 rounds-init g c = record {
   lane = refl;
   pops = refl;
-  work = unturned g.S.JobSource.turns c.args.source.now c.args.seat.now.pushes;
+  work = unturned g.S.JobSource.turns g.B.Beat.gives g.B.Beat.rests c.args.source.now c.args.beat.now c.args.seat.now.pushes;
 }
+
+pub rounds-preserved : goal.rounds-preserved
+rounds-preserved g c =
+    let before = c.rounds.invariant in
+    let rested = turner_rested g.S.JobSource.turns g.B.Beat.gives g.B.Beat.rests c.args.source.now c.rounds.source
+    c.args.beat.now c.rounds.beat c.is_over.new.self c.args.seat.now.pushes c.rounds.seat.pushes c.rounds.held
+    c.if-is_over.ensures before.work in
+    record {
+      lane = c.go_on-held.ensures.same.0 ∙ before.lane;
+      pops = c.go_on-held.ensures.same.1 ∙ before.pops;
+      work = c.go_on-held.ensures.work c.args.source.now c.args.beat.now c.args.seat.now.pushes rested;
+    }
+
+pub returns-then-is_over-clause-work : goal.returns-then-is_over-clause-work
+returns-then-is_over-clause-work g c = turner_rested g.S.JobSource.turns g.B.Beat.gives g.B.Beat.rests c.args.source.now
+    c.rounds.source c.args.beat.now c.rounds.beat c.is_over.new.self c.args.seat.now.pushes c.rounds.seat.pushes
+    c.rounds.held c.if-is_over.ensures c.rounds.invariant.work

@@ -7,7 +7,11 @@ returns-clause-audit g c = λ table opens keeps.
     let shards = c.in-Ok.shards.items in
     let runs = c.in-Ok.ensures.calls in
     record {
+      homes = c.args.keeper.homes;
+      callers = c.args.callers.items;
       shards = shards;
+      opened = opens;
+      calls = runs;
       count = runs.count ∙ opens.count;
       numbered = are_numbered table c.args.keeper.homes c.args.callers.items shards runs opens;
       kept = are_kept table c.args.keeper.homes c.args.callers.items shards runs table.global.shards keeps;

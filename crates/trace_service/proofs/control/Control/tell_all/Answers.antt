@@ -9,5 +9,5 @@ loop-tenant-preserved g c =
     record {
       settings = told.settings ∙ before.settings;
       hub = told.hub ∙ before.hub;
-      told = simp unary_clauses (c.loop-tenant.self.station.caller, g.O.Write.contents c.loop-tenant.output, before.told, rw (before.settings, before.hub) at told.told);
+      told = simp unary_clauses (c.loop-tenant.self.station.caller, c.loop-tenant.self.beat.last, g.O.Write.contents c.loop-tenant.output, before.told, rw (before.settings, before.hub) at told.told);
     }

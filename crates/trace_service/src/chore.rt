@@ -1,0 +1,27 @@
+//! What who reads the input has a tenant do.
+
+ghost use Rattle.std.specs.Prelude.{◌≡◌};
+ghost use Rattle.trace_service.specs.Told.{step_of};
+
+use tenant_shard::Step;
+
+/// A step that a tenant is to make.
+#[derive(Clone, Copy, PartialEq, Eq, Debug)]
+pub(crate) enum Chore {
+    /// Says its counters.
+    Report,
+    /// Takes no more spans, and sends what it holds.
+    Drain,
+}
+
+impl Chore {
+    /// This step of the tenant at that moment.
+    pub fn at(self, tenant: u32, now: u64) -> Step
+        ensures { result ≡ step_of self tenant now }
+    {
+        match self {
+            Chore::Report => Step::Report { tenant, now },
+            Chore::Drain => Step::Drain { tenant, now },
+        }
+    }
+}
