@@ -13,7 +13,13 @@ plain = record {
   endpoint = [];
   max_spans = 100000;
   seed = 0;
-  tail_sampling = record { decision_wait = 1000; num_traces = 50000; policies = keep_all };
+  tail_sampling = record {
+    decision_wait = 1000;
+    num_traces = 50000;
+    sampled_cache_size = 0;
+    non_sampled_cache_size = 0;
+    policies = keep_all;
+  };
   batch = record { send_batch_size = 8192; timeout = 0; send_batch_max_size = 0 };
   sending_queue = record { queue_size = 1000; num_consumers = 1 };
   retry_on_failure = record {

@@ -86,14 +86,14 @@ fn name_of(tenant: u32) -> &'static str {
 }
 
 /// The post of a body to the tenant of the name's first letter, prepared for the policies of the one of its last.
-fn post_of<'a, R: Threads + Sync>(
+fn post_of<R: Threads + Sync>(
     rt: &R,
     alloc: Global,
-    settings: &'a Settings,
+    settings: &Settings,
     name: &str,
     now: u64,
     body: Vec<u8>,
-) -> Result<Step<'a>, Fail> {
+) -> Result<Step, Fail> {
     let tenant = number_of(name.as_bytes().first());
     let own = number_of(name.as_bytes().last());
     let section = settings.section(own).ok_or("no such section")?;
@@ -102,12 +102,12 @@ fn post_of<'a, R: Threads + Sync>(
 }
 
 /// The step that a command asks for.
-fn asked<'a, R: Threads + Sync>(
+fn asked<R: Threads + Sync>(
     rt: &R,
     alloc: Global,
-    settings: &'a Settings,
+    settings: &Settings,
     command: Command<'_>,
-) -> Result<Step<'a>, Fail> {
+) -> Result<Step, Fail> {
     match command {
         Command::Post { name, moment, body } => post_of(rt, alloc, settings, name, moment, body),
         Command::Turn { moment, .. } => Ok(Step::Turn { now: moment }),
@@ -136,12 +136,12 @@ fn asked<'a, R: Threads + Sync>(
 }
 
 /// The step of a line.
-pub fn step_of<'a, R: Threads + Sync>(
+pub fn step_of<R: Threads + Sync>(
     rt: &R,
     alloc: Global,
-    settings: &'a Settings,
+    settings: &Settings,
     line: &str,
-) -> Result<Step<'a>, Fail> {
+) -> Result<Step, Fail> {
     let line = spelled(alloc, line, "")?;
     match parse_line(alloc, line.as_bytes())? {
         Some(command) => asked(rt, alloc, settings, command),
@@ -150,12 +150,12 @@ pub fn step_of<'a, R: Threads + Sync>(
 }
 
 /// The steps of a story.
-pub fn steps_of<'a, R: Threads + Sync>(
+pub fn steps_of<R: Threads + Sync>(
     rt: &R,
     alloc: Global,
-    settings: &'a Settings,
+    settings: &Settings,
     story: &str,
-) -> Result<Vec<Step<'a>>, Fail> {
+) -> Result<Vec<Step>, Fail> {
     let mut steps = Vec::new(alloc);
     for line in story.lines() {
         let (step, _) = parts_of(line)?;

@@ -127,7 +127,7 @@ fn a_member_is_empty_once_its_batches_are_answered(rt: HostRuntime) -> Result<()
     let settings = settings_of(rt.alloc(), &[BASE, ERRORS])?;
     let mut shard = Shard::open(rt.alloc(), &settings, &[0])?;
     assert!(rt; shard.is_empty(0));
-    assert!(rt; members_of(rt.alloc(), &settings, 0)?.as_slice() == &[0, 1]);
+    assert!(rt; members_of(rt.alloc(), &settings, 0)?.as_slice() == [0_u32, 1].as_slice());
     assert!(rt; members_of(rt.alloc(), &settings, 1)?.is_empty());
     for line in HELD.lines() {
         assert!(rt;

@@ -54,7 +54,7 @@ retry_exhausted=0 back_end_refused=2 back_end_rejected=0 invalid=0 over_budget=0
 turn 0 999999 = idle 0";
 
 /// The outcomes of a run, up to where it stopped.
-fn outcomes_of(shard: &mut Shard, steps: &[Step<'_>]) -> Vec<Outcome> {
+fn outcomes_of(shard: &mut Shard, steps: &[Step]) -> Vec<Outcome> {
     match shard.run(steps) {
         Ok(outcomes) => outcomes,
         Err(Stopped { outcomes }) => outcomes,
@@ -100,7 +100,7 @@ fn are_others_same(own: Option<u32>, before: &[Outcome], after: &[Outcome]) -> b
 
 /// What a step gives, after it was refused memory where it is. The counters of all tenants but the one whose step it
 /// was are then as before.
-fn given_at_last(rt: &impl Abort, shard: &mut Shard, step: &Step<'_>) -> Result<Outcome, Fail> {
+fn given_at_last(rt: &impl Abort, shard: &mut Shard, step: &Step) -> Result<Outcome, Fail> {
     let before = reports(shard)?;
     if let Ok(outcome) = shard.step(step) {
         return Ok(outcome);
@@ -148,7 +148,7 @@ fn a_refused_step_is_done_again(rt: HostRuntime) -> Result<(), Fail> {
 }
 
 /// What a run tells that stops where memory is refused, with the outcomes so far, and goes on with the refused step.
-fn told_at_last(alloc: Global, shard: &mut Shard, steps: &[Step<'_>]) -> Result<Vec<u8>, Fail> {
+fn told_at_last(alloc: Global, shard: &mut Shard, steps: &[Step]) -> Result<Vec<u8>, Fail> {
     let mut out = Vec::new(alloc);
     let done = outcomes_of(shard, steps);
     put_all(alloc, &mut out, done.as_slice())?;

@@ -23,7 +23,7 @@ use bytes::Bytes;
 use otlp_parts::{BodyParts, read_parts};
 use otlp_read::{ReadFault, values_are_sound};
 use span_pool::read_spans_are_viewed;
-use std::alloc::Global;
+use std::alloc::{AllocError, Global};
 use std::thread::Threads;
 use tail_policy::TenantPolicies;
 use tail_settings::Section;
@@ -49,18 +49,41 @@ fn read_body(alloc: Global, body: &Bytes) -> Result<BodyParts, ReadFault>
     read_parts(alloc, body)
 }
 
-/// Reads a body, a request in protobuf, for the tenant with this number and section, and makes the notes of its spans
-/// in at most `parts` threads, 1 to 16, this one among them. It waits only for threads that it started. What is
-/// prepared names the tenant and borrows the section's policies; its texts are slices of the body where these make up
-/// half of it.
-pub fn prepare<'a, R: Threads + Sync>(
+/// What is prepared of a body that was read.
+fn prepare_parts<R: Threads + Sync>(
     rt: &R,
     alloc: Global,
     tenant: u32,
-    section: &'a Section,
+    section: &Section,
+    body: BodyParts,
+    parts: u32,
+) -> Result<Prepared, AllocError>
+    requires parts { (0 < parts) × (parts ≤ 16) }
+    requires read { AreRead (body_parts_view body) }
+    ensures { (v : RequestData) → TypedRequest v → NestedRequest v → body_parts_view body ≡ texts_of v
+        → IfOk result (λ prepared. prepared ≡ prepared_of tenant (section_view section.now) v) }
+{
+    let policies = TenantPolicies::of(section.tail_sampling.policies.as_slice());
+    let invalid = body.invalid;
+    let found = found_in(alloc, &policies, body)?;
+    let spans = noted_in(rt, alloc, &policies, found.parts, parts)?;
+    let shared = section.tail_sampling.policies.clone()?;
+    read_spans_are_viewed();
+    Ok(Prepared::of(tenant, shared, found.origins, spans, invalid))
+}
+
+/// Reads a body, a request in protobuf, for the tenant with this number and section, and makes the notes of its spans
+/// in at most `parts` threads, 1 to 16, this one among them. It waits only for threads that it started. What is
+/// prepared names the tenant and shares the section's policies, which takes no memory; its texts are slices of the body
+/// where these make up half of it.
+pub fn prepare<R: Threads + Sync>(
+    rt: &R,
+    alloc: Global,
+    tenant: u32,
+    section: &Section,
     body: Bytes,
     parts: u32,
-) -> Result<Prepared<'a>, Refusal>
+) -> Result<Prepared, Refusal>
     requires { (0 < parts) × (parts ≤ 16) }
 
     // What is prepared is the section's policies and the value of the body.
@@ -75,16 +98,6 @@ pub fn prepare<'a, R: Threads + Sync>(
     ensures bad { (fault : ReadFault) → IfErr result (λ refused. refused ≡ refusal.Bad fault → IsFault body fault) }
 {
     let read = read_body(alloc, &body)?;
-    let policies = TenantPolicies::of(section.tail_sampling.policies.as_slice());
-    let invalid = read.invalid;
-    let found = found_in(alloc, &policies, read)?;
-    let spans = noted_in(rt, alloc, &policies, found.parts, parts)?;
-    read_spans_are_viewed();
-    Ok(Prepared::of(
-        tenant,
-        section.tail_sampling.policies.as_slice(),
-        found.origins,
-        spans,
-        invalid,
-    ))
+    let prepared = prepare_parts(rt, alloc, tenant, section, read, parts)?;
+    Ok(prepared)
 }

@@ -1,6 +1,7 @@
 //! Bodies that are ready.
 
 ghost use Rattle.std.specs.Prelude.{◌≡◌, ◌↔◌, true, ◌<◌, length};
+ghost use Rattle.std.specs.Arc.{arc_slice_items};
 ghost use Rattle.std.specs.List.{AllByRecursion};
 ghost use Rattle.std.specs.Cmp.Lexicographic.{pointwise};
 ghost use Rattle.otlp_prepare.specs.Arrivals.{arrival_in, arrivals_in};
@@ -8,22 +9,24 @@ ghost use Rattle.otlp_prepare.specs.Equal.{arrival_eq, prepared_eq};
 
 use crate::noted::{NotedSpan, Origin};
 use std::marker::Model;
+use std::sync::ArcSlice;
 use tail_settings::{PolicySpec, same_policies};
 
 /// A body's valid spans, ready to be posted to a tenant, with the policies that the tenant had then and the note of
-/// each span for these. The policies are the section's own, and not copied.
+/// each span for these. The policies are shared with the section, and not copied.
 #[derive(Debug, Drop)]
-pub struct Prepared<'a> {
+pub struct Prepared {
     tenant: u32,
-    policies: &'a [PolicySpec],
+    policies: ArcSlice<PolicySpec>,
     origins: Vec<Origin>,
     spans: Vec<NotedSpan>,
     // How many spans were left out, since an id of theirs has another length or is all zeros.
     invalid: u64,
 }
 
-impl<'a> Model for Prepared<'a> {
+impl Model for Prepared {
     ghost use Rattle.std.specs.Prelude.{map};
+    ghost use Rattle.std.specs.Arc.{arc_slice_items};
     ghost use Rattle.tail_settings.specs.Policy.{policy_view};
     ghost use Rattle.otlp_prepare.specs.Arrivals.{arrivals_in};
     ghost use Rattle.otlp_prepare.specs.Prepared.{PreparedData, AreReady};
@@ -32,22 +35,22 @@ impl<'a> Model for Prepared<'a> {
 
     ghost view = { λ p. record {
       tenant = p.tenant;
-      policies = map policy_view p.policies.now;
+      policies = map policy_view (arc_slice_items p.policies);
       arrivals = arrivals_in p.origins.items p.spans.items;
       invalid = p.invalid;
     } };
 
-    ghost invariant = { λ p. AreReady (map policy_view p.policies.now) p.origins.items p.spans.items };
+    ghost invariant = { λ p. AreReady (map policy_view (arc_slice_items p.policies)) p.origins.items p.spans.items };
 }
 
-impl<'a> PartialEq for Prepared<'a> {
+impl PartialEq for Prepared {
     ghost use Rattle.otlp_prepare.specs.Equal.{prepared_eq, prepared_laws};
 
     ghost eq = { prepared_eq };
 
     ghost laws = { prepared_laws };
 
-    fn eq(&self, other: &Prepared<'a>) -> bool {
+    fn eq(&self, other: &Prepared) -> bool {
         self.is_like(other) && self.has_spans_of(other)
     }
 }
@@ -83,7 +86,7 @@ fn are_same_spans(
     true
 }
 
-impl<'a> Prepared<'a> {
+impl Prepared {
     ghost use Rattle.std.specs.Prelude.{map};
     ghost use Rattle.tail_settings.specs.Policy.{policy_view};
     ghost use Rattle.otlp_prepare.specs.Arrivals.{arrivals_in};
@@ -93,15 +96,15 @@ impl<'a> Prepared<'a> {
     /// These spans of a tenant's body with their origins, whose notes are for these policies.
     pub(crate) fn of(
         tenant: u32,
-        policies: &'a [PolicySpec],
+        policies: ArcSlice<PolicySpec>,
         origins: Vec<Origin>,
         spans: Vec<NotedSpan>,
         invalid: u64,
-    ) -> Prepared<'a>
-        requires { AreReady (map policy_view policies.now) origins.items spans.items }
+    ) -> Prepared
+        requires { AreReady (map policy_view (arc_slice_items policies)) origins.items spans.items }
         ensures { result ≡ record {
           tenant = tenant;
-          policies = map policy_view policies.now;
+          policies = map policy_view (arc_slice_items policies);
           arrivals = arrivals_in origins.items spans.items;
           invalid = invalid;
         } }
@@ -126,25 +129,25 @@ impl<'a> Prepared<'a> {
     pub fn has_policies(&self, policies: &[PolicySpec]) -> bool
         ensures { result ≡ same_policies self.now.policies (map policy_view policies.now) }
     {
-        same_policies(self.policies, policies)
+        same_policies(self.policies.as_slice(), policies)
     }
 
     /// Whether both are for one tenant with the same policies.
-    fn is_for_same(&self, other: &Prepared<'_>) -> bool
+    fn is_for_same(&self, other: &Prepared) -> bool
         ensures { result ≡ same_tenant self.now other.now }
     {
-        self.tenant == other.tenant && self.has_policies(other.policies)
+        self.tenant == other.tenant && self.has_policies(other.policies.as_slice())
     }
 
     /// The same, where as many spans were left out of both.
-    fn is_like(&self, other: &Prepared<'_>) -> bool
+    fn is_like(&self, other: &Prepared) -> bool
         ensures { result ≡ same_front self.now other.now }
     {
         self.invalid == other.invalid && self.is_for_same(other)
     }
 
     /// Whether both have the same spans, in the same order.
-    fn has_spans_of(&self, other: &Prepared<'_>) -> bool
+    fn has_spans_of(&self, other: &Prepared) -> bool
         ensures { result ≡ pointwise arrival_eq self.now.arrivals other.now.arrivals }
     {
         are_same_spans(
@@ -173,7 +176,7 @@ impl<'a> Prepared<'a> {
 }
 
 /// Bodies that were prepared are equal exactly where contracts see the same: a law.
-pub fn equal_bodies_are_the_same(one: &Prepared<'_>, other: &Prepared<'_>)
+pub fn equal_bodies_are_the_same(one: &Prepared, other: &Prepared)
     ensures { (prepared_eq one.now other.now ≡ true) ↔ (one.now ≡ other.now) }
 {
     let _both = one.spans.len() == other.spans.len();

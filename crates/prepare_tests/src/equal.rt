@@ -4,6 +4,7 @@ use crate::sections::{ALWAYS, THREE, section_of};
 use bytes::Bytes;
 use otlp_prepare::{Prepared, equal_bodies_are_the_same, prepare};
 use std::alloc::Global;
+use std::sync::ArcSlice;
 use std::test::Fail;
 use std::thread::Threads;
 use tail_settings::Section;
@@ -29,13 +30,13 @@ const OTHERS: &str = "\
 0a240a001220121c0a1000000000000000000000000000000001120800000000000000011200";
 
 /// The body that these digits spell, prepared for a tenant.
-fn ready<'a, R: Threads + Sync>(
+fn ready<R: Threads + Sync>(
     rt: &R,
     alloc: Global,
     tenant: u32,
-    section: &'a Section,
+    section: &Section,
     digits: &str,
-) -> Result<Prepared<'a>, Fail> {
+) -> Result<Prepared, Fail> {
     let body = Bytes::from_vec(hex::decode(alloc, digits)?)?;
     Ok(prepare(rt, alloc, tenant, section, body, 1)?)
 }
@@ -89,5 +90,34 @@ fn bodies_of_other_tenants_and_policies_differ(rt: HostRuntime) -> Result<(), Fa
     let three = section_of(rt.alloc(), THREE)?;
     let always = section_of(rt.alloc(), ALWAYS)?;
     assert!(rt; differs_by_tenant_and_policies(&rt, rt.alloc(), &three, &always)?);
+    Ok(())
+}
+
+/// A body that was prepared where its section was let go.
+fn ready_alone<R: Threads + Sync>(rt: &R, alloc: Global) -> Result<Prepared, Fail> {
+    let section = section_of(alloc, THREE)?;
+    ready(rt, alloc, 1, &section, ONE)
+}
+
+#[test]
+fn a_body_outlives_its_section(rt: HostRuntime) -> Result<(), Fail> {
+    let alone = ready_alone(&rt, rt.alloc())?;
+    let section = section_of(rt.alloc(), THREE)?;
+    let one = ready(&rt, rt.alloc(), 1, &section, ONE)?;
+    assert!(rt; alone == one);
+    Ok(())
+}
+
+#[test]
+fn policies_are_shared_and_not_copied(rt: HostRuntime) -> Result<(), Fail> {
+    let section = section_of(rt.alloc(), THREE)?;
+    let policies = &section.tail_sampling.policies;
+    assert_eq!(rt; ArcSlice::strong_count(policies), 1);
+    let one = ready(&rt, rt.alloc(), 1, &section, ONE)?;
+    let second = ready(&rt, rt.alloc(), 2, &section, ONE)?;
+    assert_eq!(rt; ArcSlice::strong_count(policies), 3);
+    drop(one);
+    drop(second);
+    assert_eq!(rt; ArcSlice::strong_count(policies), 1);
     Ok(())
 }

@@ -59,7 +59,7 @@ fn put_span(
 
 /// Each span: its resource, the URL of that's schema, its scope and the URL of that's schema, each where
 /// there is one that isn't an empty URL, then its trace id, its text and its note; and last how many were left out.
-fn listed(alloc: Global, prepared: &Prepared<'_>) -> Result<String, Fail> {
+fn listed(alloc: Global, prepared: &Prepared) -> Result<String, Fail> {
     let mut out = String::new(alloc);
     let (origins, spans) = prepared.parts();
     for span in spans {

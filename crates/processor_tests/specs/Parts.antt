@@ -16,7 +16,13 @@ plain = record {
   endpoint = [];
   max_spans = 100000;
   seed = 0;
-  tail_sampling = record { decision_wait = 1000; num_traces = 50000; policies = leaf always_sample ∷ [] };
+  tail_sampling = record {
+    decision_wait = 1000;
+    num_traces = 50000;
+    sampled_cache_size = 0;
+    non_sampled_cache_size = 0;
+    policies = leaf always_sample ∷ [];
+  };
   batch = record { send_batch_size = 8192; timeout = 0; send_batch_max_size = 0 };
   sending_queue = record { queue_size = 1000; num_consumers = 1 };
   retry_on_failure = record {
@@ -30,9 +36,7 @@ plain = record {
 
 -- so many rows at most
 abbrev pub with_rows : ℕ → SectionData
-with_rows most = record plain {
-  tail_sampling = record { decision_wait = 1000; num_traces = most; policies = leaf always_sample ∷ [] };
-}
+with_rows most = record plain { tail_sampling = record (plain.tail_sampling) { num_traces = most } }
 
 -- so many spans at most
 abbrev pub with_budget : ℕ → SectionData

@@ -17,7 +17,7 @@ use Rattle.tail_settings.specs.TailSampling.{tail_sampling_of}
 use Rattle.tail_settings.specs.Texts.{address_at, header_at, attribute_key_at}
 use Rattle.settings_check.specs.declared.table.TableKind.{TableKind}
 use Rattle.settings_check.specs.declared.table.TableKind.TheVariants as kinds
-use Rattle.settings_check.specs.Law.{Agree, ReadsAlike, holding}
+use Rattle.settings_check.specs.Law.{Agree, ReadsAlike, holding, with_cache}
 use Rattle.settings_check.specs.Table.{policy_kind}
 use Rattle.settings_check.specs.Unknown.{kind_of}
 
@@ -36,7 +36,11 @@ tenant_alike before m n h =
 
 pub sampling_alike : ReadsAlike kinds.TailSampling (λ t. tail_sampling_of (holding (codes "tail_sampling") t))
 unfolding tail_sampling_of table_at number_at policies_of some_tables_at tables_at
-sampling_alike m n h = rw (h.0, h.1.0, h.1.1.0) refl
+sampling_alike m n h = rw (h.0, h.1.0, h.1.1.0, h.1.1.1.0) refl
+
+pub cache_alike : (rest : Members) → ReadsAlike kinds.DecisionCache (λ t. tail_sampling_of (with_cache t rest))
+unfolding tail_sampling_of table_at number_at policies_of some_tables_at tables_at
+cache_alike rest m n h = rw (h.0, h.1.0) refl
 
 pub batch_alike : ReadsAlike kinds.Batch (λ t. batch_of (holding (codes "batch") t))
 unfolding batch_of table_at number_at

@@ -24,7 +24,7 @@ use Rattle.tail_settings.specs.Settings.{TenantData, SettingsData, name_of, tena
 use Rattle.tail_settings.specs.Sound.{IsSoundGlobal, IsSoundLeaf, IsSoundPolicy, IsSoundTailSampling, IsSoundBatch, IsSoundSendingQueue, IsSoundRetry, IsSoundSection, IsSound}
 use Rattle.tail_settings.specs.TailSampling.{TailSamplingData, tail_sampling_of}
 use Rattle.tail_settings.specs.Texts.{is_name, is_address, is_header, is_attribute_key, address_at, header_at, attribute_key_at}
-use Rattle.settings_check.specs.Document.{number, tables, texts, global_table, status_name, leaf_table, policy_table, sampling_table, batch_table, queue_table, retry_table, section_table, tenant_table, document_of}
+use Rattle.settings_check.specs.Document.{number, tables, texts, global_table, status_name, leaf_table, policy_table, cache_table, sampling_table, batch_table, queue_table, retry_table, section_table, tenant_table, document_of}
 
 -- ---- keys
 
@@ -262,10 +262,14 @@ unfolding tail_sampling_of
 sampling_back name s h =
     let t = s.tail_sampling in
     let m = sampling_table t in
+    let k = cache_table t in
     rw (
       table_back (codes "tail_sampling") m (section_table name s) refl,
       number_back (codes "decision_wait_ms") 1 86400000 30000 t.decision_wait m refl h.decision_wait,
       number_back (codes "num_traces") 1 1000000 50000 t.num_traces m refl h.num_traces,
+      table_back (codes "decision_cache") k m refl,
+      number_back (codes "sampled_cache_size") 0 1000000 0 t.sampled_cache_size k refl (omega arith, h.sampled_cache_size),
+      number_back (codes "non_sampled_cache_size") 0 1000000 0 t.non_sampled_cache_size k refl (omega arith, h.non_sampled_cache_size),
       policies_back t h,
     ) refl
 

@@ -1,5 +1,6 @@
 -- What an insert into the map of a table does to its members, and one more value of an array.
-use Rattle.std.proofs.Common.{◌≡◌, List, [], ◌∷◌, String, Global, Ordering, Less, Equal, Greater, string_bytes, refl, ap}
+use Rattle.std.proofs.Common.{◌≡◌, ℕ, ◌+◌, ◌<◌, List, [], ◌∷◌, ◌++◌, length, get_or, drop, map, String, Global, Ordering, Less, Equal, Greater, string_bytes, refl, sym, ap, ◌∙◌, append_assoc}
+use Rattle.std.proofs.lemmas.List.{map-append, drop_more}
 use Rattle.std.specs.BTreeMap.{insert_entry}
 use Rattle.std.specs.Ordering.{match_ordering}
 use Rattle.std.specs.String.{string_cmp}
@@ -21,3 +22,15 @@ pub members_view-insert : (k : String Global) (v : Value) (es : List (String Glo
     → members_view (insert_entry string_cmp es k v) ≡ put_member (string_bytes k) (view v) (members_view es)
 members_view-insert k v [] = refl
 members_view-insert k v (e ∷ es) = put_at (string_cmp k e.0) k v e es (members_view-insert k v es)
+
+-- one value more of an array, made of the first of those that are left
+pub next_made : {A B C D : Type 0} (view : C → D) (g : A → B) (f : B → D) (made : List C) (v : C) (x : A) (rest : List A) → view v ≡ f (g x)
+    → map view (made ++ v ∷ []) ++ map f (map g rest) ≡ map view made ++ map f (map g (x ∷ rest))
+next_made view g f made v x rest is =
+    rw (map-append view made (v ∷ []), is) (append_assoc (map view made) (f (g x) ∷ []) (map f (map g rest)))
+
+-- the same of the one at an index
+pub made_at : {A B C D : Type 0} (view : C → D) (g : A → B) (f : B → D) (made : List C) (v : C) (xs : List A) (i : ℕ) (d : A) → i < length xs → view v ≡ f (g (get_or xs i d))
+    → map view (made ++ v ∷ []) ++ map f (map g (drop (i + 1) xs)) ≡ map view made ++ map f (map g (drop i xs))
+made_at view g f made v xs i d within is =
+    next_made view g f made v (get_or xs i d) (drop (i + 1) xs) is ∙ ap (λ ys. map view made ++ map f (map g ys)) (sym (drop_more xs i d within))

@@ -67,12 +67,19 @@ policy_table (and ls) =
     member (codes "and_sub_policy") (tables leaf_table ls)
     (member (codes "type") (string (codes "and")) no_members)
 
+-- the table `decision_cache` of a tenant's `tail_sampling`
+abbrev pub cache_table : TailSamplingData → Members
+cache_table s =
+    member (codes "non_sampled_cache_size") (number s.non_sampled_cache_size)
+    (member (codes "sampled_cache_size") (number s.sampled_cache_size) no_members)
+
 -- a tenant's table `tail_sampling`
 abbrev pub sampling_table : TailSamplingData → Members
 sampling_table s =
-    member (codes "decision_wait_ms") (number s.decision_wait)
+    member (codes "decision_cache") (table (cache_table s))
+    (member (codes "decision_wait_ms") (number s.decision_wait)
     (member (codes "num_traces") (number s.num_traces)
-    (member (codes "policy") (tables policy_table s.policies) no_members))
+    (member (codes "policy") (tables policy_table s.policies) no_members)))
 
 -- a tenant's table `batch`
 abbrev pub batch_table : BatchData → Members

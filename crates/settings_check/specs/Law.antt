@@ -31,6 +31,10 @@ Agree kind = AgreeAt (keys_of_kind kind)
 abbrev pub holding : List ℕ → Members → Members
 holding key inner = member key (table inner) no_members
 
+-- a tenant whose table `tail_sampling` has this table `decision_cache`, and these other keys
+abbrev pub with_cache : Members → Members → Members
+with_cache cache rest = holding (codes "tail_sampling") (member (codes "decision_cache") (table cache) rest)
+
 -- tables of this kind that agree are read as the same, whatever their other keys have
 abbrev pub ReadsAlike : {A : Type 0} → TableKind → (Members → Result A FaultData) → Type 0
 ReadsAlike kind read = (one other : Members) → Agree kind one other → read one ≡ read other
@@ -41,6 +45,7 @@ pub record UnknownMeanNothing : Type 0 where
   pub global : ReadsAlike kinds.Global (λ t. global_of (holding (codes "global") t))
   pub tenant : (before : List TenantData) → ReadsAlike kinds.Tenant (tenant_of before)
   pub tail_sampling : ReadsAlike kinds.TailSampling (λ t. tail_sampling_of (holding (codes "tail_sampling") t))
+  pub decision_cache : (rest : Members) → ReadsAlike kinds.DecisionCache (λ t. tail_sampling_of (with_cache t rest))
   pub batch : ReadsAlike kinds.Batch (λ t. batch_of (holding (codes "batch") t))
   pub sending_queue : ReadsAlike kinds.SendingQueue (λ t. sending_queue_of (holding (codes "sending_queue") t))
   pub retry_on_failure : ReadsAlike kinds.RetryOnFailure (λ t. retry_of (holding (codes "retry_on_failure") t))
@@ -76,6 +81,8 @@ pub record KnownAreRead : Type 0 where
   pub tenant : EachIsRead (tenant_of []) small_tenant (keys_of_kind kinds.Tenant)
   pub tail_sampling : EachIsRead (λ t. tail_sampling_of (holding (codes "tail_sampling") t)) no_members
       (keys_of_kind kinds.TailSampling)
+  pub decision_cache : EachIsRead (λ t. tail_sampling_of (with_cache t no_members)) no_members
+      (keys_of_kind kinds.DecisionCache)
   pub batch : EachIsRead (λ t. batch_of (holding (codes "batch") t)) no_members (keys_of_kind kinds.Batch)
   pub sending_queue : EachIsRead (λ t. sending_queue_of (holding (codes "sending_queue") t)) no_members
       (keys_of_kind kinds.SendingQueue)

@@ -69,10 +69,17 @@ unknown_in_policies place number (item d rest) =
     unknown_in_policy (place ++ codes ", policy " ++ decimal number) (table_of d)
     ++ unknown_in_policies place (number + 1) rest
 
+-- those of the table `decision_cache` of a tenant's `tail_sampling`
+abbrev pub unknown_in_cache : List ℕ → Members → List UnknownKey
+unknown_in_cache place sampling =
+    unknown_in (place ++ codes ", table decision_cache") kinds.DecisionCache
+    (table_in (codes "decision_cache") sampling)
+
 -- those of a tenant's table `tail_sampling`
 abbrev pub unknown_in_sampling : List ℕ → Members → List UnknownKey
 unknown_in_sampling place sampling =
     unknown_in (place ++ codes ", table tail_sampling") kinds.TailSampling sampling
+    ++ unknown_in_cache place sampling
     ++ unknown_in_policies place 1 (items_in (codes "policy") sampling)
 
 -- those of a tenant whose words these are

@@ -13,7 +13,7 @@ ghost use Rattle.tail_settings.specs.SendingQueue.{sending_queue_view};
 ghost use Rattle.tail_settings.specs.Settings.{settings_view, settings_of};
 ghost use Rattle.tail_settings.specs.Sound.{IsSound};
 ghost use Rattle.tail_settings.specs.TailSampling.{tail_sampling_view};
-ghost use Rattle.settings_check.specs.Document.{number, tables, texts, global_table, status_name, leaf_table, policy_table, sampling_table, batch_table, queue_table, retry_table, section_tables, section_table, tenant_table, document_of};
+ghost use Rattle.settings_check.specs.Document.{number, tables, texts, global_table, status_name, leaf_table, policy_table, cache_table, sampling_table, batch_table, queue_table, retry_table, section_tables, section_table, tenant_table, document_of};
 ghost use Rattle.settings_check.specs.Put.{put_member};
 
 use std::alloc::{AllocError, Global};
@@ -175,6 +175,18 @@ fn policy_array(alloc: Global, policies: &[PolicySpec]) -> Result<Value, AllocEr
     Ok(Value::Array(tables))
 }
 
+/// The table `decision_cache` of a tenant's `tail_sampling`.
+fn cache_table(alloc: Global, sampling: &TailSampling) -> Result<Table, AllocError>
+    ensures { IfOk result (λ t. table_view t ≡ cache_table (tail_sampling_view sampling.now)) }
+{
+    let mut table = Table::new(alloc);
+    let sampled = u64::from(sampling.sampled_cache_size);
+    put_number(alloc, &mut table, "sampled_cache_size", sampled)?;
+    let others = u64::from(sampling.non_sampled_cache_size);
+    put_number(alloc, &mut table, "non_sampled_cache_size", others)?;
+    Ok(table)
+}
+
 /// A tenant's table `tail_sampling`.
 fn sampling_table(alloc: Global, sampling: &TailSampling) -> Result<Table, AllocError>
     ensures { IfOk result (λ t. table_view t ≡ sampling_table (tail_sampling_view sampling.now)) }
@@ -192,6 +204,8 @@ fn sampling_table(alloc: Global, sampling: &TailSampling) -> Result<Table, Alloc
         "num_traces",
         u64::from(sampling.num_traces),
     )?;
+    let cache = cache_table(alloc, sampling)?;
+    put(alloc, &mut table, "decision_cache", Value::Table(cache))?;
     let policies = policy_array(alloc, sampling.policies.as_slice())?;
     put(alloc, &mut table, "policy", policies)?;
     Ok(table)

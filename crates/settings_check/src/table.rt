@@ -5,7 +5,7 @@ ghost use Rattle.std.specs.Prelude.{◌≡◌, option_copied};
 ghost use Rattle.settings_check.specs.Table.{keys_of_kind, title_of, policy_kind, name_of, allowed_of, key_among, place_of};
 
 /// A key of some kind of table.
-#[derive(Clone, Copy, Debug, PartialEq, Eq)]
+#[derive(Clone, Copy)]
 pub enum Key {
     Global,
     Tenant,
@@ -26,7 +26,10 @@ pub enum Key {
     RetryOnFailure,
     DecisionWaitMs,
     NumTraces,
+    DecisionCache,
     Policy,
+    SampledCacheSize,
+    NonSampledCacheSize,
     SendBatchSize,
     TimeoutMs,
     SendBatchMaxSize,
@@ -48,7 +51,7 @@ pub enum Key {
 }
 
 /// A kind of table.
-#[derive(Clone, Copy, Debug, PartialEq, Eq)]
+#[derive(Clone, Copy)]
 pub enum TableKind {
     /// The document itself.
     Document,
@@ -58,6 +61,8 @@ pub enum TableKind {
     Tenant,
     /// A tenant's `tail_sampling`.
     TailSampling,
+    /// `decision_cache` in it.
+    DecisionCache,
     /// A tenant's `batch`.
     Batch,
     /// A tenant's `sending_queue`.
@@ -104,7 +109,14 @@ pub const TENANT: [Key; 8] = [
     Key::RetryOnFailure,
 ];
 /// The keys of `TableKind::TailSampling`.
-pub const TAIL_SAMPLING: [Key; 3] = [Key::DecisionWaitMs, Key::NumTraces, Key::Policy];
+pub const TAIL_SAMPLING: [Key; 4] = [
+    Key::DecisionWaitMs,
+    Key::NumTraces,
+    Key::DecisionCache,
+    Key::Policy,
+];
+/// The keys of `TableKind::DecisionCache`.
+pub const DECISION_CACHE: [Key; 2] = [Key::SampledCacheSize, Key::NonSampledCacheSize];
 /// The keys of `TableKind::Batch`.
 pub const BATCH: [Key; 3] = [Key::SendBatchSize, Key::TimeoutMs, Key::SendBatchMaxSize];
 /// The keys of `TableKind::SendingQueue`.
@@ -193,6 +205,14 @@ pub const DECISION_WAIT_MS_MAY_BE: &str =
 
 pub const NUM_TRACES_MAY_BE: &str = "a whole number from 1 to 1000000, or missing, which is 50000";
 
+pub const DECISION_CACHE_MAY_BE: &str = "a table, or missing";
+
+pub const SAMPLED_CACHE_SIZE_MAY_BE: &str =
+    "a whole number from 0 to 1000000, or missing, which is 0";
+
+pub const NON_SAMPLED_CACHE_SIZE_MAY_BE: &str =
+    "a whole number from 0 to 1000000, or missing, which is 0";
+
 pub const POLICY_MAY_BE: &str = "an array of one or more tables, each a policy";
 
 pub const SEND_BATCH_SIZE_MAY_BE: &str =
@@ -266,7 +286,10 @@ impl Key {
             Key::RetryOnFailure => "retry_on_failure",
             Key::DecisionWaitMs => "decision_wait_ms",
             Key::NumTraces => "num_traces",
+            Key::DecisionCache => "decision_cache",
             Key::Policy => "policy",
+            Key::SampledCacheSize => "sampled_cache_size",
+            Key::NonSampledCacheSize => "non_sampled_cache_size",
             Key::SendBatchSize => "send_batch_size",
             Key::TimeoutMs => "timeout_ms",
             Key::SendBatchMaxSize => "send_batch_max_size",
@@ -312,7 +335,10 @@ impl Key {
             Key::RetryOnFailure => RETRY_ON_FAILURE_MAY_BE,
             Key::DecisionWaitMs => DECISION_WAIT_MS_MAY_BE,
             Key::NumTraces => NUM_TRACES_MAY_BE,
+            Key::DecisionCache => DECISION_CACHE_MAY_BE,
             Key::Policy => POLICY_MAY_BE,
+            Key::SampledCacheSize => SAMPLED_CACHE_SIZE_MAY_BE,
+            Key::NonSampledCacheSize => NON_SAMPLED_CACHE_SIZE_MAY_BE,
             Key::SendBatchSize => SEND_BATCH_SIZE_MAY_BE,
             Key::TimeoutMs => TIMEOUT_MS_MAY_BE,
             Key::SendBatchMaxSize => SEND_BATCH_MAX_SIZE_MAY_BE,
@@ -337,11 +363,12 @@ impl Key {
 
 impl TableKind {
     /// The kinds among which a fault's key is looked for. No two of them have a key of one name.
-    pub const ALL: [TableKind; 8] = [
+    pub const ALL: [TableKind; 9] = [
         TableKind::Document,
         TableKind::Global,
         TableKind::Tenant,
         TableKind::TailSampling,
+        TableKind::DecisionCache,
         TableKind::Batch,
         TableKind::SendingQueue,
         TableKind::RetryOnFailure,
@@ -357,6 +384,7 @@ impl TableKind {
             TableKind::Global => &GLOBAL,
             TableKind::Tenant => &TENANT,
             TableKind::TailSampling => &TAIL_SAMPLING,
+            TableKind::DecisionCache => &DECISION_CACHE,
             TableKind::Batch => &BATCH,
             TableKind::SendingQueue => &SENDING_QUEUE,
             TableKind::RetryOnFailure => &RETRY_ON_FAILURE,
@@ -379,6 +407,7 @@ impl TableKind {
             TableKind::Global => "table global",
             TableKind::Tenant => "table tenant",
             TableKind::TailSampling => "table tail_sampling",
+            TableKind::DecisionCache => "table decision_cache",
             TableKind::Batch => "table batch",
             TableKind::SendingQueue => "table sending_queue",
             TableKind::RetryOnFailure => "table retry_on_failure",

@@ -4,7 +4,7 @@ ghost use Rattle.std.specs.Prelude.{◌≡◌, ◌++◌, [], codes, unwrap_or, I
 ghost use Rattle.std.specs.Fmt.{decimal};
 ghost use Rattle.toml.specs.View.{table_view, items_view};
 ghost use Rattle.tail_settings.specs.Keys.{keys_of};
-ghost use Rattle.settings_check.specs.Unknown.{text_in, tenant_words, kind_of, parts_of, unknown_in, unknown_in_leaves, unknown_in_policy, unknown_in_policies, unknown_in_sampling, unknown_in_section, unknown_in_tenants, unknown_of};
+ghost use Rattle.settings_check.specs.Unknown.{text_in, tenant_words, kind_of, parts_of, unknown_in, unknown_in_leaves, unknown_in_policy, unknown_in_policies, unknown_in_cache, unknown_in_sampling, unknown_in_section, unknown_in_tenants, unknown_of};
 ghost use Rattle.settings_check.specs.Warning.{meant_of, hint_text, warning_text, warnings};
 ghost use Rattle.settings_check.specs.Table.{keys_of_kind};
 
@@ -176,6 +176,21 @@ fn warn_in_policies(
     Ok(())
 }
 
+/// Appends warnings of the table `decision_cache` of a tenant's `tail_sampling`.
+fn warn_in_cache(
+    alloc: Global,
+    out: &mut String,
+    place: &str,
+    sampling: Option<&Table>,
+) -> Result<(), AllocError>
+    ensures { OnOk result (string_bytes out.new ≡ string_bytes out.old
+        ++ warnings (unknown_in_cache place.now (keys_of sampling.entry))) }
+{
+    let title = joined(alloc, place, ", table decision_cache")?;
+    let cache = read::table(sampling, "decision_cache");
+    warn_in(alloc, out, title.as_str(), TableKind::DecisionCache, cache)
+}
+
 /// Appends warnings of a tenant's table `tail_sampling`.
 #[tactic(auto, using(crate::proofs::Warnings::put_both))]
 fn warn_in_sampling(
@@ -195,6 +210,7 @@ fn warn_in_sampling(
         TableKind::TailSampling,
         sampling,
     )?;
+    warn_in_cache(alloc, out, place, sampling)?;
     warn_in_policies(alloc, out, place, read::items(sampling, "policy"))
 }
 

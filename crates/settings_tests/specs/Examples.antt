@@ -7,13 +7,19 @@ use Rattle.tail_settings.specs.Settings.{TenantData, SettingsData}
 use Rattle.tail_settings.specs.Examples.{default_global, default_batch, default_queue, default_retry}
 use Rattle.tail_settings.specs.Sound.{IsSoundLeaf, IsSoundBatch, AreSoundTenants, IsSound}
 
--- every default: a trace waits 30 s, and 50,000 traces are held
+-- every default: a trace waits 30 s, 50,000 traces are held, and no id is remembered
 abbrev pub default_section : SectionData
 default_section = record {
   endpoint = codes "127.0.0.1:4319";
   max_spans = 100000;
   seed = 0;
-  tail_sampling = record { decision_wait = 30000; num_traces = 50000; policies = leaf always_sample ∷ [] };
+  tail_sampling = record {
+    decision_wait = 30000;
+    num_traces = 50000;
+    sampled_cache_size = 0;
+    non_sampled_cache_size = 0;
+    policies = leaf always_sample ∷ [];
+  };
   batch = default_batch;
   sending_queue = default_queue;
   retry_on_failure = default_retry;

@@ -2,9 +2,7 @@
 
 use std::alloc::{AllocError, Global};
 use std::test::Fail;
-use tail_settings::{
-    PolicySpec, Section, Settings, SettingsFault, copied_policies, load, same_policies,
-};
+use tail_settings::{PolicySpec, Section, Settings, SettingsFault, load, same_policies};
 
 /// The text of `examples/everything.toml`.
 const EVERYTHING: &str =
@@ -28,6 +26,10 @@ seed = 0
 [tenant.tail_sampling]
 decision_wait_ms = 30000
 num_traces = 50000
+
+[tenant.tail_sampling.decision_cache]
+sampled_cache_size = 0
+non_sampled_cache_size = 0
 
 [[tenant.tail_sampling.policy]]
 type = \"always_sample\"
@@ -80,7 +82,8 @@ const ALL_POLICIES: &str =
     "GlobalSettings { shards: 1, parts: 2, receivers: 4, senders: 4, lane_size: 64, listen: \"127.0.0.1:4318\", \
 tenant_header: \"x-scope-orgid\" }
 Section { endpoint: \"127.0.0.1:4319\", max_spans: 100000, seed: 0, \
-tail_sampling: TailSampling { decision_wait: 30000, num_traces: 50000, policies: [\
+tail_sampling: TailSampling { decision_wait: 30000, num_traces: 50000, sampled_cache_size: 0, \
+non_sampled_cache_size: 0, policies: [\
 Leaf(AlwaysSample), \
 Leaf(Latency { threshold_ms: 5000 }), \
 Leaf(StatusCode { status_codes: [Error, Unset, Ok] }), \
@@ -138,7 +141,7 @@ fn are_told_apart(
     policies: &[PolicySpec],
     others: &[PolicySpec],
 ) -> Result<bool, AllocError> {
-    let copy = copied_policies(alloc, policies)?;
+    let copy = Vec::from_clones(alloc, policies)?;
     Ok(!copy.is_empty() && same_policies(&copy, policies) && !same_policies(&copy, others))
 }
 

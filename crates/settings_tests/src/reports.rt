@@ -56,6 +56,10 @@ queue_size = 1000
 decision_wait_ms = 30000
 num_traces = 50000
 
+[tenant.tail_sampling.decision_cache]
+non_sampled_cache_size = 0
+sampled_cache_size = 0
+
 [[tenant.tail_sampling.policy]]
 type = \"always_sample\"
 ";

@@ -12,20 +12,18 @@ use crate::step::{Call, WordOf, WordedStep};
 use crate::words::Words;
 use machine_hub::Machine;
 use std::alloc::{AllocError, Global};
-use std::marker::{Model, PhantomData};
+use std::marker::Model;
 use tail_settings::Settings;
 use tenant_shard::{Outcome, Shard, Step};
 
-/// A shard, and a generator of words for each of its tenants. The settings outlive it, since bodies that are posted to
-/// it borrow their policies.
+/// A shard, and a generator of words for each of its tenants.
 #[derive(Drop)]
-pub struct WordedShard<'a> {
+pub struct WordedShard {
     shard: Shard,
     words: Words,
-    settings: PhantomData<&'a Settings>,
 }
 
-impl<'a> Model for WordedShard<'a> {
+impl Model for WordedShard {
     ghost use Rattle.shard_machine.specs.Worded.{Worded, AreMembers};
 
     ghost Value = { Worded };
@@ -35,37 +33,33 @@ impl<'a> Model for WordedShard<'a> {
     ghost invariant = { λ s. AreMembers s.words s.shard };
 }
 
-impl<'a> WordedShard<'a> {
+impl WordedShard {
     /// A shard of the tenants of the settings whose numbers stand in `members`, with no steps so far, each with a
     /// generator at the start of its seed.
     pub fn open(
         alloc: Global,
-        settings: &'a Settings,
+        settings: &Settings,
         members: &[u32],
-    ) -> Result<WordedShard<'a>, AllocError>
+    ) -> Result<WordedShard, AllocError>
         ensures stands { IfOk result (λ s. ShardStands (opened (settings_view settings.now) members.now) s.views) }
         ensures words { IfOk result (λ s. AreSeeded (settings_view settings.now) members.now s.words) }
     {
         let shard = Shard::open(alloc, settings, members)?;
         let words = seeded(alloc, settings, members)?;
-        Ok(WordedShard {
-            shard,
-            words,
-            settings: PhantomData,
-        })
+        Ok(WordedShard { shard, words })
     }
 }
 
-impl<'a> Machine for WordedShard<'a> {
+impl Machine for WordedShard {
     ghost use Rattle.std.specs.Prelude.{[]};
     ghost use Rattle.tenant_shard.specs.Empty.{is_empty};
     ghost use Rattle.tenant_shard.specs.View.{kept_of};
     ghost use Rattle.shard_machine.specs.Worded.{AsksFor, WordedDoes};
     ghost use Rattle.shard_machine.specs.Drawing.{IsLost};
 
-    type Call = Call<'a>;
+    type Call = Call;
 
-    type Step = WordedStep<'a>;
+    type Step = WordedStep;
 
     type Outcome = Outcome;
 
@@ -79,14 +73,10 @@ impl<'a> Machine for WordedShard<'a> {
 
     ghost is_so = { λ s tenant. is_empty (kept_of tenant s.views) };
 
-    fn make(
-        &mut self,
-        _alloc: Global,
-        call: Call<'a>,
-    ) -> Result<(WordedStep<'a>, Outcome), AllocError>
-        ensures asked { IfOk result (λ made. AsksFor call.entry made.0) }
+    fn make(&mut self, _alloc: Global, call: Call) -> Result<(WordedStep, Outcome), AllocError>
+        ensures asked { IfOk result (λ made. AsksFor call made.0) }
         ensures made { IfOk result (λ made. WordedDoes self.old made.0 made.1 self.new) }
-        ensures refused { OnErr result (IsLost call.entry self.old self.new) }
+        ensures refused { OnErr result (IsLost call self.old self.new) }
     {
         let made = ready(&mut self.words, call);
         let outcome = self.shard.step(&made.step)?;
@@ -105,8 +95,8 @@ impl<'a> Machine for WordedShard<'a> {
 }
 
 /// The step that a call asks for, with the word that its tenant draws.
-fn ready<'a>(words: &mut Words, call: Call<'a>) -> WordedStep<'a>
-    ensures asked { AsksFor call.entry result }
+fn ready(words: &mut Words, call: Call) -> WordedStep
+    ensures asked { AsksFor call result }
     ensures words { IsReady result.word result.step words.old words.new }
 {
     match call {

@@ -5,9 +5,9 @@ use tenant_shard::Step;
 
 /// What a caller asks for. A moment is in milliseconds.
 #[derive(Drop)]
-pub enum Call<'a> {
+pub enum Call {
     /// A step as it stands, also an answer with a word of the caller's.
-    Step(Step<'a>),
+    Step(Step),
     /// A tenant's back end answers the job of a ticket. The tenant's generator gives the word that picks the delay
     /// before another attempt.
     Answer {
@@ -31,7 +31,7 @@ pub enum WordOf {
 
 /// A step that was made.
 #[derive(Drop)]
-pub struct WordedStep<'a> {
-    pub step: Step<'a>,
+pub struct WordedStep {
+    pub step: Step,
     pub word: WordOf,
 }

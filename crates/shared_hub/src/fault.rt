@@ -35,8 +35,8 @@ impl From<AllocError> for HubFault {
 
 /// Not all callers came: the refusal with the number 24. All is handed back.
 #[derive(Drop)]
-pub struct CallersMissing<'a> {
-    pub hub: SharedHub<'a>,
-    pub keeper: HubKeeper<'a>,
-    pub callers: Vec<Caller<'a>>,
+pub struct CallersMissing {
+    pub hub: SharedHub,
+    pub keeper: HubKeeper,
+    pub callers: Vec<Caller>,
 }

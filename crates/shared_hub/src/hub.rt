@@ -25,11 +25,11 @@ use tenant_shard::{Outcome, Step};
 /// All shards of the settings, which threads share. Shards are numbered from 0, and tenant i is in shard i mod their
 /// number.
 #[derive(Drop)]
-pub struct SharedHub<'a> {
-    hub: Hub<WordedShard<'a>, OptionalLog<'a>>,
+pub struct SharedHub {
+    hub: Hub<WordedShard, OptionalLog>,
 }
 
-impl<'a> Model for SharedHub<'a> {
+impl Model for SharedHub {
     ghost use Rattle.std.specs.Prelude.{List};
     ghost use Rattle.atomic_table.specs.Seated.{TableId};
 
@@ -42,16 +42,16 @@ impl<'a> Model for SharedHub<'a> {
     ghost invariant = { λ s. 0 < length s.hub };
 }
 
-impl<'a> SharedHub<'a> {
+impl SharedHub {
     /// A hub of all shards of the settings, none of which made a step, its keeper, and its callers, one for each
     /// thread. The logs keep each entry or nothing. Where memory is refused nothing is kept.
     pub fn open<R: Wait>(
         rt: &R,
         alloc: Global,
-        settings: &'a Settings,
+        settings: &Settings,
         callers: usize,
         keeps: bool,
-    ) -> Result<(SharedHub<'a>, HubKeeper<'a>, Vec<Caller<'a>>), AllocError>
+    ) -> Result<(SharedHub, HubKeeper, Vec<Caller>), AllocError>
         requires { 0 < callers }
         ensures shards { IfOk result (λ r. length r.0 ≡ settings.now.global.shards) }
         ensures keeper { IfOk result (λ r. (r.1.slots ≡ r.0) × (r.1.callers ≡ callers)) }
@@ -79,14 +79,14 @@ impl<'a> SharedHub<'a> {
         &self,
         rt: &R,
         alloc: Global,
-        me: &mut Caller<'a>,
+        me: &mut Caller,
         shard: usize,
-        step: Step<'a>,
+        step: Step,
     ) -> Result<(Outcome, Option<Receipt>), HubFault>
         requires shard { shard < length self.now }
         requires mine { slots_of me.old ≡ self.now }
         ensures mine { slots_of me.new ≡ self.now }
-        ensures call { IfOk result (λ r. IsStepOn me.old me.new shard step.entry r.0 r.1) }
+        ensures call { IfOk result (λ r. IsStepOn me.old me.new shard step r.0 r.1) }
         ensures refused { OnErr result (IsRefusedOn me.old me.new shard) }
         ensures fault { IfErr result (λ fault. fault ≡ faults.OutOfMemory) }
     {
@@ -101,7 +101,7 @@ impl<'a> SharedHub<'a> {
         &self,
         rt: &R,
         alloc: Global,
-        me: &mut Caller<'a>,
+        me: &mut Caller,
         tenant: u32,
         now: u64,
         ticket: u64,
@@ -129,7 +129,7 @@ impl<'a> SharedHub<'a> {
 
     /// Whether the tenant is a member that holds no spans: none waits for its trace's decision, for a batch or in the
     /// queue, and no batch is on its way. It makes no step.
-    pub fn empty<R: Wait>(&self, rt: &R, me: &mut Caller<'a>, tenant: u32) -> bool
+    pub fn empty<R: Wait>(&self, rt: &R, me: &mut Caller, tenant: u32) -> bool
         requires mine { slots_of me.old ≡ self.now }
         ensures empty { IsEmptyOn me.old (tenant % length self.now) tenant result }
         ensures same { me.new ≡ me.old }
@@ -143,18 +143,18 @@ impl<'a> SharedHub<'a> {
     pub fn close<R: Wait>(
         self,
         rt: &R,
-        keeper: HubKeeper<'a>,
-        callers: Vec<Caller<'a>>,
-    ) -> Result<Vec<ShardLog<'a>>, CallersMissing<'a>>
+        keeper: HubKeeper,
+        callers: Vec<Caller>,
+    ) -> Result<Vec<ShardLog>, CallersMissing>
         requires keeper { keeper.slots ≡ self }
         requires callers { AreCallersOf self callers.items }
-        ensures all { IfOk result (λ shards. vec_len callers.entry ≡ keeper.entry.callers) }
+        ensures all { IfOk result (λ shards. vec_len callers ≡ keeper.callers) }
         ensures calls { IfOk result (λ shards.
-            AreShardRuns WordedDoes keeper.entry.homes callers.entry.items shards.items) }
+            AreShardRuns WordedDoes keeper.homes callers.items shards.items) }
         ensures logs { IfOk result (λ shards. (table : SettingsData) →
-            AreOpened table keeper.entry.homes → AreLogged table shards.items) }
-        ensures missing { IfErr result (λ back. (vec_len callers.entry ≢ keeper.entry.callers) × (back.hub ≡ self.entry)
-            × (back.keeper ≡ keeper.entry) × (back.callers ≡ callers.entry)) }
+            AreOpened table keeper.homes → AreLogged table shards.items) }
+        ensures missing { IfErr result (λ back. (vec_len callers ≢ keeper.callers) × (back.hub ≡ self)
+            × (back.keeper ≡ keeper) × (back.callers ≡ callers)) }
     {
         runs_are_shard_runs();
         words_are_in_order();

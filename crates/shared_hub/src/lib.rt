@@ -26,16 +26,16 @@ pub use shard_machine::{Call, WordOf, WordedShard, WordedStep};
 use tenant_shard::Outcome;
 
 /// A step that was made, and what it gave.
-pub type Entry<'a> = machine_hub::Entry<WordedStep<'a>, Outcome>;
+pub type Entry = machine_hub::Entry<WordedStep, Outcome>;
 
 /// Who calls a hub, one for each thread.
-pub type Caller<'a> = machine_hub::Caller<WordedShard<'a>, OptionalLog<'a>>;
+pub type Caller = machine_hub::Caller<WordedShard, OptionalLog>;
 
 /// Who opened a hub, and can close it.
-pub type HubKeeper<'a> = machine_hub::HubKeeper<WordedShard<'a>, OptionalLog<'a>>;
+pub type HubKeeper = machine_hub::HubKeeper<WordedShard, OptionalLog>;
 
 /// A shard with its log.
-pub type ShardLog<'a> = machine_hub::LoggedMachine<WordedShard<'a>, OptionalLog<'a>>;
+pub type ShardLog = machine_hub::LoggedMachine<WordedShard, OptionalLog>;
 
 /// What a call answers, log or not, is the last outcome of a run of a shard of its tenants: a law over calls.
 pub fn each_call_ends_a_run()

@@ -11,19 +11,16 @@ use std::sync::Arc;
 use tenant_shard::Outcome;
 
 /// Keeps each entry, or nothing, as it was opened.
-///
-/// It stands beside `OptionalLog` of `machine_hub`, which is for machines that borrow nothing: the prover doesn't cover
-/// a call that passes that one at a shard's lifetime.
 #[derive(Drop)]
-pub struct OptionalLog<'a> {
+pub struct OptionalLog {
     pub keeps: bool,
     /// Empty where it doesn't keep.
-    pub kept: Vec<Arc<Entry<WordedStep<'a>, Outcome>, Global>>,
+    pub kept: Vec<Arc<Entry<WordedStep, Outcome>, Global>>,
 }
 
-impl<'a> OptionalLog<'a> {
+impl OptionalLog {
     /// A log without entries.
-    pub fn new(alloc: Global, keeps: bool) -> OptionalLog<'a>
+    pub fn new(alloc: Global, keeps: bool) -> OptionalLog
         ensures { (result.keeps ≡ keeps) × (map arc_value result.kept.items ≡ []) }
     {
         OptionalLog {
@@ -33,7 +30,7 @@ impl<'a> OptionalLog<'a> {
     }
 }
 
-impl<'a> StepLog<WordedShard<'a>> for OptionalLog<'a> {
+impl StepLog<WordedShard> for OptionalLog {
     ghost use Rattle.std.specs.Prelude.{map};
     ghost use Rattle.std.specs.Arc.{arc_value};
 
@@ -60,12 +57,12 @@ impl<'a> StepLog<WordedShard<'a>> for OptionalLog<'a> {
     fn keep(
         &mut self,
         alloc: Global,
-        entry: Entry<WordedStep<'a>, Outcome>,
-    ) -> Result<Arc<Entry<WordedStep<'a>, Outcome>, Global>, AllocError>
+        entry: Entry<WordedStep, Outcome>,
+    ) -> Result<Arc<Entry<WordedStep, Outcome>, Global>, AllocError>
         ensures same { self.new.keeps ≡ self.old.keeps }
-        ensures kept { IfOk result (λ kept. (arc_value kept ≡ entry.entry)
+        ensures kept { IfOk result (λ kept. (arc_value kept ≡ entry)
             × ((self.old.keeps ≡ true) →
-            map arc_value self.new.kept.items ≡ map arc_value self.old.kept.items ++ entry.entry ∷ [])) }
+            map arc_value self.new.kept.items ≡ map arc_value self.old.kept.items ++ entry ∷ [])) }
         ensures nothing { (self.old.keeps ≡ false) →
             map arc_value self.new.kept.items ≡ map arc_value self.old.kept.items }
         ensures refused { OnErr result (map arc_value self.new.kept.items ≡ map arc_value self.old.kept.items) }

@@ -14,11 +14,11 @@ use tail_settings::Settings;
 use tenant_shard::members_of;
 
 /// The shards of the settings in the order of their numbers, each with a log that keeps all or nothing.
-pub(crate) fn shards_of<'a>(
+pub(crate) fn shards_of(
     alloc: Global,
-    settings: &'a Settings,
+    settings: &Settings,
     keeps: bool,
-) -> Result<Vec<ShardLog<'a>>, AllocError>
+) -> Result<Vec<ShardLog>, AllocError>
     ensures count { IfOk result (λ shards. vec_len shards ≡ settings.now.global.shards) }
     ensures opened { IfOk result (λ shards. AreOpened (settings_view settings.now) (homes_of shards.items)) }
     ensures keeps { IfOk result (λ shards.

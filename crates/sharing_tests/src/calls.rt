@@ -18,25 +18,25 @@ use tenant_shard::{Outcome, Step};
 pub type Made = (Outcome, Option<Receipt>);
 
 /// A body that came to a tenant, by its digits.
-fn prepared_of<'a, R: Threads + Sync>(
+fn prepared_of<R: Threads + Sync>(
     rt: &R,
     alloc: Global,
-    settings: &'a Settings,
+    settings: &Settings,
     tenant: u32,
     digits: &str,
-) -> Option<Prepared<'a>> {
+) -> Option<Prepared> {
     let section = settings.section(tenant)?;
     let body = Bytes::from_vec(hex::decode(alloc, digits).ok()?).ok()?;
     prepare(rt, alloc, tenant, section, body, 1).ok()
 }
 
 /// A step that the caller hands in.
-fn step_of<'a, R: Threads + Sync>(
+fn step_of<R: Threads + Sync>(
     rt: &R,
     alloc: Global,
-    settings: &'a Settings,
+    settings: &Settings,
     line: &Line<'_>,
-) -> Option<Step<'a>> {
+) -> Option<Step> {
     let (tenant, now) = (line.tenant, line.now);
     match line.kind {
         "turn" => Some(Step::Turn { now }),
@@ -50,13 +50,13 @@ fn step_of<'a, R: Threads + Sync>(
 }
 
 /// A step at a shard.
-pub fn stepped<'a, R: Wait>(
+pub fn stepped<R: Wait>(
     rt: &R,
     alloc: Global,
-    hub: &SharedHub<'a>,
-    me: &mut Caller<'a>,
+    hub: &SharedHub,
+    me: &mut Caller,
     shard: usize,
-    step: Step<'a>,
+    step: Step,
 ) -> Option<Made>
     requires { slots_of me.old ≡ hub.now }
     ensures { slots_of me.new ≡ hub.now }
@@ -68,11 +68,11 @@ pub fn stepped<'a, R: Wait>(
 }
 
 /// A back end's answer, without a body.
-fn answered<'a, R: Wait>(
+fn answered<R: Wait>(
     rt: &R,
     alloc: Global,
-    hub: &SharedHub<'a>,
-    me: &mut Caller<'a>,
+    hub: &SharedHub,
+    me: &mut Caller,
     line: &Line<'_>,
 ) -> Option<Made>
     requires { slots_of me.old ≡ hub.now }
@@ -88,12 +88,12 @@ fn answered<'a, R: Wait>(
 }
 
 /// The call of a line.
-pub fn made<'a, R: Threads + Wait + Sync>(
+pub fn made<R: Threads + Wait + Sync>(
     rt: &R,
     alloc: Global,
-    settings: &'a Settings,
-    hub: &SharedHub<'a>,
-    me: &mut Caller<'a>,
+    settings: &Settings,
+    hub: &SharedHub,
+    me: &mut Caller,
     line: &Line<'_>,
 ) -> Option<Made>
     requires { slots_of me.old ≡ hub.now }

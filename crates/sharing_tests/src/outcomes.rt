@@ -48,7 +48,7 @@ fn is_text(alloc: Global, kind: &str, bytes: &[u8], text: &str) -> bool {
 }
 
 /// A step's kind, tenant, moment, ticket and word.
-fn columns_of(step: &Step<'_>) -> (&'static str, u32, u64, u64, u32) {
+fn columns_of(step: &Step) -> (&'static str, u32, u64, u64, u32) {
     match step {
         Step::Post { now, prepared } => ("post", prepared.tenant(), *now, 0, 0),
         Step::Turn { now } => ("turn", 0, *now, 0, 0),
@@ -74,7 +74,7 @@ fn source_of(word: WordOf) -> &'static str {
 }
 
 /// Whether an entry is that of a line's call.
-pub fn is_entry(alloc: Global, entry: &Entry<'_>, line: &Line<'_>) -> bool {
+pub fn is_entry(alloc: Global, entry: &Entry, line: &Line<'_>) -> bool {
     let (kind, tenant, now, ticket, word) = columns_of(&entry.step.step);
     kind == line.kind
         && tenant == line.tenant

@@ -27,12 +27,12 @@ fn is_next(receipt: Option<Receipt>, next: &mut [u64; 2], keeps: bool) -> bool {
 }
 
 /// Whether the call of a line is told what stands there.
-fn is_told<'a, R: Threads + Wait + Sync>(
+fn is_told<R: Threads + Wait + Sync>(
     rt: &R,
     alloc: Global,
-    settings: &'a Settings,
-    hub: &SharedHub<'a>,
-    me: &mut Caller<'a>,
+    settings: &Settings,
+    hub: &SharedHub,
+    me: &mut Caller,
     next: &mut [u64; 2],
     keeps: bool,
     line: &Line<'_>,
@@ -52,12 +52,12 @@ fn is_told<'a, R: Threads + Wait + Sync>(
 }
 
 /// Makes the calls of the story, up to the first that isn't told what stands there. How many were, and that one.
-fn follow<'a, R: Threads + Wait + Sync>(
+fn follow<R: Threads + Wait + Sync>(
     rt: &R,
     alloc: Global,
-    settings: &'a Settings,
-    hub: &SharedHub<'a>,
-    me: &mut Caller<'a>,
+    settings: &Settings,
+    hub: &SharedHub,
+    me: &mut Caller,
     next: &mut [u64; 2],
     keeps: bool,
 ) -> (u32, &'static str)
@@ -75,7 +75,7 @@ fn follow<'a, R: Threads + Wait + Sync>(
 }
 
 /// Whether a log has the story's calls at this shard, in their order, and no others.
-fn has_calls(alloc: Global, kept: &[Arc<Entry<'_>, Global>], shard: &str) -> bool {
+fn has_calls(alloc: Global, kept: &[Arc<Entry, Global>], shard: &str) -> bool {
     let mut next = 0;
     for text in STORY.lines() {
         let line = line_of(text);
@@ -90,7 +90,7 @@ fn has_calls(alloc: Global, kept: &[Arc<Entry<'_>, Global>], shard: &str) -> boo
 }
 
 /// Whether a shard's log has as many entries as receipts were given, and where it has any, the story's calls.
-fn is_logged(alloc: Global, shard: ShardLog<'_>, next: &[u64; 2]) -> bool {
+fn is_logged(alloc: Global, shard: ShardLog, next: &[u64; 2]) -> bool {
     let made = shard.made();
     let name = if shard.number() == 0 { "0" } else { "1" };
     let given = if shard.number() == 0 {
@@ -103,7 +103,7 @@ fn is_logged(alloc: Global, shard: ShardLog<'_>, next: &[u64; 2]) -> bool {
 }
 
 /// The same of both shards.
-fn are_logged(alloc: Global, logs: Vec<ShardLog<'_>>, next: &[u64; 2]) -> bool {
+fn are_logged(alloc: Global, logs: Vec<ShardLog>, next: &[u64; 2]) -> bool {
     let mut is_well = logs.len() == 2;
     for shard in logs {
         is_well = is_logged(alloc, shard, next) && is_well;
@@ -112,14 +112,18 @@ fn are_logged(alloc: Global, logs: Vec<ShardLog<'_>>, next: &[u64; 2]) -> bool {
 }
 
 /// Opens a hub, makes the calls of the story, closes it and looks at its logs.
-fn run_story<'a, R: Threads + Wait + Sync>(
+fn run_story<R: Threads + Wait + Sync>(
     rt: &R,
     alloc: Global,
-    settings: &'a Settings,
+    settings: &Settings,
     keeps: bool,
 ) -> Option<(u32, &'static str, bool)> {
-    let (hub, keeper, mut callers) = SharedHub::open(rt, alloc, settings, 1, keeps).ok()?;
-    let mut me = callers.pop()?;
+    let Ok((hub, keeper, mut callers)) = SharedHub::open(rt, alloc, settings, 1, keeps) else {
+        return None;
+    };
+    let Some(mut me) = callers.pop() else {
+        return None;
+    };
     let mut next = [0u64; 2];
     let (count, wrong) = follow(rt, alloc, settings, &hub, &mut me, &mut next, keeps);
     callers.push(me).ok()?;
@@ -150,14 +154,9 @@ fn calls_are_told_the_same_without_logs(rt: HostRuntime) -> Result<(), Fail> {
 }
 
 /// The hub, which isn't closed without its caller.
-fn kept_open<'a, R: Wait>(
-    rt: &R,
-    alloc: Global,
-    hub: SharedHub<'a>,
-    keeper: HubKeeper<'a>,
-) -> Option<SharedHub<'a>>
+fn kept_open<R: Wait>(rt: &R, alloc: Global, hub: SharedHub, keeper: HubKeeper) -> Option<SharedHub>
     requires { keeper.slots ≡ hub }
-    ensures { IfSome result (λ back. back ≡ hub.entry) }
+    ensures { IfSome result (λ back. back ≡ hub) }
 {
     match hub.close(rt, keeper, Vec::new(alloc)) {
         Ok(_shards) => None,

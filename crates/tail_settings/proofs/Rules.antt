@@ -207,7 +207,10 @@ tail_sampling_of-toml tenant =
     bind (table_at (codes "tail_sampling") tenant) _ (table_at-toml (codes "tail_sampling") tenant) (λ sampling.
     number (codes "decision_wait_ms") 1 86400000 30000 sampling (λ decision_wait.
     number (codes "num_traces") 1 1000000 50000 sampling (λ num_traces.
-    bind (policies_of sampling) _ (policies_of-toml sampling) (λ policies. ok _))))
+    bind (table_at (codes "decision_cache") sampling) _ (table_at-toml (codes "decision_cache") sampling) (λ cache.
+    number (codes "sampled_cache_size") 0 1000000 0 cache (λ sampled.
+    number (codes "non_sampled_cache_size") 0 1000000 0 cache (λ non_sampled.
+    bind (policies_of sampling) _ (policies_of-toml sampling) (λ policies. ok _)))))))
 
 batch_of-toml : (tenant : Members) → IsToml (batch_of tenant)
 unfolding batch_of

@@ -236,13 +236,18 @@ tail_sampling_of-sound tenant s h =
     let sampling = bound (table_at (codes "tail_sampling") tenant) _ s h in
     let wait = bound (number_at (codes "decision_wait_ms") 1 86400000 30000 sampling.0) _ s sampling.2 in
     let traces = bound (number_at (codes "num_traces") 1 1000000 50000 sampling.0) _ s wait.2 in
-    let ps = bound (policies_of sampling.0) _ s traces.2 in
+    let cache = bound (table_at (codes "decision_cache") sampling.0) _ s traces.2 in
+    let sampled = bound (number_at (codes "sampled_cache_size") 0 1000000 0 cache.0) _ s cache.2 in
+    let others = bound (number_at (codes "non_sampled_cache_size") 0 1000000 0 cache.0) _ s sampled.2 in
+    let ps = bound (policies_of sampling.0) _ s others.2 in
     let sound = policies_of-sound sampling.0 ps.0 ps.1 in
-    let read : TailSamplingData = record { decision_wait = wait.0; num_traces = traces.0; policies = ps.0 } in
+    let read : TailSamplingData = record { decision_wait = wait.0; num_traces = traces.0; sampled_cache_size = sampled.0; non_sampled_cache_size = others.0; policies = ps.0 } in
     let same = ok_is read s ps.2 in
     subst IsSoundTailSampling same (record {
       decision_wait = number_at-from (codes "decision_wait_ms") 1 86400000 30000 sampling.0 wait.0 (omega arith, omega arith) wait.1;
       num_traces = number_at-from (codes "num_traces") 1 1000000 50000 sampling.0 traces.0 (omega arith, omega arith) traces.1;
+      sampled_cache_size = (number_at-from (codes "sampled_cache_size") 0 1000000 0 cache.0 sampled.0 (omega arith, omega arith) sampled.1).1;
+      non_sampled_cache_size = (number_at-from (codes "non_sampled_cache_size") 0 1000000 0 cache.0 others.0 (omega arith, omega arith) others.1).1;
       some_policy = sound.0;
       few_leaves = sound.1;
       policies = sound.2;

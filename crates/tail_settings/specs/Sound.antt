@@ -38,6 +38,8 @@ IsSoundPolicy (and ls) = (0 < length ls) × All IsSoundLeaf ls
 pub record IsSoundTailSampling (s : TailSamplingData) : Type 0 where
   pub decision_wait : IsFrom 1 86400000 s.decision_wait
   pub num_traces : IsFrom 1 1000000 s.num_traces
+  pub sampled_cache_size : s.sampled_cache_size ≤ 1000000
+  pub non_sampled_cache_size : s.non_sampled_cache_size ≤ 1000000
   pub some_policy : 0 < length s.policies
   pub few_leaves : leaves_of s.policies ≤ 64
   pub policies : All IsSoundPolicy s.policies

@@ -30,9 +30,7 @@ pub use batch::Batch;
 pub use document::load;
 pub use fault::{SettingsFault, equal_faults};
 pub use global::GlobalSettings;
-pub use policy::{
-    LeafPolicy, PolicySpec, StatusCode, copied_policies, equal_policies, same_policies,
-};
+pub use policy::{LeafPolicy, PolicySpec, StatusCode, equal_policies, same_policies};
 pub use retry_on_failure::RetryOnFailure;
 pub use section::Section;
 pub use sending_queue::SendingQueue;

@@ -1,7 +1,5 @@
 //! Policies.
 
-use std::alloc::{AllocError, Global};
-
 /// A code of a span's status, as opentelemetry-proto's `Status.StatusCode` has it.
 #[derive(Clone, Copy, Debug, PartialEq, Eq)]
 pub enum StatusCode {
@@ -51,7 +49,7 @@ pub enum PolicySpec {
     And(Vec<LeafPolicy>),
 }
 
-ghost use Rattle.std.specs.Prelude.{◌≡◌, ◌↔◌, true, map, IsTrue, IfOk};
+ghost use Rattle.std.specs.Prelude.{◌≡◌, ◌↔◌, true, map, IsTrue};
 ghost use Rattle.tail_settings.specs.Policy.{status_view, leaf_view, policy_view};
 
 /// Policies are equal where they say the same, and a copy says the same.
@@ -70,14 +68,4 @@ pub fn same_policies(left: &[PolicySpec], right: &[PolicySpec]) -> bool
     ensures { IsTrue result ↔ (map policy_view left.now ≡ map policy_view right.now) }
 {
     left == right
-}
-
-/// A copy of policies, in the same order.
-pub fn copied_policies(
-    alloc: Global,
-    policies: &[PolicySpec],
-) -> Result<Vec<PolicySpec>, AllocError>
-    ensures { IfOk result (λ copy. map policy_view copy.items ≡ map policy_view policies.now) }
-{
-    Vec::from_clones(alloc, policies)
 }

@@ -1,6 +1,7 @@
 //! The table of one policy, and the array of them.
 
 ghost use Rattle.std.specs.Prelude.{◌≡◌, ◌≤◌, ◌<◌, ◌∷◌, ◌++◌, [], IfOk, IfErr, map, vec_len, string_bytes, nat_le, length, Ok};
+ghost use Rattle.std.specs.Arc.{arc_slice_items};
 ghost use Rattle.toml.specs.View.{items_view};
 ghost use Rattle.tail_settings.specs.Fault.{Tells, IsOfDocument};
 ghost use Rattle.tail_settings.specs.Keys.{keys_of, each, tables_in, texts_in};
@@ -10,6 +11,7 @@ use crate::fault::SettingsFault;
 use crate::policy::{LeafPolicy, PolicySpec, StatusCode};
 use crate::{keys, texts};
 use std::alloc::Global;
+use std::sync::ArcSlice;
 use toml::{Table, Value};
 
 /// A tenant has no more policies that hold no other.
@@ -213,15 +215,19 @@ fn each_policy(alloc: Global, tables: &[Value]) -> Result<Vec<PolicySpec>, Setti
 
 /// The policies of a table `tail_sampling`.
 #[tactic(auto, using(crate::proofs::Told::tells_more), unfolding(crate::specs::Policy::policies_of))]
-pub fn policies(alloc: Global, sampling: Option<&Table>) -> Result<Vec<PolicySpec>, SettingsFault>
-    ensures meaning { Tells (λ v. map policy_view v.items) result (policies_of (keys_of sampling.entry)) }
-    ensures some { IfOk result (λ v. 0 < vec_len v) }
-    ensures few { IfOk result (λ v. leaves_of (map policy_view v.items) ≤ 64) }
+pub fn policies(
+    alloc: Global,
+    sampling: Option<&Table>,
+) -> Result<ArcSlice<PolicySpec>, SettingsFault>
+    ensures meaning { Tells (λ v. map policy_view (arc_slice_items v)) result (policies_of (keys_of sampling.entry)) }
+    ensures some { IfOk result (λ v. 0 < length (arc_slice_items v)) }
+    ensures few { IfOk result (λ v. leaves_of (map policy_view (arc_slice_items v)) ≤ 64) }
 {
     let tables = keys::some_tables(sampling, "policy")?;
     let policies = each_policy(alloc, tables)?;
     if !are_few(&policies) {
         return Err(SettingsFault::TooMany);
     }
+    let policies = ArcSlice::from_vec(policies)?;
     Ok(policies)
 }

@@ -74,7 +74,7 @@ impl Pipeline {
         ensures swept { IfOk result (λ made. IsSwept made) }
         ensures tenant { IfOk result (λ made. made.tenant ≡ tenant) }
     {
-        let section = copied_section(alloc, section)?;
+        let section = copied_section(section)?;
         let sender = SendQueue::new(alloc, &section.sending_queue, &section.retry_on_failure)?;
         let batcher = SpanBatcher::new(
             alloc,
@@ -108,7 +108,7 @@ impl Pipeline {
     }
 
     /// Whether a body was made ready for this tenant's policies. `post` asks for that.
-    pub fn is_for(&self, prepared: &Prepared<'_>) -> bool
+    pub fn is_for(&self, prepared: &Prepared) -> bool
         ensures { IsTrue result ↔ (prepared.now.policies ≡ policies_of self.now) }
     {
         prepared.has_policies(self.section.tail_sampling.policies.as_slice())
@@ -120,7 +120,7 @@ impl Pipeline {
         &mut self,
         stores: &mut Stores<TraceNote>,
         now: u64,
-        prepared: &Prepared<'_>,
+        prepared: &Prepared,
     ) -> Result<Reply, AllocError>
         requires held { IsHeld self.old stores.old }
         requires policies { prepared.now.policies ≡ policies_of self.old }

@@ -99,7 +99,7 @@ impl Pipeline {
         &mut self,
         stores: &mut Stores<TraceNote>,
         moment: u64,
-        prepared: &Prepared<'_>,
+        prepared: &Prepared,
     ) -> Result<Reply, AllocError>
         requires holds { IsHeldAt moment [] [] self.old (part_in self.old stores.old) }
         requires quiet { IsAfter (next_due self.old.batcher) moment }

@@ -45,7 +45,7 @@ pub fn place_of(members: &[Pipeline], tenant: u32) -> Result<usize, usize>
 }
 
 /// Whether a step reaches the member's pipeline: a body does that was prepared for its policies, and any other step.
-pub fn takes(own: &Pipeline, step: &Step<'_>) -> bool
+pub fn takes(own: &Pipeline, step: &Step) -> bool
     ensures { result ≡ is_taken (section_view own.now.section) (own_step step.now) }
 {
     match step {
@@ -58,7 +58,7 @@ pub fn takes(own: &Pipeline, step: &Step<'_>) -> bool
 pub fn act(
     own: &mut Pipeline,
     stores: &mut Stores<TraceNote>,
-    step: &Step<'_>,
+    step: &Step,
 ) -> Result<Told, AllocError>
     requires held { IsHeld own.old stores.old }
     requires taken { is_taken (section_view own.old.section) (own_step step.now) ≡ true }

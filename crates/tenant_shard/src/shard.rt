@@ -96,7 +96,7 @@ impl Shard {
     /// Does one step. Where memory is refused, of the step's own tenant some first due timers may
     /// have run, and all else is as before. A step that reaches no member's pipeline takes no memory
     /// and changes nothing: no timer runs, and no clock goes on.
-    pub fn step(&mut self, step: &Step<'_>) -> Result<Outcome, AllocError>
+    pub fn step(&mut self, step: &Step) -> Result<Outcome, AllocError>
         // The outcome is what the members' own steps say. Where no own steps leave what is kept of the step's tenant,
         // as after refused memory, it follows from that.
         ensures ok { IfOk result (λ outcome. ShardSteps step.now self.old outcome self.new) }
@@ -114,7 +114,7 @@ impl Shard {
 
     /// Does the steps one after the other: each member is told exactly what a pipeline of its own
     /// answers to the steps that were its own. An error carries the outcomes so far.
-    pub fn run(&mut self, steps: &[Step<'_>]) -> Result<Vec<Outcome>, Stopped>
+    pub fn run(&mut self, steps: &[Step]) -> Result<Vec<Outcome>, Stopped>
         // Each step goes on from what the one before it left, in one chain.
         ensures ok { IfOk result (λ outcomes. ShardRuns steps.now self.old outcomes.items self.new) }
 
@@ -164,7 +164,7 @@ fn step_in(
     stores: &mut Stores<TraceNote>,
     agenda: &mut Agenda,
     members: &mut Vec<Pipeline>,
-    step: &Step<'_>,
+    step: &Step,
 ) -> Result<Outcome, AllocError>
     requires { IsWhole stores.old agenda.old members.old.items }
     ensures ok { IfOk result (λ outcome. ShardSteps step.now
@@ -189,7 +189,7 @@ fn step_of(
     agenda: &mut Agenda,
     members: &mut Vec<Pipeline>,
     tenant: u32,
-    step: &Step<'_>,
+    step: &Step,
 ) -> Result<Outcome, AllocError>
     requires whole { IsWhole stores.old agenda.old members.old.items }
     requires whose { named_in step.now ≡ Some tenant }
@@ -218,7 +218,7 @@ fn turn(
     stores: &mut Stores<TraceNote>,
     agenda: &mut Agenda,
     members: &mut Vec<Pipeline>,
-    step: &Step<'_>,
+    step: &Step,
 ) -> Result<Outcome, AllocError>
     requires whole { IsWhole stores.old agenda.old members.old.items }
     requires whose { named_in step.now ≡ None }
@@ -249,7 +249,7 @@ fn step_at(
     members: &mut Vec<Pipeline>,
     i: usize,
     tenant: u32,
-    step: &Step<'_>,
+    step: &Step,
 ) -> Result<Outcome, AllocError>
     requires whole { IsWhole stores.old agenda.old members.old.items }
     requires within { i < length members.old.items }
@@ -283,6 +283,9 @@ fn open_member(
     ensures stands { OnOk result ((earlier : List ℕ) → let table = settings_view settings.now in
         ShardStands (opened table earlier) (views stores.now members.old.items) →
         ShardStands (opened table (earlier ++ tenant ∷ [])) (views stores.now members.new.items)) }
+
+    // Where memory is refused nothing has changed.
+    ensures refused { OnErr result ((members.new.items ≡ members.old.items) × (agenda.new ≡ agenda.old)) }
 {
     let Err(at) = place_of(members, tenant) else {
         return Ok(());
@@ -291,9 +294,12 @@ fn open_member(
         return Ok(());
     };
     let pipeline = Pipeline::new(alloc, tenant, section)?;
+    members.reserve(1)?;
     agenda.admit(tenant)?;
     let ready = pipeline.ready(stores);
     agenda.set(tenant, ready);
-    members.insert(at, pipeline)?;
+    let Ok(()) = members.insert(at, pipeline) else {
+        unreachable!()
+    };
     Ok(())
 }

@@ -13,11 +13,11 @@ use tenant_rules::Reply;
 
 /// One step of a shard. A moment is in milliseconds, and one above 2^62 is taken as 2^62.
 #[derive(Debug, PartialEq, Drop)]
-pub enum Step<'a> {
+pub enum Step {
     /// A tenant's body comes.
     Post {
         now: u64,
-        prepared: Prepared<'a>,
+        prepared: Prepared,
     },
     /// A worker asks for a job.
     Turn {
@@ -43,7 +43,7 @@ pub enum Step<'a> {
     },
 }
 
-impl<'a> Step<'a> {
+impl Step {
     /// The number of the tenant that the step names. A turn names none.
     pub(crate) fn tenant(&self) -> Option<u32>
         ensures { result ≡ named_in self.now }
@@ -92,8 +92,8 @@ pub enum Outcome {
 }
 
 /// Steps are equal exactly where contracts see the same: a law.
-pub fn equal_steps_are_the_same<'a>(one: &Step<'a>, other: &Step<'a>)
-    ensures { (⟦<Step<'a> as PartialEq>⟧.eq one.now other.now ≡ true) ↔ AreSame one.now other.now }
+pub fn equal_steps_are_the_same(one: &Step, other: &Step)
+    ensures { (⟦<Step as PartialEq>⟧.eq one.now other.now ≡ true) ↔ AreSame one.now other.now }
 {
     if let Step::Post { prepared, .. } = one {
         if let Step::Post { prepared: with, .. } = other {

@@ -91,6 +91,7 @@ module _ {N : Type 0} (keys : List ℕ) (p q : Part N) (spans : q.spans ≡ p.sp
         seats = sound.seats;
         there = sound.there;
         vacant = sound.vacant;
+        left = sound.left;
       })
 
   pub held_shows : (n : Counts) (pending held : List ℕ) → IsSound n pending held p → (shown : List ℕ) → AreAmong shown pending → view n shown q ≡ view n shown p
@@ -111,6 +112,7 @@ released_sound {N} gone p q spans texts' rows seats n pending held sound =
       seats = sound.seats;
       there = sound.there;
       vacant = sound.vacant;
+      left = sound.left;
     })
 
 -- ---- four keys

@@ -98,6 +98,7 @@ module _ {N : Type 0} where
           seats = sound.seats;
           there = sound.there;
           vacant = sound.vacant;
+          left = sound.left;
         }
 
   -- ---- the first row that waits

@@ -27,6 +27,7 @@ module _ {N : Type 0} where
         seats = λ trace. refl;
         there = λ number above below. absurd (omega (arith, above, below));
         vacant = λ number above. refl;
+        left = λ number below. refl;
       })
 
   -- spans that were pending leave
@@ -48,6 +49,7 @@ module _ {N : Type 0} where
         seats = sound.seats;
         there = sound.there;
         vacant = sound.vacant;
+        left = sound.left;
       })
 
   -- a row is decided: its spans are pending
@@ -74,6 +76,7 @@ module _ {N : Type 0} where
         seats = λ trace. sound.seats trace ∙ sym (seat-replaced (suc d) w p.rows (settled_of sampled (p.rows (suc d))) trace (in_table n));
         there = λ number above below. row_either (suc d) w p.rows (λ o. o ≢ None) number (λ e. settled_there sampled (p.rows (suc d)) (sound.there (suc d) (omega (arith, le)) some)) (λ ne. sound.there number above below);
         vacant = λ number above. row_other (suc d) w p.rows number (λ e. absurd (omega (arith, e, above, some))) ∙ sound.vacant number above;
+        left = λ number below. row_other (suc d) w p.rows number (λ e. absurd (omega (arith, e, below, le))) ∙ sound.left number below;
       })
     where
       not_last : (number d : ℕ) → number ≢ suc d → number ≤ d + 1 → number ≤ d
@@ -118,6 +121,7 @@ module _ {N : Type 0} where
         seats = λ trace. sound.seats trace ∙ sym (seat-replaced (suc m) w p.rows (joined_of key note (p.rows (suc m))) trace (in_table n));
         there = λ number above below. row_either (suc m) w p.rows (λ o. o ≢ None) number (λ e. joined_there key note (p.rows (suc m)) there) (λ ne. sound.there number above below);
         vacant = λ number above. row_other (suc m) w p.rows number (λ e. absurd (omega (arith, e, above, below_o))) ∙ sound.vacant number above;
+        left = λ number below. row_other (suc m) w p.rows number (λ e. absurd (omega (arith, e, below, le))) ∙ sound.left number below;
       })
 
   -- a span waits for a batch
@@ -135,6 +139,7 @@ module _ {N : Type 0} where
         seats = sound.seats;
         there = sound.there;
         vacant = sound.vacant;
+        left = sound.left;
       })
 
   -- a span opens the next row
@@ -168,6 +173,7 @@ module _ {N : Type 0} where
             seat_opened trace (suc o) row p.seats (seat_in p.rows (in_table n)) refl sound.seats t ∙ sym after;
         there = λ number above below. row_either (suc o) (Some row) p.rows (λ r. r ≢ None) number (λ e. some_is row) (λ ne. sound.there number above (not_last number o ne below));
         vacant = λ number above. row_other (suc o) (Some row) p.rows number (λ e. absurd (omega (arith, e, above))) ∙ sound.vacant number (omega (arith, above));
+        left = λ number below. row_other (suc o) (Some row) p.rows number (λ e. absurd (omega (arith, e, below, le))) ∙ sound.left number below;
       })
     where
       not_last : (number d : ℕ) → number ≢ suc d → number ≤ d + 1 → number ≤ d
@@ -208,4 +214,8 @@ module _ {N : Type 0} where
             seat_swept (suc s) (p.rows (suc s)) p.seats (seat_in p.rows rest) here (λ u j e. seat_above p.rows (n.opened - suc s) (suc s) u j e) t ∙ sym now;
         there = λ number above below. row_either (suc s) None p.rows (λ o. o ≢ None) number (λ e. absurd (omega (arith, e, above))) (λ ne. sound.there number (omega (arith, above)) below);
         vacant = λ number above. row_either (suc s) None p.rows (λ o. o ≡ None) number (λ e. refl) (λ ne. sound.vacant number above);
+        left = λ number below. row_either (suc s) None p.rows (λ o. o ≡ None) number (λ e. refl) (λ ne. sound.left number (not_last number s ne below));
       })
+    where
+      not_last : (number s : ℕ) → number ≢ suc s → number ≤ s + 1 → number ≤ s
+      not_last number s ne le = omega (arith, ne, le)

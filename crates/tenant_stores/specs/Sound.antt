@@ -51,3 +51,4 @@ pub record IsSound {N : Type 0} (n : Counts) (pending held : List ℕ) (p : Part
   pub seats : (trace : List ℕ) → p.seats trace ≡ seat_in p.rows (in_table n) trace
   pub there : (number : ℕ) → n.swept < number → number ≤ n.opened → p.rows number ≢ None
   pub vacant : (number : ℕ) → n.opened < number → p.rows number ≡ None
+  pub left : (number : ℕ) → number ≤ n.swept → p.rows number ≡ None

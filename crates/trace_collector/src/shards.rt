@@ -173,7 +173,7 @@ impl<'a> Shards<'a> {
         &mut self,
         alloc: Global,
         tenant: u32,
-        step: &Step<'_>,
+        step: &Step,
         out: &mut Vec<u8>,
     ) -> Result<(), AllocError>
         ensures ok { OnOk result (IsDone (settings_view self.old.settings.now)

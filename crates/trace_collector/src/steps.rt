@@ -17,7 +17,7 @@ pub fn step_and_put(
     settings: &Settings,
     shards: &mut Vec<Shard>,
     shard: u32,
-    step: &Step<'_>,
+    step: &Step,
     out: &mut Vec<u8>,
 ) -> Result<(), AllocError>
     requires { shard < length shards.old.items }
@@ -31,7 +31,7 @@ pub fn step_and_put(
 }
 
 /// One step of the shard at a place.
-fn step_at(shards: &mut Vec<Shard>, place: usize, step: &Step<'_>) -> Result<Outcome, AllocError>
+fn step_at(shards: &mut Vec<Shard>, place: usize, step: &Step) -> Result<Outcome, AllocError>
     requires { place < length shards.old.items }
     ensures ok { IfOk result (λ outcome. (old : List View) × (new : List View)
         × (slice_get shards.old.items place ≡ Some old)

@@ -12,6 +12,8 @@ policies_are : IsSoundTailSampling default_section.tail_sampling
 policies_are = record {
   decision_wait = (lit≤ tt, lit≤ tt);
   num_traces = (lit≤ tt, lit≤ tt);
+  sampled_cache_size = lit≤ tt;
+  non_sampled_cache_size = lit≤ tt;
   some_policy = lit< tt;
   few_leaves = lit≤ tt;
   policies = All-cons IsSoundPolicy (leaf always_sample) [] tt (All-nil IsSoundPolicy);

@@ -56,7 +56,7 @@ returns-clause-whole c =
     c.set.ensures.ready ∙ (ap (λ (r : Option ℕ). with_ready t r (ready_of c.admit.new.self)) c.ready-ready.ensures ∙ (ap (with_ready t (ready (state_in own stores))) c.in_ok-admit.ensures.ready ∙ ap (λ (u : ℕ). with_ready u (ready (state_in own stores)) (ready_of c.args.agenda.now)) (sym is))) in
     let members : (u : ℕ) → is_member c.set.new.self u ≡ (own.tenant == u || is_member c.args.agenda.now u) =
     λ u. ap (λ (f : ℕ → Bool). f u) c.set.ensures.members ∙ (c.in_ok-admit.ensures.members u ∙ ap (λ (v : ℕ). v == u || is_member c.args.agenda.now u) (sym is)) in
-    rw c.in_ok-insert.ensures.items (whole_insert stores c.args.agenda.now c.set.new.self ms c.in-Err.at own c.requires gap' held c.in_ok-pipeline.ensures.swept at members)
+    rw (c.in-Ok.ensures.items, c.in_ok-reserve.ensures.items) (whole_insert stores c.args.agenda.now c.set.new.self ms c.in-Err.at own c.requires gap' held c.in_ok-pipeline.ensures.swept at members)
 
 pub returns-clause-stands : goal.returns-clause-stands
 returns-clause-stands c = λ earlier stands.
@@ -70,4 +70,4 @@ returns-clause-stands c = λ earlier stands.
     let gap' : IsGapFor own.tenant ms c.in-Err.at = subst (λ (u : ℕ). IsGapFor u ms c.in-Err.at) (sym is) gap.1 in
     let new = c.in_ok-pipeline.ensures.stands (part own.tenant stores) (subst (λ (u : ℕ). IsSound no_rows [] [] (part u stores)) (sym is) (c.requires.strangers t none)) in
     let more = opened_more (settings_view c.args.settings.now) earlier stores ms c.in-Err.at own (section_view c.in-Some.section.now) (rw is (sym c.in-Some.ensures)) new gap' stands in
-    rw (c.in_ok-insert.ensures.items, ← is) more
+    rw (c.in-Ok.ensures.items, c.in_ok-reserve.ensures.items, ← is) more
