@@ -1,6 +1,6 @@
 //! The caches of a tenant, and what was hit.
 
-ghost use Rattle.std.specs.Prelude.{◌≡◌, true, [], ◌∷◌, ◌++◌, take, Some, IsOk, IfOk, OnOk, OnErr};
+ghost use Rattle.std.specs.Prelude.{◌≡◌, true, [], ◌∷◌, ◌++◌, take, length, Some, IsOk, IfOk, OnOk, OnErr};
 ghost use Rattle.decision_cache.specs.Ids.{contains};
 ghost use Rattle.decision_cache.specs.Caches.{both, with_hits, no_decisions, cache_of, noted_in, all_noted, shown, found, IsSound};
 
@@ -75,6 +75,13 @@ impl DecisionCaches {
     {
         self.hits.push((id, sampled))?;
         Ok(())
+    }
+
+    /// How many hits wait for a commit.
+    pub fn hits(&self) -> usize
+        ensures { result ≡ length self.now.hits }
+    {
+        self.hits.len()
     }
 
     /// Takes back the hits behind the first so many. It takes no memory.

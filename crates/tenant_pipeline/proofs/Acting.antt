@@ -1,5 +1,5 @@
 -- A step of a tenant that changes its part of the stores as well: a post, and a drain.
-use Rattle.std.proofs.Common.{◌≡◌, ◌≢◌, ◌≤◌, ◌∙◌, ℕ, List, [], refl, sym, ap, arith, true}
+use Rattle.std.proofs.Common.{◌≡◌, ◌≢◌, ◌∙◌, ℕ, [], refl, ap, arith, true}
 use Rattle.tail_policy.specs.declared.note.TraceNote.{TraceNote}
 use Rattle.tenant_stores.specs.Part.{Part, part}
 use Rattle.tenant_stores.specs.declared.stores.Stores.{Stores}
@@ -11,7 +11,7 @@ use Rattle.tenant_rules.specs.Timers.{advanced, enough, ran}
 use Rattle.tenant_pipeline.specs.declared.pipeline.Pipeline.{Pipeline}
 use Rattle.tenant_pipeline.specs.Acts.{ActsAt, at}
 use Rattle.tenant_pipeline.specs.Held.{IsHeldAt, IsHeldBy}
-use Rattle.tenant_pipeline.specs.StateIn.{part_in, state_in, state_of}
+use Rattle.tenant_pipeline.specs.StateIn.{part_in, state_in}
 use Rattle.tenant_pipeline.proofs.Stepping.{Done}
 
 -- the clock is set to the moment up to which timers ran
@@ -38,6 +38,10 @@ held_now moment own q held = record {
     num_consumers_is = within.num_consumers_is;
     queue_fits = within.queue_fits;
     active_fit = within.active_fit;
+    sampled_size_is = within.sampled_size_is;
+    other_size_is = within.other_size_is;
+    sampled_fit = within.sampled_fit;
+    others_fit = within.others_fit;
   };
   few = held.few;
   clock_by = omega arith;

@@ -193,6 +193,10 @@ module _ (own mid : Pipeline) (p q : Part TraceNote) (moment : ℕ) (held : IsHe
         num_consumers_is = consumers ∙ num_consumers;
         queue_fits = let section = ap (λ (x : Pipeline). x.section.sending_queue.queue_size) sends.same in let room = sends.room in let fits = room.fits in omega (arith, section, fits);
         active_fit = omega (arith, fit, active_fit);
+        sampled_size_is = was.sampled_size_is;
+        other_size_is = was.other_size_is;
+        sampled_fit = was.sampled_fit;
+        others_fit = was.others_fit;
       }
 
   pub closed_by : Closed moment own new p q

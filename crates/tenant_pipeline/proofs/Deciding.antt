@@ -1,30 +1,28 @@
 -- A timer over the stores: the tenant's state afterwards, and what always holds of it.
-use Rattle.std.proofs.Common.{◌≡◌, ◌<◌, ◌≤◌, ◌+◌, ◌^◌, ◌++◌, ◌∙◌, ℕ, List, [], ◌∷◌, length, map, refl, sym, ap, subst, arith, Bool, true, false, Option, Some}
+use Rattle.std.proofs.Common.{◌≡◌, ◌≤◌, ◌+◌, ◌^◌, ◌++◌, ◌∙◌, ℕ, List, [], ◌∷◌, length, refl, sym, ap, subst, true, false, Some}
 use Rattle.span_batcher.specs.State as batcher
 use Rattle.span_batcher.specs.State.{next_due, IsAfter}
 use Rattle.span_batcher.specs.Machine.{fired}
-use Rattle.drop_ledger.specs.Ledger.{LedgerData, moved}
+use Rattle.drop_ledger.specs.Ledger.{moved}
 use Rattle.drop_ledger.specs.declared.places.Place.TheVariants.{Undecided, NotSampled}
-use Rattle.send_queue.specs.Sender.{BatchData, SenderData}
-use Rattle.span_pool.specs.Stored.{SpanTexts}
+use Rattle.send_queue.specs.Sender.{BatchData}
 use Rattle.tail_policy.specs.declared.note.TraceNote.{TraceNote}
 use Rattle.tail_policy.specs.Note.{verdict_of}
 use Rattle.trace_rows.specs.declared.table.Row.{Row}
-use Rattle.tenant_stores.specs.declared.stores.Stores.{Stores}
-use Rattle.tenant_stores.specs.Part.{Part, part}
-use Rattle.tenant_stores.specs.Counts.{Counts, one_decided}
+use Rattle.tenant_stores.specs.Part.{Part}
+use Rattle.tenant_stores.specs.Counts.{one_decided}
 use Rattle.tenant_stores.specs.Sound.{IsSound}
 use Rattle.tenant_stores.specs.Shows.{row_shown, kept_by, dropped_by, first_kept, first_dropped}
 use Rattle.tenant_stores.specs.View.{WaitingRow, View, spans_at, view}
+use Rattle.decision_cache.specs.Caches.{CachesData, noted_in, shown}
 use Rattle.tenant_rules.specs.Batching.{as_sent}
 use Rattle.tenant_rules.specs.Fate.{are_sampled}
 use Rattle.tenant_rules.specs.State.{State}
 use Rattle.tenant_rules.specs.Timers.{queued, flushed, decide, first_due, is_batch}
 use Rattle.tenant_pipeline.specs.declared.pipeline.Pipeline.{Pipeline}
-use Rattle.tenant_pipeline.specs.declared.pipeline.RowCounts.{RowCounts}
-use Rattle.tenant_pipeline.specs.StateIn.{arrivals_of, counts_in, policies_of, waiting_of, view_in, state_of}
+use Rattle.tenant_pipeline.specs.StateIn.{arrivals_of, counts_in, policies_of, view_in, state_of}
 use Rattle.tenant_pipeline.specs.Held.{IsNoted, IsHeldBy}
-use Rattle.tenant_pipeline.specs.Outbox.{arrivals_at, pending_at, Sends, Groups}
+use Rattle.tenant_pipeline.specs.Outbox.{arrivals_at, Sends, Groups}
 use Rattle.tenant_pipeline.proofs.Timing.{verdict_is, from_after, flush_is, drop_is, keep_is}
 use Rattle.tenant_pipeline.proofs.Holding.{flush_held, decide_held}
 
@@ -54,30 +52,30 @@ module _ (own : Pipeline) (p q : Part TraceNote) (held : IsHeldBy own p) where
   module _ (row : Row TraceNote) (rest : List (WaitingRow TraceNote)) (waiting : (view_in own p).waiting ≡ row_shown p row ∷ rest) (noted : IsNoted (policies_of own) (row_shown p row))
       (first : is_batch (next_due own.batcher) (first_due (state_of own p).waiting) ≡ false) (fits : row.due ≤ 2 ^ 62) (after : IsAfter (next_due own.batcher) row.due) where
     -- the first row that waits was decided, and its spans left
-    pub drop_all : (n : ℕ) → n ≡ length (arrivals_at p row.keys) → verdict_of (policies_of own) row.note ≡ false →
+    pub drop_all : (caches : CachesData) → shown caches ≡ noted_in false (row_shown p row).trace (shown own.caches) → (n : ℕ) → n ≡ length (arrivals_at p row.keys) → verdict_of (policies_of own) row.note ≡ false →
         IsSound (one_decided (counts_in own)) own.batcher.spans [] q → view (one_decided (counts_in own)) own.batcher.spans q ≡ first_dropped (view_in own p) →
-        Ran own (record own { rows = record own.rows { decided = own.rows.decided + 1 }; clock = row.due; ledger = moved Undecided NotSampled n own.ledger }) p q (decide (state_of own p).waiting (state_of own p))
-    drop_all n size verdict sound shows =
-        let new : Pipeline = record own { rows = record own.rows { decided = own.rows.decided + 1 }; clock = row.due; ledger = moved Undecided NotSampled n own.ledger } in
+        Ran own (record own { rows = record own.rows { decided = own.rows.decided + 1 }; clock = row.due; ledger = moved Undecided NotSampled n own.ledger; caches = caches }) p q (decide (state_of own p).waiting (state_of own p))
+    drop_all caches remembers n size verdict sound shows =
+        let new : Pipeline = record own { rows = record own.rows { decided = own.rows.decided + 1 }; clock = row.due; ledger = moved Undecided NotSampled n own.ledger; caches = caches } in
         let w = row_shown p row in
         let sampled : are_sampled (policies_of own) (arrivals_of w.spans) ≡ false = sym (verdict_is (policies_of own) row.note (arrivals_of w.spans) noted) ∙ verdict in
         let e = shows ∙ ap (λ (ws : List (WaitingRow TraceNote)). dropped_by ws (view_in own p)) waiting in
-        let is = drop_is own p q w rest waiting n size sampled e in
+        let is = drop_is own p q w rest waiting caches remembers n size sampled e in
         record {
           state = is;
           held = decide_held own p q held new w rest waiting first fits refl refl refl refl (from_after row.due (next_due own.batcher) after) (ap (λ (v : View TraceNote). v.waiting) e) sound is;
         }
 
     -- and its spans wait for a batch, or left in one
-    pub keep_all : (mid : Pipeline) (p1 : Part TraceNote) → verdict_of (policies_of own) row.note ≡ true → Groups row.due row.keys p own mid →
+    pub keep_all : (caches : CachesData) → shown caches ≡ noted_in true (row_shown p row).trace (shown own.caches) → (mid : Pipeline) (p1 : Part TraceNote) → verdict_of (policies_of own) row.note ≡ true → Groups row.due row.keys p own mid →
         p1.spans ≡ p.spans → p1.texts ≡ p.texts → view (one_decided (counts_in own)) (own.batcher.spans ++ row.keys) p1 ≡ first_kept (view_in own p) →
         view (one_decided (counts_in own)) mid.batcher.spans q ≡ view (one_decided (counts_in own)) mid.batcher.spans p1 → IsSound (one_decided (counts_in own)) mid.batcher.spans [] q →
-        Ran own (record mid { rows = record mid.rows { decided = own.rows.decided + 1 }; clock = row.due }) p q (decide (state_of own p).waiting (state_of own p))
-    keep_all mid p1 verdict groups spans texts kept shows sound =
+        Ran own (record mid { rows = record mid.rows { decided = own.rows.decided + 1 }; clock = row.due; caches = caches }) p q (decide (state_of own p).waiting (state_of own p))
+    keep_all caches remembers mid p1 verdict groups spans texts kept shows sound =
         let b = mid.batcher in
-        let new : Pipeline = record own { rows = record own.rows { decided = own.rows.decided + 1 }; clock = row.due; batcher = b; sender = mid.sender; ledger = mid.ledger } in
-        let same : record mid { rows = record mid.rows { decided = own.rows.decided + 1 }; clock = row.due } ≡ new =
-        ap (λ (x : Pipeline). let y : Pipeline = record x { rows = record x.rows { decided = own.rows.decided + 1 }; clock = row.due } in y) groups.same in
+        let new : Pipeline = record own { rows = record own.rows { decided = own.rows.decided + 1 }; clock = row.due; batcher = b; sender = mid.sender; ledger = mid.ledger; caches = caches } in
+        let same : record mid { rows = record mid.rows { decided = own.rows.decided + 1 }; clock = row.due; caches = caches } ≡ new =
+        ap (λ (x : Pipeline). let y : Pipeline = record x { rows = record x.rows { decided = own.rows.decided + 1 }; clock = row.due; caches = caches } in y) groups.same in
         let w = row_shown p row in
         let sampled : are_sampled (policies_of own) (arrivals_of w.spans) ≡ true = sym (verdict_is (policies_of own) row.note (arrivals_of w.spans) noted) ∙ verdict in
         let e = kept ∙ ap (λ (ws : List (WaitingRow TraceNote)). kept_by ws (view_in own p)) waiting in
@@ -85,7 +83,7 @@ module _ (own : Pipeline) (p q : Part TraceNote) (held : IsHeldBy own p) where
         let waiting' = ap (λ (v : View TraceNote). v.waiting) e in
         let pending' : spans_at p1.spans p1.texts b.spans ≡ spans_at p.spans p.texts b.spans = λ i. spans_at (spans i) (texts i) b.spans in
         let e' = shows ∙ (λ i. record { settled = settled' i; waiting = waiting' i; pending = pending' i }) in
-        let is = keep_is own p q w rest waiting b mid.sender mid.ledger sampled groups.rules e' in
+        let is = keep_is own p q w rest waiting caches remembers b mid.sender mid.ledger sampled groups.rules e' in
         let now = decide_held own p q held new w rest waiting first fits refl refl refl groups.rules_are (from_after row.due (next_due b) groups.timer) (ap (λ (v : View TraceNote). v.waiting) e') sound is in
         record {
           state = subst (λ (x : Pipeline). state_of x q ≡ decide (state_of own p).waiting (state_of own p)) (sym same) is;

@@ -1,5 +1,5 @@
 -- What is known of the first row that waits.
-use Rattle.std.proofs.Common.{◌≡◌, ◌≢◌, ◌<◌, ◌≤◌, ◌+◌, ◌^◌, ◌++◌, ◌∙◌, ℕ, List, [], ◌∷◌, length, map, refl, sym, ap, subst, arith, Bool, true, false, Option, Some, None}
+use Rattle.std.proofs.Common.{◌≡◌, ◌<◌, ◌≤◌, ◌+◌, ◌^◌, ◌++◌, ◌∙◌, ℕ, List, [], ◌∷◌, length, map, sym, ap, subst, arith, false, Option, Some, None}
 use Rattle.std.specs.List.{AllByRecursion}
 use Rattle.std.proofs.lemmas.List.{length-map}
 use Rattle.span_batcher.specs.State.{next_due, IsAfter}
@@ -18,7 +18,7 @@ use Rattle.tenant_rules.specs.Batching.{spans_in}
 use Rattle.tenant_rules.specs.Fate.{WaitingData}
 use Rattle.tenant_rules.specs.Timers.{first_due, is_batch}
 use Rattle.tenant_pipeline.specs.declared.pipeline.Pipeline.{Pipeline}
-use Rattle.tenant_pipeline.specs.StateIn.{arrivals_of, counts_in, policies_of, waiting_of, view_in, state_of}
+use Rattle.tenant_pipeline.specs.StateIn.{counts_in, policies_of, waiting_of, view_in, state_of}
 use Rattle.tenant_pipeline.specs.Held.{IsNoted, IsHeldBy}
 use Rattle.tenant_pipeline.specs.Outbox.{arrivals_at, AreThere, HasRoom}
 use Rattle.tenant_pipeline.proofs.Spans.{arrival_or, there_is, there-front, there-back}

@@ -1,12 +1,12 @@
 -- A group of spans waits for a batch: what that makes of a tenant's own, and how it is taken back.
-use Rattle.std.proofs.Common.{◌≡◌, ◌<◌, ◌≤◌, ◌+◌, ◌++◌, ◌∙◌, ℕ, List, length, map, refl, sym, ap, subst, arith, Option, Some}
+use Rattle.std.proofs.Common.{◌≡◌, ◌<◌, ◌+◌, ◌++◌, ◌∙◌, ℕ, List, length, map, refl, sym, ap, arith, Option, Some}
 use Rattle.std.specs.Prelude.{unwrap_or}
 use Rattle.drop_ledger.specs.Ledger.{ledger_of}
 use Rattle.drop_ledger.specs.declared.places.Place.TheVariants.{Undecided, Pending}
-use Rattle.send_queue.specs.Sender.{BatchData, SenderData}
+use Rattle.send_queue.specs.Sender.{BatchData}
 use Rattle.tail_settings.specs.SendingQueue.{SendingQueueData}
 use Rattle.tail_settings.specs.declared.section.Section.{Section}
-use Rattle.span_batcher.specs.Batches.{Batch, IsSound}
+use Rattle.span_batcher.specs.Batches.{IsSound}
 use Rattle.span_batcher.specs.State as batcher
 use Rattle.span_batcher.specs.State.{next_due, IsAfter}
 use Rattle.span_batcher.specs.Machine.{PlannedData, cuts, uncut, added}

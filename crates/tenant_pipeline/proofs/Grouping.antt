@@ -7,7 +7,6 @@ use Rattle.span_batcher.specs.Batches.{Rules, IsSound, Batch, at_most}
 use Rattle.span_batcher.specs.State as batcher
 use Rattle.span_batcher.specs.State.{next_due, due_after, IsAfter}
 use Rattle.span_batcher.specs.Machine.{threshold, some_uncut, cuts, uncut, start_in, start_with, added}
-use Rattle.span_batcher.specs.Maps.{mapped, spans_of}
 use Rattle.span_batcher.proofs.Maps.{cuts-map, uncut-map}
 use Rattle.tail_policy.specs.declared.note.TraceNote.{TraceNote}
 use Rattle.tenant_stores.specs.Part.{Part}
@@ -16,7 +15,7 @@ use Rattle.tenant_rules.specs.Batching.{all_sent}
 use Rattle.tenant_rules.specs.Sender.{sizes}
 use Rattle.tenant_rules.proofs.Tally.{cut_sizes}
 use Rattle.tenant_pipeline.specs.Outbox.{arrivals_at, AreThere, batch_at, pending_at}
-use Rattle.tenant_pipeline.proofs.Spans.{arrival_or, there_is, arrivals-append, there-front, there-back, batches_are, there-cuts, there-uncut}
+use Rattle.tenant_pipeline.proofs.Spans.{arrival_or, there_is, arrivals-append, there-back, batches_are, there-cuts, there-uncut}
 
 start_in-map : {X Y : Type 0} (f : X → Y) (m : ℕ) (xs : List X) → start_in m (map f xs) ≡ start_in m xs
 start_in-map f m [] = refl

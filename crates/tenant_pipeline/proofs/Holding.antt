@@ -1,9 +1,9 @@
 -- What always holds of a tenant goes on to hold after a timer.
-use Rattle.std.proofs.Common.{◌≡◌, ◌<◌, ◌≤◌, ◌+◌, ◌-◌, ◌^◌, ◌++◌, ◌∙◌, ℕ, suc, List, [], ◌∷◌, length, map, refl, sym, ap, subst, arith, Bool, true, false, cond, leb, Option, Some, None}
+use Rattle.std.proofs.Common.{◌≡◌, ◌≤◌, ◌+◌, ◌-◌, ◌^◌, ◌∙◌, ℕ, List, [], ◌∷◌, map, refl, sym, ap, subst, arith, true, false, Option, Some, None}
 use Rattle.std.specs.List.{AllByRecursion}
 use Rattle.std.proofs.lemmas.Bool.Decides.{nat_tests}
 use Rattle.span_batcher.specs.State as batcher
-use Rattle.span_batcher.specs.State.{next_due, IsAfter}
+use Rattle.span_batcher.specs.State.{next_due}
 use Rattle.span_batcher.specs.Machine.{fired}
 use Rattle.span_batcher.specs.Timers.{is_due}
 use Rattle.drop_ledger.specs.Ledger.{LedgerData}
@@ -25,7 +25,7 @@ use Rattle.tenant_pipeline.specs.declared.pipeline.Pipeline.{Pipeline}
 use Rattle.tenant_pipeline.specs.declared.pipeline.RowCounts.{RowCounts}
 use Rattle.tenant_pipeline.specs.StateIn.{waiting_of, counts_in, policies_of, state_of, view_in}
 use Rattle.tenant_pipeline.specs.Held.{IsNoted, IsFrom, IsHeldAt, IsHeldBy}
-use Rattle.tenant_pipeline.proofs.Timing.{AfterOne, after_one, due_by-later, order_from, order_later, timer_later, from_after}
+use Rattle.tenant_pipeline.proofs.Timing.{after_one, due_by-later, order_from, order_later, timer_later, from_after}
 
 -- all timers before a moment have run
 pub held_later : (own : Pipeline) (p : Part TraceNote) (moment : ℕ) → IsHeldBy own p → own.clock ≤ moment → moment ≤ 2 ^ 62 → is_due (next_timer (state_of own p)) moment ≡ false → IsHeldAt moment [] [] own p

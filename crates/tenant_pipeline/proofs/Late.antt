@@ -5,7 +5,7 @@ use Rattle.std.proofs.lemmas.List.{length-map}
 use Rattle.drop_ledger.specs.Ledger.{counted, ledger_of, most_counted, moved, taken}
 use Rattle.drop_ledger.specs.declared.places.Place.TheVariants.{Undecided, NotSampled}
 use Rattle.span_batcher.specs.State as batcher
-use Rattle.span_batcher.specs.State.{next_due, IsAfter}
+use Rattle.span_batcher.specs.State.{next_due}
 use Rattle.span_pool.specs.Stored.{StoredData, SpanTexts, origin_at, texts_of}
 use Rattle.span_pool.specs.Pool.{with_span}
 use Rattle.span_pool.specs.declared.keys.TextKeys.{TextKeys}

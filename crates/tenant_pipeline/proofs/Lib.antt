@@ -23,6 +23,7 @@ pub mod Placing
 pub mod Joins
 pub mod Opens
 pub mod Late
+pub mod Hits
 pub mod Verdicts
 pub mod Draining
 pub mod Closing

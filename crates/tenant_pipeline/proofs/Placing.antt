@@ -2,7 +2,7 @@
 use Rattle.std.proofs.Common.{◌≡◌, ◌<◌, ◌≤◌, ◌++◌, ◌∙◌, ℕ, List, [], ◌∷◌, length, refl, sym, subst, arith, Option, Some, None}
 use Rattle.std.specs.Prelude.{option_to_list}
 use Rattle.drop_ledger.specs.Ledger.{LedgerData}
-use Rattle.span_pool.specs.Stored.{StoredData, SpanTexts, origin_at, texts_of}
+use Rattle.span_pool.specs.Stored.{StoredData, origin_at, texts_of}
 use Rattle.span_pool.specs.Stored as keyed
 use Rattle.span_pool.specs.declared.keys.TextKeys.{TextKeys}
 use Rattle.text_pool.specs.declared.pool.Kept.{Kept}
@@ -27,7 +27,7 @@ use Rattle.tenant_pipeline.specs.declared.undo.Undo.{Undo}
 use Rattle.tenant_pipeline.specs.StateIn.{arrival_of, counts_in, state_of, view_in}
 use Rattle.tenant_pipeline.specs.Held.{IsHeldAt}
 use Rattle.tenant_pipeline.specs.Posts.{arrival_at, Came, IsPosting, IsWritten}
-use Rattle.tenant_pipeline.specs.Undo.{TakesBack}
+use Rattle.tenant_pipeline.specs.Undo.{TakesBack, hits_undone}
 
 -- ---- what is held
 
@@ -142,8 +142,9 @@ came_by change other moment from to journal own own' p p' is undo_is came =
     }
 
 -- with room for more it is written down as before
-pub written_same : (from to : Journal) (start own : Pipeline) (first p : Part TraceNote) → to.placed.items ≡ from.placed.items → to.undo ≡ from.undo → IsWritten from start own first p → IsWritten to start own first p
-written_same from to start own first p placed undo_is written = record {
+pub written_same : (from to : Journal) (start own : Pipeline) (first p : Part TraceNote) → to.placed.items ≡ from.placed.items → to.undo ≡ from.undo → to.hits ≡ from.hits → IsWritten from start own first p → IsWritten to start own first p
+written_same from to start own first p placed undo_is hits_are written = record {
   trail = subst (λ (xs : List (Placed TraceNote)). Trail first xs p) (sym placed) written.trail;
-  undo = subst (λ (u : Undo). TakesBack u start own) (sym undo_is) written.undo;
+  undo = subst (λ (n : ℕ). TakesBack to.undo start (hits_undone n own)) (sym hits_are) (subst (λ (u : Undo). TakesBack u start (hits_undone from.hits own)) (sym undo_is) written.undo);
+  hits = subst (λ (n : ℕ). n ≤ length own.caches.hits) (sym hits_are) written.hits;
 }

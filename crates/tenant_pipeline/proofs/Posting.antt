@@ -88,7 +88,17 @@ left_out_holds moment invalid over gone held own p holds fits =
         active_is = c.active_is;
         within_budget = c.within_budget;
       };
-      within = record { rows_are = w.rows_are; queue_size_is = w.queue_size_is; num_consumers_is = w.num_consumers_is; queue_fits = w.queue_fits; active_fit = w.active_fit };
+      within = record {
+        rows_are = w.rows_are;
+        queue_size_is = w.queue_size_is;
+        num_consumers_is = w.num_consumers_is;
+        queue_fits = w.queue_fits;
+        active_fit = w.active_fit;
+        sampled_size_is = w.sampled_size_is;
+        other_size_is = w.other_size_is;
+        sampled_fit = w.sampled_fit;
+        others_fit = w.others_fit;
+      };
       few = holds.few;
       clock_by = holds.clock_by;
       reached_fits = holds.reached_fits;
@@ -108,6 +118,7 @@ left_out_written invalid over journal start own first p written =
     record {
       trail = written.trail;
       undo = record { rows = undo.rows; ledger = undo.ledger; batcher = undo.batcher; sender = undo.sender; offers = undo.offers; same = undo.same };
+      hits = written.hits;
     }
 
 -- a post of so many spans, of which some were valid and some of these taken, with what it leaves out

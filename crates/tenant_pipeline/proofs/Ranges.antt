@@ -1,5 +1,5 @@
 -- The ranges of a tenant's settings.
-use Rattle.std.proofs.Common.{◌≡◌, ◌<◌, ◌≤◌, length, sym, subst, arith}
+use Rattle.std.proofs.Common.{◌≡◌, ◌≤◌, length, sym, subst, arith}
 use Rattle.tail_settings.specs.Section.{section_view}
 use Rattle.tail_settings.specs.declared.section.Section.{Section}
 use Rattle.span_batcher.specs.Batches.{Rules, IsSound}

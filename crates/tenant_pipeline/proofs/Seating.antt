@@ -18,13 +18,14 @@ use Rattle.tenant_stores.specs.Shows as shown
 use Rattle.tenant_stores.specs.Sound as stores
 use Rattle.tenant_rules.specs.Arrivals.{Arrival, trace_of}
 use Rattle.tenant_rules.specs.Fate.{WaitingData}
-use Rattle.tenant_rules.specs.Machine.{come, counted_in, evicted, goes, has_row, held, joined, joins, last_of, late_or_opens, opens, sampled_in}
+use Rattle.decision_cache.specs.Caches.{found, shown as shown_caches}
+use Rattle.tenant_rules.specs.Machine.{come, counted_in, evicted, goes, has_row, held, joined, joins, last_of, cached_or_opens, late_or_opens, opens, sampled_in}
 use Rattle.tenant_rules.specs.State.{State}
 use Rattle.tenant_rules.specs.Timers.{grouped}
 use Rattle.tenant_pipeline.specs.declared.pipeline.Pipeline.{Pipeline}
 use Rattle.tenant_pipeline.specs.declared.place.Seat.TheVariants as seats
 use Rattle.tenant_pipeline.specs.StateIn.{arrival_of, arrivals_of, counts_in, settled_of, state_of, waiting_of}
-use Rattle.tenant_pipeline.specs.Posts.{IsSeat}
+use Rattle.tenant_pipeline.specs.Posts.{IsSeat, IsSeatAt, seat_by}
 use Rattle.tenant_pipeline.specs.Held.{IsNoteOf, IsNoted}
 
 -- ---- which row is a trace's
@@ -138,8 +139,14 @@ module _ (policies : List PolicyData) (trace : List ℕ) (span : SpanTexts) (not
 -- ---- a trace's seat, as the rules see it
 
 module _ (own : Pipeline) (p : Part TraceNote) (trace : List ℕ) where
-  pub is_nowhere : ShowsNone (counts_in own) trace p → IsSeat trace seats.Nowhere (state_of own p)
-  is_nowhere none = (has_row_is trace (waiting_in (counts_in own) p) ∙ none.waiting, sampled_is trace (settled_in (counts_in own) p) ∙ none.settled)
+  -- by what the caches know, where no row is present
+  pub is_absent : (known : Option Bool) → found trace (shown_caches own.caches) ≡ known → ShowsNone (counts_in own) trace p → IsSeat trace (seat_by known) (state_of own p)
+  is_absent None is none = (has_row_is trace (waiting_in (counts_in own) p) ∙ none.waiting, sampled_is trace (settled_in (counts_in own) p) ∙ none.settled, is)
+  is_absent (Some sampled) is none = (has_row_is trace (waiting_in (counts_in own) p) ∙ none.waiting, sampled_is trace (settled_in (counts_in own) p) ∙ none.settled, is)
+
+  pub absent_at : (known : Option Bool) → IsSeatAt trace (seat_by known) own p
+  absent_at None = tt
+  absent_at (Some sampled) = tt
 
   pub is_decided : (number : ℕ) (shows : ShowsDecided (counts_in own) trace number p) → IsSeat trace (seats.Decided shows.row.sampled) (state_of own p)
   is_decided number shows = (has_row_is trace (waiting_in (counts_in own) p) ∙ shows.waiting, sampled_is trace (settled_in (counts_in own) p) ∙ shows.settled)
@@ -167,5 +174,12 @@ module _ (moment : ℕ) (x : Arrival) (s : State) (room : nat_lt (held s) s.sect
   pub it_comes_late : has_row (trace_of x) s.waiting ≡ false → sampled_in (trace_of x) s.settled ≡ Some true → grouped Undecided moment (x ∷ []) (counted_in s) ≡ come moment x s
   it_comes_late none is = late_in (Some true) none is
 
-  pub it_opens : has_row (trace_of x) s.waiting ≡ false → sampled_in (trace_of x) s.settled ≡ None → opens moment x (evicted (counted_in s)) ≡ come moment x s
-  it_opens none is = late_in None none is
+  -- or a row: as a cache has its verdict
+  cached_in : (o : Option Bool) → has_row (trace_of x) s.waiting ≡ false → sampled_in (trace_of x) s.settled ≡ None → found (trace_of x) s.caches ≡ o → cached_or_opens moment x o (counted_in s) ≡ come moment x s
+  cached_in o none is there = sym (ap (λ (q : Option Bool). cached_or_opens moment x q (counted_in s)) there) ∙ late_in None none is
+
+  pub it_hits : (sampled : Bool) → has_row (trace_of x) s.waiting ≡ false → sampled_in (trace_of x) s.settled ≡ None → found (trace_of x) s.caches ≡ Some sampled → cached_or_opens moment x (Some sampled) (counted_in s) ≡ come moment x s
+  it_hits sampled none is there = cached_in (Some sampled) none is there
+
+  pub it_opens : has_row (trace_of x) s.waiting ≡ false → sampled_in (trace_of x) s.settled ≡ None → found (trace_of x) s.caches ≡ None → opens moment x (evicted (counted_in s)) ≡ come moment x s
+  it_opens none is new = cached_in None none is new

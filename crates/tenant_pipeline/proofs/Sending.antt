@@ -1,13 +1,14 @@
 -- Batches that are offered, by what is a tenant's own.
-use Rattle.std.proofs.Common.{◌≡◌, ◌<◌, ◌≤◌, ◌+◌, ◌-◌, ◌++◌, ◌∙◌, ℕ, zero, suc, List, [], ◌∷◌, length, take, refl, sym, ap, arith, Bool, true, false, cond, None, length-append}
+use Rattle.std.proofs.Common.{◌≡◌, ◌<◌, ◌≤◌, ◌+◌, ◌-◌, ◌++◌, ◌∙◌, ℕ, zero, suc, List, [], ◌∷◌, length, take, refl, ap, arith, Bool, true, false, cond, None, length-append}
 use Rattle.std.proofs.lemmas.Bool.Decides.{nat_tests}
 use Rattle.std.proofs.Math.Seq.{take-append_seam}
-use Rattle.drop_ledger.specs.Ledger.{LedgerData, moved}
-use Rattle.drop_ledger.specs.declared.places.Place.TheVariants.{Undecided, Pending, Queued, QueueFull}
+use Rattle.drop_ledger.specs.Ledger.{moved}
+use Rattle.drop_ledger.specs.declared.places.Place.TheVariants.{Pending, Queued, QueueFull}
 use Rattle.send_queue.specs.Sender.{BatchData, SenderData, is_full, offered, taken_back}
 use Rattle.tail_settings.specs.Section.{section_view}
 use Rattle.tail_settings.specs.SendingQueue.{SendingQueueData}
 use Rattle.tenant_rules.specs.Sender.{sizes}
+use Rattle.decision_cache.specs.Caches.{shown}
 use Rattle.tenant_rules.specs.State.{State}
 use Rattle.tenant_rules.specs.Timers.{recount, queued, all_queued}
 use Rattle.tenant_pipeline.specs.declared.pipeline.Pipeline.{Pipeline}
@@ -85,6 +86,7 @@ bare own = record {
   opened = 0;
   settled = [];
   waiting = [];
+  caches = shown own.caches;
   pending = record { rules = own.batcher.rules; start = None; spans = [] };
   sender = own.sender;
   ledger = own.ledger;

@@ -1,12 +1,12 @@
 -- The spans of an active batch that end are among those of all active batches.
-use Rattle.std.proofs.Common.{◌≡◌, ◌≤◌, ◌+◌, ◌∙◌, ℕ, refl, sym, ap, subst, arith, Option, Some, None, Result, Ok, Err}
+use Rattle.std.proofs.Common.{◌≡◌, ◌≤◌, ◌∙◌, ℕ, refl, ap, arith, Option, Some, None, Result, Ok}
 use Rattle.std.specs.Prelude.{ok_or, option_map}
 use Rattle.send_retry.specs.Class.{AnswerData, class_of}
 use Rattle.send_queue.specs.declared.settled.Settled.{Settled}
 use Rattle.send_queue.specs.declared.settled.Settled.TheVariants as settleds
 use Rattle.send_queue.specs.declared.fault.SettleFault.{SettleFault}
 use Rattle.send_queue.specs.declared.fault.SettleFault.TheVariants.{UnknownTicket}
-use Rattle.send_queue.specs.Sender.{ActiveData, SenderData, FateData, Leaves, Stays, fate, flying, in_flight, settled_by, under}
+use Rattle.send_queue.specs.Sender.{ActiveData, SenderData, FateData, Leaves, Stays, fate, in_flight, settled_by, under}
 use Rattle.tenant_rules.specs.Sender.{active_sizes}
 use Rattle.tenant_rules.proofs.Steps.{AddsUp, fate_adds, flying_under, under_ticket, without_sizes}
 use Rattle.tenant_pipeline.specs.Outbox.{spans_ended}

@@ -1,8 +1,7 @@
 -- A step of a tenant, from its timers and what it does then.
-use Rattle.std.proofs.Common.{◌≡◌, ◌<◌, ◌≤◌, ◌+◌, ◌^◌, ◌∙◌, ℕ, List, [], ◌∷◌, refl, sym, ap, subst, arith, Bool, true, false, Option, Some, None}
+use Rattle.std.proofs.Common.{◌≡◌, ◌<◌, ◌≤◌, ◌∙◌, ℕ, List, [], ◌∷◌, refl, sym, ap, subst, arith}
 use Rattle.tail_policy.specs.declared.note.TraceNote.{TraceNote}
-use Rattle.tail_settings.specs.Section.{SectionData, section_view}
-use Rattle.tail_settings.specs.declared.section.Section.{Section}
+use Rattle.tail_settings.specs.Section.{SectionData}
 use Rattle.drop_ledger.specs.Ledger.{LedgerData}
 use Rattle.drop_ledger.specs.Report.{report_text}
 use Rattle.send_retry.specs.Class.{AnswerData}
@@ -14,7 +13,7 @@ use Rattle.tenant_rules.specs.declared.told.Told.TheVariants as tell
 use Rattle.tenant_rules.specs.Answers.{turn_told, heard}
 use Rattle.tenant_rules.specs.Batching.{rules_of}
 use Rattle.tenant_rules.specs.Limits.{IsWithinLimits}
-use Rattle.tenant_rules.specs.Machine.{acts, all_moved, effective, next, settled, told, turned, turned_by}
+use Rattle.tenant_rules.specs.Machine.{all_moved, effective, next, settled, told, turned, turned_by}
 use Rattle.tenant_rules.specs.Own.{Own, Turn, Answer, Report}
 use Rattle.tenant_rules.specs.Sender.{Choice, Retried, Oldest, NoBatch, choice, in_flight}
 use Rattle.tenant_rules.specs.Sending.{EndedData, ended_in_flight}
@@ -29,7 +28,7 @@ use Rattle.tenant_pipeline.specs.Acts.{at}
 use Rattle.tenant_pipeline.specs.Held.{IsHeld, IsHeldAt, IsHeldBy}
 use Rattle.tenant_pipeline.specs.Outbox.{Sends}
 use Rattle.tenant_pipeline.specs.StateIn.{part_in, state_in, state_of}
-use Rattle.tenant_pipeline.specs.Steps.{Answers, GoesOnFrom, StandsFor}
+use Rattle.tenant_pipeline.specs.Steps.{Answers, GoesOnFrom}
 use Rattle.tenant_pipeline.proofs.Ranges.{batch_sound}
 
 -- ---- what a past gives

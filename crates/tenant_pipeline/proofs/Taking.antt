@@ -4,6 +4,7 @@ use Rattle.std.specs.List.{AllByRecursion}
 use Rattle.std.specs.Prelude.{filter, nat_lt, ◌==◌}
 use Rattle.std.proofs.lemmas.Bool.Decides.{nat_tests}
 use Rattle.std.proofs.lemmas.List.{length-append, length-replicate}
+use Rattle.decision_cache.specs.Caches.{found}
 use Rattle.drop_ledger.specs.declared.places.Place.TheVariants.{Undecided, Pending, Queued, QueueFull}
 use Rattle.drop_ledger.specs.Ledger.{LedgerData, taken, no_places, counted, most_counted}
 use Rattle.span_batcher.specs.Machine.{cuts, added}
@@ -12,10 +13,10 @@ use Rattle.tenant_rules.specs.Arrivals.{Arrival, valid, is_valid, trace_of}
 use Rattle.tenant_rules.specs.Batching.{all_sent}
 use Rattle.tenant_rules.specs.Fate.{SettledData, WaitingData}
 use Rattle.tenant_rules.specs.Intake.{Verdict, shutting_down, counter_limit, exhausted, accepted, verdict_of}
-use Rattle.tenant_rules.specs.Machine.{held, sampled_in, has_row, evict_waiting, evict_first, evicted, opens, joins, late_or_opens, goes, counted_in, come, all_come, verdict, post_verdict, posted, post}
+use Rattle.tenant_rules.specs.Machine.{held, sampled_in, has_row, evict_waiting, evict_first, evicted, opens, joins, cached_or_opens, late_or_opens, goes, counted_in, come, all_come, post_verdict, posted, post}
 use Rattle.tenant_rules.specs.Sender.{BatchData, is_full, offered}
 use Rattle.tenant_rules.specs.State.{State}
-use Rattle.tenant_rules.specs.Timers.{recount, queued, all_queued, grouped}
+use Rattle.tenant_rules.specs.Timers.{recount, queued, all_queued, grouped, remembered}
 use Rattle.tenant_pipeline.specs.Acts.{at}
 use Rattle.tenant_pipeline.specs.Prepared.{invalid_arrival}
 use Rattle.tenant_pipeline.specs.Posts.{IsTaken, verdict_after}
@@ -56,10 +57,15 @@ evicted_apart s = by_room (nat_lt s.opened s.section.tail_sampling.num_traces)
     by_room true = refl
     by_room false = evict_first_apart s.settled s
 
+cached_or_opens_apart : (m : ℕ) (x : Arrival) (o : Option Bool) (s : State) → apart (cached_or_opens m x o s).ledger ≡ apart s.ledger
+cached_or_opens_apart m x (Some true) s = grouped_apart m (x ∷ []) (remembered true (trace_of x) s)
+cached_or_opens_apart m x (Some false) s = refl
+cached_or_opens_apart m x None s = evicted_apart s
+
 late_or_opens_apart : (m : ℕ) (x : Arrival) (o : Option Bool) (s : State) → apart (late_or_opens m x o s).ledger ≡ apart s.ledger
 late_or_opens_apart m x (Some true) s = grouped_apart m (x ∷ []) s
 late_or_opens_apart m x (Some false) s = refl
-late_or_opens_apart m x None s = evicted_apart s
+late_or_opens_apart m x None s = cached_or_opens_apart m x (found (trace_of x) s.caches) s
 
 goes_apart : (m : ℕ) (x : Arrival) (s : State) → apart (goes m x s).ledger ≡ apart s.ledger
 goes_apart m x s = by_row (has_row (trace_of x) s.waiting)
@@ -143,10 +149,15 @@ evicted_at c s = by_room (nat_lt s.opened s.section.tail_sampling.num_traces)
     by_room true = refl
     by_room false = evict_first_at c s.settled s
 
+cached_or_opens_at : (c m : ℕ) (x : Arrival) (o : Option Bool) (s : State) → cached_or_opens m x o (at c s) ≡ at c (cached_or_opens m x o s)
+cached_or_opens_at c m x (Some true) s = grouped_at c m (x ∷ []) (remembered true (trace_of x) s)
+cached_or_opens_at c m x (Some false) s = refl
+cached_or_opens_at c m x None s = ap (opens m x) (evicted_at c s)
+
 late_or_opens_at : (c m : ℕ) (x : Arrival) (o : Option Bool) (s : State) → late_or_opens m x o (at c s) ≡ at c (late_or_opens m x o s)
 late_or_opens_at c m x (Some true) s = grouped_at c m (x ∷ []) s
 late_or_opens_at c m x (Some false) s = refl
-late_or_opens_at c m x None s = ap (opens m x) (evicted_at c s)
+late_or_opens_at c m x None s = cached_or_opens_at c m x (found (trace_of x) s.caches) s
 
 goes_at : (c m : ℕ) (x : Arrival) (s : State) → goes m x (at c s) ≡ at c (goes m x s)
 goes_at c m x s = by_row (has_row (trace_of x) s.waiting)

@@ -1,12 +1,12 @@
 -- What a timer makes of a tenant, and what always holds of it afterwards.
-use Rattle.std.proofs.Common.{◌≡◌, ◌<◌, ◌≤◌, ◌+◌, ◌++◌, ◌∙◌, ℕ, suc, List, [], ◌∷◌, length, map, refl, sym, ap, subst, arith, Bool, true, false, cond, leb, Option, Some, None}
+use Rattle.std.proofs.Common.{◌≡◌, ◌<◌, ◌≤◌, ◌+◌, ◌++◌, ◌∙◌, ℕ, List, [], ◌∷◌, length, map, refl, sym, ap, arith, Bool, true, false, Option, Some, None}
 use Rattle.std.proofs.lemmas.Bool.Decides.{nat_tests}
-use Rattle.std.proofs.lemmas.List.{length-map, map-append}
+use Rattle.std.proofs.lemmas.List.{map-append}
 use Rattle.drop_ledger.specs.Ledger.{LedgerData, moved}
 use Rattle.drop_ledger.specs.declared.places.Place.TheVariants.{Undecided, NotSampled}
 use Rattle.send_queue.specs.Sender.{SenderData}
 use Rattle.span_batcher.specs.State as batcher
-use Rattle.span_batcher.specs.State.{next_due, IsAfter}
+use Rattle.span_batcher.specs.State.{IsAfter}
 use Rattle.span_batcher.specs.Machine.{fired}
 use Rattle.span_batcher.specs.Timers.{is_due}
 use Rattle.tail_policy.specs.declared.note.TraceNote.{TraceNote}
@@ -15,22 +15,23 @@ use Rattle.tail_policy.specs.Laws.{means}
 use Rattle.tail_settings.specs.Policy.{PolicyData}
 use Rattle.tenant_stores.specs.Part.{Part}
 use Rattle.tenant_stores.specs.Counts.{one_decided}
-use Rattle.tenant_stores.specs.View.{SettledRow, WaitingRow, View, view}
+use Rattle.tenant_stores.specs.View.{WaitingRow, view}
+use Rattle.decision_cache.specs.Caches.{BothData, CachesData, noted_in, shown}
 use Rattle.tenant_rules.specs.Arrivals.{Arrival}
-use Rattle.tenant_rules.specs.Batching.{as_sent, all_sent}
-use Rattle.tenant_rules.specs.Fate.{SettledData, WaitingData, are_sampled}
+use Rattle.tenant_rules.specs.Batching.{as_sent}
+use Rattle.tenant_rules.specs.Fate.{WaitingData, are_sampled}
 use Rattle.tenant_rules.specs.Fronts.{AreInOrder, AllDueBy}
 use Rattle.tenant_rules.specs.Limits.{IsWithinLimits}
 use Rattle.tenant_rules.specs.Ready.{lesser}
 use Rattle.tenant_rules.specs.State.{State}
 use Rattle.tenant_rules.specs.Sum.{IsCounted}
-use Rattle.tenant_rules.specs.Timers.{recount, queued, grouped, flushed, settle, sample, decide_row, decide, first_due, next_timer, is_batch, one_run, ran, enough, IsFront}
+use Rattle.tenant_rules.specs.Timers.{queued, grouped, flushed, settle, sample, remembered, decide, first_due, next_timer, is_batch, one_run, ran, enough, IsFront}
 use Rattle.tenant_rules.proofs.Counted.{fronts_count}
 use Rattle.tenant_rules.proofs.Fronts.{ran_none, ran-more, enough_done, due_first}
 use Rattle.tenant_rules.proofs.Limits.{fronts_stay_within}
 use Rattle.tenant_rules.proofs.Sums.{fixed_of, kept_of, ran_kept}
 use Rattle.tenant_pipeline.specs.declared.pipeline.Pipeline.{Pipeline}
-use Rattle.tenant_pipeline.specs.StateIn.{arrivals_of, settled_of, waiting_of, counts_in, policies_of, pending_with, state_by, state_of, view_in}
+use Rattle.tenant_pipeline.specs.StateIn.{settled_of, waiting_of, counts_in, policies_of, state_by, state_of, view_in}
 use Rattle.tenant_pipeline.specs.Held.{IsNoteOf, IsFrom}
 use Rattle.tenant_pipeline.specs.Outbox.{arrivals_at, pending_at}
 
@@ -129,20 +130,22 @@ module _ (own : Pipeline) (p q : Part TraceNote) where
     waiting_is : s.waiting ≡ first ∷ others
     waiting_is = ap (λ (ws : List (WaitingRow TraceNote)). map waiting_of ws) waiting
 
-    decide_is : (sampled : Bool) → are_sampled (policies_of own) first.spans ≡ sampled → decide s.waiting s ≡ sample first.due first sampled (settle first.due first others sampled s)
+    decide_is : (sampled : Bool) → are_sampled (policies_of own) first.spans ≡ sampled → decide s.waiting s ≡ remembered sampled first.trace (sample first.due first sampled (settle first.due first others sampled s))
     decide_is sampled verdict = ap (λ (ws : List WaitingData). decide ws s) waiting_is ∙ rw verdict refl
 
     -- its spans left
-    pub drop_is : (n : ℕ) → n ≡ length first.spans → are_sampled (policies_of own) first.spans ≡ false →
+    pub drop_is : (caches : CachesData) → shown caches ≡ noted_in false first.trace (shown own.caches) → (n : ℕ) → n ≡ length first.spans → are_sampled (policies_of own) first.spans ≡ false →
         view (one_decided (counts_in own)) own.batcher.spans q ≡ record (view_in own p) { settled = (view_in own p).settled ++ record { trace = w.trace; sampled = false } ∷ []; waiting = rest } →
-        state_of (record own { rows = record own.rows { decided = own.rows.decided + 1 }; clock = first.due; ledger = moved Undecided NotSampled n own.ledger }) q ≡ decide s.waiting s
-    drop_is n size verdict shows =
-        let new : Pipeline = record own { rows = record own.rows { decided = own.rows.decided + 1 }; clock = first.due; ledger = moved Undecided NotSampled n own.ledger } in
+        state_of (record own { rows = record own.rows { decided = own.rows.decided + 1 }; clock = first.due; ledger = moved Undecided NotSampled n own.ledger; caches = caches }) q ≡ decide s.waiting s
+    drop_is caches noted n size verdict shows =
+        let new : Pipeline = record own { rows = record own.rows { decided = own.rows.decided + 1 }; clock = first.due; ledger = moved Undecided NotSampled n own.ledger; caches = caches } in
         let settled : map settled_of ((view_in own p).settled ++ record { trace = w.trace; sampled = false } ∷ []) ≡ s.settled ++ record { trace = first.trace; sampled = false } ∷ [] = map-append settled_of (view_in own p).settled (record { trace = w.trace; sampled = false } ∷ []) in
-        ap (state_by new) shows ∙ (rw (settled, size) refl ∙ sym (decide_is false verdict))
+        let left : State = sample first.due first false (settle first.due first others false s) in
+        let remembers : record left { caches = shown caches } ≡ remembered false first.trace left = ap (λ (k : BothData). let t : State = record left { caches = k } in t) noted in
+        ap (state_by new) shows ∙ (rw (settled, size) refl ∙ (remembers ∙ sym (decide_is false verdict)))
 
     -- its spans wait for a batch, or left in one
-    pub keep_is : (b : batcher.State ℕ) (sender : SenderData) (ledger : LedgerData) → are_sampled (policies_of own) first.spans ≡ true →
+    pub keep_is : (caches : CachesData) → shown caches ≡ noted_in true first.trace (shown own.caches) → (b : batcher.State ℕ) (sender : SenderData) (ledger : LedgerData) → are_sampled (policies_of own) first.spans ≡ true →
         ((t : State) → t.pending ≡ pending_at p own.batcher → t.sender ≡ own.sender → t.ledger ≡ own.ledger →
         grouped Undecided first.due first.spans t ≡ record t { pending = pending_at p b; sender = sender; ledger = ledger }) →
         view (one_decided (counts_in own)) b.spans q ≡ record {
@@ -150,11 +153,15 @@ module _ (own : Pipeline) (p q : Part TraceNote) where
           waiting = rest;
           pending = (view (counts_in own) b.spans p).pending;
         } →
-        state_of (record own { rows = record own.rows { decided = own.rows.decided + 1 }; clock = first.due; batcher = b; sender = sender; ledger = ledger }) q ≡ decide s.waiting s
-    keep_is b sender ledger verdict groups shows =
-        let new : Pipeline = record own { rows = record own.rows { decided = own.rows.decided + 1 }; clock = first.due; batcher = b; sender = sender; ledger = ledger } in
+        state_of (record own { rows = record own.rows { decided = own.rows.decided + 1 }; clock = first.due; batcher = b; sender = sender; ledger = ledger; caches = caches }) q ≡ decide s.waiting s
+    keep_is caches noted b sender ledger verdict groups shows =
+        let new : Pipeline = record own { rows = record own.rows { decided = own.rows.decided + 1 }; clock = first.due; batcher = b; sender = sender; ledger = ledger; caches = caches } in
         let settled : map settled_of ((view_in own p).settled ++ record { trace = w.trace; sampled = true } ∷ []) ≡ s.settled ++ record { trace = first.trace; sampled = true } ∷ [] = map-append settled_of (view_in own p).settled (record { trace = w.trace; sampled = true } ∷ []) in
-        ap (state_by new) shows ∙ (rw settled refl ∙ (sym (groups (settle first.due first others true s) refl refl refl) ∙ sym (decide_is true verdict)))
+        let left : State = record (settle first.due first others true s) { pending = pending_at p b; sender = sender; ledger = ledger } in
+        let remembers : record left { caches = shown caches } ≡ remembered true first.trace left = ap (λ (k : BothData). let t : State = record left { caches = k } in t) noted in
+        let grouped_is : remembered true first.trace left ≡ remembered true first.trace (grouped Undecided first.due first.spans (settle first.due first others true s)) =
+        ap (λ (t : State). remembered true first.trace t) (sym (groups (settle first.due first others true s) refl refl refl)) in
+        ap (state_by new) shows ∙ (rw settled refl ∙ (remembers ∙ (grouped_is ∙ sym (decide_is true verdict))))
 
 -- ---- moments of timers that are due
 

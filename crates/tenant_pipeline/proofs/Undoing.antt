@@ -1,8 +1,8 @@
 -- What groups have changed of a tenant's own is taken back.
-use Rattle.std.proofs.Common.{◌≡◌, ◌≤◌, ◌+◌, ◌∙◌, ℕ, refl, sym, ap, arith, Option, None, Some}
+use Rattle.std.proofs.Common.{◌≡◌, ℕ, Option, None, Some}
 use Rattle.std.specs.Prelude.{unwrap_or}
 use Rattle.span_batcher.specs.State as batcher
-use Rattle.span_batcher.specs.Machine.{PlannedData, taken}
+use Rattle.span_batcher.specs.Machine.{PlannedData}
 use Rattle.tenant_pipeline.specs.Undo.{before}
 
 -- what was pending before the first group is known whatever came after it

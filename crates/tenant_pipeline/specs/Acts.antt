@@ -1,7 +1,7 @@
 -- What a step does once its due timers have run.
 use Rattle.std.specs.Prelude.{◌≡◌, ℕ}
 use Rattle.drop_ledger.specs.Ledger.{left_out}
-use Rattle.tenant_rules.specs.Intake.{Verdict, shutting_down, counter_limit, exhausted, accepted}
+use Rattle.tenant_rules.specs.Intake.{Verdict, accepted}
 use Rattle.tenant_rules.specs.State.{State}
 use Rattle.tenant_pipeline.specs.declared.pipeline.Pipeline.{Pipeline}
 

@@ -1,7 +1,7 @@
 -- How spans that leave their rows become batches that wait to be sent, by what is a tenant's own.
-use Rattle.std.specs.Prelude.{None, ◌≡◌, ◌≢◌, ◌<◌, ◌≤◌, ◌+◌, ℕ, zero, suc, List, map, length}
+use Rattle.std.specs.Prelude.{None, ◌≡◌, ◌≢◌, ◌<◌, ◌≤◌, ◌+◌, ℕ, zero, suc, List, length}
 use Rattle.drop_ledger.specs.declared.places.Place.TheVariants.{Undecided}
-use Rattle.send_queue.specs.Sender.{SenderData, BatchData, taken_back}
+use Rattle.send_queue.specs.Sender.{SenderData, taken_back}
 use Rattle.send_queue.specs.declared.settled.Settled.{Settled}
 use Rattle.send_queue.specs.declared.settled.Settled.TheVariants as settled
 use Rattle.span_batcher.specs.Batches.{Batch}

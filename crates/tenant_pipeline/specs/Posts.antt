@@ -1,5 +1,5 @@
 -- How the spans of a post come, one after the other.
-use Rattle.std.specs.Prelude.{◌≡◌, ◌<◌, ◌≤◌, ◌+◌, ◌++◌, ℕ, List, [], ◌∷◌, length, map, true, false, None, Some, slice_index_or}
+use Rattle.std.specs.Prelude.{◌≡◌, ◌<◌, ◌≤◌, ◌+◌, ◌++◌, ℕ, List, [], ◌∷◌, length, map, Bool, true, false, Option, None, Some, slice_index_or}
 use Rattle.std.specs.List.{AllByRecursion}
 use Rattle.drop_ledger.specs.Ledger.{counted}
 use Rattle.span_batcher.specs.State.{next_due, IsAfter}
@@ -12,6 +12,7 @@ use Rattle.tenant_stores.specs.View.{text_at, text_keys}
 use Rattle.tenant_stores.specs.Trail.{Trail}
 use Rattle.tenant_rules.specs.Arrivals.{Arrival, trace_of}
 use Rattle.tenant_rules.specs.State.{State}
+use Rattle.decision_cache.specs.Caches.{found}
 use Rattle.tenant_rules.specs.Machine.{all_come, has_row, posted, sampled_in}
 use Rattle.tenant_rules.specs.Intake.{Verdict, verdict_of}
 use Rattle.tenant_pipeline.specs.declared.pipeline.Pipeline.{Pipeline}
@@ -22,7 +23,7 @@ use Rattle.otlp_prepare.specs.declared.noted.NotedSpan.{NotedSpan}
 use Rattle.tenant_stores.specs.Shows.{AreAmong}
 use Rattle.tenant_pipeline.specs.StateIn.{arrival_of, policies_of, state_of}
 use Rattle.tenant_pipeline.specs.Held.{IsHeldAt}
-use Rattle.tenant_pipeline.specs.Undo.{TakesBack}
+use Rattle.tenant_pipeline.specs.Undo.{TakesBack, hits_undone}
 
 -- the keys of texts that origins have, the last one's first
 abbrev pub all_text_keys : List TextKeys → List ℕ
@@ -43,7 +44,8 @@ pub record IsPosting (moment : ℕ) (journal : Journal) (held : List ℕ) (own :
 -- what came in the post is written down: from this start it led here
 pub record IsWritten (journal : Journal) (start own : Pipeline) (start_part p : Part TraceNote) : Type 0 where
   pub trail : Trail start_part journal.placed.items p
-  pub undo : TakesBack journal.undo start own
+  pub undo : TakesBack journal.undo start (hits_undone journal.hits own)
+  pub hits : journal.hits ≤ length own.caches.hits
 
 -- a span of a post comes, with the texts of its origin at these keys
 pub record IsComing (moment : ℕ) (journal : Journal) (keys : TextKeys) (span : NotedSpan) (held : List ℕ)
@@ -70,15 +72,24 @@ pub record IsSameTenant (old new : Pipeline) : Type 0 where
   pub clock : new.clock ≡ old.clock
   pub drained : new.drained ≡ old.drained
 
--- where a trace has its latest row, as the rules see it
+-- where a trace has its latest row, as the rules see it, or a cache its verdict
 abbrev pub IsSeat : List ℕ → Seat → State → Type 0
-IsSeat trace seats.Nowhere s = (has_row trace s.waiting ≡ false) × (sampled_in trace s.settled ≡ None)
+IsSeat trace seats.Nowhere s =
+    (has_row trace s.waiting ≡ false) × (sampled_in trace s.settled ≡ None) × (found trace s.caches ≡ None)
+IsSeat trace (seats.Cached sampled) s =
+    (has_row trace s.waiting ≡ false) × (sampled_in trace s.settled ≡ None) × (found trace s.caches ≡ Some sampled)
 IsSeat trace (seats.Decided sampled) s = (has_row trace s.waiting ≡ false) × (sampled_in trace s.settled ≡ Some sampled)
 IsSeat trace (seats.Waits number) s = has_row trace s.waiting ≡ true
+
+-- where a trace is that has no row that is present, by what the caches know
+abbrev pub seat_by : Option Bool → Seat
+seat_by None = seats.Nowhere
+seat_by (Some sampled) = seats.Cached sampled
 
 -- the number of a row that waits
 abbrev pub IsSeatAt : List ℕ → Seat → Pipeline → Part TraceNote → Type 0
 IsSeatAt trace seats.Nowhere own p = Unit
+IsSeatAt trace (seats.Cached sampled) own p = Unit
 IsSeatAt trace (seats.Decided sampled) own p = Unit
 IsSeatAt trace (seats.Waits number) own p = (p.seats trace ≡ Some number) × (own.rows.decided < number)
 

@@ -11,6 +11,7 @@ use Rattle.tenant_stores.specs.Part.{Part, part}
 use Rattle.tenant_stores.specs.Counts.{Counts}
 use Rattle.tenant_stores.specs.View.{SettledRow, WaitingRow, View, view}
 use Rattle.tenant_rules.specs.Arrivals.{Arrival}
+use Rattle.decision_cache.specs.Caches.{shown}
 use Rattle.tenant_rules.specs.Fate.{SettledData, WaitingData}
 use Rattle.tenant_rules.specs.State.{State}
 use Rattle.tenant_pipeline.specs.declared.pipeline.Pipeline.{Pipeline}
@@ -61,6 +62,7 @@ state_by own v = record {
   opened = own.rows.opened;
   settled = map settled_of v.settled;
   waiting = map waiting_of v.waiting;
+  caches = shown own.caches;
   pending = pending_with own.batcher v.pending;
   sender = own.sender;
   ledger = own.ledger;

@@ -1,5 +1,5 @@
 -- How what a step has changed of its tenant's own is taken back.
-use Rattle.std.specs.Prelude.{◌≡◌, ◌≤◌, ℕ, length, Option, None, Some}
+use Rattle.std.specs.Prelude.{◌≡◌, ◌≤◌, ℕ, length, take, Option, None, Some}
 use Rattle.drop_ledger.specs.Ledger.{ledger_of}
 use Rattle.span_batcher.specs.State as batcher
 use Rattle.span_batcher.specs.Machine.{PlannedData, taken}
@@ -21,3 +21,7 @@ pub record TakesBack (undo : Undo) (start own : Pipeline) : Type 0 where
   pub offers : undo.offers ≤ length own.sender.queue
   pub same : start ≡
       record own { rows = start.rows; ledger = start.ledger; batcher = start.batcher; sender = start.sender }
+
+-- what is a tenant's own without the hits behind the first so many
+abbrev pub hits_undone : ℕ → Pipeline → Pipeline
+hits_undone n own = record own { caches = record (own.caches) { hits = take n own.caches.hits } }

@@ -1,6 +1,6 @@
 //! What a post has changed, so that it can be taken back.
 
-ghost use Rattle.std.specs.Prelude.{◌≡◌, ◌≤◌, [], IfOk, vec_capacity};
+ghost use Rattle.std.specs.Prelude.{◌≡◌, ◌≤◌, [], length, IfOk, vec_capacity};
 ghost use Rattle.tenant_pipeline.specs.Undo.{TakesBack};
 
 use crate::pipeline::Pipeline;
@@ -14,8 +14,10 @@ use tenant_stores::Placed;
 pub struct Journal {
     /// Of the stores, one entry a span that came.
     pub placed: Vec<Placed<TraceNote>>,
-    /// Of the tenant's own.
+    /// Of the tenant's own, but for its caches.
     pub undo: Undo,
+    /// How many hits waited for a commit before it.
+    pub hits: usize,
 }
 
 impl Journal {
@@ -25,11 +27,13 @@ impl Journal {
         ensures room { IfOk result (λ journal. spans ≤ vec_capacity journal.placed) }
         ensures gone { IfOk result (λ journal. journal.undo.gone.items ≡ []) }
         ensures back { IfOk result (λ journal. TakesBack journal.undo own.now own.now) }
+        ensures hits { IfOk result (λ journal. journal.hits ≡ length own.now.caches.hits) }
     {
         let placed = Vec::with_capacity(own.alloc, spans)?;
         Ok(Journal {
             placed,
             undo: Undo::of(own),
+            hits: own.caches.hits(),
         })
     }
 }

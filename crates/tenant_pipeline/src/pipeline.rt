@@ -20,6 +20,7 @@ ghost use Rattle.tenant_pipeline.specs.Held.{IsHeldBy, IsHeld, IsSwept};
 ghost use Rattle.tenant_pipeline.specs.Steps.{StandsFor, Answers, GoesOnFrom};
 
 use crate::section::copied_section;
+use decision_cache::DecisionCaches;
 use drop_ledger::Ledger;
 use otlp_prepare::Prepared;
 use send_queue::SendQueue;
@@ -63,11 +64,19 @@ pub struct Pipeline {
     pub(crate) batcher: SpanBatcher,
     pub(crate) sender: SendQueue,
     pub(crate) ledger: Ledger,
+    // The ids of traces that were decided, by verdict.
+    pub(crate) caches: DecisionCaches,
 }
 
 impl Pipeline {
-    /// A tenant with no steps so far, over any stores that have nothing of it.
-    pub fn new(alloc: Global, tenant: u32, section: &Section) -> Result<Self, AllocError>
+    /// A tenant with no steps so far, over any stores that have nothing of it. The keys are two numbers that no one who
+    /// picks trace ids knows; no answer depends on them.
+    pub fn new(
+        alloc: Global,
+        tenant: u32,
+        section: &Section,
+        keys: (u64, u64),
+    ) -> Result<Self, AllocError>
         ensures stands { IfOk result (λ made. (p : Part Note) → IsSound no_rows [] [] p →
             StandsFor (section_view section.now) [] (state_of made p)) }
         ensures held { IfOk result (λ made. (p : Part Note) → IsSound no_rows [] [] p → IsHeldBy made p) }
@@ -82,6 +91,12 @@ impl Pipeline {
             section.batch.send_batch_size as usize,
             section.batch.send_batch_max_size as usize,
         );
+        let caches = DecisionCaches::new(
+            alloc,
+            section.tail_sampling.sampled_cache_size,
+            section.tail_sampling.non_sampled_cache_size,
+            keys,
+        )?;
         Ok(Pipeline {
             alloc,
             tenant,
@@ -97,6 +112,7 @@ impl Pipeline {
             batcher,
             sender,
             ledger: Ledger::new(),
+            caches,
         })
     }
 

@@ -11,13 +11,14 @@ ghost use Rattle.tenant_stores.specs.Counts.{Counts, room_made};
 ghost use Rattle.tenant_stores.specs.Sound.{IsSound};
 ghost use Rattle.tenant_stores.specs.View.{view, text_at, text_keys};
 ghost use Rattle.tenant_stores.specs.Trail.{HoldsAll};
-ghost use Rattle.tenant_rules.specs.Machine.{come, joins, opens, evicted, counted_in};
+ghost use Rattle.tenant_rules.specs.Machine.{come, joins, opens, cached_or_opens, evicted, counted_in};
 ghost use Rattle.tenant_rules.specs.Timers.{grouped};
+ghost use Rattle.decision_cache.specs.Caches.{found, shown};
 ghost use Rattle.tenant_pipeline.specs.declared.pipeline.Pipeline.{Pipeline as Own};
 ghost use Rattle.tenant_stores.specs.Shows.{AreAmong, Stay};
 ghost use Rattle.tenant_pipeline.specs.StateIn.{counts_in, part_in, state_in};
 ghost use Rattle.tenant_pipeline.specs.Held.{IsHeldAt};
-ghost use Rattle.tenant_pipeline.specs.Posts.{arrival_at, IsComing, Came, IsWritten, IsSameTenant, IsSeat, IsSeatAt};
+ghost use Rattle.tenant_pipeline.specs.Posts.{arrival_at, IsComing, Came, IsWritten, IsSameTenant, IsSeat, IsSeatAt, seat_by};
 
 use crate::journal::Journal;
 use crate::pipeline::Pipeline;
@@ -31,8 +32,10 @@ use tenant_stores::{Placed, Stores};
 /// Where a trace has its latest row.
 #[derive(Clone, Copy, Debug, PartialEq, Eq)]
 pub enum Seat {
-    /// It has none that is present.
+    /// It has none that is present, and no cache has its verdict.
     Nowhere,
+    /// It has none that is present, and is known to be sampled or not.
+    Cached(bool),
     /// Its row was decided, and is sampled or not.
     Decided(bool),
     /// Its row waits, and has this number.
@@ -48,10 +51,10 @@ impl Pipeline {
         ensures number { IsSeatAt trace result self.now (part_in self.now stores.now) }
     {
         let Some(number) = stores.seat(self.tenant, trace) else {
-            return Seat::Nowhere;
+            return self.seat_known(trace);
         };
         if number <= self.rows.first {
-            return Seat::Nowhere;
+            return self.seat_known(trace);
         }
         if number > self.rows.decided {
             return Seat::Waits(number);
@@ -59,6 +62,16 @@ impl Pipeline {
         match stores.row(self.tenant, number) {
             Some(row) => Seat::Decided(row.sampled),
             None => unreachable!(),
+        }
+    }
+
+    /// Where a trace is that has no row that is present.
+    fn seat_known(&self, trace: [u8; 16]) -> Seat
+        ensures { result ≡ seat_by (found trace (shown self.now.caches)) }
+    {
+        match self.caches.find(trace) {
+            Some(sampled) => Seat::Cached(sampled),
+            None => Seat::Nowhere,
         }
     }
 
@@ -109,8 +122,47 @@ impl Pipeline {
                     .move_spans(Place::Undecided, Place::NotSampled, 1);
                 Ok(())
             }
+            Seat::Cached(sampled) => self.hit(stores, journal, moment, keys, span, sampled),
             Seat::Nowhere => self.open(stores, journal, moment, keys, span),
         }
+    }
+
+    /// A span comes whose trace has no row that is present, while a cache knows whether it was sampled.
+    fn hit(
+        &mut self,
+        stores: &mut Stores<TraceNote>,
+        journal: &mut Journal,
+        moment: u64,
+        keys: TextKeys,
+        span: &NotedSpan,
+        sampled: bool,
+    ) -> Result<(), AllocError>
+        requires coming { (held : List ℕ)
+            × IsComing moment journal.old keys span.now held self.old (part_in self.old stores.old) }
+        requires fits { counted self.old.ledger + 1 ≤ most_counted }
+        requires budget { self.old.ledger.places.undecided + self.old.ledger.places.pending
+            < self.old.section.max_spans }
+        requires room { vec_len journal.old.placed < vec_capacity journal.old.placed }
+        requires known { found span.now.trace (shown self.old.caches) ≡ Some sampled }
+        ensures came { OnOk result (Came (λ s. cached_or_opens moment
+            (arrival_at (part_in self.old stores.old) keys span.now.text) (Some sampled) (counted_in s))
+            moment journal.old journal.new self.old self.new
+            (part_in self.old stores.old) (part_in self.new stores.new)) }
+        ensures written { (start : Own) (first : Part Note)
+            → IsWritten journal.old start self.old first (part_in self.old stores.old)
+            → IsWritten journal.new start self.new first (part_in self.new stores.new) }
+        ensures others { (other : ℕ) → other ≢ self.old.tenant → part other stores.new ≡ part other stores.old }
+        ensures same { IsSameTenant self.old self.new }
+    {
+        if sampled {
+            self.come_late(stores, journal, moment, keys, span)?;
+            return self.caches.push_hit(span.trace, true);
+        }
+        self.caches.push_hit(span.trace, false)?;
+        self.ledger.take(1);
+        self.ledger
+            .move_spans(Place::Undecided, Place::NotSampled, 1);
+        Ok(())
     }
 
     /// A span joins the row of this number, which waits.
@@ -176,6 +228,7 @@ impl Pipeline {
         requires budget { self.old.ledger.places.undecided + self.old.ledger.places.pending
             < self.old.section.max_spans }
         requires room { vec_len journal.old.placed < vec_capacity journal.old.placed }
+        ensures caches { self.new.caches ≡ self.old.caches }
         ensures came { OnOk result (Came (λ s. grouped Undecided moment
             (arrival_at (part_in self.old stores.old) keys span.now.text ∷ []) (counted_in s))
             moment journal.old journal.new self.old self.new

@@ -163,11 +163,13 @@ impl Pipeline {
         match self.place_all(stores, &mut journal, moment, keys, spans, invalid) {
             Ok(reply) => {
                 stores.flush(self.tenant, journal.undo.gone.as_slice());
+                self.caches.commit();
                 self.sweep(stores);
                 Ok(reply)
             }
             Err(refused) => {
                 stores.take_all_back(self.tenant, &mut journal.placed);
+                self.caches.undo_hits(journal.hits);
                 self.take_back(journal.undo);
                 Err(refused)
             }

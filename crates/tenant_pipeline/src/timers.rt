@@ -97,13 +97,15 @@ impl Pipeline {
         self.clock = moment;
     }
 
-    /// The first row that waits is decided: its spans wait for a batch where it is sampled, and else they leave.
+    /// The first row that waits is decided: its spans wait for a batch where it is sampled, and else they leave. A
+    /// cache has its trace then.
     fn decide(&mut self, stores: &mut Stores<TraceNote>) -> Result<(), AllocError>
         requires held { IsHeld self.old stores.old }
         requires some { self.old.rows.decided < self.old.rows.opened }
         requires first { is_batch (next_due self.old.batcher) (first_due (state_in self.old stores.old).waiting)
             ≡ false }
         requires fits { (due : ℕ) → first_due (state_in self.old stores.old).waiting ≡ Some due → due ≤ 2 ^ 62 }
+        requires no_hits { self.old.caches.hits ≡ [] }
         ensures ok { OnOk result (state_in self.new stores.new ≡
             decide (state_in self.old stores.old).waiting (state_in self.old stores.old)) }
         ensures held { IsHeld self.new stores.new }
@@ -122,17 +124,27 @@ impl Pipeline {
             unreachable!()
         };
         let due = row.due;
+        let trace = row.trace;
         let policies = self.section.tail_sampling.policies.as_slice();
         if row.note.samples(policies) {
             let mut undo = Undo::of(self);
             let keys = row.keys.as_slice();
             self.group(stores, &mut undo, due, keys)?;
-            stores.keep_row(tenant, number);
-            let gone = undo.gone.as_slice();
-            stores.flush(tenant, gone);
-            self.pass(number, due);
-            return Ok(());
+            return match self.caches.put(trace, true) {
+                Ok(()) => {
+                    stores.keep_row(tenant, number);
+                    let gone = undo.gone.as_slice();
+                    stores.flush(tenant, gone);
+                    self.pass(number, due);
+                    Ok(())
+                }
+                Err(refused) => {
+                    self.take_back(undo);
+                    Err(refused)
+                }
+            };
         }
+        self.caches.put(trace, false)?;
         let spans = stores.drop_row(tenant, number);
         self.ledger
             .move_spans(Place::Undecided, Place::NotSampled, spans as u64);
@@ -157,6 +169,7 @@ impl Pipeline {
         if is_batch(self.batcher.next_due(), self.first_due(stores)) {
             self.flush(stores)
         } else {
+            self.caches.commit();
             self.decide(stores)
         }
     }

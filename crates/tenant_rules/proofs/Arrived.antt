@@ -8,10 +8,12 @@ use Rattle.tenant_rules.specs.Arrivals.{Arrival, valid, is_valid, trace_of}
 use Rattle.tenant_rules.specs.Fate.{SettledData, WaitingData}
 use Rattle.tenant_rules.specs.Batching.{spans_in}
 use Rattle.tenant_rules.specs.Intake.{Verdict, shutting_down, counter_limit, exhausted, accepted, verdict_of}
+use Rattle.decision_cache.specs.Caches.{found}
 use Rattle.tenant_rules.specs.State.{State}
-use Rattle.tenant_rules.specs.Machine.{held, sampled_in, has_row, joined, evict_waiting, evict_first, evicted, opens, joins, late_or_opens, goes, counted_in, come, all_come, verdict, posted, post}
+use Rattle.tenant_rules.specs.Timers.{remembered}
+use Rattle.tenant_rules.specs.Machine.{held, sampled_in, has_row, joined, evict_waiting, evict_first, evicted, opens, joins, cached_or_opens, late_or_opens, goes, counted_in, come, all_come, verdict, posted, post}
 use Rattle.tenant_rules.specs.Sum.{IsCounted}
-use Rattle.tenant_rules.proofs.Sums.{Fixed, Kept, fixed_of, kept_of, counted_of, grouped_kept}
+use Rattle.tenant_rules.proofs.Sums.{Fixed, Kept, fixed_of, kept_of, counted_of, grouped_kept, remembered_kept}
 
 -- ---- rows
 
@@ -63,10 +65,15 @@ opens_kept f m x s k =
     let more : spans_in (s.waiting ++ row ∷ []) ≡ spans_in s.waiting + 1 = opened_spans s.waiting row in
     omega arith
 
+cached_or_opens_kept : (f : Fixed) (m : ℕ) (x : Arrival) (o : Option Bool) (s : State) → Kept f 1 0 s → Kept f 0 0 (cached_or_opens m x o s)
+cached_or_opens_kept f m x (Some true) s k = grouped_kept f 0 m (x ∷ []) (remembered true (trace_of x) s) (remembered_kept f 1 true (trace_of x) s k)
+cached_or_opens_kept f m x (Some false) s k = omega arith
+cached_or_opens_kept f m x None s k = opens_kept f m x (evicted s) (evicted_kept f 1 s k)
+
 late_or_opens_kept : (f : Fixed) (m : ℕ) (x : Arrival) (o : Option Bool) (s : State) → Kept f 1 0 s → Kept f 0 0 (late_or_opens m x o s)
 late_or_opens_kept f m x (Some true) s k = grouped_kept f 0 m (x ∷ []) s k
 late_or_opens_kept f m x (Some false) s k = omega arith
-late_or_opens_kept f m x None s k = opens_kept f m x (evicted s) (evicted_kept f 1 s k)
+late_or_opens_kept f m x None s k = cached_or_opens_kept f m x (found (trace_of x) s.caches) s k
 
 goes_kept : (f : Fixed) (m : ℕ) (x : Arrival) (s : State) → Kept f 1 0 s → Kept f 0 0 (goes m x s)
 goes_kept f m x s k = by_row (has_row (trace_of x) s.waiting) refl

@@ -12,9 +12,11 @@ use Rattle.span_batcher.specs.Batches.{IsSound, Group, batches}
 use Rattle.span_batcher.specs.State as batcher
 use Rattle.span_batcher.specs.Machine.{cuts, uncut, added}
 use Rattle.tenant_rules.specs.Arrivals.{Arrival, trace_of}
-use Rattle.tenant_rules.specs.Rows.{Taken, Opened, Seat, Seated, Placed, Sits, seats, present_seat}
+use Rattle.tenant_rules.specs.Rows.{Taken, Opened, Seat, Seated, Hit, Placed, Sits, Hits, seats, present_seat}
 use Rattle.tenant_rules.specs.Fate.{most_of, is_sampled, SettledData, WaitingData, settled, waiting, dropped, late_dropped, too_early}
 use Rattle.tenant_rules.specs.Decisions.{by_moment}
+use Rattle.decision_cache.specs.Caches.{BothData, noted_in}
+use Rattle.tenant_rules.specs.Events.{decisions, caches_of}
 use Rattle.tenant_rules.specs.Seating.{known, seating, opened, placed, seated}
 use Rattle.tenant_rules.specs.Groups.{decided, cut_short, late, groups_of, groups}
 use Rattle.tenant_rules.specs.Sender.{BatchData, SenderData, sizes, active_sizes}
@@ -22,19 +24,20 @@ use Rattle.tenant_rules.specs.Batching.{rules_of, as_sent, all_sent, formed, pen
 use Rattle.tenant_rules.specs.Intake.{IntakeData}
 use Rattle.tenant_rules.specs.Sending.{EndedData, all_offered, overflow, met_full_queue}
 use Rattle.tenant_rules.specs.State.{State, ended_places, not_sampled, ledger_at}
-use Rattle.tenant_rules.specs.Timers.{recount, all_queued}
-use Rattle.tenant_rules.specs.Machine.{has_row, sampled_in, joined, evict_waiting, evict_first, evicted, opens, joins, late_or_opens, goes, counted_in}
+use Rattle.tenant_rules.specs.Timers.{recount, all_queued, remembered}
+use Rattle.tenant_rules.specs.Machine.{has_row, sampled_in, joined, evict_waiting, evict_first, evicted, opens, joins, cached_or_opens, late_or_opens, goes, counted_in}
 use Rattle.tenant_rules.proofs.Order.{AllUpTo-append, by_moment-push}
 use Rattle.tenant_rules.proofs.Times.{TakenBy, OpenedBy-opened, cut_none}
 use Rattle.tenant_rules.proofs.Later.{AllUpTo-decided, AllUpTo-late, IsUpTo-groups}
+use Rattle.tenant_rules.proofs.Events.{caches_same, caches_hit, found_is}
 use Rattle.tenant_rules.proofs.Fronts.{all_queued-is}
 use Rattle.tenant_rules.proofs.Tally.{set_counts, cut_sizes, queued_tally}
 use Rattle.tenant_rules.proofs.Elapsed.{state_with, ended_met}
 use Rattle.tenant_rules.proofs.Closing.{one_more}
 use Rattle.tenant_rules.proofs.Lookups.{waits_at, sampled_at, waiting_found, settled_found}
 use Rattle.tenant_rules.proofs.Rooms.{rest_of, room_left, room_made}
-use Rattle.tenant_rules.proofs.Coming.{SeatedUpTo-seated, over_of, settled_same, waiting_same, decided_same, dropped_same, early_same, same_late, same_join, waiting_joined, early_joined, seat_found, opened_some, placed_some, opened_none, placed_none}
-use Rattle.tenant_rules.proofs.Opening.{first_of, row_of, settled_first, waiting_first, decided_first, dropped_first, late_first, late_dropped_first, spans_append, early_first}
+use Rattle.tenant_rules.proofs.Coming.{SeatedUpTo-seated, over_of, settled_same, waiting_same, decided_same, decisions_same, dropped_same, early_same, same_late, same_join, waiting_joined, early_joined, seat_found, opened_some, placed_some, opened_hit, placed_hit, opened_none, placed_none}
+use Rattle.tenant_rules.proofs.Opening.{first_of, row_of, settled_first, waiting_first, decided_first, decisions_first, dropped_first, late_first, late_dropped_first, spans_append, early_first}
 
 -- ---- the counters
 
@@ -61,18 +64,18 @@ counted w i e D es = refl
 
 -- ---- the state, from its parts
 
-parts_same : (s : State) (k k' : ℕ) (S S' : List SettledData) (W W' : List WaitingData) (P P' : batcher.State Arrival) (D : SenderData) (L L' : LedgerData) → k ≡ k' → S ≡ S' → W ≡ W' → P ≡ P' → L ≡ L' →
-    Path State (record s { opened = k; settled = S; waiting = W; pending = P; sender = D; ledger = L }) (record s { opened = k'; settled = S'; waiting = W'; pending = P'; sender = D; ledger = L' })
-parts_same s k k' S S' W W' P P' D L L' e1 e2 e3 e4 e5 = cc (e1, e2, e3, e4, e5)
+parts_same : (s : State) (k k' : ℕ) (S S' : List SettledData) (W W' : List WaitingData) (P P' : batcher.State Arrival) (D : SenderData) (L L' : LedgerData) (K K' : BothData) → k ≡ k' → S ≡ S' → W ≡ W' → P ≡ P' → L ≡ L' → K ≡ K' →
+    Path State (record s { opened = k; settled = S; waiting = W; caches = K; pending = P; sender = D; ledger = L }) (record s { opened = k'; settled = S'; waiting = W'; caches = K'; pending = P'; sender = D; ledger = L' })
+parts_same s k k' S S' W W' P P' D L L' K K' e1 e2 e3 e4 e5 e6 = cc (e1, e2, e3, e4, e5, e6)
 
 came_is : (w : SectionData) (i : IntakeData) (B : List Taken) (e : ℕ) (D : SenderData) (es : List EndedData) (new : List BatchData)
-    (k : ℕ) (S : List SettledData) (W : List WaitingData) (P : batcher.State Arrival) (accepted early ns : ℕ) (L : LedgerData) →
-    length (opened w B) ≡ k → settled w e None (seated w B) (length (opened w B)) (opened w B) ≡ S → waiting_rows w e None B ≡ W → pending w e None B ≡ P →
+    (k : ℕ) (S : List SettledData) (W : List WaitingData) (P : batcher.State Arrival) (accepted early ns : ℕ) (L : LedgerData) (K : BothData) →
+    length (opened w B) ≡ k → settled w e None (seated w B) (length (opened w B)) (opened w B) ≡ S → waiting_rows w e None B ≡ W → pending w e None B ≡ P → caches_of w e None (placed w B) (opened w B) ≡ K →
     length B ≡ accepted → too_early w (seated w B) (opened w B) (opened w B) ≡ early → not_sampled w e None B ≡ ns →
     L ≡ set_counts (based (ledger_at w i e None D (ended_places es)) accepted early) (spans_in W) (length P.spans) (sizes (all_offered new D).queue) (active_sizes (all_offered new D).active) ns ((ended_places es).queue_full + sizes (overflow new D)) →
     state_with w (record i { spans = B }) e None (all_offered new D) (map met_full_queue (overflow new D) ++ es)
-    ≡ record (state_with w i e None D es) { opened = k; settled = S; waiting = W; pending = P; sender = all_offered new D; ledger = L }
-came_is w i B e D es new k S W P accepted early ns L opens settles waits pends takes evicts drops counts =
+    ≡ record (state_with w i e None D es) { opened = k; settled = S; waiting = W; caches = K; pending = P; sender = all_offered new D; ledger = L }
+came_is w i B e D es new k S W P accepted early ns L K opens settles waits pends remembers takes evicts drops counts =
     let l = ledger_at w i e None D (ended_places es) in
     let D' = all_offered new D in
     let f = (ended_places es).queue_full + sizes (overflow new D) in
@@ -82,7 +85,7 @@ came_is w i B e D es new k S W P accepted early ns L opens settles waits pends t
     let same = based_same l (length B) accepted _ early (spans_in (waiting_rows w e None B)) (spans_in W) (length (pending w e None B).spans) (length P.spans) (sizes D'.queue) (active_sizes D'.active) (not_sampled w e None B) ns f f
     takes evicts (ap spans_in waits) (ap (λ (q : batcher.State Arrival). length q.spans) pends) drops refl in
     let ledger_is : ledger_at w (record i { spans = B }) e None D' (ended_places (map met_full_queue (overflow new D) ++ es)) ≡ L = now ∙ (same ∙ sym counts) in
-    parts_same (state_with w i e None D es) (length (opened w B)) k _ S (waiting_rows w e None B) W (pending w e None B) P D' (ledger_at w (record i { spans = B }) e None D' (ended_places (map met_full_queue (overflow new D) ++ es))) L opens settles waits pends ledger_is
+    parts_same (state_with w i e None D es) (length (opened w B)) k _ S (waiting_rows w e None B) W (pending w e None B) P D' (ledger_at w (record i { spans = B }) e None D' (ended_places (map met_full_queue (overflow new D) ++ es))) L (caches_of w e None (placed w B) (opened w B)) K opens settles waits pends ledger_is remembers
 
 -- ---- groups and batches
 
@@ -144,6 +147,12 @@ pending_more w e a A B sound by more =
     let G = groups w e None A in
     let adds = one_more (rules_of w) e G (a ∷ []) (omega arith) sound (IsUpTo-groups w e A by) in
     ap (batcher.state (rules_of w) e None) more ∙ sym adds.1
+
+-- the caches, where the span has a seat and no row that is decided changes
+seat_remembers : (w : SectionData) (e : ℕ) (A B : List Taken) (n : Seated) (R : List Opened) → placed w B ≡ Sits n ∷ placed w A → opened w B ≡ R →
+    ((v : Bool) → decisions w v e None (n ∷ seated w A) R R ≡ decisions w v e None (seated w A) (opened w A) (opened w A)) → caches_of w e None (placed w B) (opened w B) ≡ caches_of w e None (placed w A) (opened w A)
+seat_remembers w e A B n R spots rows decides =
+    both BothData (λ X Y. caches_of w e None X Y) (placed w B) (Sits n ∷ placed w A) (opened w B) R spots rows ∙ caches_same w e n (placed w A) R (opened w A) decides
 
 -- ---- what the machine does with a span
 
@@ -251,11 +260,12 @@ late_lost w i e D es a s is due by sampled =
     let drops : not_sampled w e None B ≡ ns + 1 = late_drops w e a s A false is due sampled in
     let lates : late w (Sits n ∷ Q) ≡ late w Q = rw (over, sampled) (append-nil (late w Q)) in
     let groups_is = groups_same w e A B (Sits n ∷ Q) R spots rows (late_decided w e a s N R due) lates in
+    let remembers = seat_remembers w e A B n R spots rows (λ v. decisions_same w v e (n ∷ N) N R R (over_of w e (n ∷ N) N R (same_late w n N R due))) in
     let L = moved Undecided NotSampled 1 (taken 1 l) in
     let counts : L ≡ set_counts (based l (length A + 1) early) (spans_in W) (length P.spans) (sizes D.queue) (active_sizes D.active) (ns + 1) (f + 0) =
     ap (λ (z : LedgerData). moved Undecided NotSampled 1 z) (counted w i e D es)
     ∙ based_same l (length A + 1) (length A + 1) early early (spans_in W + 1 - 1) (spans_in W) (length P.spans) (length P.spans) (sizes D.queue) (active_sizes D.active) (ns + 1) (ns + 1) f (f + 0) refl refl (omega arith) refl refl (omega arith) in
-    let came = came_is w i B e D es [] (length R) st.settled W P (length A + 1) early (ns + 1) L parts.0 parts.1 parts.2 (pending_same w e A B groups_is) (one_taken e a A) parts.3 drops counts in
+    let came = came_is w i B e D es [] (length R) st.settled W P (length A + 1) early (ns + 1) L st.caches parts.0 parts.1 parts.2 (pending_same w e A B groups_is) remembers (one_taken e a A) parts.3 drops counts in
     let found = late_found w i e D es a s is due by ∙ ap (λ (b : Bool). late_or_opens e a (Some b) (counted_in st)) sampled in
     ([], formed_same w e A B groups_is, came ∙ sym found)
 
@@ -287,6 +297,7 @@ late_kept w i e D es a s sound is due by sampled =
     let drops : not_sampled w e None B ≡ ns = late_drops w e a s A true is due sampled ∙ (omega arith) in
     let lates : late w (Sits n ∷ Q) ≡ late w Q ++ record { moment = e; spans = a ∷ [] } ∷ [] = rw (over, sampled) refl in
     let groups_is = groups_more w e A B (Sits n ∷ Q) R (record { moment = e; spans = a ∷ [] }) by refl spots rows (late_decided w e a s N R due) lates in
+    let remembers = seat_remembers w e A B n R spots rows (λ v. decisions_same w v e (n ∷ N) N R R (over_of w e (n ∷ N) N R (same_late w n N R due))) in
     let all = P.spans ++ a ∷ [] in
     let new = all_sent (cuts P.rules e all) in
     let s0 : State = recount Undecided Pending (length (a ∷ [])) (record (counted_in st) { pending = added e (a ∷ []) P }) in
@@ -297,7 +308,7 @@ late_kept w i e D es a s sound is due by sampled =
     let start : s0.ledger ≡ set_counts (based l (length A + 1) early) (spans_in W) (rest + sizes new) q x ns f =
     moves ∙ based_same l (length A + 1) (length A + 1) early early (spans_in W + 1 - length (a ∷ [])) (spans_in W) (length P.spans + length (a ∷ [])) (rest + sizes new) q x ns ns f f refl refl (omega arith) (omega (arith, whole, length-append P.spans (a ∷ []))) refl refl in
     let counts = queued_tally new s0 (based l (length A + 1) early) (spans_in W) rest ns f start in
-    let came = came_is w i B e D es new (length R) st.settled W (added e (a ∷ []) P) (length A + 1) early ns L parts.0 parts.1 parts.2 (pending_more w e a A B sound by groups_is) (one_taken e a A) parts.3 drops counts in
+    let came = came_is w i B e D es new (length R) st.settled W (added e (a ∷ []) P) (length A + 1) early ns L st.caches parts.0 parts.1 parts.2 (pending_more w e a A B sound by groups_is) remembers (one_taken e a A) parts.3 drops counts in
     let found = late_found w i e D es a s is due by ∙ ap (λ (b : Bool). late_or_opens e a (Some b) (counted_in st)) sampled in
     (new, formed_more w e a A B sound by groups_is, came ∙ (sym (all_queued-is new s0) ∙ sym found))
 
@@ -347,12 +358,13 @@ joins_row w i e D es a s is lt by =
     let drops_all : not_sampled w e None B ≡ dropped w e None (n ∷ N) R R + late_dropped w (Sits n ∷ Q) = both ℕ (λ X Y. dropped w e None (seats X) Y Y + late_dropped w X) (placed w B) (Sits n ∷ Q) (opened w B) R spots rows in
     let drops : not_sampled w e None B ≡ ns = omega (arith, drops_all, dropped_same w e (n ∷ N) N R R same, late_drops_is) in
     let groups_is = groups_same w e A B (Sits n ∷ Q) R spots rows (decided_same w e (n ∷ N) N R R same) lates in
+    let remembers = seat_remembers w e A B n R spots rows (λ v. decisions_same w v e (n ∷ N) N R R same) in
     let found : has_row t W ≡ true = waiting_found t w e e N R opens_by ∙ (ap (waits_at w e) is ∙ ap not early_yet) in
     let L = taken 1 l in
     let counts : L ≡ set_counts (based l (length A + 1) early) (spans_in (joined a W)) (length P.spans) (sizes D.queue) (active_sizes D.active) ns (f + 0) =
     counted w i e D es
     ∙ based_same l (length A + 1) (length A + 1) early early (spans_in W + 1) (spans_in (joined a W)) (length P.spans) (length P.spans) (sizes D.queue) (active_sizes D.active) ns ns f (f + 0) refl refl (sym (spans_joined a W found)) refl refl (omega arith) in
-    let came = came_is w i B e D es [] (length R) st.settled (joined a W) P (length A + 1) early ns L (ap (λ (X : List Opened). length X) rows) settles waits (pending_same w e A B groups_is) (one_taken e a A) evicts drops counts in
+    let came = came_is w i B e D es [] (length R) st.settled (joined a W) P (length A + 1) early ns L st.caches (ap (λ (X : List Opened). length X) rows) settles waits (pending_same w e A B groups_is) remembers (one_taken e a A) evicts drops counts in
     ([], formed_same w e A B groups_is, came ∙ sym (goes_joins e a (counted_in st) found))
 
 -- ---- a span that opens a row
@@ -488,15 +500,132 @@ opens_row w i e D es a pos wait is new by =
     let drops_all : not_sampled w e None B ≡ dropped w e None (n ∷ N) (r ∷ R) (r ∷ R) + late_dropped w (Sits n ∷ Q) = both ℕ (λ X Y. dropped w e None (seats X) Y Y + late_dropped w X) (placed w B) (Sits n ∷ Q) (opened w B) (r ∷ R) spots rows in
     let drops : not_sampled w e None B ≡ ns = omega (arith, drops_all, dropped_first w e a N R wait, late_dropped_first w e a Q R wait) in
     let groups_is = groups_same w e A B (Sits n ∷ Q) (r ∷ R) spots rows (decided_first w e a N R wait) (late_first w e a Q R wait) in
+    let remembers = seat_remembers w e A B n (r ∷ R) spots rows (λ v. decisions_first w v e a N R wait) in
     let alone : spans_in (row ∷ []) ≡ 1 = refl in
     let sum : spans_in left.waiting_ones + 1 ≡ spans_in W = omega (arith, alone, spans_append left.waiting_ones (row ∷ [])) in
     let counts : L ≡ set_counts (based l (length A + 1) left.early) (spans_in W) (length P.spans) q x ns (f + 0) =
     left.counts ∙ based_same l (length A + 1) (length A + 1) left.early left.early (spans_in left.waiting_ones + 1) (spans_in W) (length P.spans) (length P.spans) q x ns ns f (f + 0) refl refl sum refl refl (omega arith) in
-    let came = came_is w i B e D es [] (length R + 1) S W P (length A + 1) left.early ns L number settles waits (pending_same w e A B groups_is) (one_taken e a A) evicts drops counts in
+    let came = came_is w i B e D es [] (length R + 1) S W P (length A + 1) left.early ns L st.caches number settles waits (pending_same w e A B groups_is) remembers (one_taken e a A) evicts drops counts in
     let idle : waits_at w e (present_seat (most_of w) t R) ≡ false = ap (waits_at w e) is in
-    let found = goes_by e a c None (waiting_found t w e e N R opens_by ∙ idle) (settled_found t w e N R idle ∙ ap (sampled_at w N) is) in
+    let found = goes_by e a c None (waiting_found t w e e N R opens_by ∙ idle) (settled_found t w e N R idle ∙ ap (sampled_at w N) is)
+    ∙ ap (λ (o : Option Bool). cached_or_opens e a o c) (found_is w e t A ∙ new) in
     let made : opens e a (evicted c) ≡ opens e a (record c { settled = S; waiting = left.waiting_ones; ledger = L }) = ap (opens e a) left.left in
     ([], formed_same w e A B groups_is, came ∙ (sym made ∙ sym found))
+
+-- ---- a span whose trace a cache has
+
+-- the state's parts, whatever becomes of the span
+hit_parts : (w : SectionData) (e : ℕ) (a : Arrival) (b : Bool) (A : List Taken) → present_seat (most_of w) (trace_of a) (opened w A) ≡ None → known w e (trace_of a) (seating w A) ≡ Some b →
+    (length (opened w (more e a A)) ≡ length (opened w A))
+    × (settled w e None (seated w (more e a A)) (length (opened w (more e a A))) (opened w (more e a A)) ≡ settled w e None (seated w A) (length (opened w A)) (opened w A))
+    × (waiting_rows w e None (more e a A) ≡ waiting_rows w e None A)
+    × (too_early w (seated w (more e a A)) (opened w (more e a A)) (opened w (more e a A)) ≡ too_early w (seated w A) (opened w A) (opened w A))
+hit_parts w e a b A is known_is =
+    let B = more e a A in
+    let R = opened w A in
+    let N = seated w A in
+    let rows = opened_hit w e a A b is known_is in
+    let sits : seated w B ≡ N = ap seats (placed_hit w e a A b is known_is) in (
+      ap (λ (X : List Opened). length X) rows,
+      both (List SettledData) (λ X Y. settled w e None X (length Y) Y) (seated w B) N (opened w B) R sits rows,
+      both (List WaitingData) (λ X Y. waiting w e None X (length Y) Y) (seated w B) N (opened w B) R sits rows,
+      both ℕ (λ X Y. too_early w X Y Y) (seated w B) N (opened w B) R sits rows,
+    )
+
+hit_drops : (w : SectionData) (e : ℕ) (a : Arrival) (b : Bool) (A : List Taken) → present_seat (most_of w) (trace_of a) (opened w A) ≡ None → known w e (trace_of a) (seating w A) ≡ Some b →
+    not_sampled w e None (more e a A) ≡ not_sampled w e None A + cond b 0 1
+hit_drops w e a b A is known_is =
+    let B = more e a A in
+    let R = opened w A in
+    let Q = placed w A in
+    let h : Hit = record { moment = e; arrival = a; sampled = b } in
+    let all : not_sampled w e None B ≡ dropped w e None (seats Q) R R + late_dropped w (Hits h ∷ Q) =
+    both ℕ (λ X Y. dropped w e None (seats X) Y Y + late_dropped w X) (placed w B) (Hits h ∷ Q) (opened w B) R (placed_hit w e a A b is known_is) (opened_hit w e a A b is known_is) in
+    let lates : late_dropped w (Hits h ∷ Q) ≡ late_dropped w Q + cond b 0 1 = refl in
+    omega (arith, all, lates)
+
+hit_remembers : (w : SectionData) (e : ℕ) (a : Arrival) (b : Bool) (A : List Taken) → TakenBy e A → present_seat (most_of w) (trace_of a) (opened w A) ≡ None → known w e (trace_of a) (seating w A) ≡ Some b →
+    caches_of w e None (placed w (more e a A)) (opened w (more e a A)) ≡ noted_in b (trace_of a) (caches_of w e None (placed w A) (opened w A))
+hit_remembers w e a b A by is known_is =
+    let B = more e a A in
+    let h : Hit = record { moment = e; arrival = a; sampled = b } in
+    both BothData (λ X Y. caches_of w e None X Y) (placed w B) (Hits h ∷ placed w A) (opened w B) (opened w A) (placed_hit w e a A b is known_is) (opened_hit w e a A b is known_is) ∙ caches_hit w e a b A by
+
+-- the machine finds its trace in the cache
+hit_found : (w : SectionData) (i : IntakeData) (e : ℕ) (D : SenderData) (es : List EndedData) (a : Arrival) (b : Bool) → present_seat (most_of w) (trace_of a) (opened w i.spans) ≡ None → known w e (trace_of a) (seating w i.spans) ≡ Some b → TakenBy e i.spans →
+    goes e a (counted_in (state_with w i e None D es)) ≡ cached_or_opens e a (Some b) (counted_in (state_with w i e None D es))
+hit_found w i e D es a b is known_is by =
+    let R = opened w i.spans in
+    let N = seated w i.spans in
+    let t = trace_of a in
+    let c = counted_in (state_with w i e None D es) in
+    let idle : waits_at w e (present_seat (most_of w) t R) ≡ false = ap (waits_at w e) is in
+    goes_by e a c None (waiting_found t w e e N R (OpenedBy-opened w e i.spans by) ∙ idle) (settled_found t w e N R idle ∙ ap (sampled_at w N) is)
+    ∙ ap (λ (o : Option Bool). cached_or_opens e a o c) (found_is w e t i.spans ∙ known_is)
+
+-- of a trace that wasn't sampled: it is dropped
+hit_lost : (w : SectionData) (i : IntakeData) (e : ℕ) (D : SenderData) (es : List EndedData) (a : Arrival) → present_seat (most_of w) (trace_of a) (opened w i.spans) ≡ None → known w e (trace_of a) (seating w i.spans) ≡ Some false → TakenBy e i.spans → Came w i e D es a
+hit_lost w i e D es a is known_is by =
+    let A = i.spans in
+    let B = more e a A in
+    let R = opened w A in
+    let Q = placed w A in
+    let N = seats Q in
+    let h : Hit = record { moment = e; arrival = a; sampled = false } in
+    let st = state_with w i e None D es in
+    let l = ledger_at w i e None D (ended_places es) in
+    let W = waiting_rows w e None A in
+    let P = pending w e None A in
+    let early = too_early w N R R in
+    let ns = not_sampled w e None A in
+    let f = (ended_places es).queue_full in
+    let parts = hit_parts w e a false A is known_is in
+    let drops : not_sampled w e None B ≡ ns + 1 = hit_drops w e a false A is known_is in
+    let groups_is = groups_same w e A B (Hits h ∷ Q) R (placed_hit w e a A false is known_is) (opened_hit w e a A false is known_is) refl (append-nil (late w Q)) in
+    let remembers = hit_remembers w e a false A by is known_is in
+    let L = moved Undecided NotSampled 1 (taken 1 l) in
+    let counts : L ≡ set_counts (based l (length A + 1) early) (spans_in W) (length P.spans) (sizes D.queue) (active_sizes D.active) (ns + 1) (f + 0) =
+    ap (λ (z : LedgerData). moved Undecided NotSampled 1 z) (counted w i e D es)
+    ∙ based_same l (length A + 1) (length A + 1) early early (spans_in W + 1 - 1) (spans_in W) (length P.spans) (length P.spans) (sizes D.queue) (active_sizes D.active) (ns + 1) (ns + 1) f (f + 0) refl refl (omega arith) refl refl (omega arith) in
+    let came = came_is w i B e D es [] (length R) st.settled W P (length A + 1) early (ns + 1) L (noted_in false (trace_of a) st.caches) parts.0 parts.1 parts.2 (pending_same w e A B groups_is) remembers (one_taken e a A) parts.3 drops counts in
+    ([], formed_same w e A B groups_is, came ∙ sym (hit_found w i e D es a false is known_is by))
+
+-- of one that was: it leaves alone
+hit_kept : (w : SectionData) (i : IntakeData) (e : ℕ) (D : SenderData) (es : List EndedData) (a : Arrival) → IsSound (rules_of w) → present_seat (most_of w) (trace_of a) (opened w i.spans) ≡ None → known w e (trace_of a) (seating w i.spans) ≡ Some true → TakenBy e i.spans → Came w i e D es a
+unfolding added
+hit_kept w i e D es a sound is known_is by =
+    let A = i.spans in
+    let B = more e a A in
+    let R = opened w A in
+    let Q = placed w A in
+    let N = seats Q in
+    let h : Hit = record { moment = e; arrival = a; sampled = true } in
+    let st = state_with w i e None D es in
+    let l = ledger_at w i e None D (ended_places es) in
+    let W = waiting_rows w e None A in
+    let P = pending w e None A in
+    let early = too_early w N R R in
+    let ns = not_sampled w e None A in
+    let f = (ended_places es).queue_full in
+    let q = sizes D.queue in
+    let x = active_sizes D.active in
+    let parts = hit_parts w e a true A is known_is in
+    let drops : not_sampled w e None B ≡ ns = hit_drops w e a true A is known_is ∙ (omega arith) in
+    let groups_is = groups_more w e A B (Hits h ∷ Q) R (record { moment = e; spans = a ∷ [] }) by refl (placed_hit w e a A true is known_is) (opened_hit w e a A true is known_is) refl refl in
+    let remembers = hit_remembers w e a true A by is known_is in
+    let K = noted_in true (trace_of a) st.caches in
+    let all = P.spans ++ a ∷ [] in
+    let new = all_sent (cuts P.rules e all) in
+    let s0 : State = recount Undecided Pending (length (a ∷ [])) (record (remembered true (trace_of a) (counted_in st)) { pending = added e (a ∷ []) P }) in
+    let L = (all_queued new s0).ledger in
+    let rest = length (uncut P.rules all) in
+    let moves : s0.ledger ≡ set_counts (based l (length A + 1) early) (spans_in W + 1 - length (a ∷ [])) (length P.spans + length (a ∷ [])) q x ns f = ap (λ (z : LedgerData). moved Undecided Pending (length (a ∷ [])) z) (counted w i e D es) in
+    let whole = cut_sizes P.rules e all in
+    let start : s0.ledger ≡ set_counts (based l (length A + 1) early) (spans_in W) (rest + sizes new) q x ns f =
+    moves ∙ based_same l (length A + 1) (length A + 1) early early (spans_in W + 1 - length (a ∷ [])) (spans_in W) (length P.spans + length (a ∷ [])) (rest + sizes new) q x ns ns f f refl refl (omega arith) (omega (arith, whole, length-append P.spans (a ∷ []))) refl refl in
+    let counts = queued_tally new s0 (based l (length A + 1) early) (spans_in W) rest ns f start in
+    let came = came_is w i B e D es new (length R) st.settled W (added e (a ∷ []) P) (length A + 1) early ns L K parts.0 parts.1 parts.2 (pending_more w e a A B sound by groups_is) remembers (one_taken e a A) parts.3 drops counts in
+    (new, formed_more w e a A B sound by groups_is, came ∙ (sym (all_queued-is new s0) ∙ sym (hit_found w i e D es a true is known_is by)))
 
 -- ---- any span
 
@@ -504,7 +633,12 @@ pub came : (w : SectionData) (i : IntakeData) (e : ℕ) (D : SenderData) (es : L
 came w i e D es a pos wait sound by = by_seat (present_seat (most_of w) (trace_of a) (opened w i.spans)) refl
   where
     by_seat : (o : Option Seat) → present_seat (most_of w) (trace_of a) (opened w i.spans) ≡ o → Came w i e D es a
-    by_seat None is = opens_row w i e D es a pos wait is refl by
+    by_seat None is = by_verdict (known w e (trace_of a) (seating w i.spans)) refl
+      where
+        by_verdict : (h : Option Bool) → known w e (trace_of a) (seating w i.spans) ≡ h → Came w i e D es a
+        by_verdict None new = opens_row w i e D es a pos wait is new by
+        by_verdict (Some true) found = hit_kept w i e D es a sound is found by
+        by_verdict (Some false) found = hit_lost w i e D es a is found by
     by_seat (Some s) is = by_due (leb (s.opening + w.tail_sampling.decision_wait) e) refl
       where
         by_due : (b : Bool) → leb (s.opening + w.tail_sampling.decision_wait) e ≡ b → Came w i e D es a

@@ -4,8 +4,9 @@ use Rattle.std.proofs.lemmas.Bool.Decides.{nat_tests}
 use Rattle.tail_settings.specs.Section.{SectionData}
 use Rattle.span_pool.specs.Stored.{same_bytes}
 use Rattle.tenant_rules.specs.Arrivals.{Arrival, trace_of}
-use Rattle.tenant_rules.specs.Rows.{Taken, Opened, Seat, Seated, latest, is_present, if_present, present_seat, Sits, seats}
+use Rattle.tenant_rules.specs.Rows.{Taken, Opened, Seat, Seated, latest, is_present, if_present, present_seat, Sits, Hits, seats}
 use Rattle.tenant_rules.specs.Fate.{most_of, due_of, on_time, is_evicted, WaitingData, settled, waiting, dropped, too_early}
+use Rattle.tenant_rules.specs.Events.{decisions}
 use Rattle.tenant_rules.specs.Seating.{place_by, known, seating, opened, placed, seated}
 use Rattle.tenant_rules.specs.Groups.{decided}
 use Rattle.tenant_rules.specs.Machine.{has_row, joined}
@@ -73,6 +74,10 @@ settled_same w e n M N (r ∷ R) same = let here = same.0 in grind (arith, nat_t
 pub decided_same : (w : SectionData) (e : ℕ) (M N : List Seated) (all R : List Opened) → SameOver w e M N R → decided w e None M all R ≡ decided w e None N all R
 decided_same w e M N all [] same = refl
 decided_same w e M N all (r ∷ R) same = let here = same.0 in grind (arith, nat_tests, here, decided_same w e M N all R same.1)
+
+pub decisions_same : (w : SectionData) (v : Bool) (e : ℕ) (M N : List Seated) (all R : List Opened) → SameOver w e M N R → decisions w v e None M all R ≡ decisions w v e None N all R
+decisions_same w v e M N all [] same = refl
+decisions_same w v e M N all (r ∷ R) same = let here = same.0 in grind (arith, nat_tests, here, decisions_same w v e M N all R same.1)
 
 pub dropped_same : (w : SectionData) (e : ℕ) (M N : List Seated) (all R : List Opened) → SameOver w e M N R → dropped w e None M all R ≡ dropped w e None N all R
 dropped_same w e M N all [] same = refl
@@ -214,6 +219,19 @@ opened_some w e a A s is = ap (λ (o : Option Seat). (place_by (record { moment 
 pub placed_some : (w : SectionData) (e : ℕ) (a : Arrival) (A : List Taken) (s : Seat) → present_seat (most_of w) (trace_of a) (opened w A) ≡ Some s →
     placed w (record { moment = e; arrival = a } ∷ A) ≡ Sits (record { row = s.row; opening = s.opening; moment = e; arrival = a }) ∷ placed w A
 placed_some w e a A s is = ap (λ (o : Option Seat). (place_by (record { moment = e; arrival = a }) (seating w A) o (known w e (trace_of a) (seating w A))).placed) is
+
+-- or it has no seat, where a verdict is known
+pub opened_hit : (w : SectionData) (e : ℕ) (a : Arrival) (A : List Taken) (b : Bool) → present_seat (most_of w) (trace_of a) (opened w A) ≡ None → known w e (trace_of a) (seating w A) ≡ Some b →
+    opened w (record { moment = e; arrival = a } ∷ A) ≡ opened w A
+opened_hit w e a A b is found =
+    ap (λ (o : Option Seat). (place_by (record { moment = e; arrival = a }) (seating w A) o (known w e (trace_of a) (seating w A))).rows) is
+    ∙ ap (λ (h : Option Bool). (place_by (record { moment = e; arrival = a }) (seating w A) None h).rows) found
+
+pub placed_hit : (w : SectionData) (e : ℕ) (a : Arrival) (A : List Taken) (b : Bool) → present_seat (most_of w) (trace_of a) (opened w A) ≡ None → known w e (trace_of a) (seating w A) ≡ Some b →
+    placed w (record { moment = e; arrival = a } ∷ A) ≡ Hits (record { moment = e; arrival = a; sampled = b }) ∷ placed w A
+placed_hit w e a A b is found =
+    ap (λ (o : Option Seat). (place_by (record { moment = e; arrival = a }) (seating w A) o (known w e (trace_of a) (seating w A))).placed) is
+    ∙ ap (λ (h : Option Bool). (place_by (record { moment = e; arrival = a }) (seating w A) None h).placed) found
 
 -- or it opens the next row, where no verdict is known
 pub opened_none : (w : SectionData) (e : ℕ) (a : Arrival) (A : List Taken) → present_seat (most_of w) (trace_of a) (opened w A) ≡ None → known w e (trace_of a) (seating w A) ≡ None →

@@ -15,7 +15,8 @@ use Rattle.span_batcher.specs.Machine as machine
 use Rattle.tenant_rules.specs.Arrivals.{Arrival}
 use Rattle.tenant_rules.specs.Own.{Own, Drain, clock, drained}
 use Rattle.tenant_rules.specs.Fate.{are_sampled, SettledData, WaitingData, settled}
-use Rattle.tenant_rules.specs.Seating.{opened, seated}
+use Rattle.tenant_rules.specs.Events.{caches_of}
+use Rattle.tenant_rules.specs.Seating.{opened, placed, seated}
 use Rattle.tenant_rules.specs.Sender.{BatchData, SenderData, sizes, active_sizes}
 use Rattle.tenant_rules.specs.Batching.{rules_of, as_sent, all_sent, formed, pending, waiting_rows, spans_in}
 use Rattle.tenant_rules.specs.Intake.{IntakeData, intake}
@@ -26,6 +27,7 @@ use Rattle.tenant_rules.specs.Timers.{recount, all_queued, settle, sample, decid
 use Rattle.tenant_rules.specs.Machine.{all_decided, drain, next, told}
 use Rattle.tenant_rules.proofs.Times.{TakenBy, TakenBy_more, OpenedBy-opened}
 use Rattle.tenant_rules.proofs.Later.{formed_later}
+use Rattle.tenant_rules.proofs.Events.{caches_drained}
 use Rattle.tenant_rules.proofs.Fronts.{resent, all_queued-is}
 use Rattle.tenant_rules.proofs.Walked.{set_to, became, became_same, all_offered-append, decide_row-is, pending_with, batches_with}
 use Rattle.tenant_rules.proofs.Tally.{set_counts, set_same, sizes-append, overflow-append, lost_in, Tally, queued_tally, decide_row_tally}
@@ -60,21 +62,21 @@ step_added p m r rs P = by_test (are_sampled p r.spans)
     by_test false = (refl, refl)
 
 all_decided-is : (c m : ℕ) (p : List PolicyData) (ws : List WaitingData) (s : State) → s.section.tail_sampling.policies ≡ p → s.waiting ≡ ws →
-    set_to c (all_decided m ws s) ≡ became s (s.settled ++ all_done p ws) [] (all_added p m ws s.pending) (all_sent (all_cut p m ws s.pending)) c (all_decided m ws s).ledger
-all_decided-is c m p [] s pol is = became_same s s.settled (s.settled ++ []) s.waiting [] s.pending s.pending s.sender s.sender c s.ledger (sym (append-nil s.settled)) is refl refl
+    set_to c (all_decided m ws s) ≡ became s (s.settled ++ all_done p ws) [] (all_added p m ws s.pending) (all_sent (all_cut p m ws s.pending)) c (all_decided m ws s).ledger s.caches
+all_decided-is c m p [] s pol is = became_same s s.settled (s.settled ++ []) s.waiting [] s.pending s.pending s.sender s.sender c s.ledger s.caches s.caches (sym (append-nil s.settled)) is refl refl refl
 all_decided-is c m p (r ∷ rs) s pol is =
     let s1 = decide_row m r rs s in
     let b = are_sampled p r.spans in
     let e1 = decide_row-is c m p r rs s pol in
     let rest = all_decided-is c m p rs s1 (ap (λ (t : State). t.section.tail_sampling.policies) e1 ∙ pol) (ap (λ (t : State). t.waiting) e1) in
     let L = (all_decided m rs s1).ledger in
-    let one = ap (λ (t : State). became t (t.settled ++ all_done p rs) [] (all_added p m rs t.pending) (all_sent (all_cut p m rs t.pending)) c L) e1 in
+    let one = ap (λ (t : State). became t (t.settled ++ all_done p rs) [] (all_added p m rs t.pending) (all_sent (all_cut p m rs t.pending)) c L t.caches) e1 in
     let row : SettledData = record { trace = r.trace; sampled = b } in
     let P1 = pending_with b m r.spans s.pending in
     let parts = step_added p m r rs s.pending in
     let sender_is : all_offered (all_sent (all_cut p m rs P1)) (all_offered (all_sent (batches_with b m r.spans s.pending)) s.sender) ≡ all_offered (all_sent (all_cut p m (r ∷ rs) s.pending)) s.sender =
     offered_twice (batches_with b m r.spans s.pending) (all_cut p m rs P1) s.sender ∙ ap (λ (bs : List (Batch Arrival)). all_offered (all_sent bs) s.sender) parts.1 in
-    rest ∙ (one ∙ became_same s ((s.settled ++ row ∷ []) ++ all_done p rs) (s.settled ++ all_done p (r ∷ rs)) [] [] (all_added p m rs P1) (all_added p m (r ∷ rs) s.pending) _ _ c L (append_assoc s.settled (row ∷ []) (all_done p rs)) refl parts.0 sender_is)
+    rest ∙ (one ∙ became_same s ((s.settled ++ row ∷ []) ++ all_done p rs) (s.settled ++ all_done p (r ∷ rs)) [] [] (all_added p m rs P1) (all_added p m (r ∷ rs) s.pending) _ _ c L s.caches s.caches (append_assoc s.settled (row ∷ []) (all_done p rs)) refl parts.0 sender_is refl)
 
 lost_step : (b : Bool) (n : ℕ) (spans : List Arrival) (rest : ℕ) → n + lost_in b spans + rest ≡ n + (cond b 0 (length spans) + rest)
 lost_step true n spans rest = omega arith
@@ -170,7 +172,7 @@ drain_first w i e D es M pos sound by same =
     (ap spans_in no_rows ∙ sym (ap spans_in waits1)) (ap (λ (z : batcher.State Arrival). length z.spans) pends) (ap (λ (z : SenderData). sizes z.queue) sender_is) (ap (λ (z : SenderData). active_sizes z.active) sender_is) ns (omega (arith, over_all)) ∙ sym queued) in
     let base : State = record s { drained = true } in
     let all : state_with w i e (Some e) D' (map met_full_queue (overflow M D) ++ es) ≡ record base { clock = e; settled = s.settled ++ all_done p W; waiting = []; pending = fired (all_added p e W P); sender = D'; ledger = (all_queued B t0).ledger } =
-    state_same base (settled w e (Some e) N (length R) R) (settled w e None N (length R) R ++ all_done p W) (waiting_rows w e (Some e) A) [] (pending w e (Some e) A) (fired (all_added p e W P)) D' e (ledger_at w i e (Some e) D' (ended_places (map met_full_queue (overflow M D) ++ es))) (all_queued B t0).ledger (settled_drained w e e (length R) N R opens) no_rows pends ledger_is in
+    state_same base (settled w e (Some e) N (length R) R) (settled w e None N (length R) R ++ all_done p W) (waiting_rows w e (Some e) A) [] (pending w e (Some e) A) (fired (all_added p e W P)) D' e (ledger_at w i e (Some e) D' (ended_places (map met_full_queue (overflow M D) ++ es))) (all_queued B t0).ledger (caches_of w e (Some e) (placed w A) R) s.caches (settled_drained w e e (length R) N R opens) no_rows pends ledger_is (caches_drained w e (placed w A) R) in
     let sent : record base { clock = e; settled = s.settled ++ all_done p W; waiting = []; pending = fired (all_added p e W P); sender = D'; ledger = (all_queued B t0).ledger } ≡ record base { clock = e; settled = s.settled ++ all_done p W; waiting = []; pending = fired (all_added p e W P); sender = all_offered B t.sender; ledger = (all_queued B t0).ledger } =
     ap (λ (z : SenderData). record base { clock = e; settled = s.settled ++ all_done p W; waiting = []; pending = fired (all_added p e W P); sender = z; ledger = (all_queued B t0).ledger }) sender_is in
     let made : resent (all_offered B t.sender) (all_queued B t0).ledger (record (set_to e t) { drained = true; pending = fired t.pending }) ≡ record base { clock = e; settled = s.settled ++ all_done p W; waiting = []; pending = fired (all_added p e W P); sender = all_offered B t.sender; ledger = (all_queued B t0).ledger } =

@@ -6,7 +6,9 @@ use Rattle.drop_ledger.specs.Ledger.{LedgerData}
 use Rattle.span_batcher.specs.Batches.{IsSound}
 use Rattle.tenant_rules.specs.Rows.{Taken}
 use Rattle.tenant_rules.specs.Fate.{SettledData, WaitingData, settled}
-use Rattle.tenant_rules.specs.Seating.{opened, seated}
+use Rattle.decision_cache.specs.Caches.{BothData}
+use Rattle.tenant_rules.specs.Events.{caches_of}
+use Rattle.tenant_rules.specs.Seating.{opened, placed, seated}
 use Rattle.tenant_rules.specs.Sender.{BatchData, SenderData, sizes, active_sizes}
 use Rattle.tenant_rules.specs.Batching.{rules_of, all_sent, pending, waiting_rows, spans_in}
 use Rattle.tenant_rules.specs.Intake.{IntakeData}
@@ -16,6 +18,7 @@ use Rattle.tenant_rules.specs.Timers.{advanced}
 use Rattle.tenant_rules.proofs.Times as times
 use Rattle.tenant_rules.proofs.Times.{TakenBy, OpenedBy-opened, done, later, Ascends-waiting, waiting_later, settled_later, dropped_later}
 use Rattle.tenant_rules.proofs.Later.{meanwhile, left_then, pending_later}
+use Rattle.tenant_rules.proofs.Events.{due_noted, caches_later}
 use Rattle.tenant_rules.proofs.Walks.{walk, all_ran}
 use Rattle.tenant_rules.proofs.Walked.{set_to, became, walk-is}
 use Rattle.tenant_rules.proofs.Tally.{set_counts, set_same, sizes_cons, Tally, walk_tally}
@@ -54,9 +57,9 @@ pub tally_at : (w : SectionData) (i : IntakeData) (d : ℕ) (D : SenderData) (es
 unfolding ledger_at
 tally_at w i d D es = refl
 
-pub state_same : (s : State) (S S' : List SettledData) (W W' : List WaitingData) (P P' : Rattle.span_batcher.specs.State.State Rattle.tenant_rules.specs.Arrivals.Arrival) (D : SenderData) (e : ℕ) (L L' : LedgerData) → S ≡ S' → W ≡ W' → P ≡ P' → L ≡ L' →
-    Path State (record s { clock = e; settled = S; waiting = W; pending = P; sender = D; ledger = L }) (record s { clock = e; settled = S'; waiting = W'; pending = P'; sender = D; ledger = L' })
-state_same s S S' W W' P P' D e L L' a b c d = cc (a, b, c, d)
+pub state_same : (s : State) (S S' : List SettledData) (W W' : List WaitingData) (P P' : Rattle.span_batcher.specs.State.State Rattle.tenant_rules.specs.Arrivals.Arrival) (D : SenderData) (e : ℕ) (L L' : LedgerData) (K K' : BothData) → S ≡ S' → W ≡ W' → P ≡ P' → L ≡ L' → K ≡ K' →
+    Path State (record s { clock = e; settled = S; waiting = W; caches = K; pending = P; sender = D; ledger = L }) (record s { clock = e; settled = S'; waiting = W'; caches = K'; pending = P'; sender = D; ledger = L' })
+state_same s S S' W W' P P' D e L L' K K' a b c d f = cc (a, b, c, d, f)
 
 pub elapsed : (w : SectionData) (i : IntakeData) (d e : ℕ) (D : SenderData) (es : List EndedData) → 0 < w.tail_sampling.num_traces → IsSound (rules_of w) → d ≤ e → TakenBy d i.spans →
     state_with w i e None (all_offered (between w d e i.spans) D) (map met_full_queue (overflow (between w d e i.spans) D) ++ es) ≡ advanced e (state_with w i d None D es)
@@ -89,6 +92,6 @@ elapsed w i d e D es pos sound le by =
     set_same l _ _ _ _ _ _ _ _ _ _ f f (ap spans_in waits ∙ sym (ap (λ (z : State). spans_in z.waiting) fields)) (ap (λ q. length q.spans) pends ∙ sym (ap (λ (z : State). length z.pending.spans) fields))
     (sym (ap (λ (z : State). sizes z.sender.queue) fields)) (sym (ap (λ (z : State). active_sizes z.sender.active) fields)) ns refl in
     let ledger_is : ledger_at w i e None D' (ended_places (map met_full_queue (overflow M D) ++ es)) ≡ t.ledger = now ∙ (then_is ∙ sym tally) in
-    let all : state_with w i e None D' (map met_full_queue (overflow M D) ++ es) ≡ became s (s.settled ++ done p e W) (later e W) (left_then p e W P) M e t.ledger =
-    state_same s (settled w e None N (length R) R) (settled w d None N (length R) R ++ done p e W) (waiting_rows w e None A) (later e W) (pending w e None A) (left_then p e W P) D' e (ledger_at w i e None D' (ended_places (map met_full_queue (overflow M D) ++ es))) t.ledger settles waits pends ledger_is in
+    let all : state_with w i e None D' (map met_full_queue (overflow M D) ++ es) ≡ became s (s.settled ++ done p e W) (later e W) (left_then p e W P) M e t.ledger (due_noted p e W s.caches) =
+    state_same s (settled w e None N (length R) R) (settled w d None N (length R) R ++ done p e W) (waiting_rows w e None A) (later e W) (pending w e None A) (left_then p e W P) D' e (ledger_at w i e None D' (ended_places (map met_full_queue (overflow M D) ++ es))) t.ledger (caches_of w e None (placed w A) R) (due_noted p e W s.caches) settles waits pends ledger_is (caches_later w d e A pos le by) in
     all ∙ (sym fields ∙ sym (ap (set_to e) (all_ran e s)))

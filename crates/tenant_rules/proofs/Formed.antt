@@ -18,9 +18,10 @@ use Rattle.tenant_rules.specs.Batching.{all_sent}
 use Rattle.tenant_rules.specs.Intake.{Verdict, shutting_down, counter_limit, exhausted, accepted}
 use Rattle.tenant_rules.specs.Sending.{sender}
 use Rattle.tenant_rules.specs.Ready.{lesser}
+use Rattle.decision_cache.specs.Caches.{found}
 use Rattle.tenant_rules.specs.State.{State, state}
-use Rattle.tenant_rules.specs.Timers.{recount, queued, all_queued, grouped, flushed, settle, sample, decide_row, decide, first_due, next_timer, is_batch, one_run, ran, enough, advanced}
-use Rattle.tenant_rules.specs.Machine.{held, sampled_in, has_row, evict_first, evict_waiting, evicted, joins, late_or_opens, counted_in, come, all_come, verdict, posted, turned_by, all_decided, closed, drain, acts, next}
+use Rattle.tenant_rules.specs.Timers.{recount, queued, all_queued, grouped, flushed, settle, sample, decide_row, remembered, decide, first_due, next_timer, is_batch, one_run, ran, enough, advanced}
+use Rattle.tenant_rules.specs.Machine.{held, sampled_in, has_row, evict_first, evict_waiting, evicted, joins, cached_or_opens, late_or_opens, counted_in, come, all_come, verdict, posted, turned_by, all_decided, closed, drain, acts, next}
 
 -- none of these formed after the moment
 abbrev pub FormedBy : ℕ → List BatchData → Type 0
@@ -158,10 +159,15 @@ evicted_sender s = by_room (nat_lt s.opened s.section.tail_sampling.num_traces)
     by_room true = refl
     by_room false = of_settled s.settled
 
+cached_or_opens_formed : (e : ℕ) (x : Arrival) (o : Option Bool) (s : State) → Formed e s → Formed e (cached_or_opens e x o s)
+cached_or_opens_formed e x (Some true) s by = grouped_formed e e (x ∷ []) (remembered true (trace_of x) s) (omega arith) by
+cached_or_opens_formed e x (Some false) s by = by
+cached_or_opens_formed e x None s by = subst (λ (d : SenderData). FormedBy e d.queue) (sym (evicted_sender s)) by
+
 late_or_opens_formed : (e : ℕ) (x : Arrival) (o : Option Bool) (s : State) → Formed e s → Formed e (late_or_opens e x o s)
 late_or_opens_formed e x (Some true) s by = grouped_formed e e (x ∷ []) s (omega arith) by
 late_or_opens_formed e x (Some false) s by = by
-late_or_opens_formed e x None s by = subst (λ (d : SenderData). FormedBy e d.queue) (sym (evicted_sender s)) by
+late_or_opens_formed e x None s by = cached_or_opens_formed e x (found (trace_of x) s.caches) s by
 
 come_formed : (e : ℕ) (x : Arrival) (s : State) → Formed e s → Formed e (come e x s)
 come_formed e x s by = by_tests (nat_lt (held s) s.section.max_spans) (has_row (trace_of x) s.waiting)

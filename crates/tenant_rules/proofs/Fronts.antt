@@ -5,15 +5,18 @@ use Rattle.span_batcher.specs.State.{next_due}
 use Rattle.span_batcher.specs.State as batcher
 use Rattle.span_batcher.specs.Machine.{cuts, added, start_with, fired}
 use Rattle.drop_ledger.specs.declared.places.Place.TheVariants.{Undecided, Pending, Queued, QueueFull}
+use Rattle.drop_ledger.specs.declared.places.Place.{Place}
 use Rattle.drop_ledger.specs.Ledger.{LedgerData}
+use Rattle.decision_cache.specs.Caches.{BothData, noted_in}
 use Rattle.span_batcher.specs.Timers.{is_due}
+use Rattle.tenant_rules.specs.Arrivals.{Arrival}
 use Rattle.tenant_rules.specs.Fate.{WaitingData, are_sampled}
 use Rattle.tenant_rules.specs.Sender.{BatchData, SenderData, is_full, offered}
 use Rattle.tenant_rules.specs.Sending.{all_offered}
 use Rattle.tenant_rules.specs.Batching.{all_sent}
 use Rattle.tenant_rules.specs.Ready.{lesser}
 use Rattle.tenant_rules.specs.State.{State}
-use Rattle.tenant_rules.specs.Timers.{recount, queued, all_queued, flushed, settle, sample, decide, first_due, next_timer, is_batch, one_run, ran, IsFront, enough}
+use Rattle.tenant_rules.specs.Timers.{recount, queued, all_queued, grouped, flushed, settle, sample, remembered, decide, first_due, next_timer, is_batch, one_run, ran, IsFront, enough}
 
 -- when none is due, no more run
 pub ran_none : (n e : ℕ) (s : State) → is_due (next_timer s) e ≡ false → ran n e s ≡ s
@@ -55,6 +58,34 @@ pub all_queued-is : (bs : List BatchData) (s : State) → all_queued bs s ≡ re
 all_queued-is [] s = refl
 all_queued-is (b ∷ bs) s =
     all_queued-is bs (queued b s) ∙ ap (λ (t : State). resent (all_offered bs t.sender) (all_queued bs (queued b s)).ledger t) (queued-is b s)
+
+-- ---- and they do so whatever the caches have
+
+queued_with : (b : BatchData) (caches : BothData) (s : State) → queued b (record s { caches = caches }) ≡ record (queued b s) { caches = caches }
+queued_with b caches s = by_test (is_full s.sender)
+  where
+    by_test : (f : Bool) → cond f (recount Pending QueueFull b.spans (record s { caches = caches })) (recount Pending Queued b.spans (record s { caches = caches; sender = offered b s.sender }))
+        ≡ record (cond f (recount Pending QueueFull b.spans s) (recount Pending Queued b.spans (record s { sender = offered b s.sender }))) { caches = caches }
+    by_test true = refl
+    by_test false = refl
+
+all_queued_with : (bs : List BatchData) (caches : BothData) (s : State) → all_queued bs (record s { caches = caches }) ≡ record (all_queued bs s) { caches = caches }
+all_queued_with [] caches s = refl
+all_queued_with (b ∷ bs) caches s = ap (all_queued bs) (queued_with b caches s) ∙ all_queued_with bs caches (queued b s)
+
+grouped_with : (from : Place) (moment : ℕ) (xs : List Arrival) (caches : BothData) (s : State) → grouped from moment xs (record s { caches = caches }) ≡ record (grouped from moment xs s) { caches = caches }
+grouped_with from moment xs caches s =
+    all_queued_with (all_sent (cuts s.pending.rules moment (s.pending.spans ++ xs))) caches (recount from Pending (length xs) (record s { pending = added moment xs s.pending }))
+
+grouped_caches : (from : Place) (moment : ℕ) (xs : List Arrival) (s : State) → (grouped from moment xs s).caches ≡ s.caches
+grouped_caches from moment xs s =
+    ap (λ (t : State). t.caches) (all_queued-is (all_sent (cuts s.pending.rules moment (s.pending.spans ++ xs))) (recount from Pending (length xs) (record s { pending = added moment xs s.pending })))
+
+-- an event of a trace's id before a group comes, or after it
+pub grouped_remembered : (from : Place) (moment : ℕ) (xs : List Arrival) (sampled : Bool) (trace : List ℕ) (s : State) → grouped from moment xs (remembered sampled trace s) ≡ remembered sampled trace (grouped from moment xs s)
+grouped_remembered from moment xs sampled trace s =
+    grouped_with from moment xs (noted_in sampled trace s.caches) s
+    ∙ sym (ap (λ (caches : BothData). record (grouped from moment xs s) { caches = noted_in sampled trace caches }) (grouped_caches from moment xs s))
 
 -- ---- what is left to run falls
 

@@ -10,16 +10,17 @@ use Rattle.span_batcher.specs.Machine.{cuts, added, fired}
 use Rattle.span_batcher.specs.Timers.{is_due, passed, after, come, come_batches}
 use Rattle.tenant_rules.specs.Arrivals.{Arrival}
 use Rattle.tenant_rules.specs.Fate.{SettledData, WaitingData, are_sampled}
+use Rattle.decision_cache.specs.Caches.{BothData, noted_in}
 use Rattle.tenant_rules.specs.Sender.{BatchData, SenderData}
 use Rattle.tenant_rules.specs.Batching.{as_sent, all_sent}
 use Rattle.tenant_rules.specs.Sending.{all_offered}
 use Rattle.tenant_rules.specs.State.{State}
 use Rattle.tenant_rules.specs.Ready.{lesser}
 use Rattle.tenant_rules.specs.Timers.{recount, flushed, settle, sample, decide, first_due, next_timer, is_batch, one_run, ran}
-use Rattle.tenant_rules.specs.Fronts.{decided_rows, groups_made, AllDueBy, AreInOrder, rest_after, last_batch, RanOut, IsFrontAt, FrontsAre}
+use Rattle.tenant_rules.specs.Fronts.{decided_rows, groups_made, rows_noted, AllDueBy, AreInOrder, rest_after, last_batch, RanOut, IsFrontAt, FrontsAre}
 use Rattle.tenant_rules.proofs.Fronts.{all_queued-is}
 use Rattle.drop_ledger.specs.declared.places.Place.TheVariants.{Undecided, Pending}
-use Rattle.tenant_rules.proofs.Walked.{all_offered-append, after_rules, decide_row-is, pending_with, batches_with}
+use Rattle.tenant_rules.proofs.Walked.{all_offered-append, after_rules, decide-is, pending_with, batches_with}
 
 -- ---- one row more
 
@@ -41,6 +42,10 @@ made_append p (x ∷ xs) ys = by_test (are_sampled p x.spans) (made_append p xs 
         cond b (record { moment = x.due; spans = x.spans } ∷ groups_made p (xs ++ ys)) (groups_made p (xs ++ ys)) ≡ cond b (record { moment = x.due; spans = x.spans } ∷ groups_made p xs) (groups_made p xs) ++ groups_made p ys
     by_test true ih = ap (λ (gs : List (Group Arrival)). record { moment = x.due; spans = x.spans } ∷ gs) ih
     by_test false ih = ih
+
+noted_append : (p : List PolicyData) (xs : List WaitingData) (r : WaitingData) (c : BothData) → rows_noted p (xs ++ r ∷ []) c ≡ noted_in (are_sampled p r.spans) r.trace (rows_noted p xs c)
+noted_append p [] r c = refl
+noted_append p (x ∷ xs) r c = noted_append p xs r (noted_in (are_sampled p x.spans) x.trace c)
 
 due_append : (m : ℕ) (xs : List WaitingData) (r : WaitingData) → AllDueBy m xs → r.due ≤ m → AllDueBy m (xs ++ r ∷ [])
 due_append m [] r by le = (le, tt)
@@ -159,7 +164,7 @@ by_decision m old k o t r rs front is idle le =
     let more = decided_more m gs P r rs o look.0 look.1 f.ran_out before b in
     let next = take_next k W r rs is in
     let pol : t.section.tail_sampling.policies ≡ p = ap (λ s. s.tail_sampling.policies) f.section_is in
-    let made = decide_row-is 0 r.due p r rs t pol in
+    let made = decide-is 0 p r rs t pol in
     let groups_is : gs ++ cond b (record { moment = r.due; spans = r.spans } ∷ []) [] ≡ groups_made p (take (suc k) W) = sym (ap (groups_made p) next.0 ∙ made_append p (take k W) (r ∷ [])) in
     let row : SettledData = record { trace = r.trace; sampled = b } in
     let t' = decide (r ∷ rs) t in
@@ -178,6 +183,8 @@ by_decision m old k o t r rs front is idle le =
         in_time = subst (λ (ws : List WaitingData). AllDueBy m ws) (sym next.0) (due_append m (take k W) r f.in_time le);
         settled_is = settled_is;
         waiting_is = ap (λ (z : State). z.waiting) made ∙ sym rest_is;
+        caches_is = ap (λ (z : State). z.caches) made
+            ∙ (ap (noted_in b r.trace) f.caches_is ∙ sym (ap (λ (ws : List WaitingData). rows_noted p ws old.caches) next.0 ∙ noted_append p (take k W) r old.caches));
         ran_out = subst (λ (z : List (Group Arrival)). RanOut m more.timer (come z P)) groups_is more.out;
         pending_is = pending_is;
         sender_is = sender_is;
@@ -216,6 +223,7 @@ by_timer m old k None t d front due le first =
         in_time = f.in_time;
         settled_is = ap (λ (z : State). z.settled) made ∙ f.settled_is;
         waiting_is = ap (λ (z : State). z.waiting) made ∙ f.waiting_is;
+        caches_is = ap (λ (z : State). z.caches) made ∙ f.caches_is;
         ran_out = (sym (ap (λ (q : batcher.State Arrival). next_due q) same) ∙ due, le);
         pending_is = ap (λ (z : State). z.pending) made ∙ ap fired same;
         sender_is = ap (λ (z : State). z.sender) made ∙ (offers ∙ (ap (λ (s : SenderData). all_offered (all_sent (last_batch (Some d) C)) s) nil ∙ two_offers B (last_batch (Some d) C) old.sender));
@@ -278,6 +286,7 @@ fronts_are m old new ord front =
         in_time = tt;
         settled_is = sym (append-nil old.settled);
         waiting_is = refl;
+        caches_is = refl;
         ran_out = tt;
         pending_is = refl;
         sender_is = refl;

@@ -1,6 +1,7 @@
 pub mod Times
 pub mod Order
 pub mod Later
+pub mod Events
 pub mod Fronts
 pub mod Walks
 pub mod Walked

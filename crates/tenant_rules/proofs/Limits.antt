@@ -2,6 +2,7 @@
 use Rattle.std.proofs.Common.{◌≡◌, ℕ, zero, suc, ◌+◌, ◌<◌, ◌≤◌, List, [], ◌∷◌, ◌++◌, length, refl, sym, subst, ap, ◌∙◌, arith, length-append, Bool, true, false, cond, Option, Some, None}
 use Rattle.std.specs.Prelude.{drop, option_to_list, nat_lt, ◌==◌}
 use Rattle.std.proofs.lemmas.Bool.Decides.{nat_tests}
+use Rattle.std.proofs.lemmas.List.{length-take}
 use Rattle.tail_settings.specs.Section.{SectionData}
 use Rattle.span_pool.specs.Stored.{same_bytes}
 use Rattle.send_retry.specs.Class.{AnswerData}
@@ -10,7 +11,8 @@ use Rattle.span_batcher.specs.State.{next_due}
 use Rattle.span_batcher.specs.Machine.{cuts, added, fired}
 use Rattle.span_batcher.specs.Machine as machine
 use Rattle.span_batcher.specs.Timers.{is_due}
-use Rattle.drop_ledger.specs.declared.places.Place.TheVariants.{Undecided, Pending, Queued, QueueFull}
+use Rattle.drop_ledger.specs.declared.places.Place.{Place}
+use Rattle.drop_ledger.specs.declared.places.Place.TheVariants.{Undecided, Pending, Queued, NotSampled, QueueFull}
 use Rattle.tenant_rules.specs.Arrivals.{Arrival, valid, trace_of}
 use Rattle.tenant_rules.specs.Own.{Own, Post, Turn, Answer, Report, Drain}
 use Rattle.tenant_rules.specs.Fate.{SettledData, WaitingData, are_sampled}
@@ -18,9 +20,13 @@ use Rattle.tenant_rules.specs.Sender.{BatchData, ActiveData, SenderData, is_full
 use Rattle.tenant_rules.specs.Batching.{all_sent}
 use Rattle.tenant_rules.specs.Intake.{Verdict, shutting_down, counter_limit, exhausted, accepted}
 use Rattle.tenant_rules.specs.Sending.{sender, ended_in_flight}
+use Rattle.decision_cache.specs.Recent.{without as without_id, cached}
+use Rattle.decision_cache.specs.Ids.{is_same}
+use Rattle.decision_cache.specs.Caches.{found}
+use Rattle.tenant_rules.specs.Events.{size_of}
 use Rattle.tenant_rules.specs.State.{State, state}
-use Rattle.tenant_rules.specs.Timers.{recount, queued, all_queued, grouped, flushed, settle, sample, decide_row, decide, first_due, next_timer, is_batch, one_run, ran, enough, advanced}
-use Rattle.tenant_rules.specs.Machine.{held, sampled_in, has_row, joined, evict_first, evict_waiting, evicted, opens, joins, late_or_opens, goes, counted_in, come, all_come, verdict, posted, post, turned_by, all_moved, all_decided, closed, drain, effective, acts, next}
+use Rattle.tenant_rules.specs.Timers.{recount, queued, all_queued, grouped, flushed, settle, sample, decide_row, remembered, decide, first_due, next_timer, is_batch, one_run, ran, enough, advanced}
+use Rattle.tenant_rules.specs.Machine.{held, sampled_in, has_row, joined, evict_first, evict_waiting, evicted, opens, joins, cached_or_opens, late_or_opens, goes, counted_in, come, all_come, verdict, posted, post, turned_by, all_moved, all_decided, closed, drain, effective, acts, next}
 use Rattle.tenant_rules.specs.Limits.{IsWithinLimits, StepsStayWithin, FrontsStayWithin, PastsStayWithin}
 use Rattle.tenant_rules.proofs.Walked.{decide_row-is}
 use Rattle.tenant_rules.proofs.Steps.{IsNext, next_is, under_ticket, flying_under}
@@ -77,9 +83,15 @@ decide_row_within n m r rs s is k =
     let sampled = are_sampled s.section.tail_sampling.policies r.spans in
     sample_within n m r (settle m r rs sampled s) sampled (settle_within n m r rs s sampled is k)
 
+remembered_within : (n : ℕ) (sampled : Bool) (trace : List ℕ) (s : State) → Within n s → Within n (remembered sampled trace s)
+remembered_within n true trace s k =
+    let few = length-take s.caches.sampled.size (trace ∷ without_id is_same trace s.caches.sampled.ids) in omega (arith, few)
+remembered_within n false trace s k =
+    let few = length-take s.caches.other.size (trace ∷ without_id is_same trace s.caches.other.ids) in omega (arith, few)
+
 decide_within : (n : ℕ) (ws : List WaitingData) (s : State) → s.waiting ≡ ws → Within n s → Within n (decide ws s)
 decide_within n [] s is k = k
-decide_within n (r ∷ rs) s is k = decide_row_within n r.due r rs s is k
+decide_within n (r ∷ rs) s is k = remembered_within n (are_sampled s.section.tail_sampling.policies r.spans) r.trace (decide_row r.due r rs s) (decide_row_within n r.due r rs s is k)
 
 one_run_within : (n : ℕ) (s : State) → Within n s → Within n (one_run s)
 one_run_within n s k = by_test (is_batch (next_due s.pending) (first_due s.waiting))
@@ -163,10 +175,18 @@ opens_within n m x s some k = by_room (nat_lt s.opened s.section.tail_sampling.n
     by_room true is = omega (arith, early is, length-append s.waiting (row ∷ []))
     by_room false is = by_settled s.settled refl (full is)
 
+recounted_within : (n : ℕ) (from to : Place) (k : ℕ) (s : State) → Within n s → Within n (recount from to k s)
+recounted_within n from to k s is = omega arith
+
+cached_or_opens_within : (n m : ℕ) (x : Arrival) (o : Option Bool) (s : State) → 0 < n → Within n s → Within n (cached_or_opens m x o s)
+cached_or_opens_within n m x (Some true) s some k = grouped_within n m (x ∷ []) (remembered true (trace_of x) s) (remembered_within n true (trace_of x) s k)
+cached_or_opens_within n m x (Some false) s some k = recounted_within n Undecided NotSampled 1 (remembered false (trace_of x) s) (remembered_within n false (trace_of x) s k)
+cached_or_opens_within n m x None s some k = opens_within n m x s some k
+
 late_or_opens_within : (n m : ℕ) (x : Arrival) (o : Option Bool) (s : State) → 0 < n → Within n s → Within n (late_or_opens m x o s)
 late_or_opens_within n m x (Some true) s some k = grouped_within n m (x ∷ []) s k
 late_or_opens_within n m x (Some false) s some k = omega arith
-late_or_opens_within n m x None s some k = opens_within n m x s some k
+late_or_opens_within n m x None s some k = cached_or_opens_within n m x (found (trace_of x) s.caches) s some k
 
 goes_within : (n m : ℕ) (x : Arrival) (s : State) → 0 < n → Within n s → Within n (goes m x s)
 goes_within n m x s some k = by_row (has_row (trace_of x) s.waiting)
@@ -298,6 +318,10 @@ next_within n step s some k =
 with_most : (s : State) → IsWithinLimits s → Within s.section.tail_sampling.num_traces s
 with_most s is = record { most_is = refl; limits = is }
 
+-- an event of a trace's id leaves it so
+pub remembered_stay_within : (sampled : Bool) (trace : List ℕ) (s : State) → IsWithinLimits s → IsWithinLimits (remembered sampled trace s)
+remembered_stay_within sampled trace s is = (remembered_within s.section.tail_sampling.num_traces sampled trace s (with_most s is)).limits
+
 pub steps_stay_within : StepsStayWithin
 steps_stay_within step s some is = (next_within s.section.tail_sampling.num_traces step s some (with_most s is)).limits
 
@@ -310,7 +334,10 @@ fronts_stay_within m old new front is =
 
 first_within : (w : SectionData) → Within w.tail_sampling.num_traces (state w [])
 unfolding state sender
-first_within w = omega arith
+first_within w = omega (arith, none (size_of w true), none (size_of w false))
+  where
+    none : (n : ℕ) → length (cached is_same n []) ≡ 0
+    none n = let few = length-take {A = List ℕ} n [] in omega (arith, few)
 
 past_within : (w : SectionData) → 0 < w.tail_sampling.num_traces → ((past : List Own) (step : Own) → state w (step ∷ past) ≡ next step (state w past)) → (past : List Own) →
     Within w.tail_sampling.num_traces (state w past)

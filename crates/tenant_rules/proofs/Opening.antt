@@ -6,10 +6,11 @@ use Rattle.tenant_rules.specs.Arrivals.{Arrival, trace_of}
 use Rattle.tenant_rules.specs.Rows.{Opened, Seated, Placed, Sits, seats, is_present}
 use Rattle.tenant_rules.specs.Fate.{most_of, due_of, on_time, is_sampled, is_evicted, is_before, opening_of, WaitingData, settled, waiting, dropped, late_dropped, too_early}
 use Rattle.tenant_rules.specs.Decisions.{is_cut_short}
+use Rattle.tenant_rules.specs.Events.{event_of, decisions}
 use Rattle.tenant_rules.specs.Groups.{group_of, decided, late}
 use Rattle.tenant_rules.specs.Batching.{spans_in}
 use Rattle.tenant_rules.proofs.Times.{OpenedBy, evicted_late}
-use Rattle.tenant_rules.proofs.Coming.{SeatedUpTo, on_time_none, on_time_own, over_of, settled_same, waiting_same, decided_same, dropped_same, early_same, same_behind}
+use Rattle.tenant_rules.proofs.Coming.{SeatedUpTo, on_time_none, on_time_own, over_of, settled_same, waiting_same, decided_same, decisions_same, dropped_same, early_same, same_behind}
 
 -- ---- what is decided
 
@@ -29,6 +30,13 @@ decided_opened w e t N all (r ∷ R) =
     let due = r.moment + w.tail_sampling.decision_wait in
     let same : due ≤ e → is_evicted w (length R + 1) due (record { trace = t; moment = e } ∷ all) ≡ is_evicted w (length R + 1) due all = λ le. evicted_more e (length R + 1 + w.tail_sampling.num_traces) due t all le in
     grind (arith, nat_tests, same, decided_opened w e t N all R)
+
+decisions_opened : (w : SectionData) (v : Bool) (e : ℕ) (t : List ℕ) (N : List Seated) (all R : List Opened) → decisions w v e None N (record { trace = t; moment = e } ∷ all) R ≡ decisions w v e None N all R
+decisions_opened w v e t N all [] = refl
+decisions_opened w v e t N all (r ∷ R) =
+    let due = r.moment + w.tail_sampling.decision_wait in
+    let same : due ≤ e → is_evicted w (length R + 1) due (record { trace = t; moment = e } ∷ all) ≡ is_evicted w (length R + 1) due all = λ le. evicted_more e (length R + 1 + w.tail_sampling.num_traces) due t all le in
+    grind (arith, nat_tests, same, decisions_opened w v e t N all R)
 
 dropped_opened : (w : SectionData) (e : ℕ) (t : List ℕ) (N : List Seated) (all R : List Opened) → dropped w e None N (record { trace = t; moment = e } ∷ all) R ≡ dropped w e None N all R
 dropped_opened w e t N all [] = refl
@@ -96,6 +104,15 @@ decided_first w e a N R wait =
     let same = over_of w e (n ∷ N) N R (same_behind w n N R (omega arith)) in
     none_whole (decided w e None (n ∷ N) (r ∷ R) R) (group_of w None (n ∷ N) r (length R + 1)) (leb (e + w.tail_sampling.decision_wait) e) (not (is_evicted w (length R + 1) (due_of w e) (r ∷ R))) (not (is_cut_short w None r)) (not_over w e wait)
     ∙ (decided_same w e (n ∷ N) N (r ∷ R) R same ∙ decided_opened w e (trace_of a) N R R)
+
+pub decisions_first : (w : SectionData) (v : Bool) (e : ℕ) (a : Arrival) (N : List Seated) (R : List Opened) → 0 < w.tail_sampling.decision_wait →
+    decisions w v e None (first_of e a R ∷ N) (row_of e a ∷ R) (row_of e a ∷ R) ≡ decisions w v e None N R R
+decisions_first w v e a N R wait =
+    let n = first_of e a R in
+    let r = row_of e a in
+    let same = over_of w e (n ∷ N) N R (same_behind w n N R (omega arith)) in
+    none_whole (decisions w v e None (n ∷ N) (r ∷ R) R) (event_of w v (n ∷ N) r (length R + 1)) (leb (e + w.tail_sampling.decision_wait) e) (not (is_evicted w (length R + 1) (due_of w e) (r ∷ R))) (not (is_cut_short w None r)) (not_over w e wait)
+    ∙ (decisions_same w v e (n ∷ N) N (r ∷ R) R same ∙ decisions_opened w v e (trace_of a) N R R)
 
 pub dropped_first : (w : SectionData) (e : ℕ) (a : Arrival) (N : List Seated) (R : List Opened) → 0 < w.tail_sampling.decision_wait →
     dropped w e None (first_of e a R ∷ N) (row_of e a ∷ R) (row_of e a ∷ R) ≡ dropped w e None N R R

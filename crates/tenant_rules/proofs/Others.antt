@@ -5,7 +5,8 @@ use Rattle.tail_settings.specs.Section.{SectionData}
 use Rattle.tenant_rules.specs.Arrivals.{Arrival}
 use Rattle.tenant_rules.specs.Own.{Own, Post, Turn, Answer, Report, Drain, moment_of, clock, drained}
 use Rattle.tenant_rules.specs.Fate.{settled}
-use Rattle.tenant_rules.specs.Seating.{opened, seated}
+use Rattle.tenant_rules.specs.Events.{caches_of}
+use Rattle.tenant_rules.specs.Seating.{opened, placed, seated}
 use Rattle.tenant_rules.specs.Groups.{groups}
 use Rattle.tenant_rules.specs.Batching.{formed, pending, waiting_rows}
 use Rattle.tenant_rules.specs.Intake.{IntakeData, verdict, intake_by, intake}
@@ -49,6 +50,7 @@ all_alike w one other drain_is clock_is intake_is =
       opened_is = ap (λ (j : IntakeData). length (opened w j.spans)) intake_is;
       settled_is = alike (λ (z : Option ℕ) (m : ℕ) (j : IntakeData). settled w m z (seated w j.spans) (length (opened w j.spans)) (opened w j.spans)) o o' e e' i i' drain_is clock_is intake_is;
       waiting_is = alike (λ (z : Option ℕ) (m : ℕ) (j : IntakeData). waiting_rows w m z j.spans) o o' e e' i i' drain_is clock_is intake_is;
+      caches_is = alike (λ (z : Option ℕ) (m : ℕ) (j : IntakeData). caches_of w m z (placed w j.spans) (opened w j.spans)) o o' e e' i i' drain_is clock_is intake_is;
       pending_is = alike (λ (z : Option ℕ) (m : ℕ) (j : IntakeData). pending w m z j.spans) o o' e e' i i' drain_is clock_is intake_is;
       counters_are = λ sender ended. alike (λ (z : Option ℕ) (m : ℕ) (j : IntakeData). ledger_at w j m z sender ended) o o' e e' i i' drain_is clock_is intake_is;
     }

@@ -26,6 +26,7 @@ use Rattle.tenant_rules.specs.Timers.{enough, next_timer, first_due, advanced}
 use Rattle.tenant_rules.proofs.Order.{AllUpTo, AllUpTo-append, AllUpTo-by_moment}
 use Rattle.tenant_rules.proofs.Times.{TakenBy}
 use Rattle.tenant_rules.proofs.Later.{AllUpTo-late}
+use Rattle.tenant_rules.proofs.Events.{caches_stay}
 use Rattle.tenant_rules.proofs.Fronts.{ran_none}
 use Rattle.tenant_rules.proofs.Walked.{set_to}
 use Rattle.tenant_rules.proofs.Tally.{set_counts, set_same}
@@ -177,5 +178,5 @@ stays w i x d e D es sound le le' by =
     let idle : is_due (next_timer s) e ≡ false = ap (λ (o : Option ℕ). is_due o e) none in
     let waits : waiting_rows w e (Some x) A ≡ waiting_rows w d (Some x) A = waits_none w x e (length R) N R lt ∙ sym (waits_none w x d (length R) N R le) in
     let all : state_with w i e (Some x) D es ≡ set_to e s =
-    state_same s _ _ _ _ _ _ D e _ _ (settled_stay w x d e (length R) N R le lt) waits (pending_stay w x d e A le lt) (counts_stay w i x d e D (ended_places es) le lt) in
+    state_same s _ _ _ _ _ _ D e _ _ _ _ (settled_stay w x d e (length R) N R le lt) waits (pending_stay w x d e A le lt) (counts_stay w i x d e D (ended_places es) le lt) (caches_stay w x d e (placed w A) R le lt) in
     all ∙ sym (ap (set_to e) (ran_none (enough s) e s idle))

@@ -4,7 +4,7 @@ use Rattle.std.specs.Prelude.{option_to_list}
 use Rattle.drop_ledger.specs.declared.places.Place.TheVariants.{Undecided, Pending, Queued, QueueFull}
 use Rattle.drop_ledger.specs.Ledger.{in_places, counted, most_counted}
 use Rattle.span_batcher.specs.State.{next_due}
-use Rattle.span_batcher.specs.Machine.{cuts, uncut, added, fired}
+use Rattle.span_batcher.specs.Machine.{cuts, added, fired}
 use Rattle.span_batcher.specs.Machine as machine
 use Rattle.span_batcher.specs.Timers.{is_due}
 use Rattle.tenant_rules.specs.Arrivals.{Arrival}
@@ -12,7 +12,7 @@ use Rattle.tenant_rules.specs.Fate.{WaitingData, are_sampled}
 use Rattle.tenant_rules.specs.Sender.{BatchData, sizes, active_sizes, is_full}
 use Rattle.tenant_rules.specs.Batching.{all_sent, spans_in}
 use Rattle.tenant_rules.specs.State.{State}
-use Rattle.tenant_rules.specs.Timers.{recount, queued, all_queued, grouped, flushed, settle, sample, decide_row, decide, first_due, next_timer, is_batch, one_run, ran, enough, advanced}
+use Rattle.tenant_rules.specs.Timers.{recount, queued, all_queued, grouped, flushed, settle, sample, decide_row, remembered, decide, first_due, next_timer, is_batch, one_run, ran, enough, advanced}
 use Rattle.tenant_rules.specs.Machine.{all_decided, closed, drain}
 use Rattle.tenant_rules.specs.Sum.{IsCounted}
 use Rattle.tenant_rules.proofs.Walked.{decide_row-is}
@@ -133,9 +133,16 @@ decide_row_kept f m r rs s is k =
     let sampled = are_sampled s.section.tail_sampling.policies r.spans in
     sample_kept f m r rs s sampled sampled is k
 
+-- an event of a trace's id
+pub remembered_kept : (f : Fixed) (left : ℕ) (sampled : Bool) (trace : List ℕ) (s : State) → Kept f left 0 s → Kept f left 0 (remembered sampled trace s)
+remembered_kept f left sampled trace s k = omega arith
+
+pub remembered_counted : (sampled : Bool) (trace : List ℕ) (s : State) → IsCounted s → IsCounted (remembered sampled trace s)
+remembered_counted sampled trace s is = record { sound = is.sound; undecided_is = is.undecided_is; pending_is = is.pending_is; queued_is = is.queued_is; active_is = is.active_is; within_budget = is.within_budget }
+
 decide_kept : (f : Fixed) (ws : List WaitingData) (s : State) → s.waiting ≡ ws → Kept f 0 0 s → Kept f 0 0 (decide ws s)
 decide_kept f [] s is k = k
-decide_kept f (r ∷ rs) s is k = decide_row_kept f r.due r rs s is k
+decide_kept f (r ∷ rs) s is k = remembered_kept f 0 (are_sampled s.section.tail_sampling.policies r.spans) r.trace (decide_row r.due r rs s) (decide_row_kept f r.due r rs s is k)
 
 one_run_kept : (f : Fixed) (s : State) → Kept f 0 0 s → Kept f 0 0 (one_run s)
 one_run_kept f s k = by_test (is_batch (next_due s.pending) (first_due s.waiting))

@@ -24,7 +24,7 @@ use Rattle.tenant_rules.proofs.Times.{Ascends}
 use Rattle.tenant_rules.proofs.Later.{meanwhile}
 use Rattle.tenant_rules.proofs.Fronts.{resent, all_queued-is}
 use Rattle.tenant_rules.proofs.Walks.{flush_by, walk, flush_by-waiting, decide-waiting}
-use Rattle.tenant_rules.proofs.Walked.{flush_by-is, decide_row-is, pending_with, batches_with, step_pending, none_due}
+use Rattle.tenant_rules.proofs.Walked.{flush_by-is, decide-is, pending_with, batches_with, step_pending, none_due}
 
 -- counters with these six numbers
 abbrev pub set_counts : LedgerData → ℕ → ℕ → ℕ → ℕ → ℕ → ℕ → LedgerData
@@ -181,10 +181,10 @@ walk_tally l n f e m p (r ∷ rs) s pol waits asc is = by_test (leb r.due e) ref
         let le : r.due ≤ e = grind (arith, nat_tests, b) in
         let sampled = are_sampled p r.spans in
         let s1 = flush_by r.due s in
-        let s2 = decide_row r.due r rs s1 in
+        let s2 = decide (r ∷ rs) s1 in
         let e1 = flush_by-is 0 r.due s in
         let pol1 : s1.section.tail_sampling.policies ≡ p = ap (λ (t : State). t.section.tail_sampling.policies) e1 ∙ pol in
-        let e2 = decide_row-is 0 r.due p r rs s1 pol1 in
+        let e2 = decide-is 0 p r rs s1 pol1 in
         let pol2 : s2.section.tail_sampling.policies ≡ p = ap (λ (t : State). t.section.tail_sampling.policies) e2 ∙ pol1 in
         let t1 = flush_by_tally l n f r.due s is in
         let f1 = f + sizes (overflow (all_sent (passed r.due s.pending)) s.sender) in

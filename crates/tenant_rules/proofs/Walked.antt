@@ -13,6 +13,7 @@ use Rattle.span_batcher.specs.Machine.{cuts, added, fired}
 use Rattle.span_batcher.specs.Timers.{is_due, passed, after, come, come_batches}
 use Rattle.tenant_rules.specs.Arrivals.{Arrival}
 use Rattle.tenant_rules.specs.Fate.{SettledData, WaitingData, are_sampled}
+use Rattle.decision_cache.specs.Caches.{BothData, noted_in}
 use Rattle.tenant_rules.specs.Sender.{BatchData, SenderData, offered}
 use Rattle.tenant_rules.specs.Sending.{all_offered}
 use Rattle.tenant_rules.specs.Batching.{as_sent, all_sent}
@@ -21,6 +22,7 @@ use Rattle.tenant_rules.specs.Timers.{recount, flushed, settle, sample, decide_r
 use Rattle.tenant_rules.proofs.Times as times
 use Rattle.tenant_rules.proofs.Times.{later, done, Ascends}
 use Rattle.tenant_rules.proofs.Later.{meanwhile, left_then}
+use Rattle.tenant_rules.proofs.Events.{due_noted}
 use Rattle.tenant_rules.proofs.Fronts.{all_queued-is}
 use Rattle.tenant_rules.proofs.Walks.{flush_by, walk, decide-waiting}
 
@@ -29,13 +31,13 @@ abbrev pub set_to : ℕ → State → State
 set_to moment s = record s { clock = moment }
 
 -- a state with other rows and another pending list, to whose sender batches were offered
-abbrev pub became : State → List SettledData → List WaitingData → batcher.State Arrival → List BatchData → ℕ → LedgerData → State
-became s settled waiting pending batches clock ledger =
-    record s { clock = clock; settled = settled; waiting = waiting; pending = pending; sender = all_offered batches s.sender; ledger = ledger }
+abbrev pub became : State → List SettledData → List WaitingData → batcher.State Arrival → List BatchData → ℕ → LedgerData → BothData → State
+became s settled waiting pending batches clock ledger caches =
+    record s { clock = clock; settled = settled; waiting = waiting; caches = caches; pending = pending; sender = all_offered batches s.sender; ledger = ledger }
 
-pub became_same : (s : State) (S S' : List SettledData) (W W' : List WaitingData) (P P' : batcher.State Arrival) (D D' : SenderData) (c : ℕ) (L : LedgerData) → S ≡ S' → W ≡ W' → P ≡ P' → D ≡ D' →
-    Path State (record s { clock = c; settled = S; waiting = W; pending = P; sender = D; ledger = L }) (record s { clock = c; settled = S'; waiting = W'; pending = P'; sender = D'; ledger = L })
-became_same s S S' W W' P P' D D' c L a b d f = cc (a, b, d, f)
+pub became_same : (s : State) (S S' : List SettledData) (W W' : List WaitingData) (P P' : batcher.State Arrival) (D D' : SenderData) (c : ℕ) (L : LedgerData) (K K' : BothData) → S ≡ S' → W ≡ W' → P ≡ P' → D ≡ D' → K ≡ K' →
+    Path State (record s { clock = c; settled = S; waiting = W; caches = K; pending = P; sender = D; ledger = L }) (record s { clock = c; settled = S'; waiting = W'; caches = K'; pending = P'; sender = D'; ledger = L })
+became_same s S S' W W' P P' D D' c L K K' a b d f g = cc (a, b, d, f, g)
 
 pub all_offered-append : (xs ys : List BatchData) (s : SenderData) → all_offered (xs ++ ys) s ≡ all_offered ys (all_offered xs s)
 all_offered-append [] ys s = refl
@@ -44,15 +46,15 @@ all_offered-append (x ∷ xs) ys s = all_offered-append xs ys (offered x s)
 -- ---- the batch timer
 
 flush_with : (c m : ℕ) (o : Option ℕ) (s : State) →
-    set_to c (cond (is_due o m) (flushed o s) s) ≡ became s s.settled s.waiting (cond (is_due o m) (fired s.pending) s.pending) (all_sent (cond (is_due o m) (record { moment = unwrap_or o m; spans = s.pending.spans } ∷ []) [])) c (cond (is_due o m) (flushed o s) s).ledger
+    set_to c (cond (is_due o m) (flushed o s) s) ≡ became s s.settled s.waiting (cond (is_due o m) (fired s.pending) s.pending) (all_sent (cond (is_due o m) (record { moment = unwrap_or o m; spans = s.pending.spans } ∷ []) [])) c (cond (is_due o m) (flushed o s) s).ledger s.caches
 flush_with c m None s = refl
 flush_with c m (Some d) s = by_test (leb d m)
   where
-    by_test : (b : Bool) → set_to c (cond b (flushed (Some d) s) s) ≡ became s s.settled s.waiting (cond b (fired s.pending) s.pending) (all_sent (cond b (record { moment = d; spans = s.pending.spans } ∷ []) [])) c (cond b (flushed (Some d) s) s).ledger
+    by_test : (b : Bool) → set_to c (cond b (flushed (Some d) s) s) ≡ became s s.settled s.waiting (cond b (fired s.pending) s.pending) (all_sent (cond b (record { moment = d; spans = s.pending.spans } ∷ []) [])) c (cond b (flushed (Some d) s) s).ledger s.caches
     by_test true = ap (set_to c) (all_queued-is (all_sent (record { moment = d; spans = s.pending.spans } ∷ [])) (record s { clock = d; pending = fired s.pending }))
     by_test false = refl
 
-pub flush_by-is : (c m : ℕ) (s : State) → set_to c (flush_by m s) ≡ became s s.settled s.waiting (after m s.pending) (all_sent (passed m s.pending)) c (flush_by m s).ledger
+pub flush_by-is : (c m : ℕ) (s : State) → set_to c (flush_by m s) ≡ became s s.settled s.waiting (after m s.pending) (all_sent (passed m s.pending)) c (flush_by m s).ledger s.caches
 flush_by-is c m s = flush_with c m (next_due s.pending) s
 
 -- ---- a decision
@@ -65,17 +67,26 @@ abbrev pub batches_with : Bool → ℕ → List Arrival → batcher.State Arriva
 batches_with sampled moment spans p = if sampled then cuts p.rules moment (p.spans ++ spans) else []
 
 decide_with : (c m : ℕ) (r : WaitingData) (rs : List WaitingData) (s : State) (b sampled : Bool) →
-    set_to c (sample m r b (settle m r rs sampled s)) ≡ became s (s.settled ++ record { trace = r.trace; sampled = sampled } ∷ []) rs (pending_with b m r.spans s.pending) (all_sent (batches_with b m r.spans s.pending)) c (sample m r b (settle m r rs sampled s)).ledger
+    set_to c (sample m r b (settle m r rs sampled s)) ≡ became s (s.settled ++ record { trace = r.trace; sampled = sampled } ∷ []) rs (pending_with b m r.spans s.pending) (all_sent (batches_with b m r.spans s.pending)) c (sample m r b (settle m r rs sampled s)).ledger s.caches
 decide_with c m r rs s true sampled = ap (set_to c) (all_queued-is (all_sent (cuts s.pending.rules m (s.pending.spans ++ r.spans))) (recount Undecided Pending (length r.spans) (record (settle m r rs sampled s) { pending = added m r.spans s.pending })))
 decide_with c m r rs s false sampled = refl
 
 pub decide_row-is : (c m : ℕ) (p : List PolicyData) (r : WaitingData) (rs : List WaitingData) (s : State) → s.section.tail_sampling.policies ≡ p →
-    set_to c (decide_row m r rs s) ≡ became s (s.settled ++ record { trace = r.trace; sampled = are_sampled p r.spans } ∷ []) rs (pending_with (are_sampled p r.spans) m r.spans s.pending) (all_sent (batches_with (are_sampled p r.spans) m r.spans s.pending)) c (decide_row m r rs s).ledger
+    set_to c (decide_row m r rs s) ≡ became s (s.settled ++ record { trace = r.trace; sampled = are_sampled p r.spans } ∷ []) rs (pending_with (are_sampled p r.spans) m r.spans s.pending) (all_sent (batches_with (are_sampled p r.spans) m r.spans s.pending)) c (decide_row m r rs s).ledger s.caches
 decide_row-is c m p r rs s is =
     let at = are_sampled s.section.tail_sampling.policies r.spans in
     let same : at ≡ are_sampled p r.spans = ap (λ (q : List PolicyData). are_sampled q r.spans) is in
     decide_with c m r rs s at at
-    ∙ ap (λ (b : Bool). became s (s.settled ++ record { trace = r.trace; sampled = b } ∷ []) rs (pending_with b m r.spans s.pending) (all_sent (batches_with b m r.spans s.pending)) c (decide_row m r rs s).ledger) same
+    ∙ ap (λ (b : Bool). became s (s.settled ++ record { trace = r.trace; sampled = b } ∷ []) rs (pending_with b m r.spans s.pending) (all_sent (batches_with b m r.spans s.pending)) c (decide_row m r rs s).ledger s.caches) same
+
+-- with its event
+pub decide-is : (c : ℕ) (p : List PolicyData) (r : WaitingData) (rs : List WaitingData) (s : State) → s.section.tail_sampling.policies ≡ p →
+    set_to c (decide (r ∷ rs) s) ≡ became s (s.settled ++ record { trace = r.trace; sampled = are_sampled p r.spans } ∷ []) rs (pending_with (are_sampled p r.spans) r.due r.spans s.pending) (all_sent (batches_with (are_sampled p r.spans) r.due r.spans s.pending)) c (decide (r ∷ rs) s).ledger (noted_in (are_sampled p r.spans) r.trace s.caches)
+decide-is c p r rs s is =
+    let at = are_sampled s.section.tail_sampling.policies r.spans in
+    let same : at ≡ are_sampled p r.spans = ap (λ (q : List PolicyData). are_sampled q r.spans) is in
+    ap (λ (t : State). record t { caches = noted_in at r.trace t.caches }) (decide_row-is c r.due p r rs s is)
+    ∙ ap (λ (b : Bool). became s (s.settled ++ record { trace = r.trace; sampled = are_sampled p r.spans } ∷ []) rs (pending_with (are_sampled p r.spans) r.due r.spans s.pending) (all_sent (batches_with (are_sampled p r.spans) r.due r.spans s.pending)) c (decide (r ∷ rs) s).ledger (noted_in b r.trace s.caches)) same
 
 -- ---- rows that are not due
 
@@ -190,30 +201,32 @@ offered_thrice xs ys zs s =
     sym (ap (λ (bs : List BatchData). all_offered bs s) a ∙ (all_offered-append (all_sent xs) (all_sent ys ++ all_sent zs) s ∙ all_offered-append (all_sent ys) (all_sent zs) (all_offered (all_sent xs) s)))
 
 pub walk-is : (c e m : ℕ) (p : List PolicyData) (ws : List WaitingData) (s : State) → s.section.tail_sampling.policies ≡ p → s.waiting ≡ ws → Ascends m ws →
-    set_to c (walk e ws s) ≡ became s (s.settled ++ done p e ws) (later e ws) (left_then p e ws s.pending) (all_sent (meanwhile p e ws s.pending)) c (walk e ws s).ledger
+    set_to c (walk e ws s) ≡ became s (s.settled ++ done p e ws) (later e ws) (left_then p e ws s.pending) (all_sent (meanwhile p e ws s.pending)) c (walk e ws s).ledger (due_noted p e ws s.caches)
 walk-is c e m p [] s pol is asc =
-    flush_by-is c e s ∙ became_same s s.settled (s.settled ++ []) s.waiting [] (after e s.pending) (after e s.pending) _ _ c (flush_by e s).ledger (sym (append-nil s.settled)) is refl refl
+    flush_by-is c e s ∙ became_same s s.settled (s.settled ++ []) s.waiting [] (after e s.pending) (after e s.pending) _ _ c (flush_by e s).ledger s.caches s.caches (sym (append-nil s.settled)) is refl refl refl
 walk-is c e m p (r ∷ rs) s pol is asc = by_test (leb r.due e) refl (λ t pol' is'. walk-is c e r.due p rs t pol' is' asc.1)
   where
     by_test : (b : Bool) → leb r.due e ≡ b → ((t : State) → t.section.tail_sampling.policies ≡ p → t.waiting ≡ rs →
-        set_to c (walk e rs t) ≡ became t (t.settled ++ done p e rs) (later e rs) (left_then p e rs t.pending) (all_sent (meanwhile p e rs t.pending)) c (walk e rs t).ledger) →
+        set_to c (walk e rs t) ≡ became t (t.settled ++ done p e rs) (later e rs) (left_then p e rs t.pending) (all_sent (meanwhile p e rs t.pending)) c (walk e rs t).ledger (due_noted p e rs t.caches)) →
         set_to c (cond b (walk e rs (decide (r ∷ rs) (flush_by r.due s))) (flush_by e s))
         ≡ became s (s.settled ++ done p e (r ∷ rs)) (later e (r ∷ rs)) (left_then p e (r ∷ rs) s.pending) (all_sent (meanwhile p e (r ∷ rs) s.pending)) c (cond b (walk e rs (decide (r ∷ rs) (flush_by r.due s))) (flush_by e s)).ledger
+        (cond b (due_noted p e rs (noted_in (are_sampled p r.spans) r.trace s.caches)) s.caches)
     by_test true b ih =
         let le : r.due ≤ e = grind (arith, nat_tests, b) in
         let out : ltb e r.due ≡ false = grind (arith, nat_tests, b) in
         let s1 = flush_by r.due s in
-        let s2 = decide_row r.due r rs s1 in
+        let s2 = decide (r ∷ rs) s1 in
         let e1 = flush_by-is c r.due s in
         let pol1 : s1.section.tail_sampling.policies ≡ p = ap (λ (t : State). t.section.tail_sampling.policies) e1 ∙ pol in
-        let e2 = decide_row-is c r.due p r rs s1 pol1 in
+        let e2 = decide-is c p r rs s1 pol1 in
         let pol2 : s2.section.tail_sampling.policies ≡ p = ap (λ (t : State). t.section.tail_sampling.policies) e2 ∙ pol1 in
         let rest = ih s2 pol2 (decide-waiting r rs s1) in
         let L = (walk e rs s2).ledger in
         let sampled = are_sampled p r.spans in
+        let K = due_noted p e rs (noted_in sampled r.trace s.caches) in
         let row : SettledData = record { trace = r.trace; sampled = sampled } in
-        let two = ap (λ (t : State). became t (t.settled ++ done p e rs) (later e rs) (left_then p e rs t.pending) (all_sent (meanwhile p e rs t.pending)) c L) e2 in
-        let one = ap (λ (t : State). became (became t (t.settled ++ row ∷ []) rs (pending_with sampled r.due r.spans t.pending) (all_sent (batches_with sampled r.due r.spans t.pending)) c s2.ledger) ((t.settled ++ row ∷ []) ++ done p e rs) (later e rs) (left_then p e rs (pending_with sampled r.due r.spans t.pending)) (all_sent (meanwhile p e rs (pending_with sampled r.due r.spans t.pending))) c L) e1 in
+        let two = ap (λ (t : State). became t (t.settled ++ done p e rs) (later e rs) (left_then p e rs t.pending) (all_sent (meanwhile p e rs t.pending)) c L (due_noted p e rs t.caches)) e2 in
+        let one = ap (λ (t : State). became (became t (t.settled ++ row ∷ []) rs (pending_with sampled r.due r.spans t.pending) (all_sent (batches_with sampled r.due r.spans t.pending)) c s2.ledger (noted_in sampled r.trace t.caches)) ((t.settled ++ row ∷ []) ++ done p e rs) (later e rs) (left_then p e rs (pending_with sampled r.due r.spans t.pending)) (all_sent (meanwhile p e rs (pending_with sampled r.due r.spans t.pending))) c L (due_noted p e rs (noted_in sampled r.trace t.caches))) e1 in
         let P1 = after r.due s.pending in
         let P2 = pending_with sampled r.due r.spans P1 in
         let sp = step_pending p e r rs s.pending le asc.1 in
@@ -221,7 +234,7 @@ walk-is c e m p (r ∷ rs) s pol is asc = by_test (leb r.due e) refl (λ t pol' 
         let waiting_is : later e rs ≡ later e (r ∷ rs) = rw out refl in
         let sender_is : all_offered (all_sent (meanwhile p e rs P2)) (all_offered (all_sent (batches_with sampled r.due r.spans P1)) (all_offered (all_sent (passed r.due s.pending)) s.sender)) ≡ all_offered (all_sent (meanwhile p e (r ∷ rs) s.pending)) s.sender =
         offered_thrice (passed r.due s.pending) (batches_with sampled r.due r.spans P1) (meanwhile p e rs P2) s.sender ∙ ap (λ (bs : List (Batch Arrival)). all_offered (all_sent bs) s.sender) sp.1 in
-        rest ∙ (two ∙ (one ∙ became_same s ((s.settled ++ row ∷ []) ++ done p e rs) (s.settled ++ done p e (r ∷ rs)) (later e rs) (later e (r ∷ rs)) (left_then p e rs P2) (left_then p e (r ∷ rs) s.pending) _ _ c L settled_is waiting_is sp.0 sender_is))
+        rest ∙ (two ∙ (one ∙ became_same s ((s.settled ++ row ∷ []) ++ done p e rs) (s.settled ++ done p e (r ∷ rs)) (later e rs) (later e (r ∷ rs)) (left_then p e rs P2) (left_then p e (r ∷ rs) s.pending) _ _ c L K K settled_is waiting_is sp.0 sender_is refl))
     by_test false b ih =
         let lt : e < r.due = grind (arith, nat_tests, b) in
         let none = none_due p e r.due (r ∷ rs) lt (omega arith, asc.1) in
@@ -230,4 +243,4 @@ walk-is c e m p (r ∷ rs) s pol is asc = by_test (leb r.due e) refl (λ t pol' 
         let pending_is : after e s.pending ≡ left_then p e (r ∷ rs) s.pending = ap (λ (gs : List (Group Arrival)). after e (come gs s.pending)) (sym none.2) in
         let batches_is : passed e s.pending ≡ meanwhile p e (r ∷ rs) s.pending = ap (λ (gs : List (Group Arrival)). come_batches gs s.pending ++ passed e (come gs s.pending)) (sym none.2) in
         let sender_is = ap (λ (bs : List (Batch Arrival)). all_offered (all_sent bs) s.sender) batches_is in
-        flush_by-is c e s ∙ became_same s s.settled (s.settled ++ done p e (r ∷ rs)) s.waiting (later e (r ∷ rs)) (after e s.pending) (left_then p e (r ∷ rs) s.pending) _ _ c (flush_by e s).ledger settled_is waiting_is pending_is sender_is
+        flush_by-is c e s ∙ became_same s s.settled (s.settled ++ done p e (r ∷ rs)) s.waiting (later e (r ∷ rs)) (after e s.pending) (left_then p e (r ∷ rs) s.pending) _ _ c (flush_by e s).ledger s.caches s.caches settled_is waiting_is pending_is sender_is refl

@@ -10,6 +10,7 @@ use Rattle.span_batcher.specs.Machine.{fired}
 use Rattle.span_batcher.specs.Timers.{come, come_batches}
 use Rattle.tenant_rules.specs.Arrivals.{Arrival}
 use Rattle.tenant_rules.specs.Fate.{SettledData, WaitingData, are_sampled}
+use Rattle.decision_cache.specs.Caches.{BothData, noted_in}
 use Rattle.tenant_rules.specs.Batching.{all_sent}
 use Rattle.tenant_rules.specs.Sending.{all_offered}
 use Rattle.tenant_rules.specs.State.{State}
@@ -28,6 +29,12 @@ groups_made policies (row ∷ rows) =
     if are_sampled policies row.spans
     then record { moment = row.due; spans = row.spans } ∷ groups_made policies rows
     else groups_made policies rows
+
+-- the caches once they are decided
+abbrev pub rows_noted : List PolicyData → List WaitingData → BothData → BothData
+rows_noted policies [] caches = caches
+rows_noted policies (row ∷ rows) caches =
+    rows_noted policies rows (noted_in (are_sampled policies row.spans) row.trace caches)
 
 -- no row is due after this moment
 abbrev pub AllDueBy : ℕ → List WaitingData → Type 0
@@ -70,6 +77,7 @@ pub record IsFrontAt (moment : ℕ) (old : State) (count : ℕ) (timer : Option 
   pub settled_is : new.settled ≡
       old.settled ++ decided_rows old.section.tail_sampling.policies (take count old.waiting)
   pub waiting_is : new.waiting ≡ drop count old.waiting
+  pub caches_is : new.caches ≡ rows_noted old.section.tail_sampling.policies (take count old.waiting) old.caches
   pub ran_out : RanOut moment timer (come (front_groups old count) old.pending)
   pub pending_is : new.pending ≡ rest_after timer (come (front_groups old count) old.pending)
   pub sender_is : new.sender ≡ all_offered (all_sent (front_batches old count timer)) old.sender

@@ -3,6 +3,7 @@ pub mod Own
 pub mod Rows
 pub mod Fate
 pub mod Decisions
+pub mod Events
 pub mod Seating
 pub mod Groups
 pub mod ExportText

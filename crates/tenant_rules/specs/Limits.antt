@@ -1,22 +1,28 @@
--- No state has more rows, batches that wait and active batches than its settings allow (`num_traces` of the Collector's
--- tailsamplingprocessor, `queue_size` and `num_consumers` of its exporterhelper).
-use Rattle.std.specs.Prelude.{◌≡◌, ◌<◌, ◌≤◌, ◌+◌, ℕ, min, List, length}
+-- No state has more rows, ids of decided traces, batches that wait and active batches than its settings allow
+-- (`num_traces` and `decision_cache` of the Collector's tailsamplingprocessor, `queue_size` and `num_consumers` of its
+-- exporterhelper).
+use Rattle.std.specs.Prelude.{◌≡◌, ◌<◌, ◌≤◌, ◌+◌, ℕ, true, false, min, List, length}
 use Rattle.tail_settings.specs.Section.{SectionData}
 use Rattle.span_batcher.specs.Batches.{IsSound}
 use Rattle.tenant_rules.specs.Own.{Own}
+use Rattle.tenant_rules.specs.Events.{size_of}
 use Rattle.tenant_rules.specs.Batching.{rules_of}
 use Rattle.tenant_rules.specs.State.{State, state}
 use Rattle.tenant_rules.specs.Timers.{IsFront}
 use Rattle.tenant_rules.specs.Machine.{next}
 
--- as many rows are present as have opened, or as may be; the sender goes by the section's settings; no more batches
--- wait than the queue takes, and no more are active than there are consumers
+-- as many rows are present as have opened, or as may be; sender and caches go by the section's settings; no more
+-- batches wait than the queue takes, no more are active than there are consumers, and no cache has more ids than it may
 pub record IsWithinLimits (s : State) : Type 0 where
   pub rows_are : length s.settled + length s.waiting ≡ min s.opened s.section.tail_sampling.num_traces
   pub queue_size_is : s.sender.sending.queue_size ≡ s.section.sending_queue.queue_size
   pub num_consumers_is : s.sender.sending.num_consumers ≡ s.section.sending_queue.num_consumers
   pub queue_fits : length s.sender.queue ≤ s.section.sending_queue.queue_size
   pub active_fit : length s.sender.active ≤ s.section.sending_queue.num_consumers
+  pub sampled_size_is : s.caches.sampled.size ≡ size_of s.section true
+  pub other_size_is : s.caches.other.size ≡ size_of s.section false
+  pub sampled_fit : length s.caches.sampled.ids ≤ s.caches.sampled.size
+  pub others_fit : length s.caches.other.ids ≤ s.caches.other.size
 
 -- a step leaves it so
 abbrev pub StepsStayWithin : Type 0

@@ -12,13 +12,14 @@ use Rattle.tenant_rules.specs.declared.told.Told.TheVariants as tell
 use Rattle.tenant_rules.specs.Arrivals.{Arrival, valid, trace_of}
 use Rattle.tenant_rules.specs.Own.{Own, Post, Turn, Answer, Report, Drain, moment_of}
 use Rattle.tenant_rules.specs.Fate.{SettledData, WaitingData}
+use Rattle.decision_cache.specs.Caches.{found}
 use Rattle.tenant_rules.specs.Batching.{all_sent}
 use Rattle.tenant_rules.specs.Intake.{Verdict, shutting_down, counter_limit, exhausted, accepted, verdict_of}
 use Rattle.tenant_rules.specs.Sender.{Choice, Retried, Oldest, NoBatch, choice, handed_of, in_flight, answered}
 use Rattle.tenant_rules.specs.Sending.{EndedData, ended_in_flight}
 use Rattle.tenant_rules.specs.State.{State}
 use Rattle.tenant_rules.specs.Answers.{reply_of, turn_told, heard}
-use Rattle.tenant_rules.specs.Timers.{recount, all_queued, grouped, decide_row, advanced}
+use Rattle.tenant_rules.specs.Timers.{recount, all_queued, grouped, decide_row, remembered, advanced}
 
 -- ---- a span comes
 
@@ -79,11 +80,17 @@ opens moment x s = record s {
 abbrev pub joins : Arrival → State → State
 joins x s = record s { waiting = joined x s.waiting }
 
--- a late span, by whether its row is sampled; or the first of its row
+-- a span of a trace that has no row, by the verdict that is known; or the first of its row
+abbrev pub cached_or_opens : ℕ → Arrival → Option Bool → State → State
+cached_or_opens moment x (Some true) s = grouped Undecided moment (x ∷ []) (remembered true (trace_of x) s)
+cached_or_opens moment x (Some false) s = recount Undecided NotSampled 1 (remembered false (trace_of x) s)
+cached_or_opens moment x None s = opens moment x (evicted s)
+
+-- a late span, by whether its row is sampled; or one of a trace that has no row
 abbrev pub late_or_opens : ℕ → Arrival → Option Bool → State → State
 late_or_opens moment x (Some true) s = grouped Undecided moment (x ∷ []) s
 late_or_opens moment x (Some false) s = recount Undecided NotSampled 1 s
-late_or_opens moment x None s = opens moment x (evicted s)
+late_or_opens moment x None s = cached_or_opens moment x (found (trace_of x) s.caches) s
 
 -- a span goes to its trace's latest row, where that is present
 abbrev pub goes : ℕ → Arrival → State → State

@@ -45,6 +45,7 @@ pub record AreAlike (section : SectionData) (one other : List Own) : Type 0 wher
   pub opened_is : (state section one).opened ≡ (state section other).opened
   pub settled_is : (state section one).settled ≡ (state section other).settled
   pub waiting_is : (state section one).waiting ≡ (state section other).waiting
+  pub caches_is : (state section one).caches ≡ (state section other).caches
   pub pending_is : (state section one).pending ≡ (state section other).pending
   pub counters_are : (sender : SenderData) (ended : Places) →
       ledger_at section (intake section one) (clock one) (drained one) sender ended ≡

@@ -1,18 +1,29 @@
--- Which row each span goes to: its trace's latest row where that is present, else one that it opens.
-use Rattle.std.specs.Prelude.{ℕ, ◌+◌, Bool, List, [], ◌∷◌, length, Option, Some, None}
+-- Which row each span goes to: its trace's latest row where that is present; none, where a cache has its trace's
+-- verdict; else one that it opens.
+use Rattle.std.specs.Prelude.{ℕ, ◌+◌, Bool, true, false, List, [], ◌∷◌, length, Option, Some, None, if◌then◌else◌}
 use Rattle.tail_settings.specs.Section.{SectionData}
+use Rattle.decision_cache.specs.Recent.{is_cached}
+use Rattle.decision_cache.specs.Ids.{is_same}
 use Rattle.tenant_rules.specs.Arrivals.{trace_of}
 use Rattle.tenant_rules.specs.Rows.{Taken, Opened, Seat, Seated, Placed, Sits, Hits, seats, present_seat}
 use Rattle.tenant_rules.specs.Fate.{most_of}
+use Rattle.tenant_rules.specs.Events.{size_of, events_of}
 
 -- the rows that the spans opened, and the spans with their seats
 pub record Seating : Type 0 where
   pub rows : List Opened
   pub placed : List Placed
 
--- the verdict that is known of a trace at a moment, where it has no row that is present: none is kept
+-- whether the cache of a verdict has a trace at a moment
+abbrev pub knows : SectionData → Bool → ℕ → List ℕ → Seating → Bool
+knows section verdict moment trace s =
+    is_cached is_same (size_of section verdict) trace (events_of section verdict moment None s.placed s.rows)
+
+-- the verdict that is known of a trace at a moment
 abbrev pub known : SectionData → ℕ → List ℕ → Seating → Option Bool
-known section moment trace p = None
+known section moment trace s =
+    if knows section true moment trace s then Some true
+    else if knows section false moment trace s then Some false else None
 
 -- one more span: in its trace's row where that is present; or without a seat where the verdict is known; else it opens
 -- the next row

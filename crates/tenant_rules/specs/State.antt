@@ -8,6 +8,8 @@ use Rattle.tenant_rules.specs.Arrivals.{Arrival}
 use Rattle.tenant_rules.specs.Own.{Own, clock, drained}
 use Rattle.tenant_rules.specs.Rows.{Taken}
 use Rattle.tenant_rules.specs.Fate.{SettledData, WaitingData, settled, dropped, late_dropped, too_early}
+use Rattle.decision_cache.specs.Caches.{BothData}
+use Rattle.tenant_rules.specs.Events.{caches_of}
 use Rattle.tenant_rules.specs.Seating.{opened, placed, seated}
 use Rattle.tenant_rules.specs.Batching.{pending, waiting_rows, spans_in}
 use Rattle.tenant_rules.specs.Intake.{IntakeData, intake}
@@ -26,6 +28,8 @@ pub record State : Type 0 where
   pub settled : List SettledData
   -- and then those that weren't, with their spans
   pub waiting : List WaitingData
+  -- the ids of decided traces, by verdict
+  pub caches : BothData
   -- the spans of groups that are in no batch
   pub pending : batcher.State Arrival
   pub sender : SenderData
@@ -78,6 +82,7 @@ state_at section spans reached drain sender ledger = record {
   opened = length (opened section spans);
   settled = settled section reached drain (seated section spans) (length (opened section spans)) (opened section spans);
   waiting = waiting_rows section reached drain spans;
+  caches = caches_of section reached drain (placed section spans) (opened section spans);
   pending = pending section reached drain spans;
   sender = sender;
   ledger = ledger;

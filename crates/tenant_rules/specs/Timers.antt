@@ -10,6 +10,7 @@ use Rattle.span_batcher.specs.Timers.{is_due}
 use Rattle.tenant_rules.specs.Arrivals.{Arrival}
 use Rattle.tenant_rules.specs.Fate.{WaitingData, are_sampled}
 use Rattle.tenant_rules.specs.Sender.{BatchData, is_full, offered}
+use Rattle.decision_cache.specs.Caches.{noted_in}
 use Rattle.tenant_rules.specs.Batching.{all_sent}
 use Rattle.tenant_rules.specs.Ready.{lesser}
 use Rattle.tenant_rules.specs.State.{State}
@@ -61,10 +62,15 @@ decide_row moment row rows s =
     sample moment row (are_sampled s.section.tail_sampling.policies row.spans)
     (settle moment row rows (are_sampled s.section.tail_sampling.policies row.spans) s)
 
+-- a trace's id has an event in the cache of this verdict
+abbrev pub remembered : Bool → List ℕ → State → State
+remembered sampled trace s = record s { caches = noted_in sampled trace s.caches }
+
 -- the first of these rows, which wait, is decided when it is due
 abbrev pub decide : List WaitingData → State → State
 decide [] s = s
-decide (row ∷ rows) s = decide_row row.due row rows s
+decide (row ∷ rows) s =
+    remembered (are_sampled s.section.tail_sampling.policies row.spans) row.trace (decide_row row.due row rows s)
 
 -- when the first row that waits is due
 abbrev pub first_due : List WaitingData → Option ℕ

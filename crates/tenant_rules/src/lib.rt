@@ -3,16 +3,16 @@
 //! A tenant's own steps are posts of spans, turns of workers, answers of its back end, reports and drains. What it is
 //! told of each depends on its settings and its own steps alone: `specs/State` says what it is after any list of own
 //! steps, with its fourteen counters, `specs/Answers` what it is told of the next one, and `specs/Ready` when it next
-//! has something to do. Rows of traces wait for their decision and leave to make room for others, a budget bounds the
-//! spans that are held, groups of spans become batches, batches wait in a queue, are sent and sent again, and every
-//! span that was taken is counted in one place.
+//! has something to do. Rows of traces wait for their decision and leave to make room for others, two caches may keep
+//! the latest verdicts, a budget bounds the spans that are held, groups of spans become batches, batches wait in a
+//! queue, are sent and sent again, and every span that was taken is counted in one place.
 //!
 //! `specs/Machine` goes from state to state, one timer at a time. The functions here have no bodies: their clauses are
 //! laws that tie the two. It knows nothing of how spans and rows are stored, and nothing of other tenants.
 //!
-//! It stands on `span_batcher`, `send_retry`, `drop_ledger`, `tail_policy` and `tail_settings`, and on the crates that
-//! say what a span is. The rules are after the documents of the OpenTelemetry Collector's `tail_sampling` and `batch`
-//! processors and of its `exporterhelper`, and after OTLP 1.x.
+//! It stands on `span_batcher`, `send_retry`, `drop_ledger`, `decision_cache`, `tail_policy` and `tail_settings`, and
+//! on the crates that say what a span is. The rules are after the documents of the OpenTelemetry Collector's
+//! `tail_sampling` and `batch` processors and of its `exporterhelper`, and after OTLP 1.x.
 #![tactic(auto)]
 
 ghost use Rattle.tenant_rules.specs.Fronts.{FrontsAre};
@@ -51,8 +51,8 @@ pub fn drains_follow()
     ensures { DrainsFollow }
 {}
 
-/// A post's spans are taken one after the other where the budget allows, each as its row has it, and the reply says how
-/// many were left out and why, after the due timers: a law over the definitions.
+/// A post's spans are taken one after the other where the budget allows, each as its row or a cache has it, and the
+/// reply says how many were left out and why, after the due timers: a law over the definitions.
 pub fn posts_follow()
     ensures { PostsFollow }
 {}
@@ -86,8 +86,9 @@ pub fn counted_once()
     ensures pasts { PastsCount }
 {}
 
-/// No state has more rows, batches that wait and active batches than its settings allow, whichever step came last, and
-/// where some first timers have run, as after refused memory: a law over the definitions and the machine.
+/// No state has more rows, ids of decided traces, batches that wait and active batches than its settings allow,
+/// whichever step came last, and where some first timers have run, as after refused memory: a law over the definitions
+/// and the machine.
 pub fn limits_hold()
     ensures steps { StepsStayWithin }
     ensures fronts { FrontsStayWithin }

@@ -293,7 +293,8 @@ fn open_member(
     let Some(section) = settings.section(tenant) else {
         return Ok(());
     };
-    let pipeline = Pipeline::new(alloc, tenant, section)?;
+    let keys = (section.seed, tenant as u64);
+    let pipeline = Pipeline::new(alloc, tenant, section, keys)?;
     members.reserve(1)?;
     agenda.admit(tenant)?;
     let ready = pipeline.ready(stores);

@@ -1,5 +1,4 @@
-use Rattle.std.proofs.Common.{◌≡◌, ◌∙◌, ◌+◌, ◌-◌, ◌<◌, ap, sym, ℕ, suc, arith}
-use Rattle.send_queue.specs.Sender.{SenderData, taken_back}
+use Rattle.std.proofs.Common.{◌≡◌, ◌∙◌, ◌-◌, ap, sym, ℕ, suc, arith}
 use Rattle.tenant_pipeline.specs.Outbox.{undone}
 use Rattle.tenant_pipeline.proofs.undo.take_back_offers.Goals as goal
 

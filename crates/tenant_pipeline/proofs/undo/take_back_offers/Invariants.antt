@@ -1,4 +1,4 @@
-use Rattle.std.proofs.Common.{◌≡◌, ℕ}
+use Rattle.std.proofs.Common.{◌≡◌}
 use Rattle.tenant_pipeline.specs.Outbox.{undone}
 use Rattle.tenant_pipeline.proofs.undo.take_back_offers.Given as goal
 

@@ -1,14 +1,8 @@
-use Rattle.std.proofs.Common.{◌≡◌, ℕ, List, sym, subst, ap}
-use Rattle.tail_policy.specs.declared.note.TraceNote.{TraceNote as Note}
-use Rattle.tenant_stores.specs.Part.{part}
+use Rattle.std.proofs.Common.{sym, subst, ap}
 use Rattle.send_retry.specs.Class.{answer_view}
 use Rattle.tenant_rules.specs.Own as step
-use Rattle.tenant_rules.specs.Own.{Own}
-use Rattle.tenant_rules.specs.Machine.{effective}
-use Rattle.tenant_rules.specs.Timers.{IsFront}
 use Rattle.tenant_pipeline.specs.declared.pipeline.Pipeline.{Pipeline}
 use Rattle.tenant_pipeline.specs.StateIn.{state_in}
-use Rattle.tenant_pipeline.specs.Steps.{GoesOnFrom}
 use Rattle.tenant_pipeline.proofs.Stepping.{Done, Finds, answers_of, ranges, answer_done}
 use Rattle.tenant_pipeline.proofs.Sweeping.{swept_same}
 use Rattle.tenant_pipeline.proofs.pipeline.Pipeline.answer.Goals as goal

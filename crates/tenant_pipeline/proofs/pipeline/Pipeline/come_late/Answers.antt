@@ -1,5 +1,6 @@
-use Rattle.std.proofs.Common.{◌≡◌, ◌+◌, ◌++◌, ◌∙◌, ℕ, List, [], ◌∷◌, sym, ap, subst, Result, Ok, Err}
+use Rattle.std.proofs.Common.{◌≡◌, ◌+◌, ◌≤◌, ◌++◌, ◌∙◌, ℕ, List, [], ◌∷◌, length, sym, ap, subst, Result, Ok, Err}
 use Rattle.std.specs.Result.{OnOk, OnErr}
+use Rattle.decision_cache.specs.Caches.{CachesData}
 use Rattle.drop_ledger.specs.Ledger.{LedgerData, taken}
 use Rattle.drop_ledger.specs.declared.places.Place.TheVariants.{Undecided}
 use Rattle.span_pool.specs.Stored.{texts_of}
@@ -22,7 +23,8 @@ use Rattle.tenant_pipeline.specs.declared.journal.Journal.{Journal}
 use Rattle.tenant_pipeline.specs.StateIn.{counts_in}
 use Rattle.tenant_pipeline.specs.Outbox.{AreThere, Groups}
 use Rattle.tenant_pipeline.specs.Posts.{arrival_at, Came, IsWritten}
-use Rattle.tenant_pipeline.specs.Undo.{TakesBack}
+use Rattle.tenant_pipeline.specs.Undo.{TakesBack, hits_undone}
+use Rattle.tenant_pipeline.proofs.Hits.{back_over}
 use Rattle.tenant_pipeline.proofs.Late.{late_came, late_pending, late_there}
 use Rattle.tenant_pipeline.proofs.Placing.{IsKeyed, IsReady, given_back, ready_now, takes_back, trail_more}
 use Rattle.tenant_pipeline.proofs.pipeline.Pipeline.come_late.Goals as goal
@@ -112,7 +114,7 @@ returns-in-Ok-clause-came c =
     view n (shown ++ key ∷ []) (part u S2) ≡ with_late (texts_of (text_at (part u S1).texts) k) (view n shown (part u S1))) e.owner c.in-Ok.ensures.shows in
     let counted_own : Pipeline = record own { ledger = taken 1 own.ledger } in
     let taken_own : Pipeline = record own { ledger = c.take.new.self } in
-    let journal' : Journal = record { placed = c.push_reserved.new.self; undo = c.group.new.undo } in
+    let journal' : Journal = record { placed = c.push_reserved.new.self; undo = c.group.new.undo; hits = journal.hits } in
     let r = c.group.result in
     let groups = subst (λ (l : LedgerData). let o : Pipeline = record own { ledger = l } in OnOk r (Groups m (key ∷ []) q o new)) c.take.ensures
     (subst (λ (ks : List ℕ). OnOk r (Groups m ks q taken_own new)) c.as_slice.ensures c.group.ensures.ok) in
@@ -143,13 +145,25 @@ returns-in-Ok-clause-written c = λ start first written.
     let taken_own : Pipeline = record own { ledger = c.take.new.self } in
     let tenant : new.tenant ≡ t =
     either c.group.result c.group.ensures.ok c.group.ensures.refused (λ (g : Groups c.args.moment c.as_slice.result.now q taken_own new). ap (λ (o : Pipeline). o.tenant) g.same) (λ (is : new ≡ taken_own). ap (λ (o : Pipeline). o.tenant) is) in
-    let journal' : Journal = record { placed = c.push_reserved.new.self; undo = c.group.new.undo } in
+    let caches : new.caches ≡ own.caches =
+    either c.group.result c.group.ensures.ok c.group.ensures.refused (λ (g : Groups c.args.moment c.as_slice.result.now q taken_own new). ap (λ (o : Pipeline). o.caches) g.same) (λ (is : new ≡ taken_own). ap (λ (o : Pipeline). o.caches) is) in
+    let journal' : Journal = record { placed = c.push_reserved.new.self; undo = c.group.new.undo; hits = journal.hits } in
     let done : IsWritten journal' start new first q = record {
       trail = subst (λ (xs : List (Placed TraceNote)). Trail first xs q) (sym c.push_reserved.ensures.items)
           (trail_more first p q journal.placed.items (Late key) written.trail (k, mid, holds, change));
-      undo = c.group.ensures.back start (takes_back journal.undo start own own.rows c.take.new.self written.undo);
+      undo = back_over journal.hits journal.undo c.group.new.undo start taken_own new c.group.ensures.back
+          (takes_back journal.undo start (hits_undone journal.hits own) own.rows c.take.new.self written.undo);
+      hits = subst (λ (k : CachesData). journal.hits ≤ length k.hits) (sym caches) written.hits;
     } in
     subst (λ (u : ℕ). IsWritten journal' start new first (part u S2)) (sym tenant) done
+
+pub returns-in-Ok-clause-caches : goal.returns-in-Ok-clause-caches
+returns-in-Ok-clause-caches c =
+    let own = c.args.self.now in
+    let new = c.group.new.self in
+    let q = part own.tenant c.keep_late.new.self in
+    let taken_own : Pipeline = record own { ledger = c.take.new.self } in
+    either c.group.result c.group.ensures.ok c.group.ensures.refused (λ (g : Groups c.args.moment c.as_slice.result.now q taken_own new). ap (λ (o : Pipeline). o.caches) g.same) (λ (is : new ≡ taken_own). ap (λ (o : Pipeline). o.caches) is)
 
 pub returns-in-Ok-clause-others : goal.returns-in-Ok-clause-others
 returns-in-Ok-clause-others c = λ other ne.

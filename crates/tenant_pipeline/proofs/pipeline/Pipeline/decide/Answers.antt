@@ -1,15 +1,17 @@
-use Rattle.std.proofs.Common.{◌≡◌, ◌≢◌, ◌∙◌, ◌+◌, ◌++◌, ◌<◌, ◌^◌, ◌≤◌, List, [], length, map, sym, ap, subst, refl, arith, ℕ, Option, Some, true, false}
+use Rattle.std.proofs.Common.{◌≡◌, ◌∙◌, ◌+◌, ◌++◌, ◌≤◌, List, [], length, map, sym, ap, subst, refl, arith, ℕ, Option, true, false}
 use Rattle.span_batcher.specs.State as batcher
+use Rattle.decision_cache.specs.Caches.{CachesData, noted_in, shown}
 use Rattle.drop_ledger.specs.Ledger.{LedgerData, moved}
+use Rattle.drop_ledger.specs.Ledger as ledger
 use Rattle.drop_ledger.specs.declared.places.Place.TheVariants.{Undecided, NotSampled}
 use Rattle.tail_policy.specs.declared.note.TraceNote.{TraceNote}
 use Rattle.tail_policy.specs.Note.{verdict_of}
-use Rattle.tail_settings.specs.Policy.{PolicyData, policy_view}
+use Rattle.tail_settings.specs.Policy.{policy_view}
 use Rattle.tail_settings.specs.declared.policy.PolicySpec.{PolicySpec}
 use Rattle.trace_rows.specs.declared.table.Row.{Row}
 use Rattle.trace_rows.specs.Part.{keys_of}
 use Rattle.tenant_stores.specs.Counts.{count, one_decided}
-use Rattle.tenant_stores.specs.Part.{Part, part}
+use Rattle.tenant_stores.specs.Part.{part}
 use Rattle.tenant_stores.specs.Sound.{IsSound}
 use Rattle.tenant_stores.specs.Shows.{first_kept}
 use Rattle.tenant_stores.specs.View.{WaitingRow, view}
@@ -19,8 +21,10 @@ use Rattle.tenant_pipeline.specs.declared.pipeline.Pipeline.{Pipeline}
 use Rattle.tenant_pipeline.specs.StateIn.{counts_in, part_in, policies_of, state_in, state_of, view_in, waiting_of}
 use Rattle.tenant_pipeline.specs.Held.{IsHeldBy}
 use Rattle.tenant_pipeline.specs.Outbox.{arrivals_at, AreThere, Groups}
-use Rattle.tenant_pipeline.proofs.Deciding.{Ran, drop_all, keep_all}
-use Rattle.tenant_pipeline.proofs.Firsts.{FirstRow, first_row}
+use Rattle.tenant_pipeline.proofs.Deciding.{drop_all, keep_all}
+use Rattle.tenant_pipeline.proofs.Firsts.{first_row}
+use Rattle.tenant_pipeline.proofs.Hits.{back_to}
+use Rattle.tenant_pipeline.proofs.Posting.{on_err}
 use Rattle.tenant_pipeline.specs.declared.pipeline.RowCounts.{RowCounts}
 use Rattle.tenant_pipeline.proofs.Sweeping.{swept_same, swept_back}
 use Rattle.tenant_pipeline.proofs.pipeline.Pipeline.decide.Goals as goal
@@ -84,8 +88,8 @@ group-requires-clause-room c =
     let f = first_row own p c.requires.held row c.requires.some c.in-Some.ensures c.requires.first c.requires.fits in
     f.room
 
-pub returns-then-samples-clause-ok : goal.returns-then-samples-clause-ok
-returns-then-samples-clause-ok c =
+pub returns-in-Ok-clause-ok : goal.returns-in-Ok-clause-ok
+returns-in-Ok-clause-ok c =
     let own = c.args.self.now in
     let p = part own.tenant c.args.stores.now in
     let row = c.in-Some.row.now in
@@ -112,16 +116,19 @@ returns-then-samples-clause-ok c =
     let sound = c.flush.ensures.sound (one_decided (counts_in own)) (own.batcher.spans ++ row.keys) mid.batcher.spans [] all sound1 in
     let shows = c.flush.ensures.shows (one_decided (counts_in own)) (own.batcher.spans ++ row.keys) mid.batcher.spans [] mid.batcher.spans all sound1 (λ key. omega arith) in
     let change = c.keep_row.ensures.own in
-    let ran = keep_all own p q c.requires.held row f.rest f.waiting f.noted c.requires.first f.fits f.after mid p1 verdict groups change.spans change.texts shows1 shows sound in
-    let new : Pipeline = record mid { rows = record mid.rows { decided = own.rows.decided + 1 }; clock = row.due } in
+    let kept_caches : mid.caches ≡ own.caches = ap (λ (x : Pipeline). x.caches) groups.same in
+    let remembers : shown c.put.new.self ≡ noted_in true row.trace (shown own.caches) = c.in-Ok.ensures.shown ∙ ap (λ (k : CachesData). noted_in true row.trace (shown k)) kept_caches in
+    let ran = keep_all own p q c.requires.held row f.rest f.waiting f.noted c.requires.first f.fits f.after c.put.new.self remembers mid p1 verdict groups change.spans change.texts shows1 shows sound in
+    let caches : CachesData = c.put.new.self in
+    let new : Pipeline = record mid { rows = record mid.rows { decided = own.rows.decided + 1 }; clock = row.due; caches = caches } in
     let is : c.pass.new.self ≡ new = c.pass.ensures in
     let tenant : mid.tenant ≡ own.tenant = ap (λ (x : Pipeline). x.tenant) groups.same in
     let s = state_in own c.args.stores.now in
     subst (λ (x : Pipeline). state_in x c.flush.new.self ≡ decide s.waiting s) (sym is)
     (subst (λ (t : ℕ). state_of new (part t c.flush.new.self) ≡ decide s.waiting s) (sym tenant) ran.state)
 
-pub returns-then-samples-clause-held : goal.returns-then-samples-clause-held
-returns-then-samples-clause-held c =
+pub returns-in-Ok-clause-held : goal.returns-in-Ok-clause-held
+returns-in-Ok-clause-held c =
     let own = c.args.self.now in
     let p = part own.tenant c.args.stores.now in
     let row = c.in-Some.row.now in
@@ -148,8 +155,11 @@ returns-then-samples-clause-held c =
     let sound = c.flush.ensures.sound (one_decided (counts_in own)) (own.batcher.spans ++ row.keys) mid.batcher.spans [] all sound1 in
     let shows = c.flush.ensures.shows (one_decided (counts_in own)) (own.batcher.spans ++ row.keys) mid.batcher.spans [] mid.batcher.spans all sound1 (λ key. omega arith) in
     let change = c.keep_row.ensures.own in
-    let ran = keep_all own p q c.requires.held row f.rest f.waiting f.noted c.requires.first f.fits f.after mid p1 verdict groups change.spans change.texts shows1 shows sound in
-    let new : Pipeline = record mid { rows = record mid.rows { decided = own.rows.decided + 1 }; clock = row.due } in
+    let kept_caches : mid.caches ≡ own.caches = ap (λ (x : Pipeline). x.caches) groups.same in
+    let remembers : shown c.put.new.self ≡ noted_in true row.trace (shown own.caches) = c.in-Ok.ensures.shown ∙ ap (λ (k : CachesData). noted_in true row.trace (shown k)) kept_caches in
+    let ran = keep_all own p q c.requires.held row f.rest f.waiting f.noted c.requires.first f.fits f.after c.put.new.self remembers mid p1 verdict groups change.spans change.texts shows1 shows sound in
+    let caches : CachesData = c.put.new.self in
+    let new : Pipeline = record mid { rows = record mid.rows { decided = own.rows.decided + 1 }; clock = row.due; caches = caches } in
     let is : c.pass.new.self ≡ new = c.pass.ensures in
     let tenant : mid.tenant ≡ own.tenant = ap (λ (x : Pipeline). x.tenant) groups.same in
     subst (λ (x : Pipeline). IsHeldBy x (part_in x c.flush.new.self)) (sym is)
@@ -168,9 +178,11 @@ returns-clause-ok c =
     let size : n ≡ length (arrivals_at p row.keys) = c.drop_row-spans.ensures.size ∙ (ap (λ (o : Option (Row TraceNote)). length (keys_of o)) (sym c.in-Some.ensures) ∙ sym f.size) in
     let sound = c.drop_row-spans.ensures.sound (counts_in own) own.batcher.spans [] refl most c.requires.held.sound in
     let shows = c.drop_row-spans.ensures.shows (counts_in own) own.batcher.spans [] own.batcher.spans refl most c.requires.held.sound (λ key. omega arith) in
-    let ran = drop_all own p q c.requires.held row f.rest f.waiting f.noted c.requires.first f.fits f.after n size verdict sound shows in
-    let is : c.pass-2.new.self ≡ record own { rows = record own.rows { decided = own.rows.decided + 1 }; clock = row.due; ledger = moved Undecided NotSampled n own.ledger } =
-    c.pass-2.ensures ∙ ap (λ (l : LedgerData). let y : Pipeline = record own { rows = record own.rows { decided = own.rows.decided + 1 }; clock = row.due; ledger = l } in y) c.move_spans.ensures in
+    let caches : CachesData = c.put-2.new.self in
+    let remembers : shown caches ≡ noted_in false row.trace (shown own.caches) = c.in_ok-put.ensures.shown in
+    let ran = drop_all own p q c.requires.held row f.rest f.waiting f.noted c.requires.first f.fits f.after caches remembers n size verdict sound shows in
+    let is : c.pass-2.new.self ≡ record own { rows = record own.rows { decided = own.rows.decided + 1 }; clock = row.due; ledger = moved Undecided NotSampled n own.ledger; caches = caches } =
+    c.pass-2.ensures ∙ ap (λ (l : LedgerData). let y : Pipeline = record own { rows = record own.rows { decided = own.rows.decided + 1 }; clock = row.due; ledger = l; caches = caches } in y) c.move_spans.ensures in
     let s = state_in own c.args.stores.now in
     subst (λ (x : Pipeline). state_in x c.drop_row-spans.new.self ≡ decide s.waiting s) (sym is) ran.state
 
@@ -187,9 +199,11 @@ returns-clause-held c =
     let size : n ≡ length (arrivals_at p row.keys) = c.drop_row-spans.ensures.size ∙ (ap (λ (o : Option (Row TraceNote)). length (keys_of o)) (sym c.in-Some.ensures) ∙ sym f.size) in
     let sound = c.drop_row-spans.ensures.sound (counts_in own) own.batcher.spans [] refl most c.requires.held.sound in
     let shows = c.drop_row-spans.ensures.shows (counts_in own) own.batcher.spans [] own.batcher.spans refl most c.requires.held.sound (λ key. omega arith) in
-    let ran = drop_all own p q c.requires.held row f.rest f.waiting f.noted c.requires.first f.fits f.after n size verdict sound shows in
-    let is : c.pass-2.new.self ≡ record own { rows = record own.rows { decided = own.rows.decided + 1 }; clock = row.due; ledger = moved Undecided NotSampled n own.ledger } =
-    c.pass-2.ensures ∙ ap (λ (l : LedgerData). let y : Pipeline = record own { rows = record own.rows { decided = own.rows.decided + 1 }; clock = row.due; ledger = l } in y) c.move_spans.ensures in
+    let caches : CachesData = c.put-2.new.self in
+    let remembers : shown caches ≡ noted_in false row.trace (shown own.caches) = c.in_ok-put.ensures.shown in
+    let ran = drop_all own p q c.requires.held row f.rest f.waiting f.noted c.requires.first f.fits f.after caches remembers n size verdict sound shows in
+    let is : c.pass-2.new.self ≡ record own { rows = record own.rows { decided = own.rows.decided + 1 }; clock = row.due; ledger = moved Undecided NotSampled n own.ledger; caches = caches } =
+    c.pass-2.ensures ∙ ap (λ (l : LedgerData). let y : Pipeline = record own { rows = record own.rows { decided = own.rows.decided + 1 }; clock = row.due; ledger = l; caches = caches } in y) c.move_spans.ensures in
     subst (λ (x : Pipeline). IsHeldBy x (part_in x c.drop_row-spans.new.self)) (sym is) ran.held
 
 pub move_spans-requires : goal.move_spans-requires
@@ -200,11 +214,11 @@ move_spans-requires c =
     let f = first_row own p c.requires.held row c.requires.some c.in-Some.ensures c.requires.first c.requires.fits in
     let size = c.drop_row-spans.ensures.size ∙ ap (λ (o : Option (Row TraceNote)). length (keys_of o)) (sym c.in-Some.ensures) in let few = f.undecided in omega (arith, size, few)
 
-pub returns-then-samples-clause-others : goal.returns-then-samples-clause-others
-returns-then-samples-clause-others c = λ other ne. c.flush.ensures.others other ne ∙ c.keep_row.ensures.others other ne
+pub returns-in-Ok-clause-others : goal.returns-in-Ok-clause-others
+returns-in-Ok-clause-others c = λ other ne. c.flush.ensures.others other ne ∙ c.keep_row.ensures.others other ne
 
-pub returns-then-samples-clause-clock : goal.returns-then-samples-clause-clock
-returns-then-samples-clause-clock c = λ moment le all.
+pub returns-in-Ok-clause-clock : goal.returns-in-Ok-clause-clock
+returns-in-Ok-clause-clock c = λ moment le all.
     let own = c.args.self.now in
     let p = part own.tenant c.args.stores.now in
     let row = c.in-Some.row.now in
@@ -228,10 +242,10 @@ returns-clause-clock c = λ moment le all.
 pub returns-in_err-group-clause-swept : goal.returns-in_err-group-clause-swept
 returns-in_err-group-clause-swept c = λ is. swept_back c.args.self.now c.group.new.self c.in_err-group.ensures.refused is
 
-pub returns-then-samples-clause-swept : goal.returns-then-samples-clause-swept
-returns-then-samples-clause-swept c = λ is.
+pub returns-in-Ok-clause-swept : goal.returns-in-Ok-clause-swept
+returns-in-Ok-clause-swept c = λ is.
     let mid = c.group.new.self in
-    let passed : Pipeline = record mid { rows = record mid.rows { decided = c.args.self.now.rows.decided + 1 }; clock = c.in-Some.row.now.due } in
+    let passed : Pipeline = record mid { rows = record mid.rows { decided = c.args.self.now.rows.decided + 1 }; clock = c.in-Some.row.now.due; caches = c.put.new.self } in
     swept_back passed c.pass.new.self c.pass.ensures (swept_same c.args.self.now mid (ap (λ (x : Pipeline). x.rows) c.in_ok-group.ensures.ok.same) is)
 
 pub returns-clause-swept : goal.returns-clause-swept
@@ -239,3 +253,58 @@ returns-clause-swept c = λ is.
     let own = c.args.self.now in
     let rows : c.pass-2.new.self.rows ≡ record own.rows { decided = own.rows.decided + 1 } = ap (λ (x : Pipeline). x.rows) c.pass-2.ensures in
     subst (λ (r : RowCounts). r.swept ≡ r.first) (sym rows) is
+
+-- ---- where the cache was refused memory
+
+pub put-requires : goal.put-requires
+put-requires c = record { none = ap (λ (x : Pipeline). x.caches.hits) c.in_ok-group.ensures.ok.same ∙ c.requires.no_hits }
+
+pub take_back-requires : goal.take_back-requires
+take_back-requires c =
+    let own = c.args.self.now in
+    let back = c.in_ok-group.ensures.back own c.of-undo.ensures.back in
+    record { sound = subst (λ (l : LedgerData). ledger.IsSound l) (sym back.ledger) c.requires.held.counted.sound }
+
+pub returns-in-Err-clause-refused : goal.returns-in-Err-clause-refused
+returns-in-Err-clause-refused c =
+    let back = c.in_ok-group.ensures.back c.args.self.now c.of-undo.ensures.back in
+    let same = back_to c.args.self.now c.group.new.self c.take_back.new.self c.group.new.undo c.put.new.self c.in-Err.ensures.refused back c.take_back.ensures in
+    ap (λ (x : Pipeline). state_in x c.args.stores.now) same
+
+pub returns-in-Err-clause-held : goal.returns-in-Err-clause-held
+returns-in-Err-clause-held c =
+    let back = c.in_ok-group.ensures.back c.args.self.now c.of-undo.ensures.back in
+    let same = back_to c.args.self.now c.group.new.self c.take_back.new.self c.group.new.undo c.put.new.self c.in-Err.ensures.refused back c.take_back.ensures in
+    subst (λ (x : Pipeline). IsHeldBy x (part_in x c.args.stores.now)) (sym same) c.requires.held
+
+pub returns-in-Err-clause-tenant : goal.returns-in-Err-clause-tenant
+returns-in-Err-clause-tenant c =
+    let back = c.in_ok-group.ensures.back c.args.self.now c.of-undo.ensures.back in
+    let same = back_to c.args.self.now c.group.new.self c.take_back.new.self c.group.new.undo c.put.new.self c.in-Err.ensures.refused back c.take_back.ensures in
+    ap (λ (x : Pipeline). x.tenant) same
+
+pub returns-in-Err-clause-section : goal.returns-in-Err-clause-section
+returns-in-Err-clause-section c =
+    let back = c.in_ok-group.ensures.back c.args.self.now c.of-undo.ensures.back in
+    let same = back_to c.args.self.now c.group.new.self c.take_back.new.self c.group.new.undo c.put.new.self c.in-Err.ensures.refused back c.take_back.ensures in
+    ap (λ (x : Pipeline). x.section) same
+
+pub returns-in-Err-clause-swept : goal.returns-in-Err-clause-swept
+returns-in-Err-clause-swept c = λ is.
+    let back = c.in_ok-group.ensures.back c.args.self.now c.of-undo.ensures.back in
+    let same = back_to c.args.self.now c.group.new.self c.take_back.new.self c.group.new.undo c.put.new.self c.in-Err.ensures.refused back c.take_back.ensures in
+    swept_back c.args.self.now c.take_back.new.self same is
+
+pub returns-in-Err-clause-clock : goal.returns-in-Err-clause-clock
+returns-in-Err-clause-clock c = λ moment le all.
+    let back = c.in_ok-group.ensures.back c.args.self.now c.of-undo.ensures.back in
+    let same = back_to c.args.self.now c.group.new.self c.take_back.new.self c.group.new.undo c.put.new.self c.in-Err.ensures.refused back c.take_back.ensures in
+    let clock = ap (λ (x : Pipeline). x.clock) same in omega (arith, le, clock)
+
+pub returns-in_err-put-clause-refused : goal.returns-in_err-put-clause-refused
+returns-in_err-put-clause-refused c =
+    on_err c.from_residual-in_err-put.result (ap (λ (k : CachesData). let x : Pipeline = record (c.args.self.now) { caches = k } in state_in x c.args.stores.now) c.in_err-put.ensures.refused)
+
+pub returns-in_err-put-clause-held : goal.returns-in_err-put-clause-held
+returns-in_err-put-clause-held c =
+    subst (λ (k : CachesData). let x : Pipeline = record (c.args.self.now) { caches = k } in IsHeldBy x (part_in x c.args.stores.now)) (sym c.in_err-put.ensures.refused) c.requires.held

@@ -1,6 +1,5 @@
-use Rattle.std.proofs.Common.{◌≡◌, ◌≢◌, ◌∙◌, ℕ, List, refl, sym, subst}
+use Rattle.std.proofs.Common.{◌∙◌, refl, sym, subst}
 use Rattle.tail_policy.specs.declared.note.TraceNote.{TraceNote as Note}
-use Rattle.tenant_stores.specs.Part.{part}
 use Rattle.tenant_stores.specs.declared.stores.Stores.{Stores}
 use Rattle.tenant_rules.specs.declared.told.Told.TheVariants as tell
 use Rattle.tenant_rules.specs.Own as step

@@ -1,4 +1,4 @@
-use Rattle.std.proofs.Common.{◌≡◌, ◌∙◌, ◌<◌, ◌+◌, ℕ, List, [], ◌∷◌, map, sym, ap, arith, Option, Some}
+use Rattle.std.proofs.Common.{◌≡◌, ◌∙◌, ◌<◌, List, [], map, sym, ap, arith, Option, Some}
 use Rattle.std.specs.Prelude.{option_map}
 use Rattle.tail_policy.specs.declared.note.TraceNote.{TraceNote}
 use Rattle.trace_rows.specs.declared.table.Row.{Row}

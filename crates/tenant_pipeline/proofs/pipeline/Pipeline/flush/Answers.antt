@@ -1,19 +1,17 @@
-use Rattle.std.proofs.Common.{◌≡◌, ◌≢◌, ◌∙◌, ◌+◌, ◌^◌, ◌≤◌, List, [], length, sym, ap, subst, refl, arith, ℕ, Option, Some}
-use Rattle.send_queue.specs.Sender.{BatchData}
+use Rattle.std.proofs.Common.{◌≡◌, ◌∙◌, ◌+◌, List, [], sym, ap, subst, arith, ℕ, Option, Some}
 use Rattle.send_queue.specs.View.{batch_view}
 use Rattle.span_batcher.specs.Batches.{Batch}
 use Rattle.span_batcher.specs.State as batcher
 use Rattle.span_batcher.specs.State.{next_due}
-use Rattle.span_batcher.specs.Machine.{fired}
 use Rattle.tenant_stores.specs.Counts.{count}
 use Rattle.tenant_stores.specs.Part.{part}
 use Rattle.tenant_rules.specs.Batching.{as_sent}
 use Rattle.tenant_rules.specs.Timers.{flushed}
 use Rattle.tenant_pipeline.specs.declared.pipeline.Pipeline.{Pipeline}
-use Rattle.tenant_pipeline.specs.StateIn.{counts_in, part_in, state_in, state_of}
+use Rattle.tenant_pipeline.specs.StateIn.{counts_in, state_in, state_of}
 use Rattle.tenant_pipeline.specs.Held.{IsHeldBy}
 use Rattle.tenant_pipeline.specs.Outbox.{arrivals_at}
-use Rattle.tenant_pipeline.proofs.Deciding.{Ran, flush_all}
+use Rattle.tenant_pipeline.proofs.Deciding.{flush_all}
 use Rattle.tenant_pipeline.proofs.Sweeping.{swept_same, swept_back}
 use Rattle.tenant_pipeline.proofs.pipeline.Pipeline.flush.Goals as goal
 

@@ -21,6 +21,7 @@ use Rattle.tenant_pipeline.specs.declared.pipeline.Pipeline.{Pipeline}
 use Rattle.tenant_pipeline.specs.declared.journal.Journal.{Journal}
 use Rattle.tenant_pipeline.specs.StateIn.{counts_in}
 use Rattle.tenant_pipeline.specs.Posts.{arrival_at, Came, IsWritten}
+use Rattle.tenant_pipeline.specs.Undo.{hits_undone}
 use Rattle.tenant_pipeline.proofs.Joins.{join_came}
 use Rattle.tenant_pipeline.proofs.Placing.{IsKeyed, IsReady, given_back, ready_now, takes_back, trail_more}
 use Rattle.tenant_pipeline.proofs.pipeline.Pipeline.join.Goals as goal
@@ -62,7 +63,7 @@ returns-in-Ok-clause-came c =
     let sound = subst (λ (u : ℕ). (n : Counts) (pending others : List ℕ) → n.decided < c.args.number → c.args.number ≤ n.opened → IsSound n pending (text_keys k.keys ++ others) (part u S1) → IsSound n pending others (part u S2)) e.owner c.in-Ok.ensures.sound in
     let shows = subst (λ (u : ℕ). (n : Counts) (pending others shown trace : List ℕ) → IsSound n pending others (part u S1) → AreAmong shown pending → (part u S1).seats trace ≡ Some c.args.number → n.decided < c.args.number →
     view n shown (part u S2) ≡ with_joined trace (texts_of (text_at (part u S1).texts) k) note (view n shown (part u S1))) e.owner c.in-Ok.ensures.shows in
-    let journal' : Journal = record { placed = c.push_reserved.new.self; undo = journal.undo } in
+    let journal' : Journal = record { placed = c.push_reserved.new.self; undo = journal.undo; hits = journal.hits } in
     let came = join_came own p mid q c.args.moment journal c.args.keys span coming.0 coming.1 k ready c.args.number c.in-Ok.joining.key note c.in-Some.row.now
     c.requires.seat c.requires.waits (sym c.in-Some.ensures) c.joined-note.ensures change sound shows c.requires.fits c.requires.budget journal' refl in
     subst (λ (l : LedgerData). let o : Pipeline = record own { ledger = l } in Came (λ (s : State). joins (arrival_at p c.args.keys span.text) (counted_in s)) c.args.moment journal journal' own o p q) (sym c.take.ensures) came
@@ -90,7 +91,8 @@ returns-in-Ok-clause-written c = λ start first written.
     record {
       trail = subst (λ (xs : List (Placed TraceNote)). Trail first xs q) (sym c.push_reserved.ensures.items)
           (trail_more first p q c.args.journal.now.placed.items (Joined c.args.number c.in-Ok.joining.key c.in-Ok.joining.former) written.trail (k, row, note, mid, there, sym former, holds, change));
-      undo = takes_back c.args.journal.now.undo start own own.rows c.take.new.self written.undo;
+      undo = takes_back c.args.journal.now.undo start (hits_undone c.args.journal.now.hits own) own.rows c.take.new.self written.undo;
+      hits = written.hits;
     }
 
 pub returns-in-Ok-clause-others : goal.returns-in-Ok-clause-others

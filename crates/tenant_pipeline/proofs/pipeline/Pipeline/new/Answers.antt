@@ -1,5 +1,5 @@
-use Rattle.std.proofs.Common.{◌≡◌, ◌∙◌, ℕ, List, [], false}
-use Rattle.tail_settings.specs.Section.{SectionData, section_view}
+use Rattle.std.proofs.Common.{false}
+use Rattle.tail_settings.specs.Section.{section_view}
 use Rattle.tenant_pipeline.proofs.Beginning.{begins}
 use Rattle.tenant_pipeline.proofs.pipeline.Pipeline.new.Goals as goal
 
@@ -14,5 +14,6 @@ returns-clause-stands c p sound =
       rows = record { swept = 0; first = 0; decided = 0; opened = 0 };
       batcher = c.new-batcher.result;
       sender = c.in_ok-sender.sender;
-      ledger = c.new-2.result;
-    }) p (section_view c.args.section.now) c.in_ok-section.ensures c.new-batcher.ensures.none c.in_ok-sender.ensures c.new-2.ensures
+      ledger = c.new-3.result;
+      caches = c.in_ok-caches.caches;
+    }) p (section_view c.args.section.now) c.in_ok-section.ensures c.new-batcher.ensures.none c.in_ok-sender.ensures c.new-3.ensures c.in_ok-caches.ensures.made

@@ -1,4 +1,4 @@
-use Rattle.std.proofs.Common.{◌≡◌, ◌∙◌, ◌+◌, ◌<◌, ◌≤◌, ◌∷◌, [], List, length, map, sym, ap, refl, arith, ℕ}
+use Rattle.std.proofs.Common.{◌≡◌, ◌∙◌, ◌∷◌, List, map, ap, refl, arith}
 use Rattle.send_queue.specs.Sender.{BatchData}
 use Rattle.send_queue.specs.View.{batch_view}
 use Rattle.send_queue.specs.declared.batch.Batch.{Batch}

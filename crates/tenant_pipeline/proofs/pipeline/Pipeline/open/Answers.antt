@@ -17,6 +17,7 @@ use Rattle.tenant_pipeline.specs.declared.pipeline.Pipeline.{Pipeline}
 use Rattle.tenant_pipeline.specs.declared.journal.Journal.{Journal}
 use Rattle.tenant_pipeline.specs.StateIn.{counts_in, part_in}
 use Rattle.tenant_pipeline.specs.Posts.{arrival_at, Came, IsWritten}
+use Rattle.tenant_pipeline.specs.Undo.{hits_undone}
 use Rattle.tenant_pipeline.proofs.Opens.{leaves_few, open_came, opened_is, opened_own}
 use Rattle.tenant_pipeline.proofs.Placing.{IsKeyed, IsReady, given_back, ready_now, takes_back, trail_more}
 use Rattle.tenant_pipeline.proofs.pipeline.Pipeline.open.Goals as goal
@@ -75,7 +76,7 @@ returns-in-Ok-clause-came c =
     let sound = subst (λ (u : ℕ). (n : Counts) (pending others : List ℕ) → number ≡ n.opened + 1 → IsSound n pending (text_keys k.keys ++ others) (part u S1) → IsSound (one_opened n) pending others (part u S2)) e.owner c.in-Ok.ensures.sound in
     let shows = subst (λ (u : ℕ). (n : Counts) (pending others shown : List ℕ) → number ≡ n.opened + 1 → IsSound n pending others (part u S1) → AreAmong shown pending →
     view (one_opened n) shown (part u S2) ≡ with_opened span.trace due (texts_of (text_at (part u S1).texts) k) span.note (view n shown (part u S1))) e.owner c.in-Ok.ensures.shows in
-    let journal' : Journal = record { placed = c.push_reserved.new.self; undo = journal.undo } in
+    let journal' : Journal = record { placed = c.push_reserved.new.self; undo = journal.undo; hits = journal.hits } in
     let due_is : due ≡ c.args.moment + own.section.tail_sampling.decision_wait = ap (λ (o : Pipeline). c.args.moment + o.section.tail_sampling.decision_wait) c.make_room.ensures.same in
     let came = open_came own p mid q c.args.moment journal c.args.keys span coming.0 coming.1 k ready number key due
     (ap (λ (n : ℕ). n + 1) opened) due_is change sound shows c.requires.fits c.requires.budget journal' refl in
@@ -108,11 +109,12 @@ returns-in-Ok-clause-written c = λ start first written.
     ap (λ (f : List ℕ → Option ℕ). f span.trace) (sym holds.seats) ∙ (ap (λ (u : ℕ). (part u S1).seats span.trace) (sym e.owner) ∙ sym c.in-Ok.ensures.earlier) in
     let is = opened_is own mid made c.take.new.self c.make_room.ensures.rows c.make_room.ensures.ledger c.make_room.ensures.same c.take.ensures in
     let now = opened_own own mid in
-    let journal' : Journal = record { placed = c.push_reserved.new.self; undo = journal.undo } in
+    let journal' : Journal = record { placed = c.push_reserved.new.self; undo = journal.undo; hits = journal.hits } in
     let done : IsWritten journal' start now first q = record {
       trail = subst (λ (xs : List (Placed TraceNote)). Trail first xs q) (sym c.push_reserved.ensures.items)
           (trail_more first p q journal.placed.items (Opened number key span.trace c.in-Ok.opening.earlier) written.trail (k, due, span.note, mid, vacant, earlier, holds, change));
-      undo = takes_back journal.undo start own now.rows now.ledger written.undo;
+      undo = takes_back journal.undo start (hits_undone journal.hits own) now.rows now.ledger written.undo;
+      hits = written.hits;
     } in
     subst (λ (o : Pipeline). IsWritten journal' start o first (part_in o S2)) (sym is) done
 
@@ -143,7 +145,8 @@ returns-in-Err-clause-written c = λ start first written.
     let same : part t S3 ≡ p = given_back (text_keys k.keys) p mid (part t S3) holds back in
     let done : IsWritten journal start now first (part t S3) = record {
       trail = subst (λ (x : Part TraceNote). Trail first journal.placed.items x) (sym same) written.trail;
-      undo = takes_back journal.undo start own made.rows made.ledger written.undo;
+      undo = takes_back journal.undo start (hits_undone journal.hits own) made.rows made.ledger written.undo;
+      hits = written.hits;
     } in
     subst (λ (o : Pipeline). IsWritten journal start o first (part_in o S3)) (sym c.make_room.ensures.same) done
 

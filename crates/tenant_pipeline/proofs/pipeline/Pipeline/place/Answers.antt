@@ -1,17 +1,18 @@
 use Rattle.std.proofs.Common.{◌≡◌, ◌∙◌, ℕ, List, [], ◌∷◌, refl, sym, ap, Bool, true, false, Some, None}
 use Rattle.std.specs.Prelude.{nat_lt}
 use Rattle.std.proofs.lemmas.Result.{on_ok_weaker}
+use Rattle.decision_cache.specs.Caches.{found}
 use Rattle.drop_ledger.specs.declared.places.Place.TheVariants.{Undecided}
 use Rattle.tenant_stores.specs.Part.{part}
 use Rattle.tenant_rules.specs.Arrivals.{trace_of}
-use Rattle.tenant_rules.specs.Machine.{come, counted_in, evicted, has_row, held, joins, opens, sampled_in}
+use Rattle.tenant_rules.specs.Machine.{cached_or_opens, come, counted_in, evicted, has_row, held, joins, opens, sampled_in}
 use Rattle.tenant_rules.specs.State.{State}
 use Rattle.tenant_rules.specs.Timers.{grouped}
 use Rattle.tenant_pipeline.specs.declared.journal.Journal.{Journal}
 use Rattle.tenant_pipeline.specs.StateIn.{part_in, state_of}
 use Rattle.tenant_pipeline.specs.Posts.{arrival_at}
 use Rattle.tenant_pipeline.proofs.Placing.{came_by, written_same}
-use Rattle.tenant_pipeline.proofs.Seating.{it_comes_late, it_joins, it_opens}
+use Rattle.tenant_pipeline.proofs.Seating.{it_comes_late, it_hits, it_joins, it_opens}
 use Rattle.tenant_pipeline.proofs.pipeline.Pipeline.place.Goals as goal
 
 pub returns-in-Waits-clause-came : goal.returns-in-Waits-clause-came
@@ -22,7 +23,7 @@ returns-in-Waits-clause-came c =
     let m = c.args.moment in
     let x = arrival_at p c.args.keys c.args.span.now.text in
     let journal = c.args.journal.now in
-    let ready : Journal = record { placed = c.reserve.new.self; undo = journal.undo } in
+    let ready : Journal = record { placed = c.reserve.new.self; undo = journal.undo; hits = journal.hits } in
     let room : nat_lt (held s) s.section.max_spans ≡ true = sym c.has_room.ensures ∙ c.if-not-has_room.false in
     let trace = c.requires.coming.1.trace in
     let has : has_row (trace_of x) s.waiting ≡ true = ap (λ (t : List ℕ). has_row t s.waiting) (sym trace) ∙ c.in-Waits.ensures.seat in
@@ -35,8 +36,8 @@ returns-in-Waits-clause-written c = λ start first written.
     let own = c.args.self.now in
     let p = part own.tenant c.args.stores.now in
     let journal = c.args.journal.now in
-    let ready : Journal = record { placed = c.reserve.new.self; undo = journal.undo } in
-    c.join.ensures.written start first (written_same journal ready start own first p c.reserve.ensures.items refl written)
+    let ready : Journal = record { placed = c.reserve.new.self; undo = journal.undo; hits = journal.hits } in
+    c.join.ensures.written start first (written_same journal ready start own first p c.reserve.ensures.items refl refl written)
 
 pub returns-in-Decided-true-clause-came : goal.returns-in-Decided-true-clause-came
 returns-in-Decided-true-clause-came c =
@@ -46,7 +47,7 @@ returns-in-Decided-true-clause-came c =
     let m = c.args.moment in
     let x = arrival_at p c.args.keys c.args.span.now.text in
     let journal = c.args.journal.now in
-    let ready : Journal = record { placed = c.reserve.new.self; undo = journal.undo } in
+    let ready : Journal = record { placed = c.reserve.new.self; undo = journal.undo; hits = journal.hits } in
     let room : nat_lt (held s) s.section.max_spans ≡ true = sym c.has_room.ensures ∙ c.if-not-has_room.false in
     let trace = c.requires.coming.1.trace in
     let seat = c.in-Decided-true.ensures.seat in
@@ -62,8 +63,39 @@ returns-in-Decided-true-clause-written c = λ start first written.
     let own = c.args.self.now in
     let p = part own.tenant c.args.stores.now in
     let journal = c.args.journal.now in
-    let ready : Journal = record { placed = c.reserve.new.self; undo = journal.undo } in
-    c.come_late.ensures.written start first (written_same journal ready start own first p c.reserve.ensures.items refl written)
+    let ready : Journal = record { placed = c.reserve.new.self; undo = journal.undo; hits = journal.hits } in
+    c.come_late.ensures.written start first (written_same journal ready start own first p c.reserve.ensures.items refl refl written)
+
+pub hit-requires-clause-known : goal.hit-requires-clause-known
+hit-requires-clause-known c = c.in-Cached.ensures.seat.2
+
+pub returns-in-Cached-clause-came : goal.returns-in-Cached-clause-came
+returns-in-Cached-clause-came c =
+    let own = c.args.self.now in
+    let p = part own.tenant c.args.stores.now in
+    let s = state_of own p in
+    let m = c.args.moment in
+    let x = arrival_at p c.args.keys c.args.span.now.text in
+    let journal = c.args.journal.now in
+    let ready : Journal = record { placed = c.reserve.new.self; undo = journal.undo; hits = journal.hits } in
+    let room : nat_lt (held s) s.section.max_spans ≡ true = sym c.has_room.ensures ∙ c.if-not-has_room.false in
+    let trace = c.requires.coming.1.trace in
+    let seat = c.in-Cached.ensures.seat in
+    let b = c.in-Cached.sampled in
+    let none : has_row (trace_of x) s.waiting ≡ false = ap (λ (t : List ℕ). has_row t s.waiting) (sym trace) ∙ seat.0 in
+    let sampled : sampled_in (trace_of x) s.settled ≡ None = ap (λ (t : List ℕ). sampled_in t s.settled) (sym trace) ∙ seat.1 in
+    let known : found (trace_of x) s.caches ≡ Some b = ap (λ (t : List ℕ). found t s.caches) (sym trace) ∙ seat.2 in
+    on_ok_weaker c.hit.result
+    (came_by (λ (t : State). cached_or_opens m x (Some b) (counted_in t)) (come m x) m ready journal c.hit.new.journal own c.hit.new.self p (part_in c.hit.new.self c.hit.new.stores) (it_hits m x s room b none sampled known) refl)
+    c.hit.ensures.came
+
+pub returns-in-Cached-clause-written : goal.returns-in-Cached-clause-written
+returns-in-Cached-clause-written c = λ start first written.
+    let own = c.args.self.now in
+    let p = part own.tenant c.args.stores.now in
+    let journal = c.args.journal.now in
+    let ready : Journal = record { placed = c.reserve.new.self; undo = journal.undo; hits = journal.hits } in
+    c.hit.ensures.written start first (written_same journal ready start own first p c.reserve.ensures.items refl refl written)
 
 pub returns-in-Nowhere-clause-came : goal.returns-in-Nowhere-clause-came
 returns-in-Nowhere-clause-came c =
@@ -73,14 +105,15 @@ returns-in-Nowhere-clause-came c =
     let m = c.args.moment in
     let x = arrival_at p c.args.keys c.args.span.now.text in
     let journal = c.args.journal.now in
-    let ready : Journal = record { placed = c.reserve.new.self; undo = journal.undo } in
+    let ready : Journal = record { placed = c.reserve.new.self; undo = journal.undo; hits = journal.hits } in
     let room : nat_lt (held s) s.section.max_spans ≡ true = sym c.has_room.ensures ∙ c.if-not-has_room.false in
     let trace = c.requires.coming.1.trace in
     let seat = c.in-Nowhere.ensures.seat in
     let none : has_row (trace_of x) s.waiting ≡ false = ap (λ (t : List ℕ). has_row t s.waiting) (sym trace) ∙ seat.0 in
     let sampled : sampled_in (trace_of x) s.settled ≡ None = ap (λ (t : List ℕ). sampled_in t s.settled) (sym trace) ∙ seat.1 in
+    let new : found (trace_of x) s.caches ≡ None = ap (λ (t : List ℕ). found t s.caches) (sym trace) ∙ seat.2 in
     on_ok_weaker c.open.result
-    (came_by (λ (t : State). opens m x (evicted (counted_in t))) (come m x) m ready journal c.open.new.journal own c.open.new.self p (part_in c.open.new.self c.open.new.stores) (it_opens m x s room none sampled) refl)
+    (came_by (λ (t : State). opens m x (evicted (counted_in t))) (come m x) m ready journal c.open.new.journal own c.open.new.self p (part_in c.open.new.self c.open.new.stores) (it_opens m x s room none sampled new) refl)
     c.open.ensures.came
 
 pub returns-in-Nowhere-clause-written : goal.returns-in-Nowhere-clause-written
@@ -88,5 +121,5 @@ returns-in-Nowhere-clause-written c = λ start first written.
     let own = c.args.self.now in
     let p = part own.tenant c.args.stores.now in
     let journal = c.args.journal.now in
-    let ready : Journal = record { placed = c.reserve.new.self; undo = journal.undo } in
-    c.open.ensures.written start first (written_same journal ready start own first p c.reserve.ensures.items refl written)
+    let ready : Journal = record { placed = c.reserve.new.self; undo = journal.undo; hits = journal.hits } in
+    c.open.ensures.written start first (written_same journal ready start own first p c.reserve.ensures.items refl refl written)

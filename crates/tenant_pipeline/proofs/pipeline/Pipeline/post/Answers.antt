@@ -1,13 +1,8 @@
-use Rattle.std.proofs.Common.{◌≡◌, ◌∙◌, ℕ, List, sym, subst, ap}
-use Rattle.tail_policy.specs.declared.note.TraceNote.{TraceNote as Note}
-use Rattle.tenant_stores.specs.Part.{Part, part}
+use Rattle.std.proofs.Common.{◌∙◌, ap}
 use Rattle.tenant_rules.specs.declared.told.Reply.{Reply}
 use Rattle.tenant_rules.specs.declared.told.Told.TheVariants as tell
-use Rattle.tenant_rules.specs.Machine.{effective}
-use Rattle.tenant_rules.specs.Timers.{IsFront}
-use Rattle.tenant_pipeline.specs.declared.pipeline.Pipeline.{Pipeline}
 use Rattle.tenant_pipeline.specs.Prepared.{post_of}
-use Rattle.tenant_pipeline.specs.StateIn.{state_in, state_of}
+use Rattle.tenant_pipeline.specs.StateIn.{state_in}
 use Rattle.tenant_pipeline.proofs.Acting.{Acted, acted_done}
 use Rattle.tenant_pipeline.proofs.Stepping.{Done, answers_of, ranges}
 use Rattle.tenant_pipeline.proofs.pipeline.Pipeline.post.Goals as goal

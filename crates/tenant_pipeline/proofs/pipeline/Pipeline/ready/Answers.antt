@@ -1,4 +1,3 @@
-use Rattle.std.proofs.Common.{◌≡◌, ◌∙◌, sym}
 use Rattle.tenant_rules.proofs.Least.{ready_in_order}
 use Rattle.tenant_pipeline.specs.StateIn.{state_in}
 use Rattle.tenant_pipeline.proofs.Beginning.{order_from_start}

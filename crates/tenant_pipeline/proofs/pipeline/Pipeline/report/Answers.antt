@@ -1,14 +1,8 @@
-use Rattle.std.proofs.Common.{◌≡◌, ℕ, List, sym, subst, ap}
-use Rattle.tail_policy.specs.declared.note.TraceNote.{TraceNote as Note}
-use Rattle.tenant_stores.specs.Part.{part}
+use Rattle.std.proofs.Common.{ℕ, sym, subst}
 use Rattle.tenant_stores.proofs.Held.{on_err}
 use Rattle.tenant_rules.specs.Own as step
-use Rattle.tenant_rules.specs.Own.{Own}
-use Rattle.tenant_rules.specs.Machine.{effective}
 use Rattle.tenant_rules.specs.Timers.{IsFront}
-use Rattle.tenant_pipeline.specs.declared.pipeline.Pipeline.{Pipeline}
 use Rattle.tenant_pipeline.specs.StateIn.{state_in}
-use Rattle.tenant_pipeline.specs.Steps.{GoesOnFrom}
 use Rattle.tenant_pipeline.proofs.Stepping.{Done, Finds, answers_of, ranges, report_done}
 use Rattle.tenant_pipeline.proofs.pipeline.Pipeline.report.Goals as goal
 

@@ -1,7 +1,6 @@
-use Rattle.std.proofs.Common.{arith, ◌≡◌, ◌≢◌, ℕ, ◌<◌, ◌≤◌, sym, ap, ◌∙◌, true, false, Option}
+use Rattle.std.proofs.Common.{arith, ◌≡◌, ℕ, sym, ap, ◌∙◌, true, false, Option}
 use Rattle.span_batcher.specs.Timers.{is_due}
-use Rattle.tenant_rules.specs.State.{State}
-use Rattle.tenant_rules.specs.Timers.{IsFront, next_timer, one_run}
+use Rattle.tenant_rules.specs.Timers.{next_timer}
 use Rattle.tenant_rules.proofs.Fronts.{to_run, one_run_less, IsFront-push}
 use Rattle.tenant_pipeline.specs.StateIn.{part_in, state_in}
 use Rattle.tenant_pipeline.proofs.Timing.{all_ran}

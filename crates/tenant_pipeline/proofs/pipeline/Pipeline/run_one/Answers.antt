@@ -1,13 +1,14 @@
-use Rattle.std.proofs.Common.{◌≡◌, ◌∙◌, ◌<◌, ◌≤◌, ◌-◌, ◌^◌, ℕ, [], length, map, sym, ap, refl, arith, Option, Some, true, false, Bool}
+use Rattle.std.proofs.Common.{◌≡◌, ◌∙◌, ◌-◌, ℕ, [], sym, ap, arith, Option, true, false, Bool, if◌then◌else◌}
+use Rattle.std.proofs.lemmas.Result.{on_ok_weaker, on_err_weaker}
 use Rattle.std.proofs.lemmas.List.{length-map}
 use Rattle.span_batcher.specs.State.{next_due}
-use Rattle.span_batcher.specs.Timers.{is_due}
 use Rattle.tail_policy.specs.declared.note.TraceNote.{TraceNote}
 use Rattle.tenant_stores.proofs.Rooms.{lengths_are}
 use Rattle.tenant_rules.specs.State.{State}
-use Rattle.tenant_rules.specs.Timers.{first_due, next_timer, is_batch, one_run, flushed, decide}
-use Rattle.tenant_pipeline.specs.StateIn.{counts_in, part_in, state_in, view_in, waiting_of}
+use Rattle.tenant_rules.specs.Timers.{first_due, is_batch, one_run, flushed, decide}
+use Rattle.tenant_pipeline.specs.StateIn.{counts_in, part_in, state_in, state_of, view_in, waiting_of}
 use Rattle.tenant_pipeline.proofs.Timing.{timer_by, decision_by, decision_there}
+use Rattle.tenant_pipeline.proofs.Hits.{shown_held, shown_is}
 use Rattle.tenant_pipeline.proofs.pipeline.Pipeline.run_one.Goals as goal
 
 pub flush-requires-clause-first : goal.flush-requires-clause-first
@@ -44,6 +45,30 @@ decide-requires-clause-fits c = λ due is.
     let le = decision_by (next_due s.pending) (first_due s.waiting) c.args.moment due is (decide-requires-clause-first c) c.requires.due in
     let fits = c.requires.fits in
     omega (arith, le, fits)
+
+-- what hits were noted makes no difference
+pub decide-requires-clause-held : goal.decide-requires-clause-held
+decide-requires-clause-held c =
+    let own = c.args.self.now in
+    shown_held own (part_in own c.args.stores.now) c.commit.new.self c.commit.ensures.shown own.clock [] [] c.requires.held
+
+pub returns-else-is_batch-clause-ok : goal.returns-else-is_batch-clause-ok
+returns-else-is_batch-clause-ok c =
+    let own = c.args.self.now in
+    let s = state_in own c.args.stores.now in
+    let same = shown_is own (part_in own c.args.stores.now) c.commit.new.self c.commit.ensures.shown in
+    let first = sym (c.is_batch.ensures ∙ (ap (λ (o : Option ℕ). is_batch o c.first_due.result) c.next_due.ensures ∙ ap (λ (o : Option ℕ). is_batch (next_due s.pending) o) c.first_due.ensures)) ∙ c.if-is_batch.false in
+    let run : one_run s ≡ decide s.waiting s = ap (λ (b : Bool). if b then flushed (next_due s.pending) s else decide s.waiting s) first in
+    let new = state_in c.decide.new.self c.decide.new.stores in
+    let old = state_of (record own { caches = c.commit.new.self }) (part_in own c.args.stores.now) in
+    on_ok_weaker c.decide.result (λ (is : new ≡ decide old.waiting old). is ∙ (ap (λ (t : State). decide t.waiting t) same ∙ sym run)) c.decide.ensures.ok
+
+pub returns-else-is_batch-clause-refused : goal.returns-else-is_batch-clause-refused
+returns-else-is_batch-clause-refused c =
+    let own = c.args.self.now in
+    let new = state_in c.decide.new.self c.decide.new.stores in
+    let old = state_of (record own { caches = c.commit.new.self }) (part_in own c.args.stores.now) in
+    on_err_weaker c.decide.result (λ (is : new ≡ old). is ∙ shown_is own (part_in own c.args.stores.now) c.commit.new.self c.commit.ensures.shown) c.decide.ensures.refused
 
 pub returns-then-is_batch-clause-clock : goal.returns-then-is_batch-clause-clock
 returns-then-is_batch-clause-clock c = λ le.

@@ -1,9 +1,12 @@
-use Rattle.std.proofs.Common.{◌≡◌, ◌++◌, ◌∙◌, sym, ap, Option, Some}
+use Rattle.std.proofs.Common.{◌≡◌, ◌++◌, ◌∙◌, refl, sym, ap, subst, Option, Some}
+use Rattle.decision_cache.specs.Caches.{found, shown}
 use Rattle.tail_policy.specs.declared.note.TraceNote.{TraceNote}
 use Rattle.trace_rows.specs.declared.table.Row.{Row}
 use Rattle.tenant_stores.specs.Part.{part}
-use Rattle.tenant_pipeline.specs.StateIn.{counts_in}
-use Rattle.tenant_pipeline.proofs.Seating.{is_nowhere, is_decided, it_waits}
+use Rattle.tenant_pipeline.specs.declared.place.Seat.{Seat}
+use Rattle.tenant_pipeline.specs.Posts.{IsSeat, IsSeatAt}
+use Rattle.tenant_pipeline.specs.StateIn.{counts_in, state_of}
+use Rattle.tenant_pipeline.proofs.Seating.{absent_at, is_absent, is_decided, it_waits}
 use Rattle.tenant_pipeline.proofs.pipeline.Pipeline.seat.Goals as goal
 
 pub returns-in_default-clause-seat : goal.returns-in_default-clause-seat
@@ -12,7 +15,14 @@ returns-in_default-clause-seat c =
     let p = part own.tenant c.args.stores.now in
     let held = c.requires.held in
     let shows = c.seat.ensures.shows (counts_in own) (held.1 ++ own.batcher.spans) held.2 held.3.sound in
-    is_nowhere own p c.args.trace (shows.none (sym c.seat.ensures.value ∙ c.in_default.is))
+    subst (λ (seat : Seat). IsSeat c.args.trace seat (state_of own p)) (sym c.seat_known.ensures)
+    (is_absent own p c.args.trace (found c.args.trace (shown own.caches)) refl (shows.none (sym c.seat.ensures.value ∙ c.in_default.is)))
+
+pub returns-in_default-clause-number : goal.returns-in_default-clause-number
+returns-in_default-clause-number c =
+    let own = c.args.self.now in
+    let p = part own.tenant c.args.stores.now in
+    subst (λ (seat : Seat). IsSeatAt c.args.trace seat own p) (sym c.seat_known.ensures) (absent_at own p c.args.trace (found c.args.trace (shown own.caches)))
 
 pub returns-then-number-self-clause-seat : goal.returns-then-number-self-clause-seat
 returns-then-number-self-clause-seat c =
@@ -20,7 +30,14 @@ returns-then-number-self-clause-seat c =
     let p = part own.tenant c.args.stores.now in
     let held = c.requires.held in
     let shows = c.seat.ensures.shows (counts_in own) (held.1 ++ own.batcher.spans) held.2 held.3.sound in
-    is_nowhere own p c.args.trace (shows.gone c.in-Some.number (sym c.seat.ensures.value ∙ c.in-Some.is) c.if-number-self.true)
+    subst (λ (seat : Seat). IsSeat c.args.trace seat (state_of own p)) (sym c.seat_known-then-number-self.ensures)
+    (is_absent own p c.args.trace (found c.args.trace (shown own.caches)) refl (shows.gone c.in-Some.number (sym c.seat.ensures.value ∙ c.in-Some.is) c.if-number-self.true))
+
+pub returns-then-number-self-clause-number : goal.returns-then-number-self-clause-number
+returns-then-number-self-clause-number c =
+    let own = c.args.self.now in
+    let p = part own.tenant c.args.stores.now in
+    subst (λ (seat : Seat). IsSeatAt c.args.trace seat own p) (sym c.seat_known-then-number-self.ensures) (absent_at own p c.args.trace (found c.args.trace (shown own.caches)))
 
 pub returns-then-number-self-2-clause-seat : goal.returns-then-number-self-2-clause-seat
 returns-then-number-self-2-clause-seat c =

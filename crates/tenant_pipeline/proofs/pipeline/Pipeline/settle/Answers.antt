@@ -1,6 +1,5 @@
-use Rattle.std.proofs.Common.{◌≡◌, ◌≤◌, ℕ, subst}
+use Rattle.std.proofs.Common.{◌≤◌, ℕ, subst}
 use Rattle.send_retry.specs.Class.{answer_view}
-use Rattle.tenant_rules.specs.Sender.{active_sizes}
 use Rattle.tenant_pipeline.specs.Outbox.{spans_ended}
 use Rattle.tenant_pipeline.proofs.Settling.{ended_fit}
 use Rattle.tenant_pipeline.proofs.pipeline.Pipeline.settle.Goals as goal

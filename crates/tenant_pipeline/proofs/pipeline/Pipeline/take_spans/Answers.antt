@@ -1,13 +1,13 @@
-use Rattle.std.proofs.Common.{◌≡◌, ◌≢◌, ◌∙◌, ℕ, List, sym, subst, refl}
+use Rattle.std.proofs.Common.{◌≡◌, ◌≢◌, ◌∙◌, ℕ, List, [], sym, subst}
+use Rattle.decision_cache.specs.Caches.{CachesData}
 use Rattle.drop_ledger.specs.Ledger.{LedgerData, IsSound}
-use Rattle.tail_policy.specs.declared.note.TraceNote.{TraceNote}
-use Rattle.tenant_stores.specs.declared.placed.Placed.{Placed}
 use Rattle.tenant_stores.specs.Part.{part}
-use Rattle.tenant_stores.specs.Trail.{Trail}
 use Rattle.tenant_pipeline.specs.declared.pipeline.Pipeline.{Pipeline}
 use Rattle.tenant_pipeline.specs.Held.{IsHeldAt}
-use Rattle.tenant_pipeline.specs.Posts.{all_text_keys, IsSameTenant, IsWritten}
+use Rattle.tenant_pipeline.specs.Posts.{all_text_keys, IsSameTenant}
 use Rattle.tenant_pipeline.specs.StateIn.{part_in}
+use Rattle.tenant_pipeline.specs.Undo.{TakesBack}
+use Rattle.tenant_pipeline.proofs.Hits.{none_written, same_cached, shown_held, shown_is}
 use Rattle.tenant_pipeline.proofs.Posting.{itself, left_spans, same_tenant}
 use Rattle.tenant_pipeline.proofs.pipeline.Pipeline.take_spans.Goals as goal
 
@@ -23,21 +23,21 @@ sweep-requires c =
     let mid = c.place_all.new.self in
     let held = all_text_keys c.args.keys.now in
     let left = left_spans c.args.moment c.place_all.new.journal c.as_slice.result.now held mid (part_in mid c.place_all.new.stores) (part_in mid c.flush.new.self) c.as_slice.ensures.value c.in-Ok.ensures.posting c.flush.ensures.sound c.flush.ensures.shows in
-    (c.args.moment, held, left.1)
+    (c.args.moment, held, shown_held mid (part_in mid c.flush.new.self) c.commit.new.self c.commit.ensures.shown c.args.moment [] held left.1)
 
 pub returns-in-Ok-clause-ok : goal.returns-in-Ok-clause-ok
 returns-in-Ok-clause-ok c =
     let mid = c.place_all.new.self in
     let held = all_text_keys c.args.keys.now in
     let left = left_spans c.args.moment c.place_all.new.journal c.as_slice.result.now held mid (part_in mid c.place_all.new.stores) (part_in mid c.flush.new.self) c.as_slice.ensures.value c.in-Ok.ensures.posting c.flush.ensures.sound c.flush.ensures.shows in
-    c.sweep.ensures.state ∙ (left.0 ∙ c.in-Ok.ensures.ok)
+    c.sweep.ensures.state ∙ (shown_is mid (part_in mid c.flush.new.self) c.commit.new.self c.commit.ensures.shown ∙ (left.0 ∙ c.in-Ok.ensures.ok))
 
 pub returns-in-Ok-clause-holds : goal.returns-in-Ok-clause-holds
 returns-in-Ok-clause-holds c =
     let mid = c.place_all.new.self in
     let held = all_text_keys c.args.keys.now in
     let left = left_spans c.args.moment c.place_all.new.journal c.as_slice.result.now held mid (part_in mid c.place_all.new.stores) (part_in mid c.flush.new.self) c.as_slice.ensures.value c.in-Ok.ensures.posting c.flush.ensures.sound c.flush.ensures.shows in
-    c.sweep.ensures.holds c.args.moment held left.1
+    c.sweep.ensures.holds c.args.moment held (shown_held mid (part_in mid c.flush.new.self) c.commit.new.self c.commit.ensures.shown c.args.moment [] held left.1)
 
 pub returns-in-Ok-clause-others : goal.returns-in-Ok-clause-others
 returns-in-Ok-clause-others c = λ other ne.
@@ -46,16 +46,17 @@ returns-in-Ok-clause-others c = λ other ne.
     c.sweep.ensures.others other also ∙ (c.flush.ensures.others other also ∙ c.in-Ok.ensures.others other ne)
 
 pub returns-in-Ok-clause-same : goal.returns-in-Ok-clause-same
-returns-in-Ok-clause-same c = same_tenant c.args.self.now c.place_all.new.self c.sweep.new.self c.in-Ok.ensures.same c.sweep.ensures.same
+returns-in-Ok-clause-same c =
+    let mid = c.place_all.new.self in
+    let committed : Pipeline = record mid { caches = c.commit.new.self } in
+    same_tenant c.args.self.now committed c.sweep.new.self (same_cached c.args.self.now mid c.commit.new.self c.in-Ok.ensures.same) c.sweep.ensures.same
 
 pub take_back-requires : goal.take_back-requires
 take_back-requires c =
     let own = c.args.self.now in
     let p = part_in own c.args.stores.now in
-    let start : IsWritten c.in_ok-journal.journal own own p p = record {
-      trail = subst (λ (placed : List (Placed TraceNote)). Trail p placed p) (sym c.in_ok-journal.ensures.none) refl;
-      undo = c.in_ok-journal.ensures.back;
-    } in
+    let made = c.in_ok-journal.ensures in
+    let start = none_written c.in_ok-journal.journal own p made.none made.back made.hits in
     let written = c.in-Err.ensures.written own p start in
     record { sound = subst (λ (l : LedgerData). IsSound l) (sym written.undo.ledger) c.requires.holds.counted.sound }
 
@@ -63,21 +64,19 @@ pub returns-in-Err-clause-refused : goal.returns-in-Err-clause-refused
 returns-in-Err-clause-refused c =
     let own = c.args.self.now in
     let p = part_in own c.args.stores.now in
-    let start : IsWritten c.in_ok-journal.journal own own p p = record {
-      trail = subst (λ (placed : List (Placed TraceNote)). Trail p placed p) (sym c.in_ok-journal.ensures.none) refl;
-      undo = c.in_ok-journal.ensures.back;
-    } in
+    let made = c.in_ok-journal.ensures in
+    let start = none_written c.in_ok-journal.journal own p made.none made.back made.hits in
     let written = c.in-Err.ensures.written own p start in
-    c.take_back.ensures own written.undo
+    let mid = c.place_all.new.self in
+    let undo = c.place_all.new.journal.undo in
+    c.take_back.ensures own (subst (λ (k : CachesData). let o : Pipeline = record mid { caches = k } in TakesBack undo own o) (sym c.undo_hits.ensures) written.undo)
 
 pub returns-in-Err-clause-refused_part : goal.returns-in-Err-clause-refused_part
 returns-in-Err-clause-refused_part c =
     let own = c.args.self.now in
     let p = part_in own c.args.stores.now in
-    let start : IsWritten c.in_ok-journal.journal own own p p = record {
-      trail = subst (λ (placed : List (Placed TraceNote)). Trail p placed p) (sym c.in_ok-journal.ensures.none) refl;
-      undo = c.in_ok-journal.ensures.back;
-    } in
+    let made = c.in_ok-journal.ensures in
+    let start = none_written c.in_ok-journal.journal own p made.none made.back made.hits in
     let written = c.in-Err.ensures.written own p start in
     let same = c.in-Err.ensures.same in
     subst (λ (t : ℕ). part t c.take_all_back.new.self ≡ p) same.tenant (c.take_all_back.ensures.back p written.trail)
