@@ -139,6 +139,14 @@ def late_spans(n):
     return tenant(more=batches(1)), post(0, one) + "turn 0 1000\n" + post(1000, one) * n, "job a 1 "
 
 
+def remembered(n):
+    """n traces of one body that are kept and leave for n others, and a body with a late span of each."""
+    cache = "[tenant.tail_sampling.decision_cache]\nsampled_cache_size = 100000\n"
+    first, others = (request([ids(at + 1 + more, at) for at in range(n)]) for more in (0, n))
+    return (tenant(policies=cache + ALL, traces=n), post(0, first) + post(1000, others) + post(1500, first) + "report a 1500\n",
+            f"report a accepted={3 * n} undecided={n} pending=0 queued={2 * n} ")
+
+
 def posts_of_a_trace(n):
     """n posts of a span to one trace, which is kept."""
     return (tenant(), "".join(post(0, request([ids(1, at)])) for at in range(n)) + "turn 0 1000\n", "job a 1 ")
@@ -207,6 +215,7 @@ SHAPES = {
     "rows due at once, dropped": (due_and_dropped, 8_000),
     "rows pushed out": (pushed_out, 4_000),
     "late spans": (late_spans, 4_000),
+    "late spans that are remembered": (remembered, 4_000),
     "posts of a trace": (posts_of_a_trace, 4_000),
     "traces drained": (drained, 8_000),
     "tenants": (many_tenants, 500),

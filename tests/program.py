@@ -379,6 +379,26 @@ def answers_at_once():
         check("the last of the pieces", run.stdout.read(), b"idle 0\n")
 
 
+def late_spans():
+    """What examples/late.script tells, and what it would tell if no decision were remembered."""
+    script = (HERE / "examples/late.script").read_text()
+    settings = (HERE / "examples/late.toml").read_text()
+    first, _, _, refund, _ = re.findall(r"^post shop \d+ (\w+)$", script, re.M)
+    taken = "reply shop 200 -\n"
+    gone = "queue_full=0 retry_exhausted=0 back_end_refused=0 back_end_rejected=0 invalid=0 over_budget=0\n"
+    begin = (f"{taken * 2}job shop 1 {first}\ndone shop\n{taken}report shop accepted=4 undecided=2 pending=0 queued=0 active=0 "
+             f"exported=1 not_sampled=1 too_early=0 {gone}{taken * 2}")
+    followed = (f"job shop 2 {refund}\nreport shop accepted=6 undecided=2 pending=0 queued=0 active=1 exported=1 not_sampled=2 "
+                f"too_early=0 {gone}")
+    pushed_out = ("idle 0\nreport shop accepted=6 undecided=2 pending=0 queued=0 active=0 exported=1 not_sampled=1 "
+                  f"too_early=2 {gone}")
+    with tempfile.TemporaryDirectory() as folder:
+        file = Path(folder, "settings.toml")
+        for size, end in (("100", followed), ("0", pushed_out)):
+            file.write_text(settings.replace("size = 100", f"size = {size}"))
+            check(f"late spans, {size} remembered", ended(["replay", str(file)], script.encode()), (0, (begin + end).encode(), b""))
+
+
 def course():
     """Only with --verbose is standard error told of a service's course; what is told on standard output is the same."""
     counts = ("accepted", "undecided", "pending", "queued", "active", "exported", "not_sampled", "too_early", "queue_full",
@@ -415,5 +435,6 @@ checks()
 page_of_faults()
 tables_of_settings()
 answers_at_once()
+late_spans()
 print("the program prints and ends as it has to" if not failed else f"{failed} wrong")
 sys.exit(min(failed, 1))

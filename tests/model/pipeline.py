@@ -8,6 +8,7 @@ LATEST = 2**62
 STATUSES = {"UNSET": 0, "OK": 1, "ERROR": 2}
 AGAIN = (429, 502, 503, 504, "failed")
 DAY = 86_400
+CACHES = {True: "sampled_cache_size", False: "non_sampled_cache_size"}
 
 
 def keeps(policy, spans):
@@ -30,8 +31,8 @@ def keeps(policy, spans):
 class Row:
     """A trace that waits for its verdict, or has it."""
 
-    def __init__(self, due):
-        self.due = due
+    def __init__(self, trace, due):
+        self.trace, self.due = trace, due
         self.spans = []
         self.kept = None
         self.decided = False
@@ -52,10 +53,13 @@ class Pipeline:
         self.name, self.how = name, how
         self.clock = self.opened = self.tickets = 0
         self.rows, self.latest = {}, {}
+        self.caches = {kept: [] for kept in CACHES}
+        self.sizes = {kept: how.get("decision_cache", {}).get(name, 0) for kept, name in CACHES.items()}
         self.pending, self.started = [], None
         self.queue, self.active = [], []
         self.drained = False
         self.counts = dict.fromkeys(NAMES, 0)
+        self.followed = dict.fromkeys(CACHES, 0)
 
     def move(self, here, there, count):
         self.counts[here] -= count
@@ -100,18 +104,31 @@ class Pipeline:
         while len(self.pending) >= self.how["send_batch_size"]:
             self.cut(moment)
 
+    # decisions that outlive their rows: ids, the one that was used last at the end
+
+    def use(self, trace, kept):
+        ids = [one for one in self.caches[kept] if one != trace] + [trace]
+        self.caches[kept] = ids[max(0, len(ids) - self.sizes[kept]):]
+
+    def known(self, trace):
+        """Whether the trace was kept, where a cache has it."""
+        return next((kept for kept, ids in self.caches.items() if trace in ids), None)
+
     # rows
+
+    def follow(self, spans, kept, moment):
+        self.move("undecided", "pending" if kept else "not_sampled", len(spans))
+        if kept:
+            self.group(spans, moment)
 
     def decide(self, number, moment):
         row = self.rows[number]
         row.decided, row.kept = True, any(keeps(policy, row.spans) for policy in self.how["policy"])
-        self.move("undecided", "pending" if row.kept else "not_sampled", len(row.spans))
-        if row.kept:
-            self.group(row.spans, moment)
+        self.follow(row.spans, row.kept, moment)
 
     def open_row(self, span):
         self.opened += 1
-        self.rows[self.opened] = Row(self.clock + self.how["decision_wait_ms"])
+        self.rows[self.opened] = Row(span.trace, self.clock + self.how["decision_wait_ms"])
         self.latest[span.trace] = self.opened
         last = self.rows.get(self.opened - self.how["num_traces"])
         if last is not None and not last.decided:
@@ -121,14 +138,18 @@ class Pipeline:
         self.counts["accepted"] += 1
         self.counts["undecided"] += 1
         if not self.is_present(self.latest.get(span.trace, -LATEST)):
+            kept = self.known(span.trace)
+            if kept is not None:
+                self.followed[kept] += 1
+                self.use(span.trace, kept)
+                self.follow([span], kept, self.clock)
+                return
             self.open_row(span)
         row = self.rows[self.latest[span.trace]]
-        if not row.decided:
+        if row.decided:
+            self.follow([span], row.kept, self.clock)
+        else:
             row.spans.append(span)
-            return
-        self.move("undecided", "pending" if row.kept else "not_sampled", 1)
-        if row.kept:
-            self.group([span], self.clock)
 
     # steps
 
@@ -146,6 +167,7 @@ class Pipeline:
                 self.form(len(self.pending), moment)
             else:
                 self.decide(number, moment)
+                self.use(self.rows[number].trace, self.rows[number].kept)
 
     def post(self, moment, spans):
         """The reply's status and body."""

@@ -2,7 +2,7 @@
 
 from model import toml
 from model.bodies import Origin, Span
-from model.pipeline import DAY, Pipeline, Shards
+from model.pipeline import CACHES, DAY, Pipeline, Shards
 from replay.make_script import piece
 
 # What an answer's body says of spans that weren't taken. The last ones are no responses, or say nothing of spans.
@@ -11,7 +11,7 @@ REJECTED = {b"": 0, b"\x0a\x02\x08\x01": 1, b"\x0a\x02\x08\x05": 5, b"\x0a\x02\x
             b"\x0a\x05\x08\x02\x12\x01\xff": 0}
 START = 10**15
 LAST_MOMENTS = (2**62, 2**62 + 1, 10**19 - 1)
-TABLES = {"tail_sampling": ("decision_wait_ms", "num_traces", "policy"),
+TABLES = {"tail_sampling": ("decision_wait_ms", "num_traces", "decision_cache", "policy"),
           "batch": ("send_batch_size", "timeout_ms", "send_batch_max_size"),
           "sending_queue": ("queue_size", "num_consumers"),
           "retry_on_failure": ("initial_interval_ms", "max_interval_ms", "max_elapsed_time_ms", "multiplier",
@@ -40,11 +40,15 @@ def policy_of(chance):
     return {"type": "and", "and_sub_policy": [leaf(chance) for _ in range(chance.randint(1, 3))]}
 
 
+def decision_cache(chance):
+    return {name: chance.choice((0, 1, 2, 3)) for name in CACHES.values() if chance.random() < 0.8}
+
+
 def tenant_settings(chance):
     """Small ones, so that each limit is met within a few steps."""
     size = chance.choice((1, 2, 3, 4, 8, 8192))
     return {"max_spans": chance.choice((1, 2, 5, 20, 100, 1000)), "decision_wait_ms": chance.choice((1, 5, 10, 1000)),
-            "num_traces": chance.choice((1, 2, 3, 5, 100, 100)),
+            "num_traces": chance.choice((1, 2, 3, 5, 100, 100)), "decision_cache": decision_cache(chance),
             "policy": [policy_of(chance) for _ in range(chance.randint(1, 2))],
             "send_batch_size": size, "timeout_ms": chance.choice((0, 1, 5, 20, 50, 200)),
             "send_batch_max_size": chance.choice((0, size, size, size + 1)),

@@ -8,6 +8,7 @@ WHAT is any of these, all of them if none is said:
     idle      a turn that finds nothing to do, of 1 tenant and of 1,000, which hold nothing, and a trace each
     memory    the bytes of a span that waits
     ids       a trace whose id is any, and ones that are chosen
+    caches    a trace that is remembered by a cache of 1,000 and of 1,000,000 ids, and one that isn't
     parts     a post of 50 spans that are noted by 1, 2 and 16 threads
     million   the million spans of make_script.py
 
@@ -210,6 +211,20 @@ def ids(options):
         table.line(name, settings(1, 4_000, 5_000), script, 4_000, 8_000, 8_000)
 
 
+CACHES = """
+[tenant.tail_sampling.decision_cache]
+sampled_cache_size = {0}
+non_sampled_cache_size = {0}
+"""
+
+
+def caches(options):
+    table = Table("A trace of one span, 4,000 traces held, by the sizes of its tenant's caches of decisions", options)
+    for size in (0, 1_000, 1_000_000):
+        script = partial(load, 1, 4_000, partial(one_span, any_id))
+        table.line(f"{size:,}", settings(1, 4_000, 5_000, policies=OTHERS + CACHES.format(size)), script, 6_000, 8_000, 8_000)
+
+
 def made(count):
     """A script of make_script.py with so many posts."""
     for post in range(count):
@@ -233,7 +248,7 @@ def million(options):
 
 
 def main():
-    kinds = {kind.__name__: kind for kind in (tenants, held, idle, memory, ids, parts, million)}
+    kinds = {kind.__name__: kind for kind in (tenants, held, idle, memory, ids, caches, parts, million)}
     parser = argparse.ArgumentParser(description=__doc__, formatter_class=argparse.RawDescriptionHelpFormatter)
     parser.add_argument("what", nargs="*")
     parser.add_argument("--program", default=str(HERE / "trace_collector"))

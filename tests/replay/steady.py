@@ -4,8 +4,9 @@
 A million posts, if no other number is said, each of one span of a new trace under a new resource, one a millisecond, from
 four tenants in turn, and a turn after each post. One tenant's batches are taken by its back end; another's wait for
 answers that never come, so that its queue is full; the third has a budget that is too small for what it gets, and samples
-nothing; the fourth has room for too few traces. In the first tenth of the posts every bound of the settings is reached, and
-the most memory that the program had until then may hardly rise. It is Linux that counts it (`VmHWM`).
+nothing; the fourth has room for too few traces; and each remembers the last hundred decisions. In the first tenth of the
+posts every bound of the settings is reached, and the most memory that the program had until then may hardly rise. It is
+Linux that counts it (`VmHWM`).
 """
 
 import re
@@ -30,6 +31,9 @@ max_spans = {}
 [tenant.tail_sampling]
 decision_wait_ms = {}
 num_traces = {}
+[tenant.tail_sampling.decision_cache]
+sampled_cache_size = 100
+non_sampled_cache_size = 100
 [[tenant.tail_sampling.policy]]
 {}
 [tenant.batch]

@@ -1,7 +1,10 @@
 //! A run over three tenants in which memory is refused. Each run with one allocation refused has to end well, too.
 
 use crate::lines::{answers_of, is_told, parts_of, put_all, step_of, steps_of};
-use crate::sections::{ERRORS, NARROW, TWO_OR_THREE, settings_of};
+use crate::sections::{
+    ERRORS, NARROW, NONE_REMEMBERED, ONE_OF_EACH, TWO_DROPPED, TWO_OR_THREE, TWO_SAMPLED,
+    settings_of,
+};
 use std::alloc::{AllocError, Global};
 use std::process::Abort;
 use std::test::Fail;
@@ -52,6 +55,35 @@ report c 2300 = report c accepted=6 undecided=0 pending=0 queued=0 \
 active=0 exported=1 not_sampled=3 too_early=0 queue_full=0 \
 retry_exhausted=0 back_end_refused=2 back_end_rejected=0 invalid=0 over_budget=0
 turn 0 999999 = idle 0";
+
+/// Of traces that left a remembers one that was sampled and one that wasn't, b two that were sampled, and c none.
+const REMEMBERING: [&str; 3] = [ONE_OF_EACH, TWO_SAMPLED, NONE_REMEMBERED];
+
+/// Spans come whose row has left: they follow the decision that is remembered, or open a row where none is. Trace 11 of
+/// b stays remembered, since a span of it came, and 12 is forgotten before it.
+const REMEMBERED: &str = "post a 0 11.21.7a021802 = reply a 200 -
+post b 0 11.21 = reply b 200 -
+post c 0 11.21 = reply c 200 -
+post a 1000 12.22 = reply a 200 -
+post b 1000 12.22 = reply b 200 -
+post c 1000 12.22 = reply c 200 -
+post c 1500 11.22 = reply c 200 -
+report c 1500 = report c accepted=3 undecided=1 pending=0 queued=1 \
+active=0 exported=0 not_sampled=0 too_early=1 queue_full=0 \
+retry_exhausted=0 back_end_refused=0 back_end_rejected=0 invalid=0 over_budget=0
+post a 2000 13.23 = reply a 200 -
+post b 2000 13.23 = reply b 200 -
+post a 2100 11.22+12.22 = reply a 200 -
+report a 2100 = report a accepted=5 undecided=1 pending=0 queued=2 \
+active=0 exported=0 not_sampled=2 too_early=0 queue_full=0 \
+retry_exhausted=0 back_end_refused=0 back_end_rejected=0 invalid=0 over_budget=0
+post b 2500 11.22 = reply b 200 -
+post b 3000 14.25 = reply b 200 -
+post b 3500 12.22 = reply b 200 -
+post b 3600 11.22 = reply b 200 -
+report b 3600 = report b accepted=7 undecided=1 pending=0 queued=5 \
+active=0 exported=0 not_sampled=0 too_early=1 queue_full=0 \
+retry_exhausted=0 back_end_refused=0 back_end_rejected=0 invalid=0 over_budget=0";
 
 /// The outcomes of a run, up to where it stopped.
 fn outcomes_of(shard: &mut Shard, steps: &[Step]) -> Vec<Outcome> {
@@ -133,9 +165,10 @@ fn each_is_given<R: Threads + Sync + Abort>(
     rt: &R,
     alloc: Global,
     settings: &Settings,
+    story: &str,
 ) -> Result<(), Fail> {
     let mut shard = Shard::open(alloc, settings, &[0, 1, 2])?;
-    for line in STORY.lines() {
+    for line in story.lines() {
         line_is_given(rt, alloc, settings, &mut shard, line)?;
     }
     Ok(())
@@ -144,7 +177,13 @@ fn each_is_given<R: Threads + Sync + Abort>(
 #[test]
 fn a_refused_step_is_done_again(rt: HostRuntime) -> Result<(), Fail> {
     let settings = settings_of(rt.alloc(), &TABLES)?;
-    each_is_given(&rt, rt.alloc(), &settings)
+    each_is_given(&rt, rt.alloc(), &settings, STORY)
+}
+
+#[test]
+fn a_refused_step_is_remembered_once(rt: HostRuntime) -> Result<(), Fail> {
+    let settings = settings_of(rt.alloc(), &REMEMBERING)?;
+    each_is_given(&rt, rt.alloc(), &settings, REMEMBERED)
 }
 
 /// What a run tells that stops where memory is refused, with the outcomes so far, and goes on with the refused step.
@@ -173,5 +212,75 @@ fn story_goes_on<R: Threads + Sync>(
 fn a_run_goes_on_where_it_stopped(rt: HostRuntime) -> Result<(), Fail> {
     let settings = settings_of(rt.alloc(), &TABLES)?;
     assert!(rt; story_goes_on(&rt, rt.alloc(), &settings)?);
+    Ok(())
+}
+
+/// Traces 11 and 12 have left and are remembered, 11 to be forgotten first, and no timer is due before 3000.
+const BEFORE: &str = "post a 0 11.21 = reply a 200 -
+post a 1000 12.22 = reply a 200 -
+post a 2000 13.23 = reply a 200 -";
+
+/// A span of 11 follows its decision, and one of 13 joins its row.
+const TRIED: &str = "post a 2500 11.22+13.23";
+
+/// At 3000 the decision of 13 takes the place of that of 12, or of 11 where that post was refused and isn't done again.
+const AFTER: &str = "post a 3000 14.25 = reply a 200 -
+post a 3100 12.22 = reply a 200 -";
+
+/// The report after all of it, and whether the post was taken.
+fn reported<R: Threads + Sync>(
+    rt: &R,
+    alloc: Global,
+    settings: &Settings,
+) -> Result<(Outcome, bool), Fail> {
+    let before = steps_of(rt, alloc, settings, BEFORE)?;
+    let tried = step_of(rt, alloc, settings, TRIED)?;
+    let after = steps_of(rt, alloc, settings, AFTER)?;
+    let mut shard = Shard::open(alloc, settings, &[0])?;
+    let _ = shard.run(before.as_slice())?;
+    let is_taken = shard.step(&tried).is_ok();
+    let _ = shard.run(after.as_slice())?;
+    let report = shard.step(&Step::Report {
+        tenant: 0,
+        now: 3100,
+    })?;
+    Ok((report, is_taken))
+}
+
+/// Whether the report is this one where the post was taken, and that one where it was refused.
+fn is_reported<R: Threads + Sync>(
+    rt: &R,
+    alloc: Global,
+    table: &str,
+    taken: &str,
+    refused: &str,
+) -> Result<bool, Fail> {
+    let settings = settings_of(alloc, &[table])?;
+    let (report, is_taken) = reported(rt, alloc, &settings)?;
+    is_told(alloc, &report, if is_taken { taken } else { refused })
+}
+
+#[test]
+fn a_refused_post_leaves_what_is_remembered_as_it_was(rt: HostRuntime) -> Result<(), Fail> {
+    let sampled = is_reported(
+        &rt,
+        rt.alloc(),
+        TWO_SAMPLED,
+        "report a accepted=7 undecided=1 pending=0 queued=5 active=0 exported=0 not_sampled=0 too_early=1 \
+queue_full=0 retry_exhausted=0 back_end_refused=0 back_end_rejected=0 invalid=0 over_budget=0",
+        "report a accepted=5 undecided=1 pending=0 queued=4 active=0 exported=0 not_sampled=0 too_early=0 \
+queue_full=0 retry_exhausted=0 back_end_refused=0 back_end_rejected=0 invalid=0 over_budget=0",
+    )?;
+    assert!(rt; sampled);
+    let dropped = is_reported(
+        &rt,
+        rt.alloc(),
+        TWO_DROPPED,
+        "report a accepted=7 undecided=1 pending=0 queued=0 active=0 exported=0 not_sampled=5 too_early=1 \
+queue_full=0 retry_exhausted=0 back_end_refused=0 back_end_rejected=0 invalid=0 over_budget=0",
+        "report a accepted=5 undecided=1 pending=0 queued=0 active=0 exported=0 not_sampled=4 too_early=0 \
+queue_full=0 retry_exhausted=0 back_end_refused=0 back_end_rejected=0 invalid=0 over_budget=0",
+    )?;
+    assert!(rt; dropped);
     Ok(())
 }

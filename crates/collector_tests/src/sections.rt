@@ -25,6 +25,24 @@ policy = [{ type = \"always_sample\" }] }, batch = { timeout_ms = 0 }, \
 sending_queue = { queue_size = 1, num_consumers = 1 }, \
 retry_on_failure = { initial_interval_ms = 1000, max_elapsed_time_ms = 1500, randomization_factor = 0 }";
 
+/// One trace is present, and nothing is remembered of those that left.
+pub const NONE_REMEMBERED: &str = "tail_sampling = { decision_wait_ms = 1000, num_traces = 1, \
+policy = [{ type = \"always_sample\" }] }, batch = { timeout_ms = 0 }";
+
+/// One trace is present, and of two that left it is remembered that they were sampled.
+pub const TWO_SAMPLED: &str = "tail_sampling = { decision_wait_ms = 1000, num_traces = 1, \
+decision_cache = { sampled_cache_size = 2 }, policy = [{ type = \"always_sample\" }] }, batch = { timeout_ms = 0 }";
+
+/// Errors are sampled, one trace is present, and of two that left it is remembered that they weren't sampled.
+pub const TWO_DROPPED: &str = "tail_sampling = { decision_wait_ms = 1000, num_traces = 1, \
+decision_cache = { non_sampled_cache_size = 2 }, \
+policy = [{ type = \"status_code\", status_codes = [\"ERROR\"] }] }, batch = { timeout_ms = 0 }";
+
+/// Errors are sampled, one trace is present, and one trace that was sampled is remembered and one that wasn't.
+pub const ONE_OF_EACH: &str = "tail_sampling = { decision_wait_ms = 1000, num_traces = 1, \
+decision_cache = { sampled_cache_size = 1, non_sampled_cache_size = 1 }, \
+policy = [{ type = \"status_code\", status_codes = [\"ERROR\"] }] }, batch = { timeout_ms = 0 }";
+
 /// Settings of tenants a, b and c, or the first of them, each with these tables.
 pub fn settings_of(alloc: Global, tables: &[&str]) -> Result<Settings, Fail> {
     let mut text = String::from_str(alloc, "tenant = [")?;

@@ -1,6 +1,6 @@
 -- What the examples are made of: settings, spans, posts and counters.
 use Rattle.std.specs.Prelude.{ℕ, pos, List, [], ◌∷◌, ◌++◌, replicate, None}
-use Rattle.tail_settings.specs.Policy.{always_sample, leaf}
+use Rattle.tail_settings.specs.Policy.{always_sample, status_code, error, leaf}
 use Rattle.tail_settings.specs.Section.{SectionData}
 use Rattle.drop_ledger.specs.declared.places.Places.{Places}
 use Rattle.drop_ledger.specs.Ledger.{LedgerData}
@@ -37,6 +37,22 @@ plain = record {
 -- so many rows at most
 abbrev pub with_rows : ℕ → SectionData
 with_rows most = record plain { tail_sampling = record (plain.tail_sampling) { num_traces = most } }
+
+-- one row at most, and the ids of so many sampled traces, and of so many others
+abbrev pub with_ids : ℕ → ℕ → SectionData
+with_ids sampled others = record plain {
+  tail_sampling = record (plain.tail_sampling) {
+    num_traces = 1;
+    sampled_cache_size = sampled;
+    non_sampled_cache_size = others;
+  };
+}
+
+-- the same, where a trace is sampled only with a span whose status is an error
+abbrev pub with_errors : ℕ → ℕ → SectionData
+with_errors sampled others = record (with_ids sampled others) {
+  tail_sampling = record ((with_ids sampled others).tail_sampling) { policies = leaf (status_code (error ∷ [])) ∷ [] };
+}
 
 -- so many spans at most
 abbrev pub with_budget : ℕ → SectionData

@@ -1,14 +1,16 @@
 -- Posts, rows, eviction and budget, on examples that were worked out by hand: what a tenant is told, and what is
 -- counted.
-use Rattle.std.specs.Prelude.{◌≡◌, List, [], ◌∷◌, codes, Some, None}
+use Rattle.std.specs.Prelude.{◌≡◌, ℕ, List, [], ◌∷◌, map, replicate, codes, Some, None}
+use Rattle.decision_cache.specs.Ids.{IdsData}
+use Rattle.decision_cache.specs.Caches.{both}
 use Rattle.drop_ledger.specs.Ledger.{no_places, no_spans}
 use Rattle.drop_ledger.specs.Report.{report_text}
 use Rattle.tenant_rules.specs.declared.told.Told.TheVariants as tell
-use Rattle.tenant_rules.specs.Own.{Own, Post, Turn, Report}
+use Rattle.tenant_rules.specs.Own.{Own, Post, Turn, Report, Drain}
 use Rattle.tenant_rules.specs.State.{state, ledger}
 use Rattle.tenant_rules.specs.Answers.{answer}
 use Rattle.tenant_rules.specs.Ready.{ready}
-use Rattle.processor_tests.specs.Parts.{plain, with_rows, with_budget, span, body, body_of_two, text, one, status, counts}
+use Rattle.processor_tests.specs.Parts.{plain, with_rows, with_ids, with_errors, with_budget, span, body, body_of_two, text, one, status, counts}
 
 -- a span leaves a second after it came, and is exported; before, nothing is counted
 pub record OneSpan : Type 0 where
@@ -73,3 +75,40 @@ pub record TurnBetween : Type 0 where
       tell.Reply (record { status = 429; body = 18 ∷ 21 ∷ codes "span budget exhausted" })
   pub later_turn : answer (with_budget 1) (Turn 1000 ∷ one 0 17 33 ∷ []) (one 900 18 34) ≡
       tell.Reply (record { status = 200; body = [] })
+
+-- one row at most: a trace that was decided before another one took its row, and a span of it that comes later
+abbrev pub come_again : List Own
+come_again = one 1500 17 35 ∷ one 1000 18 34 ∷ one 0 17 33 ∷ []
+
+-- where its verdict is kept that span opens no row, and evicts none; the other trace's verdict takes its place
+pub record VerdictKept : Type 0 where
+  pub kept : ledger (with_ids 1 0) come_again ≡ counts 3 (record no_places { undecided = 1; queued = 2 })
+  pub not_kept : ledger (with_ids 0 1) come_again ≡
+      counts 3 (record no_places { undecided = 1; queued = 1; too_early = 1 })
+  pub gone : ledger (with_ids 1 0) (one 2100 17 36 ∷ come_again) ≡
+      counts 4 (record no_places { undecided = 1; queued = 3 })
+  pub both_kept : ledger (with_ids 2 0) (one 2100 17 36 ∷ come_again) ≡ counts 4 (record no_places { queued = 4 })
+  pub not_sampled : ledger (with_errors 0 1) come_again ≡ counts 3 (record no_places { undecided = 1; not_sampled = 2 })
+  pub drained : ledger (with_ids 1 0) (Drain 1500 ∷ come_again) ≡ counts 3 (record no_places { queued = 3 })
+
+-- a cache of this size, with the traces of these bytes, the most recently used first
+abbrev pub cache : ℕ → List ℕ → IdsData
+cache size traces = record { size = size; ids = map (replicate 16) traces }
+
+-- three traces, one after the other, each of which takes the only row
+abbrev pub three : List Own
+three = one 2000 19 35 ∷ one 1000 18 34 ∷ one 0 17 33 ∷ []
+
+-- a trace's id goes first in the cache of its verdict when its row is decided, and a span that finds it there has it go
+-- first again. None goes there by a row that is pushed out before its decision, or by a drain, unless it was due then
+pub record Remembered : Type 0 where
+  pub decided : (state (with_ids 2 1) three).caches ≡ both (cache 2 (18 ∷ 17 ∷ [])) (cache 1 [])
+  pub found_again : (state (with_ids 2 1) (one 2500 17 36 ∷ three)).caches ≡
+      both (cache 2 (17 ∷ 18 ∷ [])) (cache 1 [])
+  pub not_sampled : (state (with_errors 1 1) (Turn 1000 ∷ one 0 17 33 ∷ [])).caches ≡
+      both (cache 1 []) (cache 1 (17 ∷ []))
+  pub pushed_out : (state (with_ids 1 1) (one 500 18 34 ∷ one 0 17 33 ∷ [])).caches ≡
+      both (cache 1 []) (cache 1 [])
+  pub drained : (state (with_ids 1 1) (Drain 500 ∷ one 0 17 33 ∷ [])).caches ≡ both (cache 1 []) (cache 1 [])
+  pub due_when_drained : (state (with_ids 1 1) (Drain 1000 ∷ one 0 17 33 ∷ [])).caches ≡
+      both (cache 1 (17 ∷ [])) (cache 1 [])

@@ -33,11 +33,11 @@ fn verdict(found: Option<bool>) -> usize {
 /// What is found, which is hit.
 fn hit(caches: &mut DecisionCaches, number: usize) -> Result<usize, AllocError> {
     let trace = id(number);
-    let Some(sampled) = caches.find(trace) else {
-        return Ok(0);
-    };
-    caches.push_hit(trace, sampled)?;
-    Ok(verdict(Some(sampled)))
+    let found = caches.find(trace);
+    if let Some(sampled) = found {
+        caches.push_hit(trace, sampled)?;
+    }
+    Ok(verdict(found))
 }
 
 /// What a call gives.

@@ -5,6 +5,8 @@
 #[cfg(test)]
 mod agenda;
 #[cfg(test)]
+mod cached;
+#[cfg(test)]
 mod decisions;
 #[cfg(test)]
 mod load;

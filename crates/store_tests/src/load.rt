@@ -40,7 +40,7 @@ fn place(load: &Load, trace: u64) -> (u32, u64) {
 }
 
 /// A trace's id, of which neighbours are far from each other.
-fn trace_id(trace: u64) -> [u8; 16] {
+pub fn trace_id(trace: u64) -> [u8; 16] {
     let [a, b, c, d, e, f, g, h] = trace.wrapping_mul(0x9e37_79b9_7f4a_7c15).to_be_bytes();
     let [i, j, k, l, m, n, o, p] = trace.to_be_bytes();
     [a, b, c, d, e, f, g, h, i, j, k, l, m, n, o, p]

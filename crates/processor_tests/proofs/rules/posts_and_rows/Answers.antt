@@ -38,3 +38,11 @@ returns-clause-late_past_budget c = record { late_taken = refl; counted = refl; 
 pub returns-clause-turn_between : goal.returns-clause-turn_between
 unfolding keeps groups export_text formed pending held sender ended ledger_at state answer ready batches_in rest_in next_cut batcher.state state_of bits
 returns-clause-turn_between c = record { full = refl; full_after_a_turn = refl; later_turn = refl }
+
+pub returns-clause-verdict_kept : goal.returns-clause-verdict_kept
+unfolding keeps groups export_text formed pending held sender ended ledger_at state answer ready batches_in rest_in next_cut batcher.state state_of bits
+returns-clause-verdict_kept c = record { kept = refl; not_kept = refl; gone = refl; both_kept = refl; not_sampled = refl; drained = refl }
+
+pub returns-clause-remembered : goal.returns-clause-remembered
+unfolding keeps groups export_text formed pending held sender ended ledger_at state answer ready batches_in rest_in next_cut batcher.state state_of bits
+returns-clause-remembered c = record { decided = refl; found_again = refl; not_sampled = refl; pushed_out = refl; drained = refl; due_when_drained = refl }
