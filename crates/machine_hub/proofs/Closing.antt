@@ -5,9 +5,10 @@ use Rattle.std.specs.List.{cons_option}
 use Rattle.std.proofs.lemmas.List.{append-nil, length-map, reverse-reverse, reverse-append}
 use Rattle.std.proofs.lemmas.List.Sums.{sum_by-cons}
 use Rattle.atomic_table.specs.Seated.{TableId}
-use Rattle.numbered_items.specs.Numbered.{AreRising}
+use Rattle.numbered_items.specs.Numbered.{AreRising, AreAllOf}
 use Rattle.machine_hub.specs.declared.view.Home.{Home}
 use Rattle.machine_hub.specs.declared.view.Standing.{Standing}
+use Rattle.machine_hub.specs.Slot.{stored}
 use Rattle.machine_hub.specs.Seats.{SeatState, KeeperState, new_keeper, keeper_with, IsWholeRun}
 use Rattle.machine_hub.specs.Hub.{HubKeeping, keeping, slots_of, seats_at, AreCallersOf, EachRises, IsShardRun, AreShardRuns}
 use Rattle.machine_hub.specs.Keepers.{AreFresh, keeper_slots, AreRoomy, AreFull, taken_in, gathered, AreWholeRuns}
@@ -267,10 +268,12 @@ module _ {M S O : Type 0} (steps : M → S → O → M → Type 0) where
       let bare = over_bare k ss (ap (λ (y : KeeperState M S O). y.bare) fresh) in
       let refused = over_refused k ss (ap (λ (y : KeeperState M S O). y.refused) fresh) in
       record {
+        entries = w.entries;
         run = rw (← home) w.run;
-        each = rw (← calls) w.each;
+        kept = w.kept ∙ ap (λ (y : Home M). stored y.keeps w.entries) home;
+        each = subst (AreAllOf w.entries) calls w.each;
         rising = rises;
-        blank = λ keeps some. w.blank (ap (λ (y : Home M). y.keeps) home ∙ keeps) (omega (arith, bare, some));
+        blank = λ some. w.blank (omega (arith, bare, some));
         blame = λ on. omega (arith, refused, w.blame on);
         stops = λ some. w.stops (omega (arith, refused, some));
       }

@@ -7,7 +7,7 @@ use Rattle.machine_hub.specs.declared.view.Standing.{Standing}
 use Rattle.machine_hub.specs.Seats.{SeatState}
 use Rattle.machine_hub.specs.Hub.{seats_at, IsShardRun, AreShardRuns}
 
-found : {X : Type 0} (xs : List X) (k : ℕ) → k < length xs → (x : X) × (slice_get xs k ≡ Some x)
+pub found : {X : Type 0} (xs : List X) (k : ℕ) → k < length xs → (x : X) × (slice_get xs k ≡ Some x)
 found [] k within = absurd (omega arith)
 found (x ∷ xs) zero within = (x, refl)
 found (x ∷ xs) (suc k) within = found xs k (omega arith)

@@ -16,10 +16,12 @@ module _ {M S O : Type 0} (steps : M → S → O → M → Type 0) where
   pub whole_run : (slot : TableId) (v w : SlotView M S O) (s : Standing M S O) (seats taken : ℕ) → v.parts ≡ all_parts → Taken steps v s w
       → IsWholeRun steps (record { slot = slot; home = v.home; seats = seats; taken = taken; calls = v.calls; bare = v.bare; refused = v.refused }) s
   whole_run slot v w s seats taken all t =
-      let whole = t.4 all in record {
-        run = t.1 (omega (arith, all));
+      let whole = t.whole all in record {
+        entries = t.entries;
+        run = t.home (omega (arith, all));
+        kept = t.kept (omega (arith, all));
         each = whole.each;
-        blank = t.3 (omega (arith, all));
+        blank = t.blank;
         blame = whole.blame;
         stops = whole.stops;
       }

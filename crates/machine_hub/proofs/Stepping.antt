@@ -1,108 +1,182 @@
 -- What a step tells of a seat.
-use Rattle.std.proofs.Common.{◌≡◌, ℕ, ◌<◌, [], ◌∷◌, ◌++◌, length, Bool, true, Option, Some, None, sym, ap, ◌∙◌, subst, arith}
-use Rattle.std.proofs.lemmas.List.{same_from_push}
+use Rattle.std.proofs.Common.{◌≡◌, ℕ, ◌<◌, List, [], ◌∷◌, ◌++◌, length, Bool, true, false, true≢false, Option, Some, None, refl, sym, ap, ◌∙◌, subst, arith}
 use Rattle.atomic_table.specs.Seated.{TableId}
 use Rattle.numbered_items.specs.Numbered.{AreBelow, AreRising}
 use Rattle.numbered_items.proofs.Numbered.{AreBelow-from, AreRising-push}
 use Rattle.machine_hub.specs.declared.entry.Entry.{Entry}
+use Rattle.machine_hub.specs.declared.view.Home.{Home}
 use Rattle.machine_hub.specs.declared.view.SlotView.{SlotView}
 use Rattle.machine_hub.specs.declared.view.Standing.{Standing}
-use Rattle.machine_hub.specs.Runs.{entry, IsMade}
-use Rattle.machine_hub.specs.Slot.{seat_view, Taken, Logged, IsLoggedBy, IsPassedBy, IsStoppedBy}
-use Rattle.machine_hub.specs.Seats.{SeatState, seat_after, WasMade, WasTold}
+use Rattle.machine_hub.specs.declared.told.Told.{Told}
+use Rattle.machine_hub.specs.Runs.{entry, IsLogged, IsMade}
+use Rattle.machine_hub.specs.Slot.{seat_view, with_entries, added, stored, passed, IsAtHome, Taken, Stepped, IsSteppedBy, IsBackWith, IsStoppedBy, IsReturnedBy}
+use Rattle.machine_hub.specs.Seats.{SeatState, seat_after, if_kept, IsStepOf, WasTold}
 
-module _ {M S O : Type 0} (steps : M → S → O → M → Type 0) where
+some_same : {X : Type 0} (a b : X) → Some a ≡ Some b → a ≡ b
+some_same a b e = cc
+
+module _ {M S O : Type 0} where
   -- a seat by what its pass knows
   abbrev pub seat_of : TableId → SlotView M S O → SeatState M S O
   seat_of slot v = record { slot = slot; home = v.home; calls = v.calls; bare = v.bare; refused = v.refused }
 
-  some_same : (a b : Standing M S O) → Some a ≡ Some b → a ≡ b
-  some_same a b e = cc
+  -- what the log says of a step, by whether memory was refused before
+  stays_as : (old new : Standing M S O) (e : Entry S O) (given : Option (ℕ × Entry S O)) → IsLogged old new e given → new.stopped ≡ old.stopped
+  stays_as old new e None l = l.1
+  stays_as old new e (Some given) l = l.3 ∙ sym l.2
 
+  adds_to : (old new : Standing M S O) (e : Entry S O) (given : Option (ℕ × Entry S O)) (es : List (Entry S O)) (keeps : Bool) → IsLogged old new e given → old.keeps ≡ keeps → old.entries ≡ stored keeps es
+      → new.entries ≡ stored keeps (added new.stopped es e)
+  adds_to old new e None es true l same is =
+      let off : new.stopped ≡ true = l.1 ∙ l.2 same in
+      l.0 ∙ is ∙ ap (λ b. added b es e) (sym off)
+  adds_to old new e None es false l same is = l.0 ∙ is
+  adds_to old new e (Some given) es true l same is = l.1 ∙ ap (λ l. l ++ e ∷ []) is ∙ ap (λ b. added b es e) (sym l.3)
+  adds_to old new e (Some given) es false l same is = absurd (true≢false (sym l.4 ∙ same))
+
+  given_off : (old new : Standing M S O) (e : Entry S O) (given : Option (ℕ × Entry S O)) (keeps : Bool) → IsLogged old new e given → new.stopped ≡ true → given ≡ if_kept keeps None
+  given_off old new e None true l off = refl
+  given_off old new e None false l off = refl
+  given_off old new e (Some given) keeps l off = absurd (true≢false (sym off ∙ l.3))
+
+  given_on : (old new : Standing M S O) (e : Entry S O) (given : Option (ℕ × Entry S O)) (es : List (Entry S O)) (keeps : Bool) → IsLogged old new e given → new.stopped ≡ false → old.keeps ≡ keeps → old.entries ≡ stored keeps es
+      → given ≡ if_kept keeps (Some (length es, e))
+  given_on old new e None es true l on same is = absurd (true≢false (sym (l.2 same) ∙ sym l.1 ∙ on))
+  given_on old new e None es false l on same is = refl
+  given_on old new e (Some given) es true l on same is = ap Some (l.0 ∙ ap (λ (l : List (Entry S O)). (length l, e)) is)
+  given_on old new e (Some given) es false l on same is = absurd (true≢false (sym l.4 ∙ same))
+
+module _ {M S O : Type 0} (steps : M → S → O → M → Type 0) where
   -- the seat that takes the machine out has it, and its part
-  held_by : (v u : SlotView M S O) (before : Standing M S O) → Taken steps v before u → v.parts ≡ 1 → (0 < u.parts) × (u.held ≡ Some before)
-  held_by v u before taken part = (
-    subst (λ (y : SlotView M S O). 0 < y.parts) (sym taken.0) (omega (arith, part)),
-    ap (λ (y : SlotView M S O). y.held) taken.0,
+  held_by : (v u : SlotView M S O) (before : Standing M S O) (t : Taken steps v before u) → v.parts ≡ 1 → (0 < u.parts) × (u.held ≡ Some (with_entries t.entries before)) × (u.home ≡ v.home)
+  held_by v u before t part = (
+    subst (λ (y : SlotView M S O). 0 < y.parts) (sym t.after) (omega (arith, part)),
+    ap (λ (y : SlotView M S O). y.held) t.after,
+    ap (λ (y : SlotView M S O). y.home) t.after,
   )
 
-  pub logged_by : {C : Type 0} (asks : C → S → Type 0) (call : C) (v u : SlotView M S O) (before s : Standing M S O) (outcome : O) (given : ℕ × Entry S O) → Taken steps v before u → v.parts ≡ 1
-      → (s.number ≡ before.number) × (s.keeps ≡ before.keeps) → IsMade asks steps call before s outcome (Some given) → IsLoggedBy steps u s
-  logged_by asks call v u before s outcome given taken part same made =
-      let has = held_by v u before taken part in record {
-        old = before;
+  kept_by : (v u : SlotView M S O) (before : Standing M S O) (t : Taken steps v before u) → v.parts ≡ 1 → (before.keeps ≡ u.home.keeps) × (before.entries ≡ stored u.home.keeps t.entries)
+  kept_by v u before t part =
+      let mine : v.home.keeps ≡ u.home.keeps = ap (λ (y : Home M). y.keeps) (sym (held_by v u before t part).2) in
+      ((t.home (omega (arith, part))).1 ∙ mine, t.kept (omega (arith, part)) ∙ ap (λ b. stored b t.entries) mine)
+
+  pub stepped_by : {C : Type 0} (asks : C → S → Type 0) (call : C) (v u : SlotView M S O) (before s : Standing M S O) (outcome : O) (given : Option (ℕ × Entry S O)) → Taken steps v before u → v.parts ≡ 1
+      → (s.number ≡ before.number) × (s.keeps ≡ before.keeps) → IsMade asks steps call before s outcome given → IsSteppedBy steps u s
+  stepped_by asks call v u before s outcome given t part same made =
+      let has = held_by v u before t part in
+      let e : Entry S O = entry made.0 outcome in record {
+        old = with_entries t.entries before;
         step = made.0;
         outcome = outcome;
         part = has.0;
         held = has.1;
         same = same;
-        entries = made.3.1;
-        was = made.3.2;
-        now = made.3.3;
+        kept = let mine = kept_by v u before t part in adds_to before s e given t.entries u.home.keeps made.4 mine.0 mine.1;
+        last = made.3;
+        stays = stays_as before s e given made.4;
         stepped = made.2;
       }
 
-  pub passed_by : {C : Type 0} (asks : C → S → Type 0) (call : C) (v u : SlotView M S O) (before s : Standing M S O) (outcome : O) → Taken steps v before u → v.parts ≡ 1
-      → (s.number ≡ before.number) × (s.keeps ≡ before.keeps) → IsMade asks steps call before s outcome None → IsPassedBy steps u s
-  passed_by asks call v u before s outcome taken part same made =
-      let has = held_by v u before taken part in record {
-        old = before;
-        step = made.0;
-        outcome = outcome;
+  back_with : (v u : SlotView M S O) (before s : Standing M S O) (t : Taken steps v before u) → v.parts ≡ 1
+      → (s.number ≡ before.number) × (s.keeps ≡ before.keeps) → s.entries ≡ before.entries → IsBackWith (with_entries t.entries before) u s
+  back_with v u before s t part same is =
+      let has = held_by v u before t part in record {
         part = has.0;
         held = has.1;
         same = same;
-        entries = made.3.0;
-        stays = made.3.1;
-        why = made.3.2;
-        stepped = made.2;
+        kept = is ∙ (kept_by v u before t part).1;
       }
 
   pub stopped_by : (v u : SlotView M S O) (before s : Standing M S O) → Taken steps v before u → v.parts ≡ 1
       → (s.number ≡ before.number) × (s.keeps ≡ before.keeps) → (s.entries ≡ before.entries) × (s.stopped ≡ true) → IsStoppedBy u s
-  stopped_by v u before s taken part same refused =
-      let has = held_by v u before taken part in record {
-        old = before;
-        part = has.0;
-        held = has.1;
-        same = same;
-        entries = refused.0;
-        now = refused.1;
-      }
+  stopped_by v u before s t part same refused = (with_entries t.entries before, back_with v u before s t part same refused.0, refused.1)
 
-  pub made_so : {C : Type 0} (asks : C → S → Type 0) (call : C) (slot : TableId) (v u : SlotView M S O) (seat : SeatState M S O) (before s : Standing M S O) (outcome : O) (given : Option (ℕ × Entry S O))
-      → seat_of slot v ≡ seat → v.parts ≡ 1 → Taken steps v before u → IsMade asks steps call before s outcome given → WasMade asks steps seat call outcome given
-  made_so asks call slot v u seat before s outcome given is part taken made =
-      subst (λ (y : SeatState M S O). WasMade asks steps y call outcome given) is (before, s, taken.1 (omega (arith, part)), taken.2, made)
+  pub returned_by : (v u : SlotView M S O) (s : Standing M S O) → Taken steps v s u → v.parts ≡ 1 → IsReturnedBy u s
+  returned_by v u s t part = (with_entries t.entries s, back_with v u s s t part (refl, refl) refl, refl, refl)
 
-  pub told_so : {Q : Type 0} (is_so : M → Q → Bool) (question : Q) (slot : TableId) (v u : SlotView M S O) (seat : SeatState M S O) (s : Standing M S O) (answer : Bool)
-      → seat_of slot v ≡ seat → v.parts ≡ 1 → Taken steps v s u → answer ≡ is_so s.machine question → WasTold steps is_so seat question answer
-  told_so is_so question slot v u seat s answer is part taken told =
-      subst (λ (y : SeatState M S O). WasTold steps is_so y question answer) is (s, taken.1 (omega (arith, part)), taken.2, told)
+  pub told_so : {Q : Type 0} (is_so : M → Q → Bool) (question : Q) (slot : TableId) (v u : SlotView M S O) (seat : SeatState M S O) (s : Standing M S O) (told : Told)
+      → seat_of slot v ≡ seat → v.parts ≡ 1 → Taken steps v s u → told.answer ≡ is_so s.machine question → told.stopped ≡ s.stopped → WasTold steps is_so seat question told
+  told_so is_so question slot v u seat s told is part t answer stopped =
+      subst (λ (y : SeatState M S O). WasTold steps is_so y question told) is (with_entries t.entries s, t.home (omega (arith, part)), t.calls, answer, stopped)
 
-  pub logged_seat : {C : Type 0} (asks : C → S → Type 0) (call : C) (v u w : SlotView M S O) (before s : Standing M S O) (outcome : O) (given : ℕ × Entry S O) → Taken steps v before u → Logged u s w
-      → v.parts ≡ 1 → AreRising v.calls → IsMade asks steps call before s outcome (Some given)
-      → (w ≡ seat_view v.parts v.home None (v.calls ++ given ∷ []) v.bare v.refused) × AreBelow given.0 v.calls × AreRising (v.calls ++ given ∷ [])
-  logged_seat asks call v u w before s outcome given taken logged part rising is_made =
-      let e : Entry S O = entry is_made.0 outcome in
-      let told = subst (λ (y : SlotView M S O). Logged y s w) taken.0 logged in
-      let same : before ≡ told.0 = some_same before told.0 told.2 in
-      let made : told.1 ≡ e = (same_from_push told.0.entries before.entries told.1 e (sym told.3 ∙ is_made.3.1)).1 in
-      let here : length told.0.entries ≡ length before.entries = ap (λ (y : Standing M S O). length y.entries) (sym same) in
-      let below : AreBelow (length before.entries) v.calls = AreBelow-from before.entries v.calls taken.2 in
-      subst
-      (λ (g : ℕ × Entry S O). (w ≡ seat_view v.parts v.home None (v.calls ++ g ∷ []) v.bare v.refused) × AreBelow g.0 v.calls × AreRising (v.calls ++ g ∷ []))
-      (sym is_made.3.0) (
-        told.4 ∙ (λ i. seat_view v.parts v.home None (v.calls ++ (here i, made i) ∷ []) v.bare v.refused),
-        below,
-        AreRising-push v.calls (length before.entries) e below rising,
+  -- what the seat knows after the step
+  after_view : (v u w : SlotView M S O) (before s : Standing M S O) (e : Entry S O) (t : Taken steps v before u) → Stepped u s w → s.last ≡ Some e
+      → w ≡ seat_view v.parts v.home None (added s.stopped v.calls (length t.entries, e)) (passed s.stopped v.bare) v.refused
+  after_view v u w before s e t stepped last =
+      let told = subst (λ (y : SlotView M S O). Stepped y s w) t.after stepped in
+      let same : with_entries t.entries before ≡ told.0 = some_same (with_entries t.entries before) told.0 told.2 in
+      let made : told.1 ≡ e = some_same told.1 e (sym told.3 ∙ last) in
+      let here : length told.0.entries ≡ length t.entries = ap (λ (y : Standing M S O). length y.entries) (sym same) in
+      told.4 ∙ (λ i. seat_view v.parts v.home None (added s.stopped v.calls (here i, made i)) (passed s.stopped v.bare) v.refused)
+
+  rises : (calls : List (ℕ × Entry S O)) (stopped : Bool) (n : ℕ) (e : Entry S O) → AreBelow n calls → AreRising calls → AreRising (added stopped calls (n, e))
+  rises calls true n e below rising = rising
+  rises calls false n e below rising = AreRising-push calls n e below rising
+
+  pub seat_stands : {C : Type 0} (asks : C → S → Type 0) (call : C) (v u w : SlotView M S O) (before s : Standing M S O) (outcome : O) (given : Option (ℕ × Entry S O)) → Taken steps v before u → Stepped u s w
+      → v.parts ≡ 1 → AreRising v.calls → IsMade asks steps call before s outcome given → (w.parts ≡ 1) × (w.held ≡ None) × AreRising w.calls
+  seat_stands asks call v u w before s outcome given t stepped part rising made =
+      let e : Entry S O = entry made.0 outcome in
+      let is = after_view v u w before s e t stepped made.3 in (
+        ap (λ (y : SlotView M S O). y.parts) is ∙ part,
+        ap (λ (y : SlotView M S O). y.held) is,
+        subst (λ (y : SlotView M S O). AreRising y.calls) (sym is) (rises v.calls s.stopped (length t.entries) e (AreBelow-from t.entries v.calls t.calls) rising),
       )
 
-  -- the seat after a call with an entry
-  pub seat_logged : (slot slot' : TableId) (v w : SlotView M S O) (seat : SeatState M S O) (given : ℕ × Entry S O) → seat_of slot v ≡ seat → slot' ≡ slot
-      → w ≡ seat_view v.parts v.home None (v.calls ++ given ∷ []) v.bare v.refused → seat_of slot' w ≡ seat_after seat (Some given)
-  seat_logged slot slot' v w seat given is same w_is =
-      subst (λ (y : SeatState M S O). seat_of slot' w ≡ seat_after y (Some given)) is (λ j. seat_of (same j) (w_is j))
+  pub step_of : {C : Type 0} (asks : C → S → Type 0) (call : C) (slot slot' : TableId) (v u w : SlotView M S O) (seat : SeatState M S O) (before s : Standing M S O) (outcome : O) (given : Option (ℕ × Entry S O))
+      → seat_of slot v ≡ seat → slot' ≡ slot → v.parts ≡ 1 → Taken steps v before u → Stepped u s w → IsMade asks steps call before s outcome given
+      → IsStepOf asks steps seat (seat_of slot' w) call outcome given
+  step_of asks call slot slot' v u w seat before s outcome given is same part t stepped made =
+      subst (λ (y : SeatState M S O). IsStepOf asks steps y (seat_of slot' w) call outcome given) is (by s.stopped refl)
+    where
+      e : Entry S O
+      e = entry made.0 outcome
 
-  pub above_seat : (slot : TableId) (v : SlotView M S O) (seat : SeatState M S O) (n : ℕ) → seat_of slot v ≡ seat → AreBelow n v.calls → AreBelow n seat.calls
-  above_seat slot v seat n is below = subst (λ (y : SeatState M S O). AreBelow n y.calls) is below
+      old : Standing M S O
+      old = with_entries t.entries before
+
+      view : w ≡ seat_view v.parts v.home None (added s.stopped v.calls (length t.entries, e)) (passed s.stopped v.bare) v.refused
+      view = after_view v u w before s e t stepped made.3
+
+      view_at : (b : Bool) → s.stopped ≡ b → w ≡ seat_view v.parts v.home None (added b v.calls (length t.entries, e)) (passed b v.bare) v.refused
+      view_at b at = view ∙ ap (λ c. seat_view v.parts v.home None (added c v.calls (length t.entries, e)) (passed c v.bare) v.refused) at
+
+      stays : s.stopped ≡ before.stopped
+      stays = stays_as before s e given made.4
+
+      home : IsAtHome steps v.home old
+      home = t.home (omega (arith, part))
+
+      by : (b : Bool) → s.stopped ≡ b → IsStepOf asks steps (seat_of slot v) (seat_of slot' w) call outcome given
+      by true off = record {
+        noted = None;
+        made = record {
+          old = old;
+          new = with_entries t.entries s;
+          home = home;
+          calls = t.calls;
+          step = made.0;
+          asked = made.1;
+          made = made.2;
+          adds = (refl, sym stays ∙ off, off);
+        };
+        above = tt;
+        after = λ i. seat_of (same i) (view_at true off i);
+        given_is = given_off before s e given v.home.keeps made.4 off;
+      }
+      by false on = record {
+        noted = Some (length t.entries, e);
+        made = record {
+          old = old;
+          new = with_entries (t.entries ++ e ∷ []) s;
+          home = home;
+          calls = t.calls;
+          step = made.0;
+          asked = made.1;
+          made = made.2;
+          adds = (refl, refl, sym stays ∙ on, on);
+        };
+        above = AreBelow-from t.entries v.calls t.calls;
+        after = λ i. seat_of (same i) (view_at false on i);
+        given_is = given_on before s e given t.entries v.home.keeps made.4 on home.1 (t.kept (omega (arith, part)));
+      }

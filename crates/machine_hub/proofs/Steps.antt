@@ -3,8 +3,9 @@ use Rattle.std.proofs.Common.{◌≡◌, ℕ, ◌<◌, List, length, get_or, set
 use Rattle.std.specs.Prelude.{Result, Ok, Err, OnErr, option_map, slice_get}
 use Rattle.atomic_table.specs.Seated.{TableId}
 use Rattle.machine_hub.specs.declared.entry.Entry.{Entry}
-use Rattle.machine_hub.specs.Seats.{SeatState, seat_after, seat_refused, IsAbove, WasMade, WasTold}
+use Rattle.machine_hub.specs.Seats.{SeatState, seat_after, seat_refused, IsStepOf, WasTold}
 use Rattle.machine_hub.specs.declared.receipt.Receipt.{Receipt}
+use Rattle.machine_hub.specs.declared.told.Told.{Told}
 use Rattle.machine_hub.specs.Hub.{receipt_at, slots_of, IsRefusedOn, IsCallOn, IsToldOn}
 use Rattle.machine_hub.proofs.Lists.{get_is, map_at, map_long, map_set}
 
@@ -46,18 +47,18 @@ module _ {M S O : Type 0} where
 
 module _ {M S O : Type 0} (steps : M → S → O → M → Type 0) where
   pub call_on : {C : Type 0} (asks : C → S → Type 0) (ss me : List (SeatState M S O)) (self : List TableId) (k : ℕ) (s w : SeatState M S O) (call : C) (outcome : O) (given : Option (ℕ × Entry S O)) (receipt : Option Receipt)
-      → ss ≡ me → slots_of me ≡ self → k < length self → s ≡ get_or ss k s → WasMade asks steps s call outcome given → IsAbove s given → w ≡ seat_after s given → receipt ≡ option_map (λ g. receipt_at k g.0) given
+      → ss ≡ me → slots_of me ≡ self → k < length self → s ≡ get_or ss k s → IsStepOf asks steps s w call outcome given → receipt ≡ option_map (λ g. receipt_at k g.0) given
       → IsCallOn asks steps me (set ss k w) k call outcome receipt
-  call_on asks ss me self k s w call outcome given receipt is e lt got made above after receipt_is = record {
+  call_on asks ss me self k s w call outcome given receipt is e lt got did receipt_is = record {
     seat = s;
-    given = given;
+    noted = did.noted;
     at = subst (λ l. slice_get l k ≡ Some s) is (seat_at ss me self k s is e lt got);
-    made = made;
-    above = above;
-    after = (λ i. set (is i) k (after i));
-    receipt_is = receipt_is;
+    made = did.made;
+    above = did.above;
+    after = (λ i. set (is i) k (did.after i));
+    receipt_is = receipt_is ∙ ap (option_map (λ (g : ℕ × Entry S O). receipt_at k g.0)) did.given_is;
   }
 
-  pub told_on : {Q : Type 0} (is_so : M → Q → Bool) (ss me : List (SeatState M S O)) (self : List TableId) (k : ℕ) (s : SeatState M S O) (question : Q) (answer : Bool)
-      → ss ≡ me → slots_of me ≡ self → k < length self → s ≡ get_or ss k s → WasTold steps is_so s question answer → IsToldOn steps is_so me k question answer
-  told_on is_so ss me self k s question answer is e lt got told = (s, subst (λ l. slice_get l k ≡ Some s) is (seat_at ss me self k s is e lt got), told)
+  pub told_on : {Q : Type 0} (is_so : M → Q → Bool) (ss me : List (SeatState M S O)) (self : List TableId) (k : ℕ) (s : SeatState M S O) (question : Q) (told : Told)
+      → ss ≡ me → slots_of me ≡ self → k < length self → s ≡ get_or ss k s → WasTold steps is_so s question told → IsToldOn steps is_so me k question told
+  told_on is_so ss me self k s question told is e lt got was = (s, subst (λ l. slice_get l k ≡ Some s) is (seat_at ss me self k s is e lt got), was)

@@ -6,9 +6,10 @@ use Rattle.numbered_items.specs.Numbered.{AreRising, AreAllOf}
 use Rattle.machine_hub.specs.declared.entry.Entry.{Entry}
 use Rattle.machine_hub.specs.declared.view.Home.{Home}
 use Rattle.machine_hub.specs.declared.view.Standing.{Standing}
-use Rattle.machine_hub.specs.Slot.{home_of, IsAtHome}
-use Rattle.machine_hub.specs.Seats.{SeatState, new_seat, seat_after, seat_refused, IsAbove, WasMade, WasTold}
+use Rattle.machine_hub.specs.Slot.{home_of, with_entries, stored, IsAtHome}
+use Rattle.machine_hub.specs.Seats.{SeatState, new_seat, seat_after, seat_refused, IsAbove, WasMade, WasTold, if_kept}
 use Rattle.machine_hub.specs.declared.receipt.Receipt.{Receipt}
+use Rattle.machine_hub.specs.declared.told.Told.{Told}
 
 -- who ends a hub: at which slots its shards stand, what they were at first, and how many callers it has
 pub record HubKeeping (M : Type 0) : Type 0 where
@@ -56,6 +57,10 @@ module _ {M S O : Type 0} where
   abbrev pub seats_at : ℕ → List (List (SeatState M S O)) → List (SeatState M S O)
   seats_at shard callers = filter_map (λ c. slice_get c shard) callers
 
+  -- these entries are those of all calls of the seats that have one: each is one call's, under its position
+  abbrev pub AreCallsOf : List (Entry S O) → List (SeatState M S O) → Type 0
+  AreCallsOf entries seats = AreAllOf entries (flat_map (λ x. x.calls) seats)
+
   -- of each seat the positions of its entries rise, in the order of its calls
   abbrev pub EachRises : List (SeatState M S O) → Type 0
   EachRises [] = Unit {0}
@@ -67,36 +72,38 @@ module _ {M S O : Type 0} where
       (seat : SeatState M S O) × (slice_get old shard ≡ Some seat) × (new ≡ slice_set old shard (seat_refused seat))
 
 -- a call at one shard answered: the machine there made one step that the call asked for, with this outcome; the
--- caller's seat there has its entry, if there is one, above those of its earlier calls there; the receipt names the
--- shard and the entry's position; the caller's other seats are as before
+-- caller's seat there has its entry, unless memory was refused before, above those of its earlier calls there; the
+-- receipt, where the log keeps, names the shard and the entry's position; the caller's other seats are as before
 pub record IsCallOn {C M S O : Type 0} (asks : C → S → Type 0) (steps : M → S → O → M → Type 0)
     (old new : List (SeatState M S O)) (shard : ℕ) (call : C) (outcome : O) (receipt : Option Receipt) : Type 0 where
   pub seat : SeatState M S O
-  pub given : Option (ℕ × Entry S O)
+  pub noted : Option (ℕ × Entry S O)
   pub at : slice_get old shard ≡ Some seat
-  pub made : WasMade asks steps seat call outcome given
-  pub above : IsAbove seat given
-  pub after : new ≡ slice_set old shard (seat_after seat given)
-  pub receipt_is : receipt ≡ option_map (λ g. receipt_at shard g.0) given
+  pub made : WasMade asks steps seat call outcome noted
+  pub above : IsAbove seat noted
+  pub after : new ≡ slice_set old shard (seat_after seat noted)
+  pub receipt_is : receipt ≡ option_map (λ g. receipt_at shard g.0) (if_kept seat.home.keeps noted)
 
--- at one moment of a call the machine of this shard, whose log has all that the caller's earlier calls there gave,
--- answered so
+-- at one moment of a call the machine of this shard, which did all that the caller's earlier calls there gave, answered
+-- so
 abbrev pub IsToldOn : {M S O Q : Type 0} → (M → S → O → M → Type 0) → (M → Q → Bool) →
-    List (SeatState M S O) → ℕ → Q → Bool → Type 0
-IsToldOn {M} {S} {O} steps is_so callers shard question answer =
-    (seat : SeatState M S O) × (slice_get callers shard ≡ Some seat) × WasTold steps is_so seat question answer
+    List (SeatState M S O) → ℕ → Q → Told → Type 0
+IsToldOn {M} {S} {O} steps is_so callers shard question told =
+    (seat : SeatState M S O) × (slice_get callers shard ≡ Some seat) × WasTold steps is_so seat question told
 
 module _ {M S O : Type 0} (steps : M → S → O → M → Type 0) where
-  -- what all callers' calls at a shard tell of it at the end. What it did is a run from what it was at first, which is
-  -- its log where it keeps. Each entry is one call's, and each call with a receipt is there: so there are as many
-  -- entries as receipts, no two receipts are equal, and each has its call's step and outcome. Of each caller they rise.
-  -- A call without one came only where the log was stopped or keeps nothing, and the log is stopped just where a call
-  -- was refused memory
+  -- what all callers' calls at a shard tell of it at the end. What it did is a run from what it was at first, which the
+  -- log has where it keeps. Each entry of the run is one call's, with its step and outcome, and each call with an entry
+  -- is there: so there are as many entries as such calls, and no two have one position. Of each caller they rise. A
+  -- call without an entry came only after memory was refused, and the shard is stopped just where a call was refused
+  -- memory
   pub record IsShardRun (home : Home M) (seats : List (SeatState M S O)) (s : Standing M S O) : Type 0 where
-    pub run : IsAtHome steps home s
-    pub each : AreAllOf s.entries (flat_map (λ x. x.calls) seats)
+    pub entries : List (Entry S O)
+    pub run : IsAtHome steps home (with_entries entries s)
+    pub kept : s.entries ≡ stored home.keeps entries
+    pub each : AreCallsOf entries seats
     pub rising : EachRises seats
-    pub blank : home.keeps ≡ true → 0 < sum_by (λ x. x.bare) seats → s.stopped ≡ true
+    pub blank : 0 < sum_by (λ x. x.bare) seats → s.stopped ≡ true
     pub blame : s.stopped ≡ true → 0 < sum_by (λ x. x.refused) seats
     pub stops : 0 < sum_by (λ x. x.refused) seats → s.stopped ≡ true
 

@@ -1,7 +1,6 @@
 -- Runs of a state machine, as its log has them.
 use Rattle.std.specs.Prelude.{◌≡◌, ℕ, List, [], ◌∷◌, ◌++◌, length, Bool, true, false, Option, Some, None}
 use Rattle.machine_hub.specs.declared.entry.Entry.{Entry}
-use Rattle.machine_hub.specs.declared.view.Home.{Home}
 use Rattle.machine_hub.specs.declared.view.Standing.{Standing}
 
 -- an entry of a log
@@ -24,12 +23,6 @@ pub record RunsFrom {M S O : Type 0} (steps : M → S → O → M → Type 0)
   pub run : Runs steps start entries middle
   pub now_is : stopped ≡ false → middle ≡ now
 
--- a run from its home's start is what this machine did. Where its log keeps, that run is its entries
-pub record HasRun {M S O : Type 0} (steps : M → S → O → M → Type 0) (home : Home M) (s : Standing M S O) : Type 0 where
-  pub entries : List (Entry S O)
-  pub from : RunsFrom steps home.start entries s.stopped s.machine
-  pub kept : home.keeps ≡ true → entries ≡ s.entries
-
 -- what a step leaves in the log, and what is given of it: its entry, which is the last, with its position; or none,
 -- where the log keeps nothing or was stopped before
 abbrev pub IsLogged : {M S O : Type 0} →
@@ -40,9 +33,9 @@ IsLogged old new e (Some given) =
     (given ≡ (length old.entries, e)) × (new.entries ≡ old.entries ++ e ∷ [])
     × (old.stopped ≡ false) × (new.stopped ≡ false) × (old.keeps ≡ true)
 
--- a call made one step, which it asked for, and the log has it
+-- a call made one step, which it asked for, and the log has it where it keeps
 abbrev pub IsMade : {C M S O : Type 0} → (C → S → Type 0) → (M → S → O → M → Type 0) →
     C → Standing M S O → Standing M S O → O → Option (ℕ × Entry S O) → Type 0
 IsMade {C} {M} {S} asks steps call old new outcome given =
     (step : S) × asks call step × steps old.machine step outcome new.machine
-    × IsLogged old new (entry step outcome) given
+    × (new.last ≡ Some (entry step outcome)) × IsLogged old new (entry step outcome) given

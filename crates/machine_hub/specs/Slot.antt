@@ -1,5 +1,6 @@
 -- The rule of a slot: it holds a machine with its log, or one seat has it out. The machine that `specs/Seats` is proved
--- by.
+-- by. What the machine did is known whether or not its log keeps: a machine that a seat has out is known with the
+-- entries of all steps that it made until it was refused memory.
 use Rattle.std.specs.Prelude.{◌≡◌, ℕ, ◌+◌, ◌-◌, ◌^◌, ◌<◌, List, [], ◌∷◌, ◌++◌, length, Bool, true, false, Option, Some, None, IfSome, sum_by, flat_map}
 use mathlib.Core.Option.{some}
 use lib.ListN.{get_elem?}
@@ -8,11 +9,26 @@ use Rattle.machine_hub.specs.declared.entry.Entry.{Entry}
 use Rattle.machine_hub.specs.declared.view.Home.{Home}
 use Rattle.machine_hub.specs.declared.view.SlotView.{SlotView}
 use Rattle.machine_hub.specs.declared.view.Standing.{Standing}
-use Rattle.machine_hub.specs.Runs.{HasRun}
+use Rattle.machine_hub.specs.Runs.{entry, RunsFrom}
 
 -- more parts than a slot can have seats
 abbrev pub all_parts : ℕ
 all_parts = 2 ^ 64
+
+-- the entries after one step more, unless memory was refused before
+abbrev pub added : {E : Type 0} → Bool → List E → E → List E
+added true es e = es
+added false es e = es ++ e ∷ []
+
+-- what a log has of these entries
+abbrev pub stored : {E : Type 0} → Bool → List E → List E
+stored true es = es
+stored false es = []
+
+-- how many steps came after memory was refused
+abbrev pub passed : Bool → ℕ → ℕ
+passed true n = n + 1
+passed false n = n
 
 module _ {M S O : Type 0} where
   -- what a pass knows
@@ -26,7 +42,18 @@ module _ {M S O : Type 0} where
 
   -- no machine
   abbrev pub no_standing : M → Standing M S O
-  no_standing m = record { number = 0; machine = m; entries = []; keeps = true; stopped = false }
+  no_standing m = record { number = 0; machine = m; entries = []; keeps = true; stopped = false; last = None }
+
+  -- the machine with the entries of all that it did, whether or not its log has them
+  abbrev pub with_entries : List (Entry S O) → Standing M S O → Standing M S O
+  with_entries es s = record {
+    number = s.number;
+    machine = s.machine;
+    entries = es;
+    keeps = s.keeps;
+    stopped = s.stopped;
+    last = s.last;
+  }
 
   -- who makes the slot holds a machine that nobody has seen
   abbrev pub maker : M → SlotView M S O
@@ -57,15 +84,12 @@ module _ {M S O : Type 0} where
   abbrev pub Opened : SlotView M S O → Standing M S O → SlotView M S O → Type 0
   Opened v s w = w ≡ seat_view v.parts (home_of s) None [] 0 0
 
-  -- the machine came back, with an entry more
-  abbrev pub Logged : SlotView M S O → Standing M S O → SlotView M S O → Type 0
-  Logged v s w =
-      (old : Standing M S O) × (e : Entry S O) × (v.held ≡ Some old) × (s.entries ≡ old.entries ++ e ∷ [])
-      × (w ≡ seat_view v.parts v.home None (v.calls ++ (length old.entries, e) ∷ []) v.bare v.refused)
-
-  -- the machine came back after a call without an entry
-  abbrev pub Passed : SlotView M S O → Standing M S O → SlotView M S O → Type 0
-  Passed v s w = w ≡ seat_view v.parts v.home None v.calls (v.bare + 1) v.refused
+  -- the machine came back after a step
+  abbrev pub Stepped : SlotView M S O → Standing M S O → SlotView M S O → Type 0
+  Stepped v s w =
+      (old : Standing M S O) × (e : Entry S O) × (v.held ≡ Some old) × (s.last ≡ Some e)
+      × (w ≡ seat_view v.parts v.home None (added s.stopped v.calls (length old.entries, e)) (passed s.stopped v.bare)
+      v.refused)
 
   -- the machine came back after it was refused memory
   abbrev pub Stopped : SlotView M S O → Standing M S O → SlotView M S O → Type 0
@@ -83,31 +107,38 @@ module _ {M S O : Type 0} where
   abbrev pub IsIn : SlotView M S O → List (Standing M S O) → Type 0
   IsIn v items = v.parts ≡ all_parts → v.held ≡ None → length items ≡ 1
 
-  -- these are all calls: each entry is one call's, and the log is stopped just where memory was refused
+  -- these are all calls: each entry is one call's, and the machine is stopped just where memory was refused
   pub record IsWhole (v : SlotView M S O) (s : Standing M S O) : Type 0 where
     pub each : AreAllOf s.entries v.calls
     pub blame : s.stopped ≡ true → 0 < v.refused
     pub stops : 0 < v.refused → s.stopped ≡ true
 
 module _ {M S O : Type 0} (steps : M → S → O → M → Type 0) where
-  -- it is the machine of this home: what it did is a run from the home's start
+  -- it is the machine of this home, known with the entries of what it did, which are a run from the home's start
   abbrev pub IsAtHome : Home M → Standing M S O → Type 0
-  IsAtHome home s = (s.number ≡ home.number) × (s.keeps ≡ home.keeps) × HasRun steps home s
+  IsAtHome home s =
+      (s.number ≡ home.number) × (s.keeps ≡ home.keeps)
+      × RunsFrom steps home.start s.entries s.stopped s.machine
 
-  -- it has these entries
+  -- it is known with these entries
   abbrev pub IsState : Home M → List (Entry S O) → Bool → Standing M S O → Type 0
   IsState home entries stopped s = IsAtHome home s × (s.entries ≡ entries) × (s.stopped ≡ stopped)
+
+  -- it did this, and its log has it where it keeps, and else nothing
+  abbrev pub Did : Home M → List (Entry S O) → Bool → Standing M S O → Type 0
+  Did home entries stopped s =
+      IsAtHome home (with_entries entries s) × (s.entries ≡ stored home.keeps entries) × (s.stopped ≡ stopped)
 
   -- the same of each
   abbrev pub AreStates : Home M → List (Entry S O) → Bool → List (Standing M S O) → Type 0
   AreStates home entries stopped [] = Unit {0}
-  AreStates home entries stopped (s ∷ ss) = IsState home entries stopped s × AreStates home entries stopped ss
+  AreStates home entries stopped (s ∷ ss) = Did home entries stopped s × AreStates home entries stopped ss
 
   -- what a view has to do with the machine
   pub record Fits (home : Home M) (entries : List (Entry S O)) (stopped : Bool) (v : SlotView M S O) : Type 0 where
     pub homed : 0 < v.parts → v.home ≡ home
     pub out : IfSome v.held (IsState home entries stopped)
-    pub blank : home.keeps ≡ true → 0 < v.bare → stopped ≡ true
+    pub blank : 0 < v.bare → stopped ≡ true
     pub stops : 0 < v.refused → stopped ≡ true
     pub idle : v.parts ≡ 0 → (v.held ≡ None) × (v.calls ≡ []) × (v.bare ≡ 0) × (v.refused ≡ 0)
 
@@ -123,46 +154,42 @@ module _ {M S O : Type 0} (steps : M → S → O → M → Type 0) where
     pub blame : stopped ≡ true → 0 < sum_by (λ v. v.refused) views
     pub fits : (i : ℕ) (v : SlotView M S O) → get_elem? views i ≡ some v → Fits home entries stopped v
 
-  -- the machine went out. Its log has all calls of this seat, and what it did is a run
-  abbrev pub Taken : SlotView M S O → Standing M S O → SlotView M S O → Type 0
-  Taken v s w =
-      (w ≡ seat_view v.parts v.home (Some s) v.calls v.bare v.refused)
-      × (0 < v.parts → IsAtHome v.home s) × AreFrom s.entries v.calls
-      × (0 < v.parts → v.home.keeps ≡ true → 0 < v.bare → s.stopped ≡ true)
-      × (v.parts ≡ all_parts → IsWhole v s)
+  -- the machine went out: all calls of this seat are of what it did, which is a run
+  pub record Taken (v : SlotView M S O) (s : Standing M S O) (w : SlotView M S O) : Type 0 where
+    pub entries : List (Entry S O)
+    pub after : w ≡ seat_view v.parts v.home (Some (with_entries entries s)) v.calls v.bare v.refused
+    pub home : 0 < v.parts → IsAtHome v.home (with_entries entries s)
+    pub kept : 0 < v.parts → s.entries ≡ stored v.home.keeps entries
+    pub calls : AreFrom entries v.calls
+    pub blank : 0 < v.bare → s.stopped ≡ true
+    pub whole : v.parts ≡ all_parts → IsWhole v (with_entries entries s)
 
-  -- the machine that this seat has out, after a step with an entry
-  pub record IsLoggedBy (v : SlotView M S O) (s : Standing M S O) : Type 0 where
+  -- the machine that this seat has out, after a step
+  pub record IsSteppedBy (v : SlotView M S O) (s : Standing M S O) : Type 0 where
     pub old : Standing M S O
     pub step : S
     pub outcome : O
     pub part : 0 < v.parts
     pub held : v.held ≡ Some old
     pub same : (s.number ≡ old.number) × (s.keeps ≡ old.keeps)
-    pub entries : s.entries ≡ old.entries ++ record { step = step; outcome = outcome } ∷ []
-    pub was : old.stopped ≡ false
-    pub now : s.stopped ≡ false
-    pub stepped : steps old.machine step outcome s.machine
-
-  -- the machine that this seat has out, after a step without an entry
-  pub record IsPassedBy (v : SlotView M S O) (s : Standing M S O) : Type 0 where
-    pub old : Standing M S O
-    pub step : S
-    pub outcome : O
-    pub part : 0 < v.parts
-    pub held : v.held ≡ Some old
-    pub same : (s.number ≡ old.number) × (s.keeps ≡ old.keeps)
-    pub entries : s.entries ≡ old.entries
+    pub kept : s.entries ≡ stored v.home.keeps (added s.stopped old.entries (entry step outcome))
+    pub last : s.last ≡ Some (entry step outcome)
     pub stays : s.stopped ≡ old.stopped
-    pub why : old.keeps ≡ true → old.stopped ≡ true
     pub stepped : steps old.machine step outcome s.machine
 
 module _ {M S O : Type 0} where
-  -- the machine that this seat has out, after it was refused memory
-  pub record IsStoppedBy (v : SlotView M S O) (s : Standing M S O) : Type 0 where
-    pub old : Standing M S O
+  -- the machine that this seat has out, with no entry more
+  pub record IsBackWith (old : Standing M S O) (v : SlotView M S O) (s : Standing M S O) : Type 0 where
     pub part : 0 < v.parts
     pub held : v.held ≡ Some old
     pub same : (s.number ≡ old.number) × (s.keeps ≡ old.keeps)
-    pub entries : s.entries ≡ old.entries
-    pub now : s.stopped ≡ true
+    pub kept : s.entries ≡ stored v.home.keeps old.entries
+
+  -- after it was refused memory
+  abbrev pub IsStoppedBy : SlotView M S O → Standing M S O → Type 0
+  IsStoppedBy v s = (old : Standing M S O) × IsBackWith old v s × (s.stopped ≡ true)
+
+  -- as it was
+  abbrev pub IsReturnedBy : SlotView M S O → Standing M S O → Type 0
+  IsReturnedBy v s =
+      (old : Standing M S O) × IsBackWith old v s × (s.machine ≡ old.machine) × (s.stopped ≡ old.stopped)

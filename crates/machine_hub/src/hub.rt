@@ -12,6 +12,7 @@ use crate::machine::Machine;
 use crate::opening::{Opening, open_all};
 use crate::receipt::Receipt;
 use crate::slot::{Slot, SlotKeeper};
+use crate::told::Told;
 use std::alloc::{AllocError, Global};
 use std::marker::Model;
 use std::sync::Wait;
@@ -101,14 +102,15 @@ impl<M: Machine, L: StepLog<M>> Hub<M, L> {
         Ok((outcome, receipt))
     }
 
-    /// Whether the question's answer is yes for a shard's machine. It makes no step.
+    /// Whether the question's answer is yes for a shard's machine, and whether that was refused memory before. It makes
+    /// no step.
     pub fn ask<R: Wait>(
         &self,
         rt: &R,
         me: &mut Caller<M, L>,
         shard: usize,
         question: &M::Question,
-    ) -> bool
+    ) -> Told
         requires shard { shard < length self.now }
         requires mine { slots_of me.old ≡ self.now }
         ensures told { IsToldOn M.steps M.is_so me.old shard question.now result }

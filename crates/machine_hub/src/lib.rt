@@ -23,8 +23,10 @@ mod machine;
 mod opening;
 mod optional;
 mod receipt;
+mod remembered;
 mod rule;
 mod slot;
+mod told;
 mod view;
 
 pub use caller::Caller;
@@ -37,6 +39,7 @@ pub use machine::Machine;
 pub use optional::OptionalLog;
 pub use receipt::Receipt;
 pub use slot::{Slot, SlotKeeper, SlotSeat};
+pub use told::Told;
 
 /// Receipts are equal where they name the same position of the same shard.
 pub fn equal_receipts()

@@ -1,12 +1,13 @@
 //! A machine with its log.
 
-ghost use Rattle.std.specs.Prelude.{◌≡◌, ◌+◌, ◌<◌, [], length, true, false, IfOk, OnErr, option_map};
+ghost use Rattle.std.specs.Prelude.{◌≡◌, ◌+◌, ◌<◌, [], length, true, false, Some, IfOk, OnErr, option_map};
 ghost use Rattle.std.specs.Arc.{arc_value};
-ghost use Rattle.machine_hub.specs.Runs.{IsMade};
+ghost use Rattle.machine_hub.specs.Runs.{entry, IsMade};
 
 use crate::entry::{Entry, EntryOf};
 use crate::log::StepLog;
 use crate::machine::Machine;
+use crate::remembered::Remembered;
 use std::alloc::{AllocError, Global};
 use std::marker::Model;
 use std::sync::Arc;
@@ -24,6 +25,8 @@ pub struct LoggedMachine<M: Machine, L: StepLog<M>> {
     // How many entries the log has.
     made: u64,
     stopped: bool,
+    // What contracts know of the last step that was made.
+    last: Remembered<Option<(M::Step, M::Outcome)>>,
 }
 
 impl<M: Machine, L: StepLog<M>> Model for LoggedMachine<M, L> {
@@ -31,7 +34,8 @@ impl<M: Machine, L: StepLog<M>> Model for LoggedMachine<M, L> {
 
     ghost Value = { Standing M M.Step M.Outcome };
 
-    ghost use Rattle.std.specs.Prelude.{◌≡◌, length};
+    ghost use Rattle.std.specs.Prelude.{◌≡◌, length, option_map};
+    ghost use Rattle.machine_hub.specs.Runs.{entry};
 
     ghost view = { λ s. record {
       number = s.number;
@@ -39,6 +43,7 @@ impl<M: Machine, L: StepLog<M>> Model for LoggedMachine<M, L> {
       entries = L.entries s.log;
       keeps = L.keeping s.log;
       stopped = s.stopped;
+      last = option_map (λ l. entry l.0 l.1) s.last.value;
     } };
 
     ghost invariant = { λ s. s.made ≡ length (L.entries s.log) };
@@ -57,6 +62,7 @@ impl<M: Machine, L: StepLog<M>> LoggedMachine<M, L> {
             log,
             made: 0,
             stopped: false,
+            last: Remembered::of(&None),
         }
     }
 
@@ -74,7 +80,7 @@ impl<M: Machine, L: StepLog<M>> LoggedMachine<M, L> {
         ensures same { (self.new.number ≡ self.old.number) × (self.new.keeps ≡ self.old.keeps) }
     {
         if self.stopped {
-            let (_step, outcome) = self.machine.make(alloc, call)?;
+            let (_step, outcome) = self.make(alloc, call)?;
             return Ok((outcome, None));
         }
         let made = self.make_and_log(alloc, call);
@@ -97,7 +103,7 @@ impl<M: Machine, L: StepLog<M>> LoggedMachine<M, L> {
         ensures same { (self.new.number ≡ self.old.number) × (self.new.keeps ≡ self.old.keeps) }
     {
         self.log.room(alloc, self.number)?;
-        let (step, outcome) = self.machine.make(alloc, call)?;
+        let (step, outcome) = self.make(alloc, call)?;
         if !self.log.keeps() {
             return Ok((outcome, None));
         }
@@ -112,6 +118,22 @@ impl<M: Machine, L: StepLog<M>> LoggedMachine<M, L> {
         let position = self.made;
         self.made = position + 1;
         Ok((outcome, Some((position, kept))))
+    }
+
+    /// Makes one step.
+    fn make(&mut self, alloc: Global, call: M::Call) -> Result<(M::Step, M::Outcome), AllocError>
+        ensures asked { IfOk result (λ made. M.asks call made.0) }
+        ensures made { IfOk result (λ made. M.steps self.old.machine made.0 made.1 self.new.machine) }
+        ensures last { IfOk result (λ made. self.new.last ≡ Some (entry made.0 made.1)) }
+        ensures log { (self.new.entries ≡ self.old.entries) × (self.new.stopped ≡ self.old.stopped) }
+        ensures same { (self.new.number ≡ self.old.number) × (self.new.keeps ≡ self.old.keeps) }
+    {
+        let made = Some(self.machine.make(alloc, call)?);
+        self.last = Remembered::of(&made);
+        match made {
+            Some(made) => Ok(made),
+            None => unreachable!(),
+        }
     }
 
     /// Whether the question's answer is yes. It makes no step.
@@ -152,6 +174,7 @@ impl<M: Machine, L: StepLog<M>> LoggedMachine<M, L> {
             log,
             made: _,
             stopped: _,
+            last: _,
         } = self;
         (machine, log)
     }

@@ -69,31 +69,16 @@ impl<M: Machine, L: StepLog<M>> Lesson<LoggedMachine<M, L>, ViewOf<M>> for Takes
     ghost fact = { IsIn };
 }
 
-/// The machine comes back, with an entry more.
-pub struct Logs;
+/// The machine comes back after a step.
+pub struct Steps;
 
-impl<M: Machine, L: StepLog<M>> Outcome<LoggedMachine<M, L>, ViewOf<M>> for Logs {
-    ghost use Rattle.machine_hub.specs.Slot.{Logged};
+impl<M: Machine, L: StepLog<M>> Outcome<LoggedMachine<M, L>, ViewOf<M>> for Steps {
+    ghost use Rattle.machine_hub.specs.Slot.{Stepped};
 
-    ghost then = { Logged };
+    ghost then = { Stepped };
 }
 
-impl<M: Machine, L: StepLog<M>> Lesson<LoggedMachine<M, L>, ViewOf<M>> for Logs {
-    ghost use Rattle.machine_hub.specs.Slot.{IsOut};
-
-    ghost fact = { IsOut };
-}
-
-/// The machine comes back after a call without an entry.
-pub struct Passes;
-
-impl<M: Machine, L: StepLog<M>> Outcome<LoggedMachine<M, L>, ViewOf<M>> for Passes {
-    ghost use Rattle.machine_hub.specs.Slot.{Passed};
-
-    ghost then = { Passed };
-}
-
-impl<M: Machine, L: StepLog<M>> Lesson<LoggedMachine<M, L>, ViewOf<M>> for Passes {
+impl<M: Machine, L: StepLog<M>> Lesson<LoggedMachine<M, L>, ViewOf<M>> for Steps {
     ghost use Rattle.machine_hub.specs.Slot.{IsOut};
 
     ghost fact = { IsOut };

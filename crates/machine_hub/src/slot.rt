@@ -4,13 +4,14 @@ ghost use Rattle.std.specs.Prelude.{◌≡◌, ◌+◌, ◌<◌, [], length, tru
 ghost use Rattle.std.specs.Arc.{arc_value};
 ghost use Rattle.crossbeam_queue.specs.Passes.{view as known, IsPassOf, IsSamePass, ruled_capacity};
 ghost use Rattle.numbered_items.specs.Numbered.{AreRising};
-ghost use Rattle.machine_hub.specs.Slot.{seat_view, home_of, Taken, Logged, Passed, Stopped, Returned, IsLoggedBy, IsPassedBy, IsStoppedBy};
-ghost use Rattle.machine_hub.specs.Seats.{new_seat, new_keeper, keeper_with, seat_after, seat_refused, IsAbove, WasMade, WasTold, IsWholeRun, with_seat};
+ghost use Rattle.machine_hub.specs.Slot.{seat_view, home_of, Taken, Stepped, Stopped, Returned, IsSteppedBy, IsStoppedBy, IsReturnedBy};
+ghost use Rattle.machine_hub.specs.Seats.{new_seat, new_keeper, keeper_with, seat_refused, IsStepOf, WasTold, IsWholeRun, with_seat};
 
 use crate::log::StepLog;
 use crate::logged::{Given, LoggedMachine};
 use crate::machine::Machine;
-use crate::rule::{Logs, OneAtATime, Opens, Passes, Returns, Seats, Stops, Takes, ViewOf};
+use crate::rule::{OneAtATime, Opens, Returns, Seats, Steps, Stops, Takes, ViewOf};
+use crate::told::Told;
 use crossbeam_queue::{Pass, RuledArrayQueue};
 use std::alloc::{AllocError, Global};
 use std::marker::Model;
@@ -21,8 +22,8 @@ type Cell<M, L> = RuledArrayQueue<LoggedMachine<M, L>, ViewOf<M>, OneAtATime>;
 
 type Token<M, L> = Pass<LoggedMachine<M, L>, ViewOf<M>>;
 
-/// A place at a slot, for one thread at a time. Contracts see it as its slot, its machine's home, its calls that have
-/// an entry, and how many have none and how many were refused memory; none of that is stored.
+/// A place at a slot, for one thread at a time. Contracts see it as its slot, its machine's home, the entries of its
+/// calls, and how many came after memory was refused and how many were refused memory; none of that is stored.
 #[derive(Drop)]
 pub struct SlotSeat<M: Machine, L: StepLog<M>> {
     pass: Token<M, L>,
@@ -156,26 +157,17 @@ impl<M: Machine, L: StepLog<M>> Slot<M, L> {
         call: M::Call,
     ) -> Result<(M::Outcome, Given<M>), AllocError>
         requires { me.old.slot ≡ self.now }
-        ensures made { IfOk result (λ r. WasMade M.asks M.steps me.old call r.0
+        ensures made { IfOk result (λ r. IsStepOf M.asks M.steps me.old me.new call r.0
             (option_map (λ given. (given.0, arc_value given.1)) r.1)) }
-        ensures seat { IfOk result (λ r.
-            me.new ≡ seat_after me.old (option_map (λ given. (given.0, arc_value given.1)) r.1)) }
-        ensures above { IfOk result (λ r. IsAbove me.old (option_map (λ given. (given.0, arc_value given.1)) r.1)) }
         ensures refused { OnErr result (me.new ≡ seat_refused me.old) }
     {
         let _guard = self.gate.lock(rt);
         let mut machine = take(rt, &self.cell, &mut me.pass);
         match machine.apply(alloc, call) {
-            Ok((outcome, given)) => match given {
-                Some(given) => {
-                    put_logged(rt, &self.cell, &mut me.pass, machine);
-                    Ok((outcome, Some(given)))
-                }
-                None => {
-                    put_passed(rt, &self.cell, &mut me.pass, machine);
-                    Ok((outcome, None))
-                }
-            },
+            Ok(made) => {
+                put_stepped(rt, &self.cell, &mut me.pass, machine);
+                Ok(made)
+            }
             Err(error) => {
                 put_stopped(rt, &self.cell, &mut me.pass, machine);
                 Err(error)
@@ -184,7 +176,7 @@ impl<M: Machine, L: StepLog<M>> Slot<M, L> {
     }
 
     /// Whether the question's answer is yes. It makes no step, and the machine's log has nothing of it.
-    pub fn ask<R: Wait>(&self, rt: &R, me: &mut SlotSeat<M, L>, question: &M::Question) -> bool
+    pub fn ask<R: Wait>(&self, rt: &R, me: &mut SlotSeat<M, L>, question: &M::Question) -> Told
         requires { me.old.slot ≡ self.now }
         ensures told { WasTold M.steps M.is_so me.old question.now result }
         ensures same { me.new ≡ me.old }
@@ -192,8 +184,12 @@ impl<M: Machine, L: StepLog<M>> Slot<M, L> {
         let _guard = self.gate.lock(rt);
         let machine = take(rt, &self.cell, &mut me.pass);
         let answer = machine.tell(question);
+        let late = machine.stopped();
         put_back(rt, &self.cell, &mut me.pass, machine);
-        answer
+        Told {
+            answer,
+            stopped: late,
+        }
     }
 }
 
@@ -248,32 +244,17 @@ fn take<M: Machine, L: StepLog<M>, R: Wait>(
     unreachable!()
 }
 
-fn put_logged<M: Machine, L: StepLog<M>, R: Wait>(
+fn put_stepped<M: Machine, L: StepLog<M>, R: Wait>(
     rt: &R,
     cell: &Cell<M, L>,
     pass: &mut Token<M, L>,
     machine: LoggedMachine<M, L>,
 )
     requires pass { IsPassOf cell.now pass.old × (ruled_capacity cell.now ≡ 1) }
-    requires machine { IsLoggedBy M.steps (known pass.old) machine }
-    ensures { IsSamePass pass.old pass.new × Logged (known pass.old) machine (known pass.new) }
+    requires machine { IsSteppedBy M.steps (known pass.old) machine }
+    ensures { IsSamePass pass.old pass.new × Stepped (known pass.old) machine (known pass.new) }
 {
-    let Ok(()) = cell.push_as::<Logs, R>(rt, pass, machine) else {
-        unreachable!()
-    };
-}
-
-fn put_passed<M: Machine, L: StepLog<M>, R: Wait>(
-    rt: &R,
-    cell: &Cell<M, L>,
-    pass: &mut Token<M, L>,
-    machine: LoggedMachine<M, L>,
-)
-    requires pass { IsPassOf cell.now pass.old × (ruled_capacity cell.now ≡ 1) }
-    requires machine { IsPassedBy M.steps (known pass.old) machine }
-    ensures { IsSamePass pass.old pass.new × Passed (known pass.old) machine (known pass.new) }
-{
-    let Ok(()) = cell.push_as::<Passes, R>(rt, pass, machine) else {
+    let Ok(()) = cell.push_as::<Steps, R>(rt, pass, machine) else {
         unreachable!()
     };
 }
@@ -300,7 +281,7 @@ fn put_back<M: Machine, L: StepLog<M>, R: Wait>(
     machine: LoggedMachine<M, L>,
 )
     requires pass { IsPassOf cell.now pass.old × (ruled_capacity cell.now ≡ 1) }
-    requires machine { (0 < (known pass.old).parts) × ((known pass.old).held ≡ Some machine) }
+    requires machine { IsReturnedBy (known pass.old) machine }
     ensures { IsSamePass pass.old pass.new × Returned (known pass.old) machine (known pass.new) }
 {
     let Ok(()) = cell.push_as::<Returns, R>(rt, pass, machine) else {

@@ -3,13 +3,15 @@
 use crate::entry::Entry;
 use std::collections::LinkedList;
 
-// A machine with its log: its number, its state, the entries, whether the log keeps, and whether it is stopped.
+// A machine with its log: its number, its state, the entries, whether the log keeps, whether it is stopped, and the
+// last step that was made.
 pub struct Standing<M, S, O> {
     pub number: u64,
     pub machine: M,
     pub entries: LinkedList<Entry<S, O>>,
     pub keeps: bool,
     pub stopped: bool,
+    pub last: Option<Entry<S, O>>,
 }
 
 // Which machine it is, what it was at first, and whether its log keeps.
@@ -20,7 +22,8 @@ pub struct Home<M> {
 }
 
 // What a seat knows: its parts of the right to know the whole, the machine's home, the machine while the seat has it
-// out, its calls that have an entry, each with its position, and how many have none and how many were refused memory.
+// out, the entries of its calls, each with its position, and how many came after memory was refused and how many were
+// refused memory.
 pub struct SlotView<M, S, O> {
     pub parts: u64,
     pub home: Home<M>,

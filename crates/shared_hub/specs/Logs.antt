@@ -1,5 +1,5 @@
 -- What contracts say of calls, and of the logs at the end.
-use Rattle.std.specs.Prelude.{◌≡◌, ◌⊎◌, ℕ, List, [], ◌∷◌, ◌++◌, map, length, Bool, true, false, Option, Some, None, slice_get}
+use Rattle.std.specs.Prelude.{◌≡◌, ℕ, ◌<◌, List, [], ◌∷◌, ◌++◌, map, length, Bool, true, false, Option, Some, None, slice_get}
 use Rattle.send_retry.specs.declared.answer.Answer.{Answer}
 use Rattle.send_retry.specs.Class.{answer_view}
 use Rattle.tail_settings.specs.Section.{SectionData}
@@ -17,9 +17,10 @@ use Rattle.tenant_shard.specs.Alone.{alone, own_steps, told_to}
 use Rattle.tenant_shard.specs.Table.{section_of, opened, members_of}
 use Rattle.machine_hub.specs.declared.view.Standing.{Standing}
 use Rattle.machine_hub.specs.Runs.{entry}
-use Rattle.machine_hub.specs.Seats.{SeatState}
+use Rattle.machine_hub.specs.Seats.{SeatState, HasCalls}
 use Rattle.machine_hub.specs.declared.receipt.Receipt.{Receipt}
-use Rattle.machine_hub.specs.Hub.{IsCallOn, IsToldOn}
+use Rattle.machine_hub.specs.declared.told.Told.{Told}
+use Rattle.machine_hub.specs.Hub.{IsCallOn, IsToldOn, seats_at, AreCallsOf}
 use Rattle.shard_machine.specs.declared.step.Call.{Call}
 use Rattle.shard_machine.specs.declared.step.Call.TheVariants as calls
 use Rattle.shard_machine.specs.declared.step.WordedStep.{WordedStep}
@@ -27,9 +28,13 @@ use Rattle.shard_machine.specs.Worded.{Worded, AsksFor, WordedDoes}
 use Rattle.shard_machine.specs.Run.{Logged, steps_of, outcomes_of, drawn_for}
 use Rattle.shared_hub.specs.Shards.{IsFresh}
 
+-- a caller's seat at a shard
+abbrev pub Seat : Type 0
+Seat = SeatState Worded WordedStep Outcome
+
 -- a caller, by its seats at the shards
 abbrev pub Seats : Type 0
-Seats = List (SeatState Worded WordedStep Outcome)
+Seats = List Seat
 
 -- a shard with its log
 abbrev pub LoggedShard : Type 0
@@ -50,9 +55,14 @@ IsAnswerOn old new shard tenant now ticket answer outcome receipt =
 abbrev pub has_none : Worded → ℕ → Bool
 has_none shard tenant = is_empty (kept_of tenant shard.views)
 
+-- at one moment of a call the tenant was empty or wasn't, and its shard had been refused memory or hadn't
+abbrev pub IsLookOn : Seats → ℕ → ℕ → Told → Type 0
+IsLookOn caller shard tenant told = IsToldOn WordedDoes has_none caller shard tenant told
+
 -- at one moment of a call this was so
 abbrev pub IsEmptyOn : Seats → ℕ → ℕ → Bool → Type 0
-IsEmptyOn caller shard tenant empty = IsToldOn WordedDoes has_none caller shard tenant empty
+IsEmptyOn caller shard tenant empty =
+    (stopped : Bool) × IsLookOn caller shard tenant (record { answer = empty; stopped = stopped })
 
 -- entries are a run of a shard of these tenants from before its first step: one chain of what is kept. The outcomes are
 -- those that the members' own steps say, each member was told exactly what its pipeline alone answers to the steps that
@@ -71,22 +81,38 @@ pub record IsLogOf (table : SettingsData) (members : List ℕ) (entries : List L
       drawn_for tenant entries ≡ first_words (length (drawn_for tenant entries)) (start section.seed)
   pub nobodys : (tenant : ℕ) → section_of table members tenant ≡ None → drawn_for tenant entries ≡ []
 
--- a step that the call asked for was the last of such a run, with this outcome
-pub record EndsARun (table : SettingsData) (members : List ℕ) (call : Call) (outcome : Outcome) : Type 0 where
+-- a step that the call asked for, with this outcome, comes after these entries in such a run
+pub record EndsARun (table : SettingsData) (members : List ℕ) (before : List Logged) (call : Call)
+    (outcome : Outcome) : Type 0 where
   pub step : WordedStep
   pub asked : AsksFor call step
-  pub before : List Logged
   pub last : Worded
   pub log : IsLogOf table members (before ++ entry step outcome ∷ []) last
 
--- whether or not a log keeps it, the step of a call that answered is the last of such a run, so what is answered
--- follows from the own steps of that run alone; but for a shard that was refused memory before
+-- whether or not a log keeps it, the step of a call that answered comes after all that the shard did in such a run, in
+-- which all earlier calls of its caller are, so what is answered follows from the own steps of that run alone. It is
+-- said of each call that its caller's seat doesn't count as one that came after memory was refused
 abbrev pub EachCallEndsARun : Type 0
 EachCallEndsARun = (table : SettingsData) (members : List ℕ) (old new : Seats) (shard : ℕ) (call : Call)
     (outcome : Outcome) (receipt : Option Receipt)
     (made : IsCallOn AsksFor WordedDoes old new shard call outcome receipt) →
     IsFresh table members made.seat.home.start →
-    (made.made.0.stopped ≡ true) ⊎ EndsARun table members call outcome
+    (after : Seat) → slice_get new shard ≡ Some after → after.bare ≡ made.seat.bare →
+    EndsARun table members made.made.old.entries call outcome
+
+-- a tenant is empty, or isn't, where such a run ends in which all earlier calls of this seat are
+pub record SeesARun (table : SettingsData) (members : List ℕ) (seat : Seat) (tenant : ℕ) (empty : Bool) : Type 0 where
+  pub entries : List Logged
+  pub last : Worded
+  pub log : IsLogOf table members entries last
+  pub calls : HasCalls entries seat
+  pub empty_is : empty ≡ has_none last tenant
+
+-- what is told of a tenant is so where such a run ends, unless it is told too that the shard was refused memory
+abbrev pub EachLookSeesARun : Type 0
+EachLookSeesARun = (table : SettingsData) (members : List ℕ) (caller : Seats) (shard tenant : ℕ) (told : Told)
+    (look : IsLookOn caller shard tenant told) → IsFresh table members look.0.home.start → told.stopped ≡ false →
+    SeesARun table members look.0 tenant told.answer
 
 -- what this shard did is such a run, and where its log keeps, that run is the log. Unless it was refused memory, the
 -- run leaves what the shard is now
@@ -101,6 +127,18 @@ pub record IsLogged (table : SettingsData) (shard : ℕ) (s : LoggedShard) : Typ
 abbrev pub AreLogged : SettingsData → List LoggedShard → Type 0
 AreLogged table shards =
     (shard : ℕ) (s : LoggedShard) → slice_get shards shard ≡ Some s → IsLogged table shard s
+
+-- all callers' calls at this shard are one such run, whether or not a log keeps it: each that answered before the shard
+-- was refused memory is there once, with its step and outcome
+pub record IsOneRun (table : SettingsData) (callers : List Seats) (shard : ℕ) : Type 0 where
+  pub entries : List Logged
+  pub last : Worded
+  pub log : IsLogOf table (members_of table shard) entries last
+  pub each : AreCallsOf entries (seats_at shard callers)
+
+-- so it is at each shard
+abbrev pub AreOneRun : SettingsData → List Seats → Type 0
+AreOneRun table callers = (shard : ℕ) → shard < table.global.shards → IsOneRun table callers shard
 
 -- what a tenant is told follows from its section and its own steps alone, whichever log it is, whatever the other
 -- tenants' sections and steps, and whatever threads did

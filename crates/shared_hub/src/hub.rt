@@ -5,7 +5,7 @@ ghost use Rattle.tail_settings.specs.Settings.{SettingsData, settings_view};
 ghost use Rattle.machine_hub.specs.Hub.{slots_of, new_caller, AreCallersOf, AreShardRuns, IsRefusedOn};
 ghost use Rattle.shard_machine.specs.Worded.{WordedDoes};
 ghost use Rattle.shared_hub.specs.Shards.{AreOpened, kept};
-ghost use Rattle.shared_hub.specs.Logs.{IsStepOn, IsAnswerOn, IsEmptyOn, AreLogged};
+ghost use Rattle.shared_hub.specs.Logs.{IsStepOn, IsAnswerOn, IsLookOn, IsEmptyOn, AreLogged, AreOneRun};
 ghost use Rattle.shared_hub.specs.declared.fault.HubFault.TheVariants as faults;
 
 use crate::copy::copy_of;
@@ -13,7 +13,7 @@ use crate::fault::{CallersMissing, HubFault};
 use crate::log::OptionalLog;
 use crate::shards::shards_of;
 use crate::{Caller, HubKeeper, ShardLog};
-use machine_hub::{Hub, Receipt};
+use machine_hub::{Hub, Receipt, Told};
 use send_retry::Answer;
 use shard_machine::{Call, WordedShard, runs_are_shard_runs, words_are_in_order};
 use std::alloc::{AllocError, Global};
@@ -134,6 +134,17 @@ impl SharedHub {
         ensures empty { IsEmptyOn me.old (tenant % length self.now) tenant result }
         ensures same { me.new ≡ me.old }
     {
+        let told = self.look(rt, me, tenant);
+        told.answer
+    }
+
+    /// The same, with whether the tenant's shard was refused memory before: if not, it is so where a run of the shard
+    /// ends.
+    pub fn look<R: Wait>(&self, rt: &R, me: &mut Caller, tenant: u32) -> Told
+        requires mine { slots_of me.old ≡ self.now }
+        ensures look { IsLookOn me.old (tenant % length self.now) tenant result }
+        ensures same { me.new ≡ me.old }
+    {
         let shard = self.shard_of(tenant);
         self.hub.ask(rt, me, shard, &tenant)
     }
@@ -153,6 +164,8 @@ impl SharedHub {
             AreShardRuns WordedDoes keeper.homes callers.items shards.items) }
         ensures logs { IfOk result (λ shards. (table : SettingsData) →
             AreOpened table keeper.homes → AreLogged table shards.items) }
+        ensures one_run { IfOk result (λ shards. (table : SettingsData) →
+            AreOpened table keeper.homes → AreOneRun table callers.items) }
         ensures missing { IfErr result (λ back. (vec_len callers ≢ keeper.callers) × (back.hub ≡ self)
             × (back.keeper ≡ keeper) × (back.callers ≡ callers)) }
     {

@@ -10,7 +10,7 @@
 //! `tail_settings` for the tenants. Its rules come from no public text.
 #![tactic(auto)]
 
-ghost use Rattle.shared_hub.specs.Logs.{EachCallEndsARun, LogsTellByOwnSteps};
+ghost use Rattle.shared_hub.specs.Logs.{EachCallEndsARun, EachLookSeesARun, LogsTellByOwnSteps};
 
 mod copy;
 mod fault;
@@ -21,7 +21,7 @@ mod shards;
 pub use fault::{CallersMissing, HubFault};
 pub use hub::SharedHub;
 pub use log::OptionalLog;
-pub use machine_hub::Receipt;
+pub use machine_hub::{Receipt, Told};
 pub use shard_machine::{Call, WordOf, WordedShard, WordedStep};
 use tenant_shard::Outcome;
 
@@ -40,6 +40,14 @@ pub type ShardLog = machine_hub::LoggedMachine<WordedShard, OptionalLog>;
 /// What a call answers, log or not, is the last outcome of a run of a shard of its tenants: a law over calls.
 pub fn each_call_ends_a_run()
     ensures { EachCallEndsARun }
+{
+    shard_machine::runs_are_shard_runs();
+    shard_machine::words_are_in_order();
+}
+
+/// What a look at a tenant is told is so where a run of a shard of its tenants ends: a law over looks.
+pub fn each_look_sees_a_run()
+    ensures { EachLookSeesARun }
 {
     shard_machine::runs_are_shard_runs();
     shard_machine::words_are_in_order();

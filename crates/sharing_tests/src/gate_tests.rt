@@ -1,11 +1,11 @@
-//! Two threads at two shards at once.
+//! Two threads at two shards at once; and what is told once memory was refused.
 
 ghost use Rattle.std.specs.Prelude.{◌≡◌, ◌<◌, [], length, false, IfOk};
 ghost use Rattle.machine_hub.specs.Hub.{slots_of};
 
 use crate::counter::Counter;
-use crate::holding::HoldingLog;
-use machine_hub::{Caller, Hub, LoggedMachine};
+use crate::holding::{HoldingLog, WITHOUT_ROOM};
+use machine_hub::{Caller, Hub, LoggedMachine, Told};
 use std::alloc::{AllocError, Global};
 use std::sync::atomic::{AtomicU64, Ordering};
 use std::sync::{Arc, Wait};
@@ -60,6 +60,38 @@ fn two_threads<R: Threads + Wait + Sync>(rt: &R, alloc: Global) -> Result<(u64, 
             requires { (1 < length shared.now) × (slots_of two ≡ shared.now) }
         { call(rt, alloc, shared, two, 1, counter) },
     ))
+}
+
+/// A machine for whose step there is no room: what is told of a question before the step and after it, as numbers of
+/// two bits, the answer and whether memory was refused before.
+fn told_around_a_refusal<R: Wait>(rt: &R, alloc: Global) -> Result<(u8, u8), Fail> {
+    let returned = Arc::new(alloc, AtomicU64::new(0))?;
+    let mut machines = Vec::new(alloc);
+    machines.push(held(&returned, WITHOUT_ROOM)?)?;
+    let (hub, _keeper, mut callers) = Hub::open(rt, alloc, machines, 1)?;
+    let Some(mut me) = callers.pop() else {
+        return Err("a caller".into());
+    };
+    let before = hub.ask(rt, &mut me, 0, &1);
+    let _ = hub.step(rt, alloc, &mut me, 0, 1);
+    let after = hub.ask(rt, &mut me, 0, &0);
+    Ok((bits(before), bits(after)))
+}
+
+fn bits(told: Told) -> u8 {
+    match (told.answer, told.stopped) {
+        (false, false) => 0,
+        (true, false) => 1,
+        (false, true) => 2,
+        (true, true) => 3,
+    }
+}
+
+/// Who asks is told whether memory was refused before: not at first, when the counter isn't yet 1, and then it was.
+#[test]
+fn who_asks_is_told_of_refused_memory(rt: HostRuntime) -> Result<(), Fail> {
+    assert_eq!(rt; told_around_a_refusal(&rt, rt.alloc())?, (0, 3));
+    Ok(())
 }
 
 /// A step on shard 0 that waits for one on shard 1 doesn't keep it from being made.

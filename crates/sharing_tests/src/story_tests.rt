@@ -41,7 +41,9 @@ fn is_told<R: Threads + Wait + Sync>(
     ensures { slots_of me.new ≡ hub.now }
 {
     if line.shard == "-" {
-        return hub.empty(rt, me, line.tenant) == (line.outcome == "yes");
+        let empty = line.outcome == "yes";
+        let told = hub.look(rt, me, line.tenant);
+        return told.answer == empty && !told.stopped && hub.empty(rt, me, line.tenant) == empty;
     }
     match made(rt, alloc, settings, hub, me, line) {
         Some((outcome, receipt)) => {

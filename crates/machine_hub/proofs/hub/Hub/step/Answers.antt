@@ -12,10 +12,10 @@ returns-in_err-outcome-clause-refused g c = on_err _ _ (refused_on _ _ _ _ _ _ c
 pub returns-clause-mine : goal.returns-clause-mine
 returns-clause-mine g c =
     still_mine _ _ _ _ _ _ c.me.view_is c.requires.mine c.requires.shard c.index_mut-seat.ensures.value
-    (slot_after _ _ (option_map (λ x. (x.0, arc_value x.1)) c.in_ok-outcome.given) c.in_ok-outcome.ensures.seat)
+    (slot_after _ _ c.in_ok-outcome.ensures.made.noted c.in_ok-outcome.ensures.made.after)
 
 pub returns-clause-call : goal.returns-clause-call
 returns-clause-call g c =
     let e = c.in_ok-outcome.ensures in
-    call_on g.M.Machine.steps g.M.Machine.asks _ _ _ _ _ _ _ _ (option_map (λ x. (x.0, arc_value x.1)) c.in_ok-outcome.given) _ c.me.view_is c.requires.mine c.requires.shard c.index_mut-seat.ensures.value e.made e.above e.seat
+    call_on g.M.Machine.steps g.M.Machine.asks _ _ _ _ _ _ _ _ (option_map (λ x. (x.0, arc_value x.1)) c.in_ok-outcome.given) _ c.me.view_is c.requires.mine c.requires.shard c.index_mut-seat.ensures.value e.made
     (receipt_by arc_value _ _ _ c.receipt_of-receipt.ensures)
