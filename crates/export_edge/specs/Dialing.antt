@@ -10,13 +10,13 @@ use Rattle.export_edge.specs.Work.{Posted}
 -- once, and over the line that came of it the job's own payload was posted, with that address as the host. Where the
 -- tenant has no address nothing was dialed.
 pub data JobComesTo {D L : Type 0} (dials : D → List ℕ → Option L → D → Type 0)
-    (received sent : L → Option (List ℕ)) (ends failed : L → ℕ) (addresses : List (List ℕ)) (old new : D)
+    (gives takes : L → L → List ℕ → Type 0) (ends failed : L → ℕ) (addresses : List (List ℕ)) (old new : D)
     (p : Posted) : Type 0 where
   no_address : length addresses ≤ p.job.tenant → new ≡ old → p.answer ≡ Failed
-      → JobComesTo dials received sent ends failed addresses old new p
+      → JobComesTo dials gives takes ends failed addresses old new p
   no_line : (address : List ℕ) → slice_get addresses p.job.tenant ≡ Some address → dials old address None new
-      → p.answer ≡ Failed → JobComesTo dials received sent ends failed addresses old new p
+      → p.answer ≡ Failed → JobComesTo dials gives takes ends failed addresses old new p
   over_a_line : (address : List ℕ) → slice_get addresses p.job.tenant ≡ Some address → (first last : L)
       → dials old address (Some first) new
-      → ComesTo received sent ends failed (post_text address p.job.payload) first last p.answer
-      → JobComesTo dials received sent ends failed addresses old new p
+      → ComesTo gives takes ends failed (post_text address p.job.payload) first last p.answer
+      → JobComesTo dials gives takes ends failed addresses old new p

@@ -27,7 +27,7 @@ pub trait Dial {
 /// Posts a job over a line of its own to its tenant's address, which stands at the tenant's number. It fails where
 /// there is no address, no line comes about, or no whole answer comes.
 pub fn post_job<D: Dial>(alloc: Global, dialer: &mut D, addresses: &[String], job: &Job) -> Answer
-    ensures { JobComesTo D.dials D.Connection.received D.Connection.sent D.Connection.ends D.Connection.failed
+    ensures { JobComesTo D.dials D.Connection.gives D.Connection.takes D.Connection.ends D.Connection.failed
         (map string_bytes addresses.now) dialer.old dialer.new (posted job.now (answer_view result)) }
 {
     let Some(address) = addresses.get(job.tenant as usize) else {
@@ -69,7 +69,7 @@ impl<D: Dial> BackEnd for DialingBackEnd<'_, D> {
 
     // Each job goes to its own tenant's address, and the addresses stay.
     ghost posts = { λ old p new. (new.addresses.now ≡ old.addresses.now)
-        × JobComesTo D.dials D.Connection.received D.Connection.sent D.Connection.ends D.Connection.failed
+        × JobComesTo D.dials D.Connection.gives D.Connection.takes D.Connection.ends D.Connection.failed
         (map string_bytes old.addresses.now) old.dialer new.dialer p };
 
     fn post(&mut self, job: &Job) -> Answer {

@@ -2,12 +2,13 @@
 use Rattle.std.proofs.Common.{◌≡◌, ℕ, ◌≤◌, Bool, true, false, not, List, [], ◌∷◌, ◌++◌, length, drop, Option, if◌then◌else◌, refl, sym, ap, subst, ◌∙◌, append_assoc, append-nil}
 use Rattle.httparse.specs.Grammar.{RequestHead}
 use Rattle.http_edge.specs.declared.head.Head.{Head}
+use Rattle.http_edge.specs.declared.wire.EdgeFault.{EdgeFault}
 use Rattle.http_edge.specs.Message.{Request, Answer, Message, Frame, sized, chunked, HasBody, HasMessage, request_of, closes, expects, max_body}
-use Rattle.http_edge.specs.Talk.{Exchange, exchange_text, interim_text, Asks, told, Runs, Due, MayInterim, interim, replying}
+use Rattle.http_edge.specs.Talk.{Exchange, exchange_text, interim_text, Asks, told, Runs, Due, MayBreak, MayInterim, interim, replying}
 use Rattle.http_edge.specs.Reply.{continue_text}
 use Rattle.http_edge.specs.Stages.{IsHead, frame_by, message_with, IsCut, IsOver, GoesOn, Replies}
-use Rattle.http_edge.specs.Steps.{Moves}
-use Rattle.http_edge.proofs.Moved.{then_to}
+use Rattle.http_line.specs.Line.{Moves}
+use Rattle.http_line.proofs.Moved.{then_to}
 use Rattle.http_edge.proofs.Heads.{has_head_more}
 use Rattle.http_edge.proofs.Pieces.{chunked_more}
 
@@ -62,9 +63,9 @@ may_interim {bytes} {head} {h} read p = record {
   short = p.fits;
 }
 
-pub due_interim : {H : Type 0} (answers : H → Request → Answer → H → Type 0) (s : H) {bytes : List ℕ} {head : Head}
+pub due_interim : {H : Type 0} {fault : EdgeFault} (answers : H → Request → Answer → H → Type 0) (s : H) {bytes : List ℕ} {head : Head}
     {h : RequestHead} (read front missing : List ℕ) → IsHead bytes head h
-    → (if head.expects then continue_text else []) ≡ front ++ missing → Due answers s (bytes ++ read) s (front
+    → (if head.expects then continue_text else []) ≡ front ++ missing → Due fault answers s (bytes ++ read) s (front
     ++ missing)
 due_interim answers s {bytes} {head} {h} read front missing p e =
     let t : interim_text h ≡ front ++ missing = ap (λ (b : Bool). if b then continue_text else []) (sym p.says.expects)
@@ -72,14 +73,14 @@ due_interim answers s {bytes} {head} {h} read front missing p e =
     rw (← t) (interim h (may_interim read p) refl)
 
 -- what was written for a message: the interim text and then the reply
-pub first_moves : {r0 r1 r2 s0 s1 s2 : Option (List ℕ)} {read : List ℕ} (due : Bool) (h : RequestHead)
-    → due ≡ expects h → Moves r0 r1 s0 s1 [] (if due then continue_text else []) → Moves r1 r2 s1 s2 read []
-    → Moves r0 r2 s0 s2 read (interim_text h)
+pub first_moves : {L : Type 0} {gives takes : L → L → List ℕ → Type 0} {l0 l1 l2 : L} {read : List ℕ} (due : Bool) (h : RequestHead)
+    → due ≡ expects h → Moves gives takes l0 l1 [] (if due then continue_text else []) → Moves gives takes l1 l2 read []
+    → Moves gives takes l0 l2 read (interim_text h)
 first_moves due h e p q = then_to p q refl (append-nil _ ∙ ap (λ (b : Bool). if b then continue_text else []) e)
 
-pub all_moves : {r0 r1 r2 r3 s0 s1 s2 s3 : Option (List ℕ)} {read text : List ℕ} (due : Bool) (h : RequestHead)
-    → due ≡ expects h → Moves r0 r1 s0 s1 [] (if due then continue_text else []) → Moves r1 r2 s1 s2 read []
-    → Moves r2 r3 s2 s3 [] text → Moves r0 r3 s0 s3 read (interim_text h ++ text)
+pub all_moves : {L : Type 0} {gives takes : L → L → List ℕ → Type 0} {l0 l1 l2 l3 : L} {read text : List ℕ} (due : Bool) (h : RequestHead)
+    → due ≡ expects h → Moves gives takes l0 l1 [] (if due then continue_text else []) → Moves gives takes l1 l2 read []
+    → Moves gives takes l2 l3 [] text → Moves gives takes l0 l3 read (interim_text h ++ text)
 all_moves {read = read} due h e p q r = then_to (first_moves due h e p q) r (append-nil read) refl
 
 pub reply_whole : {H : Type 0} (answers : H → Request → Answer → H
@@ -89,11 +90,12 @@ unfolding exchange_text
 reply_whole answers {old} {new} {m} {text} {missing} p = ap (λ v. interim_text m.head ++ v) p.text
     ∙ sym (append_assoc (interim_text m.head) text missing)
 
-pub due_reply : {H : Type 0} (answers : H → Request → Answer → H
+pub due_reply : {H : Type 0} {fault : EdgeFault} (answers : H → Request → Answer → H
     → Type 0) {old new : H} {m : Message} {text missing : List ℕ} (bytes after : List ℕ) → HasMessage bytes m after
-    → Replies answers old new m text missing → Due answers old bytes new ((interim_text m.head ++ text) ++ missing)
-due_reply answers {old} {new} {m} {text} {missing} bytes after has p =
-    rw (← reply_whole answers p) (replying (record { message = m; reply = p.reply }) after has p.answered)
+    → (p : Replies answers old new m text missing) → MayBreak fault p.reply
+    → Due fault answers old bytes new ((interim_text m.head ++ text) ++ missing)
+due_reply answers {old} {new} {m} {text} {missing} bytes after has p may =
+    rw (← reply_whole answers p) (replying (record { message = m; reply = p.reply }) after has p.answered may)
 
 -- the message whose head was there and whose body has come
 pub whole_message : {bytes : List ℕ} {head : Head} {h : RequestHead} (read body after : List ℕ) → IsHead bytes head h
@@ -110,10 +112,10 @@ whole_message {bytes} {head} {h} read body after p b short = record {
 
 -- the same from an earlier moment, before these bytes were read
 pub goes_after : {H : Type 0} {answers : H → Request → Answer → H
-    → Type 0} {old new : H} {r0 r1 r2 s0 s1 s2 : Option (List ℕ)} {b0 b1 after read : List ℕ}
-    → Moves r0 r1 s0 s1 read [] → b1 ≡ b0 ++ read → GoesOn answers old new r1 r2 s1 s2 b1 after
-    → GoesOn answers old new r0 r2 s0 s2 b0 after
-goes_after {H} {answers} {old} {new} {r0} {r1} {r2} {s0} {s1} {s2} {b0} {b1} {after} {read} p e q = record {
+    → Type 0} {old new : H} {L : Type 0} {gives takes : L → L → List ℕ → Type 0} {l0 l1 l2 : L} {b0 b1 after read : List ℕ}
+    → Moves gives takes l0 l1 read [] → b1 ≡ b0 ++ read → GoesOn answers old new gives takes l1 l2 b1 after
+    → GoesOn answers old new gives takes l0 l2 b0 after
+goes_after {H} {answers} {old} {new} {L} {gives} {takes} {l0} {l1} {l2} {b0} {b1} {after} {read} p e q = record {
   read = read ++ q.read;
   exchange = q.exchange;
   moves = then_to p q.moves refl refl;
@@ -123,10 +125,10 @@ goes_after {H} {answers} {old} {new} {r0} {r1} {r2} {s0} {s1} {s2} {b0} {b1} {af
 }
 
 pub over_after : {H : Type 0} {answers : H → Request → Answer → H
-    → Type 0} {old new : H} {r0 r1 r2 s0 s1 s2 : Option (List ℕ)} {b0 b1 read : List ℕ} {ended1 ended0 : Type 0}
-    → (ended1 → ended0) → Moves r0 r1 s0 s1 read [] → b1 ≡ b0 ++ read
-    → IsOver answers old new r1 r2 s1 s2 ended1 b1 → IsOver answers old new r0 r2 s0 s2 ended0 b0
-over_after {H} {answers} {old} {new} {r0} {r1} {r2} {s0} {s1} {s2} {b0} {b1} {read} {ended1} {ended0} since p e
+    → Type 0} {old new : H} {L : Type 0} {gives takes : L → L → List ℕ → Type 0} {l0 l1 l2 : L} {b0 b1 read : List ℕ} {ended1 ended0 : Type 0}
+    → (ended1 → ended0) → Moves gives takes l0 l1 read [] → b1 ≡ b0 ++ read
+    → IsOver answers old new gives takes l1 l2 ended1 b1 → IsOver answers old new gives takes l0 l2 ended0 b0
+over_after {H} {answers} {old} {new} {L} {gives} {takes} {l0} {l1} {l2} {b0} {b1} {read} {ended1} {ended0} since p e
     q = record {
       read = read ++ q.read;
       text = q.text;
@@ -136,16 +138,25 @@ over_after {H} {answers} {old} {new} {r0} {r1} {r2} {s0} {s1} {s2} {b0} {b1} {re
       end = λ f. since (q.end f);
     }
 
-pub cut_after : {H : Type 0} {answers : H → Request → Answer → H
-    → Type 0} {old new : H} {r0 r1 r2 s0 s1 s2 : Option (List ℕ)} {b0 b1 read : List ℕ} → Moves r0 r1 s0 s1 read []
-    → b1 ≡ b0 ++ read → IsCut answers old new r1 r2 s1 s2 b1 → IsCut answers old new r0 r2 s0 s2 b0
-cut_after {H} {answers} {old} {new} {r0} {r1} {r2} {s0} {s1} {s2} {b0} {b1} {read} p e q = record {
+pub cut_after : {H : Type 0} {fault : EdgeFault} {answers : H → Request → Answer → H
+    → Type 0} {old new : H} {L : Type 0} {gives takes : L → L → List ℕ → Type 0} {l0 l1 l2 : L} {b0 b1 read : List ℕ} → Moves gives takes l0 l1 read []
+    → b1 ≡ b0 ++ read → IsCut fault answers old new gives takes l1 l2 b1
+    → IsCut fault answers old new gives takes l0 l2 b0
+cut_after {H} {fault} {answers} {old} {new} {L} {gives} {takes} {l0} {l1} {l2} {b0} {b1} {read} p e q = record {
   read = read ++ q.read;
   written = q.written;
   moves = then_to p q.moves refl refl;
   missing = q.missing;
   due = rw (← append_assoc b0 read q.read, ← e) q.due;
 }
+
+-- by the same fault
+pub cut_by : {H : Type 0} {fault other : EdgeFault} {answers : H → Request → Answer → H
+    → Type 0} {old new : H} {L : Type 0} {gives takes : L → L → List ℕ → Type 0} {first last : L} {before : List ℕ}
+    → IsCut fault answers old new gives takes first last before → fault ≡ other
+    → IsCut other answers old new gives takes first last before
+cut_by {answers = answers} {old = old} {new = new} {gives = gives} {takes = takes} {first = first} {last = last} {before = before} p e =
+    subst (λ f. IsCut f answers old new gives takes first last before) e p
 
 pub not_is : (b went : Bool) → went ≡ not b → went ≡ true → b ≡ false
 not_is true went e f = absurd (let x : false ≡ true = sym e ∙ f in cc)

@@ -15,6 +15,7 @@ use Rattle.http_edge.specs.declared.body.BodyRead.{BodyRead}
 use Rattle.http_edge.specs.declared.body.BodyRead.TheVariants as Read
 use Rattle.http_edge.specs.declared.body.Pieces.{Pieces}
 use Rattle.http_edge.specs.declared.body.Pieces.TheVariants as Piece
+use Rattle.http_edge.specs.declared.wire.EdgeFault.{EdgeFault}
 use Rattle.http_edge.specs.declared.chunks.Part.{Part as PartCode}
 use Rattle.http_edge.specs.declared.chunks.Part.TheVariants.{Line, Bytes, Trailer}
 use Rattle.http_edge.specs.declared.chunks.Piece.{Piece as PieceCode}
@@ -23,7 +24,7 @@ use Rattle.http_edge.specs.Chunks.{line_part, bytes_part, trailer_part, Reaches,
 use Rattle.http_edge.specs.Message.{Request, Answer, Message, Frame, sized, chunked, headers_of, framing_of, max_fields, max_body, HasHead, HasBody, IsTooLong, IsBroken, LacksBody, HasMessage, request_of, expects, closes, is_bodiless}
 use Rattle.http_edge.specs.Talk.{RefusesHead, head_lines, Exchange, exchange_text, Ends, Due}
 use Rattle.http_edge.specs.Reply.{reply_text, refusal_text}
-use Rattle.http_edge.specs.Steps.{Moves}
+use Rattle.http_line.specs.Line.{Moves}
 use Rattle.http_edge.specs.Seen.{header_of}
 
 -- the status that a parser's error is refused with
@@ -147,30 +148,32 @@ pub record Replies {H : Type 0} (answers : H → Request → Answer → H
 
 -- a message was answered, and the connection goes on
 pub record GoesOn {H : Type 0} (answers : H → Request → Answer → H
-    → Type 0) (old new : H) (received0 received1 sent0 sent1 : Option (List ℕ)) (before after : List ℕ) : Type 0 where
+    → Type 0) (old new : H) {L : Type 0} (gives takes : L → L → List ℕ → Type 0) (first last : L)
+    (before after : List ℕ) : Type 0 where
   pub read : List ℕ
   pub exchange : Exchange
-  pub moves : Moves received0 received1 sent0 sent1 read (exchange_text exchange)
+  pub moves : Moves gives takes first last read (exchange_text exchange)
   pub has : HasMessage (before ++ read) exchange.message after
   pub stays : closes exchange.message.head ≡ false
   pub answered : answers old (request_of exchange.message) exchange.reply new
 
 -- the talk has come to its end
 pub record IsOver {H : Type 0} (answers : H → Request → Answer → H
-    → Type 0) (old new : H) (received0 received1 sent0 sent1 : Option (List ℕ)) (ended : Type 0) (before : List ℕ)
-    : Type 0 where
+    → Type 0) (old new : H) {L : Type 0} (gives takes : L → L → List ℕ → Type 0) (first last : L) (ended : Type 0)
+    (before : List ℕ) : Type 0 where
   pub read : List ℕ
   pub text : List ℕ
   pub over : Bool
-  pub moves : Moves received0 received1 sent0 sent1 read text
+  pub moves : Moves gives takes first last read text
   pub ends : Ends answers old (before ++ read) new text over
   pub end : over ≡ false → ended
 
--- it was broken off
-pub record IsCut {H : Type 0} (answers : H → Request → Answer → H
-    → Type 0) (old new : H) (received0 received1 sent0 sent1 : Option (List ℕ)) (before : List ℕ) : Type 0 where
+-- this fault broke it off
+pub record IsCut {H : Type 0} (fault : EdgeFault) (answers : H → Request → Answer → H
+    → Type 0) (old new : H) {L : Type 0} (gives takes : L → L → List ℕ → Type 0) (first last : L) (before : List ℕ)
+    : Type 0 where
   pub read : List ℕ
   pub written : List ℕ
-  pub moves : Moves received0 received1 sent0 sent1 read written
+  pub moves : Moves gives takes first last read written
   pub missing : List ℕ
-  pub due : Due answers old (before ++ read) new (written ++ missing)
+  pub due : Due fault answers old (before ++ read) new (written ++ missing)

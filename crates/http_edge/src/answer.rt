@@ -2,7 +2,8 @@
 ghost use Rattle.std.specs.Prelude.{◌≡◌, ◌≢◌, ℕ, ◌/◌, ◌<◌, ◌≤◌, ◌==◌, ◌&&◌, nat_lt, not, List, [], ◌++◌, drop, length, IfOk, OnOk, OnErr, Ok, Err};
 ghost use Rattle.httparse.specs.Grammar.{ResponseHead};
 ghost use Rattle.send_retry.specs.Class.{answer_view};
-ghost use Rattle.http_edge.specs.Steps.{Moves, HasFailed};
+ghost use Rattle.http_line.specs.Line.{Moves};
+ghost use Rattle.http_edge.specs.Steps.{HasFailed};
 ghost use Rattle.http_edge.specs.Post.{Tells, OneAnswer, HasFinalHead};
 ghost use Rattle.http_edge.specs.Kept.{IsFinal, IsAnswerHead};
 
@@ -19,10 +20,10 @@ const MOST_INTERIMS: usize = 16;
 pub fn read_answer<L: Line>(alloc: Global, line: &mut L) -> Result<Answer, EdgeFault>
     // The answer is what the bytes read tell.
     ensures ok { IfOk result (λ answer. (read : List ℕ)
-        × Moves (L.received line.old) (L.received line.new) (L.sent line.old) (L.sent line.new) read []
+        × Moves L.gives L.takes line.old line.new read []
         × Tells read (nat_lt (L.ends line.old) (L.ends line.new)) (answer_view answer)) }
     ensures err { OnErr result ((read : List ℕ)
-        × Moves (L.received line.old) (L.received line.new) (L.sent line.old) (L.sent line.new) read []) }
+        × Moves L.gives L.takes line.old line.new read []) }
     ensures failed { result ≡ Err EdgeFault.ReadFailed → HasFailed (L.failed line.old) (L.failed line.new) }
     ensures no_write { result ≢ Err EdgeFault.WriteFailed }
 {
@@ -44,10 +45,10 @@ fn read_final_head<L: Line>(
 ) -> Result<Option<AnswerHead>, EdgeFault>
     requires { buffer.old.items ≡ [] }
     ensures ok { IfOk result (λ found. (read : List ℕ)
-        × Moves (L.received line.old) (L.received line.new) (L.sent line.old) (L.sent line.new) read []
+        × Moves L.gives L.takes line.old line.new read []
         × IsFinal read (nat_lt (L.ends line.old) (L.ends line.new)) buffer.new.items found) }
     ensures err { OnErr result ((read : List ℕ)
-        × Moves (L.received line.old) (L.received line.new) (L.sent line.old) (L.sent line.new) read []) }
+        × Moves L.gives L.takes line.old line.new read []) }
     ensures ends { L.ends line.old ≤ L.ends line.new }
     ensures kept { OnOk result (L.failed line.new ≡ L.failed line.old) }
     ensures failed { result ≡ Err EdgeFault.ReadFailed → HasFailed (L.failed line.old) (L.failed line.new) }
@@ -88,11 +89,11 @@ fn read_after<L: Line>(
 ) -> Result<Answer, EdgeFault>
     requires { head.len ≤ length buffer.old.items }
     ensures ok { IfOk result (λ answer. (h : ResponseHead) → IsAnswerHead buffer.old.items head h → (read : List ℕ)
-        × Moves (L.received line.old) (L.received line.new) (L.sent line.old) (L.sent line.new) read []
+        × Moves L.gives L.takes line.old line.new read []
         × ((before : List ℕ) → HasFinalHead before h (drop head.len buffer.old.items)
         → Tells (before ++ read) (nat_lt (L.ends line.old) (L.ends line.new)) (answer_view answer))) }
     ensures err { OnErr result ((read : List ℕ)
-        × Moves (L.received line.old) (L.received line.new) (L.sent line.old) (L.sent line.new) read []) }
+        × Moves L.gives L.takes line.old line.new read []) }
     ensures ends { L.ends line.old ≤ L.ends line.new }
     ensures failed { result ≡ Err EdgeFault.ReadFailed → HasFailed (L.failed line.old) (L.failed line.new) }
     ensures no_write { result ≢ Err EdgeFault.WriteFailed }

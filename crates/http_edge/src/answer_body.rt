@@ -1,6 +1,7 @@
 //! The body of an answer.
 ghost use Rattle.std.specs.Prelude.{◌≡◌, ◌≢◌, ℕ, ◌<◌, ◌≤◌, List, [], ◌++◌, length, drop, option_map, IfOk, OnOk, OnErr, true, false, Err};
-ghost use Rattle.http_edge.specs.Steps.{Moves, HasFailed};
+ghost use Rattle.http_line.specs.Line.{Moves};
+ghost use Rattle.http_edge.specs.Steps.{HasFailed};
 ghost use Rattle.http_edge.specs.Stages.{IsAt};
 ghost use Rattle.http_edge.specs.Kept.{Keeps, HasCome, IsPlainPieces, IsChunkPieces, IsPlainBody, IsAnswerBody};
 
@@ -59,11 +60,11 @@ pub(crate) fn read_answer_body<L: Line>(
     framing: Framing,
 ) -> Result<Option<Vec<u8>>, EdgeFault>
     ensures ok { IfOk result (λ found. (read : List ℕ)
-        × Moves (L.received line.old) (L.received line.new) (L.sent line.old) (L.sent line.new) read []
+        × Moves L.gives L.takes line.old line.new read []
         × IsAnswerBody framing (buffer.old.items ++ read) (L.ends line.old < L.ends line.new) (option_map (λ v.
         v.items) found)) }
     ensures err { OnErr result ((read : List ℕ)
-        × Moves (L.received line.old) (L.received line.new) (L.sent line.old) (L.sent line.new) read []) }
+        × Moves L.gives L.takes line.old line.new read []) }
     ensures ends { L.ends line.old ≤ L.ends line.new }
     ensures kept { OnOk result (L.failed line.new ≡ L.failed line.old) }
     ensures failed { result ≡ Err EdgeFault.ReadFailed → HasFailed (L.failed line.old) (L.failed line.new) }
@@ -96,11 +97,11 @@ fn read_answer_chunks<L: Line>(
     buffer: &mut Vec<u8>,
 ) -> Result<Option<Vec<u8>>, EdgeFault>
     ensures ok { IfOk result (λ found. (read : List ℕ)
-        × Moves (L.received line.old) (L.received line.new) (L.sent line.old) (L.sent line.new) read []
+        × Moves L.gives L.takes line.old line.new read []
         × IsAnswerBody Framing.Chunked (buffer.old.items ++ read) (L.ends line.old < L.ends line.new) (option_map (λ v.
         v.items) found)) }
     ensures err { OnErr result ((read : List ℕ)
-        × Moves (L.received line.old) (L.received line.new) (L.sent line.old) (L.sent line.new) read []) }
+        × Moves L.gives L.takes line.old line.new read []) }
     ensures ends { L.ends line.old ≤ L.ends line.new }
     ensures kept { OnOk result (L.failed line.new ≡ L.failed line.old) }
     ensures failed { result ≡ Err EdgeFault.ReadFailed → HasFailed (L.failed line.old) (L.failed line.new) }
@@ -200,11 +201,11 @@ fn read_plain_body<L: Line>(
     framing: Framing,
 ) -> Result<Option<Vec<u8>>, EdgeFault>
     ensures ok { IfOk result (λ found. (read : List ℕ)
-        × Moves (L.received line.old) (L.received line.new) (L.sent line.old) (L.sent line.new) read []
+        × Moves L.gives L.takes line.old line.new read []
         × IsPlainBody framing (buffer.old.items ++ read) (L.ends line.old < L.ends line.new) (option_map (λ v.
         v.items) found)) }
     ensures err { OnErr result ((read : List ℕ)
-        × Moves (L.received line.old) (L.received line.new) (L.sent line.old) (L.sent line.new) read []) }
+        × Moves L.gives L.takes line.old line.new read []) }
     ensures ends { L.ends line.old ≤ L.ends line.new }
     ensures kept { OnOk result (L.failed line.new ≡ L.failed line.old) }
     ensures failed { result ≡ Err EdgeFault.ReadFailed → HasFailed (L.failed line.old) (L.failed line.new) }

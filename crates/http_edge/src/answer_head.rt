@@ -2,7 +2,8 @@
 ghost use Rattle.std.specs.Prelude.{◌≡◌, ◌≢◌, ℕ, ◌<◌, ◌≤◌, List, [], ◌++◌, length, map, All, IfOk, OnOk, OnErr, Ok, Err};
 ghost use Rattle.httparse.specs.Spans.{IsResponseOf, IsResponseWithin, IsHeaderWithin, header_bytes};
 ghost use Rattle.http_edge.specs.Message.{max_head};
-ghost use Rattle.http_edge.specs.Steps.{Moves, work, HasFailed};
+ghost use Rattle.http_line.specs.Line.{Moves};
+ghost use Rattle.http_edge.specs.Steps.{work, HasFailed};
 ghost use Rattle.http_edge.specs.Post.{is_bodiless_status, answer_framing_in, retry_after_in, seconds_of};
 ghost use Rattle.http_edge.specs.Kept.{IsAnswerBegin};
 
@@ -44,12 +45,12 @@ pub(crate) fn read_answer_head<L: Line>(
     buffer: &mut Vec<u8>,
 ) -> Result<AnswerBegin, EdgeFault>
     ensures ok { IfOk result (λ begin. (read : List ℕ)
-        × Moves (L.received line.old) (L.received line.new) (L.sent line.old) (L.sent line.new) read []
+        × Moves L.gives L.takes line.old line.new read []
         × (buffer.new.items ≡ buffer.old.items ++ read)
         × IsAnswerBegin buffer.new.items begin) }
     ensures end { result ≡ Ok AnswerBegin.More → L.ends line.old < L.ends line.new }
     ensures err { OnErr result ((read : List ℕ)
-        × Moves (L.received line.old) (L.received line.new) (L.sent line.old) (L.sent line.new) read []) }
+        × Moves L.gives L.takes line.old line.new read []) }
     ensures ends { L.ends line.old ≤ L.ends line.new }
     ensures kept { OnOk result (L.failed line.new ≡ L.failed line.old) }
     ensures failed { result ≡ Err EdgeFault.ReadFailed → HasFailed (L.failed line.old) (L.failed line.new) }

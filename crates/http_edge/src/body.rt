@@ -1,7 +1,8 @@
 //! The body of a message.
 ghost use Rattle.std.specs.Prelude.{◌≡◌, ◌≢◌, ℕ, ◌+◌, ◌<◌, ◌≤◌, List, [], ◌++◌, length, drop, IfOk, OnOk, OnErr, true, false, Err, Ok};
 ghost use Rattle.http_edge.specs.Message.{sized, chunked, max_body};
-ghost use Rattle.http_edge.specs.Steps.{Moves, work, HasFailed};
+ghost use Rattle.http_line.specs.Line.{Moves};
+ghost use Rattle.http_edge.specs.Steps.{work, HasFailed};
 ghost use Rattle.http_edge.specs.Stages.{frame_by, bytes_due, IsAt, IsPieces, IsRead};
 
 use crate::chunks::{Part, Piece, bytes_due, next_piece};
@@ -39,10 +40,10 @@ pub(crate) fn read_body<L: Line>(
 ) -> Result<BodyRead, EdgeFault>
     requires { (n : ℕ) → frame_by kind ≡ sized n → n ≤ max_body }
     ensures ok { IfOk result (λ found. (read : List ℕ)
-        × Moves (L.received line.old) (L.received line.new) (L.sent line.old) (L.sent line.new) read []
+        × Moves L.gives L.takes line.old line.new read []
         × IsRead (frame_by kind) (buffer.old.items ++ read) buffer.new.items found) }
     ensures err { OnErr result ((read : List ℕ)
-        × Moves (L.received line.old) (L.received line.new) (L.sent line.old) (L.sent line.new) read []) }
+        × Moves L.gives L.takes line.old line.new read []) }
     ensures end { result ≡ Ok BodyRead.Ended → L.ends line.old < L.ends line.new }
     ensures work { OnOk result (work (L.reads_left line.new) buffer.new.items ≤ work (L.reads_left line.old)
         buffer.old.items) }
@@ -72,10 +73,10 @@ fn read_sized<L: Line>(
 ) -> Result<BodyRead, EdgeFault>
     requires { len ≤ max_body }
     ensures ok { IfOk result (λ found. (read : List ℕ)
-        × Moves (L.received line.old) (L.received line.new) (L.sent line.old) (L.sent line.new) read []
+        × Moves L.gives L.takes line.old line.new read []
         × IsRead (sized len) (buffer.old.items ++ read) buffer.new.items found) }
     ensures err { OnErr result ((read : List ℕ)
-        × Moves (L.received line.old) (L.received line.new) (L.sent line.old) (L.sent line.new) read []) }
+        × Moves L.gives L.takes line.old line.new read []) }
     ensures end { result ≡ Ok BodyRead.Ended → L.ends line.old < L.ends line.new }
     ensures work { OnOk result (work (L.reads_left line.new) buffer.new.items ≤ work (L.reads_left line.old)
         buffer.old.items) }
@@ -101,10 +102,10 @@ fn read_chunks<L: Line>(
     buffer: &mut Vec<u8>,
 ) -> Result<BodyRead, EdgeFault>
     ensures ok { IfOk result (λ found. (read : List ℕ)
-        × Moves (L.received line.old) (L.received line.new) (L.sent line.old) (L.sent line.new) read []
+        × Moves L.gives L.takes line.old line.new read []
         × IsRead chunked (buffer.old.items ++ read) buffer.new.items found) }
     ensures err { OnErr result ((read : List ℕ)
-        × Moves (L.received line.old) (L.received line.new) (L.sent line.old) (L.sent line.new) read []) }
+        × Moves L.gives L.takes line.old line.new read []) }
     ensures end { result ≡ Ok BodyRead.Ended → L.ends line.old < L.ends line.new }
     ensures work { OnOk result (work (L.reads_left line.new) buffer.new.items ≤ work (L.reads_left line.old)
         buffer.old.items) }

@@ -1,6 +1,7 @@
 //! Posts to a back end.
 ghost use Rattle.std.specs.Prelude.{◌≡◌, ◌≢◌, ℕ, List, [], ◌++◌, length, IfOk, OnOk, OnErr, Err};
-ghost use Rattle.http_edge.specs.Steps.{Moves, HasFailed};
+ghost use Rattle.http_line.specs.Line.{Moves};
+ghost use Rattle.http_edge.specs.Steps.{HasFailed};
 ghost use Rattle.http_edge.specs.Post.{post_head, post_text};
 
 use crate::reply::decimal;
@@ -15,11 +16,11 @@ pub fn write_post<L: Line>(
     host: &str,
     payload: &[u8],
 ) -> Result<(), EdgeFault>
-    ensures ok { OnOk result (Moves (L.received line.old) (L.received line.new) (L.sent line.old) (L.sent line.new) []
+    ensures ok { OnOk result (Moves L.gives L.takes line.old line.new []
         (post_text host.now payload.now)) }
     ensures err { OnErr result ((front : List ℕ) × (missing : List ℕ) × (post_text host.now payload.now ≡ front
         ++ missing)
-        × Moves (L.received line.old) (L.received line.new) (L.sent line.old) (L.sent line.new) [] front) }
+        × Moves L.gives L.takes line.old line.new [] front) }
     ensures failed { result ≡ Err EdgeFault.WriteFailed → HasFailed (L.failed line.old) (L.failed line.new) }
     ensures no_read { result ≢ Err EdgeFault.ReadFailed }
 {

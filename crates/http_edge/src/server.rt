@@ -1,10 +1,11 @@
 //! The loop over messages.
-ghost use Rattle.std.specs.Prelude.{◌≡◌, ◌≢◌, ℕ, ◌+◌, ◌<◌, ◌≤◌, ◌⊎◌, Bool, not, List, [], ◌++◌, length, map, take, drop, if◌then◌else◌, IfOk, IfSome, OnOk, OnErr, Some, None, true, false, Ok, Err};
+ghost use Rattle.std.specs.Prelude.{◌≡◌, ◌≢◌, ℕ, ◌+◌, ◌<◌, ◌≤◌, ◌⊎◌, Bool, not, List, [], ◌++◌, length, map, take, drop, if◌then◌else◌, IfOk, IfErr, IfSome, OnOk, OnErr, Some, None, true, false, Ok, Err};
 ghost use Rattle.httparse.specs.Grammar.{RequestHead};
-ghost use Rattle.http_edge.specs.Talk.{Talk, Begins, head_lines};
+ghost use Rattle.http_edge.specs.Talk.{Talk, Begins, MayBreak, head_lines};
 ghost use Rattle.http_edge.specs.Reply.{refusal_text, reply_text, continue_text};
 ghost use Rattle.http_edge.specs.Message.{closes, max_fields, max_head};
-ghost use Rattle.http_edge.specs.Steps.{Moves, work, HasFailed};
+ghost use Rattle.http_line.specs.Line.{Moves};
+ghost use Rattle.http_edge.specs.Steps.{work, HasFailed};
 ghost use Rattle.http_edge.specs.Seen.{seen, header_of, answer_of};
 ghost use Rattle.http_edge.specs.Stages.{IsBegin, IsHeadOf, message_with, Replies, GoesOn, IsOver, IsCut};
 
@@ -27,13 +28,13 @@ pub fn serve<T: Threads + Sync, L: Line, H: Handler>(
 ) -> Result<(), EdgeFault>
     // The bytes written are the replies to the messages in the bytes read.
     ensures talk { OnOk result ((read : List ℕ) × (written : List ℕ) × (over : Bool)
-        × Moves (L.received line.old) (L.received line.new) (L.sent line.old) (L.sent line.new) read written
+        × Moves L.gives L.takes line.old line.new read written
         × Talk H.answers handler.old read handler.new written over
         × (over ≡ false → L.ends line.old < L.ends line.new)) }
-    // After a fault they are a beginning of that.
-    ensures fault { OnErr result ((read : List ℕ) × (written : List ℕ)
-        × Moves (L.received line.old) (L.received line.new) (L.sent line.old) (L.sent line.new) read written
-        × Begins H.answers handler.old read handler.new written) }
+    // After a fault they are a beginning of that. No want of memory breaks off the reply that says so.
+    ensures fault { IfErr result (λ fault. (read : List ℕ) × (written : List ℕ)
+        × Moves L.gives L.takes line.old line.new read written
+        × Begins fault H.answers handler.old read handler.new written) }
     ensures read { result ≡ Err EdgeFault.ReadFailed → HasFailed (L.failed line.old) (L.failed line.new) }
     ensures write { result ≡ Err EdgeFault.WriteFailed → HasFailed (L.failed line.old) (L.failed line.new) }
 {
@@ -51,13 +52,13 @@ fn exchange<T: Threads + Sync, L: Line, H: Handler>(
     buffer: &mut Vec<u8>,
 ) -> Result<bool, EdgeFault>
     ensures on { result ≡ Ok true → GoesOn H.answers handler.old handler.new
-        (L.received line.old) (L.received line.new) (L.sent line.old) (L.sent line.new) buffer.old.items
+        L.gives L.takes line.old line.new buffer.old.items
         buffer.new.items }
     ensures over { result ≡ Ok false → IsOver H.answers handler.old handler.new
-        (L.received line.old) (L.received line.new) (L.sent line.old) (L.sent line.new) (L.ends line.old < L.ends
+        L.gives L.takes line.old line.new (L.ends line.old < L.ends
         line.new) buffer.old.items }
-    ensures cut { OnErr result (IsCut H.answers handler.old handler.new
-        (L.received line.old) (L.received line.new) (L.sent line.old) (L.sent line.new) buffer.old.items) }
+    ensures cut { IfErr result (λ fault. IsCut fault H.answers handler.old handler.new
+        L.gives L.takes line.old line.new buffer.old.items) }
     ensures work { result ≡ Ok true → work (L.reads_left line.new) buffer.new.items < work (L.reads_left line.old)
         buffer.old.items }
     ensures ends { L.ends line.old ≤ L.ends line.new }
@@ -85,14 +86,14 @@ fn exchange<T: Threads + Sync, L: Line, H: Handler>(
 /// Reads until a head is there, a bad message, or the end.
 fn read_head<L: Line>(alloc: Global, line: &mut L, buffer: &mut Vec<u8>) -> Result<Begin, EdgeFault>
     ensures ok { IfOk result (λ begin. (read : List ℕ)
-        × Moves (L.received line.old) (L.received line.new) (L.sent line.old) (L.sent line.new) read []
+        × Moves L.gives L.takes line.old line.new read []
         × (buffer.new.items ≡ buffer.old.items ++ read)
         × IsBegin buffer.new.items begin) }
     ensures end { result ≡ Ok Begin.More → L.ends line.old < L.ends line.new }
     ensures short { result ≡ Ok Begin.More → length buffer.new.items < max_head }
     ensures few { result ≡ Ok Begin.More → head_lines buffer.new.items ≤ max_fields + 1 }
     ensures err { OnErr result ((read : List ℕ)
-        × Moves (L.received line.old) (L.received line.new) (L.sent line.old) (L.sent line.new) read []) }
+        × Moves L.gives L.takes line.old line.new read []) }
     ensures work { OnOk result (work (L.reads_left line.new) buffer.new.items ≤ work (L.reads_left line.old)
         buffer.old.items) }
     ensures ends { L.ends line.old ≤ L.ends line.new }
@@ -116,14 +117,14 @@ fn look<L: Line>(
     watch: &mut Watch,
 ) -> Result<Option<Begin>, EdgeFault>
     ensures ok { OnOk result ((read : List ℕ)
-        × Moves (L.received line.old) (L.received line.new) (L.sent line.old) (L.sent line.new) read []
+        × Moves L.gives L.takes line.old line.new read []
         × (buffer.new.items ≡ buffer.old.items ++ read)) }
     ensures found { IfOk result (λ found. IfSome found (IsBegin buffer.new.items)) }
     ensures end { result ≡ Ok (Some Begin.More) → L.ends line.old < L.ends line.new }
     ensures short { result ≡ Ok (Some Begin.More) → length buffer.new.items < max_head }
     ensures few { result ≡ Ok (Some Begin.More) → head_lines buffer.new.items ≤ max_fields + 1 }
     ensures err { OnErr result ((read : List ℕ)
-        × Moves (L.received line.old) (L.received line.new) (L.sent line.old) (L.sent line.new) read []) }
+        × Moves L.gives L.takes line.old line.new read []) }
     ensures work { OnOk result (work (L.reads_left line.new) buffer.new.items ≤ work (L.reads_left line.old)
         buffer.old.items) }
     ensures less { result ≡ Ok None → work (L.reads_left line.new) buffer.new.items < work (L.reads_left line.old)
@@ -152,11 +153,11 @@ fn refuse<L: Line>(
     status: u16,
     bodiless: bool,
 ) -> Result<(), EdgeFault>
-    ensures ok { OnOk result (Moves (L.received line.old) (L.received line.new) (L.sent line.old) (L.sent line.new) []
+    ensures ok { OnOk result (Moves L.gives L.takes line.old line.new []
         (refusal_text bodiless status)) }
     ensures err { OnErr result ((front : List ℕ) × (missing : List ℕ) × (refusal_text bodiless status ≡ front
         ++ missing)
-        × Moves (L.received line.old) (L.received line.new) (L.sent line.old) (L.sent line.new) [] front) }
+        × Moves L.gives L.takes line.old line.new [] front) }
     ensures end { L.ends line.new ≡ L.ends line.old }
     ensures reads { L.reads_left line.new ≡ L.reads_left line.old }
     ensures kept { OnOk result (L.failed line.new ≡ L.failed line.old) }
@@ -181,13 +182,13 @@ fn attend<T: Threads + Sync, L: Line, H: Handler>(
 ) -> Result<bool, EdgeFault>
     requires { IsBegin buffer.old.items (Begin.Whole head) }
     ensures on { result ≡ Ok true → GoesOn H.answers handler.old handler.new
-        (L.received line.old) (L.received line.new) (L.sent line.old) (L.sent line.new) buffer.old.items
+        L.gives L.takes line.old line.new buffer.old.items
         buffer.new.items }
     ensures over { result ≡ Ok false → IsOver H.answers handler.old handler.new
-        (L.received line.old) (L.received line.new) (L.sent line.old) (L.sent line.new) (L.ends line.old < L.ends
+        L.gives L.takes line.old line.new (L.ends line.old < L.ends
         line.new) buffer.old.items }
-    ensures cut { OnErr result (IsCut H.answers handler.old handler.new
-        (L.received line.old) (L.received line.new) (L.sent line.old) (L.sent line.new) buffer.old.items) }
+    ensures cut { IfErr result (λ fault. IsCut fault H.answers handler.old handler.new
+        L.gives L.takes line.old line.new buffer.old.items) }
     ensures work { result ≡ Ok true → work (L.reads_left line.new) buffer.new.items < work (L.reads_left line.old)
         buffer.old.items }
     ensures ends { L.ends line.old ≤ L.ends line.new }
@@ -216,11 +217,11 @@ fn attend<T: Threads + Sync, L: Line, H: Handler>(
 
 /// Writes 100 Continue where it is due.
 fn interim<L: Line>(line: &mut L, due: bool) -> Result<(), EdgeFault>
-    ensures ok { OnOk result (Moves (L.received line.old) (L.received line.new) (L.sent line.old) (L.sent line.new) []
+    ensures ok { OnOk result (Moves L.gives L.takes line.old line.new []
         (if due then continue_text else [])) }
     ensures err { OnErr result ((front : List ℕ) × (missing : List ℕ) × ((if due then continue_text else []) ≡ front
         ++ missing)
-        × Moves (L.received line.old) (L.received line.new) (L.sent line.old) (L.sent line.new) [] front) }
+        × Moves L.gives L.takes line.old line.new [] front) }
     ensures end { L.ends line.new ≡ L.ends line.old }
     ensures reads { L.reads_left line.new ≡ L.reads_left line.old }
     ensures kept { OnOk result (L.failed line.new ≡ L.failed line.old) }
@@ -245,12 +246,14 @@ fn answer<T: Threads + Sync, L: Line, H: Handler>(
     body: Vec<u8>,
 ) -> Result<bool, EdgeFault>
     ensures ok { IfOk result (λ goes. (h : RequestHead) → IsHeadOf head h → (text : List ℕ)
-        × Moves (L.received line.old) (L.received line.new) (L.sent line.old) (L.sent line.new) [] text
+        × Moves L.gives L.takes line.old line.new [] text
         × Replies H.answers handler.old handler.new (message_with h body.items) text []
         × (goes ≡ not (closes h))) }
-    ensures err { OnErr result ((h : RequestHead) → IsHeadOf head h → (text : List ℕ)
-        × Moves (L.received line.old) (L.received line.new) (L.sent line.old) (L.sent line.new) [] text
-        × ((missing : List ℕ) × Replies H.answers handler.old handler.new (message_with h body.items) text missing)) }
+    ensures err { IfErr result (λ fault. (h : RequestHead) → IsHeadOf head h → (text : List ℕ)
+        × Moves L.gives L.takes line.old line.new [] text
+        × (missing : List ℕ)
+        × (told : Replies H.answers handler.old handler.new (message_with h body.items) text missing)
+        × MayBreak fault told.reply) }
     ensures end { L.ends line.new ≡ L.ends line.old }
     ensures reads { L.reads_left line.new ≡ L.reads_left line.old }
     ensures kept { OnOk result (L.failed line.new ≡ L.failed line.old) }
@@ -274,11 +277,12 @@ fn say<L: Line>(
     close: bool,
     bodiless: bool,
 ) -> Result<(), EdgeFault>
-    ensures ok { OnOk result (Moves (L.received line.old) (L.received line.new) (L.sent line.old) (L.sent line.new) []
+    ensures ok { OnOk result (Moves L.gives L.takes line.old line.new []
         (reply_text bodiless close (answer_of reply.now))) }
     ensures err { OnErr result ((front : List ℕ) × (missing : List ℕ)
         × (reply_text bodiless close (answer_of reply.now) ≡ front ++ missing)
-        × Moves (L.received line.old) (L.received line.new) (L.sent line.old) (L.sent line.new) [] front) }
+        × Moves L.gives L.takes line.old line.new [] front) }
+    ensures memory { IfErr result (λ fault. MayBreak fault (answer_of reply.now)) }
     ensures end { L.ends line.new ≡ L.ends line.old }
     ensures reads { L.reads_left line.new ≡ L.reads_left line.old }
     ensures kept { OnOk result (L.failed line.new ≡ L.failed line.old) }

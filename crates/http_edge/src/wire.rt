@@ -2,7 +2,8 @@
 ghost use Rattle.std.specs.Prelude.{◌≡◌, ◌≢◌, ℕ, ◌+◌, ◌-◌, ◌/◌, ◌<◌, ◌≤◌, List, [], ◌++◌, length, drop, IfOk, OnOk, OnErr, IsTrue, true, false, Ok, Err};
 ghost use Rattle.httparse.specs.Pieces.{is_newline};
 ghost use Rattle.http_edge.specs.Limits.{max_part};
-ghost use Rattle.http_edge.specs.Steps.{Moves, work, HasFailed};
+ghost use Rattle.http_line.specs.Line.{Moves};
+ghost use Rattle.http_edge.specs.Steps.{work, HasFailed};
 ghost use Rattle.http_edge.specs.Fault.{fault_number};
 ghost use Rattle.http_edge.specs.declared.wire.EdgeFault.TheVariants.{ReadFailed, WriteFailed, OutOfMemory};
 
@@ -50,14 +51,13 @@ const ROOM: usize = 4096;
 /// Reads once to the end of the buffer, and says whether a byte came.
 pub(crate) fn fill<L: Line>(line: &mut L, buffer: &mut Vec<u8>) -> Result<bool, EdgeFault>
     ensures ok { OnOk result ((read : List ℕ)
-        × Moves (L.received line.old) (L.received line.new) (L.sent line.old) (L.sent line.new) read []
+        × Moves L.gives L.takes line.old line.new read []
         × (buffer.new.items ≡ buffer.old.items ++ read)) }
     ensures err { OnErr result ((read : List ℕ)
-        × Moves (L.received line.old) (L.received line.new) (L.sent line.old) (L.sent line.new) read []) }
+        × Moves L.gives L.takes line.old line.new read []) }
     ensures end { IfOk result (λ more. more ≡ false → (buffer.new.items ≡ buffer.old.items)
         × (L.ends line.old < L.ends line.new)) }
-    ensures quiet { result ≡ Ok false → Moves (L.received line.old) (L.received line.new) (L.sent line.old)
-        (L.sent line.new) [] [] }
+    ensures quiet { result ≡ Ok false → Moves L.gives L.takes line.old line.new [] [] }
     ensures work { OnOk result (work (L.reads_left line.new) buffer.new.items < work (L.reads_left line.old)
         buffer.old.items) }
     ensures ends { L.ends line.old ≤ L.ends line.new }
@@ -174,10 +174,10 @@ pub(crate) fn drop_front(
 
 /// Writes all the bytes.
 pub(crate) fn send<L: Line>(line: &mut L, bytes: &[u8]) -> Result<(), EdgeFault>
-    ensures ok { OnOk result (Moves (L.received line.old) (L.received line.new) (L.sent line.old) (L.sent line.new) []
+    ensures ok { OnOk result (Moves L.gives L.takes line.old line.new []
         bytes.now) }
     ensures err { OnErr result ((front : List ℕ) × (missing : List ℕ) × (bytes.now ≡ front ++ missing)
-        × Moves (L.received line.old) (L.received line.new) (L.sent line.old) (L.sent line.new) [] front) }
+        × Moves L.gives L.takes line.old line.new [] front) }
     ensures end { L.ends line.new ≡ L.ends line.old }
     ensures reads { L.reads_left line.new ≡ L.reads_left line.old }
     ensures kept { OnOk result (L.failed line.new ≡ L.failed line.old) }

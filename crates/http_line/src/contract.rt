@@ -1,6 +1,5 @@
 //! What a line promises.
-ghost use Rattle.std.specs.Prelude.{◌≡◌, ℕ, ◌+◌, ◌<◌, ◌≤◌, List, [], length, take, Option, IfOk, OnOk, OnErr};
-ghost use Rattle.std.specs.Io.KnownBytes.{Appends};
+ghost use Rattle.std.specs.Prelude.{◌≡◌, ℕ, ◌+◌, ◌<◌, ◌≤◌, List, [], length, take, IfOk, OnOk, OnErr};
 ghost use Rattle.http_line.specs.Line.{raised, met_end};
 
 /// A read or a write did not go through. The line is to be given up: what its peer has got of a write isn't known.
@@ -9,10 +8,10 @@ pub struct LineFailed;
 
 /// A line of bytes in both directions.
 pub trait Line {
-    // All that was read and all that was written so far, where it is known: not at a socket.
-    ghost received: { Self → Option (List ℕ) };
+    // One call led from the first state to the second, and these are the bytes that it read, or that it wrote.
+    ghost gives: { Self → Self → List ℕ → Type 0 };
 
-    ghost sent: { Self → Option (List ℕ) };
+    ghost takes: { Self → Self → List ℕ → Type 0 };
 
     // How many reads into room gave no byte.
     ghost ends: { Self → ℕ };
@@ -26,9 +25,8 @@ pub trait Line {
     /// Reads once, to the front of the room, and says how many bytes came. 0 into room is the end of the input.
     fn read_some(&mut self, room: &mut [u8]) -> Result<usize, LineFailed>
         ensures bound { IfOk result (λ n. n ≤ length room.old) }
-        ensures bytes { IfOk result (λ n. Appends (received self.old) (received self.new) (take n room.new)) }
-        ensures err { OnErr result (Appends (received self.old) (received self.new) []) }
-        ensures sent { Appends (sent self.old) (sent self.new) [] }
+        ensures bytes { IfOk result (λ n. gives self.old self.new (take n room.new)) }
+        ensures err { OnErr result (gives self.old self.new []) }
         ensures end { ends self.new ≡ ends self.old + met_end (length room.old) result }
         ensures failed { failed self.new ≡ raised (failed self.old) result }
         ensures budget { OnOk result (reads_left self.new < reads_left self.old) };
@@ -37,9 +35,8 @@ pub trait Line {
     fn write_some(&mut self, bytes: &[u8]) -> Result<usize, LineFailed>
         ensures bound { IfOk result (λ n. n ≤ length bytes.now) }
         ensures some { IfOk result (λ n. 0 < length bytes.now → 0 < n) }
-        ensures bytes { IfOk result (λ n. Appends (sent self.old) (sent self.new) (take n bytes.now)) }
-        ensures err { OnErr result (Appends (sent self.old) (sent self.new) []) }
-        ensures received { Appends (received self.old) (received self.new) [] }
+        ensures bytes { IfOk result (λ n. takes self.old self.new (take n bytes.now)) }
+        ensures err { OnErr result (takes self.old self.new []) }
         ensures end { ends self.new ≡ ends self.old }
         ensures failed { failed self.new ≡ raised (failed self.old) result }
         ensures budget { reads_left self.new ≡ reads_left self.old };

@@ -1,5 +1,5 @@
 //! A line in memory, for tests.
-ghost use Rattle.std.specs.Prelude.{◌≡◌, ◌+◌, ◌-◌, ◌^◌, ◌≤◌, min, take, drop, length, Some, vec_len};
+ghost use Rattle.std.specs.Prelude.{◌≡◌, ◌+◌, ◌-◌, ◌^◌, ◌≤◌, min, take, drop, length, vec_len};
 
 use crate::{Line, LineFailed};
 
@@ -113,9 +113,14 @@ fn give(bytes: &[u8], at: usize, count: usize, room: &mut [u8])
 }
 
 impl Line for MemoryLine {
-    ghost received = { λ line. Some (take line.at line.input.items) };
+    ghost use Rattle.std.specs.Prelude.{◌≡◌, ◌++◌, drop};
 
-    ghost sent = { λ line. Some line.output.items };
+    // The bytes read are the next of the input, and those written come behind the output. Nothing else moves.
+    ghost gives = { λ old new bytes. (drop old.at old.input.items ≡ bytes ++ drop new.at new.input.items)
+        × (new.output.items ≡ old.output.items) };
+
+    ghost takes = { λ old new bytes. (new.output.items ≡ old.output.items ++ bytes)
+        × (drop new.at new.input.items ≡ drop old.at old.input.items) };
 
     ghost ends = { λ line. line.ends };
 

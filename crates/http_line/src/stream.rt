@@ -1,5 +1,5 @@
-//! A line over a stream that reads and writes, such as a socket. Its bytes are not known to contracts.
-ghost use Rattle.std.specs.Prelude.{◌≡◌, ◌+◌, ◌-◌, ◌^◌, ◌≤◌, min, None};
+//! A line over a stream that reads and writes, such as a socket. Its bytes are those that the stream gives and takes.
+ghost use Rattle.std.specs.Prelude.{◌≡◌, ◌+◌, ◌-◌, ◌^◌, ◌≤◌, min};
 
 use crate::{Line, LineFailed};
 use std::io::{ErrorKind, Read, Write};
@@ -36,6 +36,7 @@ impl<S: Read + Write> StreamLine<S> {
     }
 
     fn fail(&mut self) -> LineFailed
+        ensures stream { self.new.stream ≡ self.old.stream }
         ensures failures { self.new.failures ≡ min (self.old.failures + 1) (2 ^ 64 - 1) }
         ensures ends { self.new.ends ≡ self.old.ends }
         ensures reads { self.new.reads ≡ self.old.reads }
@@ -46,9 +47,12 @@ impl<S: Read + Write> StreamLine<S> {
 }
 
 impl<S: Read + Write> Line for StreamLine<S> {
-    ghost received = { λ line. None };
+    ghost use Rattle.std.specs.Io.KnownBytes.{Appends, Consumes};
 
-    ghost sent = { λ line. None };
+    // What is read is what the stream loses, and what is written is what it takes, where the stream says what it has.
+    ghost gives = { λ old new bytes. Consumes (S.remaining old.stream) (S.remaining new.stream) bytes };
+
+    ghost takes = { λ old new bytes. Appends (S.contents old.stream) (S.contents new.stream) bytes };
 
     ghost ends = { λ line. line.ends };
 

@@ -1,7 +1,7 @@
 //! The end of a connection whose client may still be sending.
 
-ghost use Rattle.std.specs.Prelude.{◌≡◌, ◌≤◌, ℕ, List, [], length};
-ghost use Rattle.std.specs.Io.KnownBytes.{Appends};
+ghost use Rattle.std.specs.Prelude.{◌≤◌, ℕ, List, [], length};
+ghost use Rattle.http_line.specs.Line.{Moves};
 
 use export_edge::Beat;
 use http_line::{Line, StreamLine};
@@ -31,9 +31,7 @@ pub(crate) fn linger<B: Beat>(stream: &TcpStream, beat: &mut B) {
 
 /// Reads what comes and lets it go, until the peer has closed its side too, or one of the bounds is met.
 fn read_off<L: Line, B: Beat>(line: &mut L, beat: &mut B)
-    ensures bound { (read : List ℕ) × Appends (L.received line.old) (L.received line.new) read
-        × (length read ≤ 33_554_432) }
-    ensures silent { Appends (L.sent line.old) (L.sent line.new) [] }
+    ensures { (read : List ℕ) × Moves L.gives L.takes line.old line.new read [] × (length read ≤ 33_554_432) }
 {
     let until = beat.now().saturating_add(LONGEST);
     let mut room = [0; ROOM];

@@ -1,13 +1,15 @@
 use Rattle.std.proofs.Common.{[], Some, None, ◌∙◌, sym}
 use Rattle.std.proofs.lemmas.Bool.{lt-ltb}
 use Rattle.http_edge.specs.Post.{bad_framing}
-use Rattle.http_edge.proofs.Moved.{stays}
+use Rattle.http_line.proofs.Moved.{stays}
 use Rattle.http_edge.proofs.Answered.{told_after, final_read}
+use Rattle.std.proofs.lemmas.Result.{err_from_is_err_and}
+use Rattle.http_line.specs.Line.{no_call}
 use Rattle.http_edge.proofs.answer.read_after.Goals as goal
 
 pub returns-in-None-clause-ok : goal.returns-in-None-clause-ok
 returns-in-None-clause-ok g c = λ h is.
-    ([], stays _ _, λ before final. bad_framing h _ (final_read [] final) (sym is.framing ∙ c.in-None.is))
+    ([], stays _, λ before final. bad_framing h _ (final_read [] final) (sym is.framing ∙ c.in-None.is))
 
 pub returns-in-None-2-clause-ok : goal.returns-in-None-2-clause-ok
 returns-in-None-2-clause-ok g c = λ h is.
@@ -26,3 +28,8 @@ returns-in-Some-2-clause-ok g c = λ h is.
       λ before final. told_after b.0 _ c.args.head c.in-Some.framing (λ e. lt-ltb _ _ e) is c.in-Some.is final
           (Some c.in-Some-2.body.items) b.2,
     )
+
+pub returns-in_err-drop_front-in-Some-clause-err : goal.returns-in_err-drop_front-in-Some-clause-err
+returns-in_err-drop_front-in-Some-clause-err g c =
+    let p = err_from_is_err_and c.from_residual.result c.from_residual.ensures.1 in
+    rw p.1 ([], no_call)

@@ -1,7 +1,7 @@
 use Rattle.std.proofs.Common.{◌++◌, arith}
 use Rattle.std.proofs.lemmas.Bool.{lt-ltb, ltb-true}
 use Rattle.std.proofs.lemmas.Result.{err_from_is_err_and}
-use Rattle.http_edge.proofs.Moved.{then}
+use Rattle.http_line.proofs.Moved.{then}
 use Rattle.http_edge.proofs.Answered.{tells_since, answer_within}
 use Rattle.http_edge.proofs.answer.read_answer.Goals as goal
 

@@ -1,11 +1,12 @@
-use Rattle.std.proofs.Common.{◌≡◌, ◌++◌, ◌∙◌, suc, Ok, sym, ap, subst, drop, arith}
+use Rattle.std.proofs.Common.{◌≡◌, ◌++◌, ◌∙◌, suc, Ok, sym, ap, subst, drop, arith, [], refl, rules}
 use Rattle.std.proofs.lemmas.Result.{err_from_is_err_and}
 use Rattle.std.proofs.lemmas.Bool.{lt-ltb}
 use Rattle.http_edge.specs.declared.answer_head.AnswerBegin.TheVariants.{Whole, More, Bad}
 use Rattle.http_edge.specs.Post.{SkipsInterims, many_interims, bad_head, cut_head}
 use Rattle.http_edge.specs.Kept.{IsAnswerBegin}
-use Rattle.http_edge.proofs.Moved.{then}
+use Rattle.http_line.proofs.Moved.{then}
 use Rattle.http_edge.proofs.Answered.{skips_read, skips_more, skips_next, answer_within, status_interim}
+use Rattle.http_line.specs.Line.{no_call}
 use Rattle.http_edge.proofs.answer.read_final_head.Goals as goal
 
 pub returns-in_err-read_answer_head-clause-err : goal.returns-in_err-read_answer_head-clause-err
@@ -109,3 +110,12 @@ heads-preserved g c =
       kept = c.in_ok-read_answer_head.ensures.kept ∙ inv.kept;
       ends = omega (arith, c.in_ok-read_answer_head.ensures.ends, inv.ends);
     }
+
+pub heads-init : goal.heads-init
+heads-init g c = record {
+  read = [];
+  so_far = (no_call, sym c.requires);
+  few = search rules;
+  kept = refl;
+  ends = search rules;
+}

@@ -1,5 +1,5 @@
 use Rattle.std.proofs.Common.{◌≡◌, ◌≤◌, ◌-◌, List, ℕ, []}
-use Rattle.http_edge.specs.Steps.{Moves}
+use Rattle.http_line.specs.Line.{Moves}
 use Rattle.http_edge.specs.Post.{SkipsInterims}
 use Rattle.http_edge.proofs.answer.read_final_head.Given as goal
 
@@ -12,8 +12,7 @@ pub record Heads (P : List ℕ → Type 0) (Q R S : Type 0) : Type 0 where
 
 abbrev pub invariant-heads : goal.invariant-heads
 invariant-heads g l = Heads
-    (λ read. Moves (g.L.Line.received l.fn.line) (g.L.Line.received l.line) (g.L.Line.sent l.fn.line) (g.L.Line.sent
-    l.line) read []
+    (λ read. Moves g.L.Line.gives g.L.Line.takes l.fn.line l.line read []
     × SkipsInterims l.interims read l.buffer.items)
     (l.interims ≤ 16)
     (g.L.Line.failed l.line ≡ g.L.Line.failed l.fn.line)

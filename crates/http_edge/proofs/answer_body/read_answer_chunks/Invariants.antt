@@ -1,5 +1,6 @@
 use Rattle.std.proofs.Common.{◌≡◌, ◌<◌, ◌≤◌, true, List, ℕ, [], ◌++◌}
-use Rattle.http_edge.specs.Steps.{Moves, work}
+use Rattle.http_line.specs.Line.{Moves}
+use Rattle.http_edge.specs.Steps.{work}
 use Rattle.http_edge.specs.Stages.{IsAt}
 use Rattle.http_edge.specs.Kept.{Keeps}
 use Rattle.http_edge.proofs.answer_body.read_answer_chunks.Given as goal
@@ -14,8 +15,7 @@ pub record Reads (P : List ℕ → List ℕ → Type 0) (Q S E : Type 0) : Type 
 
 abbrev pub invariant-reads : goal.invariant-reads
 invariant-reads g l = Reads
-    (λ read body. Moves (g.L.Line.received l.fn.line) (g.L.Line.received l.line) (g.L.Line.sent l.fn.line)
-    (g.L.Line.sent l.line) read []
+    (λ read body. Moves g.L.Line.gives g.L.Line.takes l.fn.line l.line read []
     × IsAt (l.fn.buffer.items ++ read) l.part body l.buffer.items × Keeps body l.kept)
     (g.L.Line.failed l.line ≡ g.L.Line.failed l.fn.line)
     (g.L.Line.ends l.fn.line ≤ g.L.Line.ends l.line)

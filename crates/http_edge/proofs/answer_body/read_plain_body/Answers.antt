@@ -1,8 +1,9 @@
-use Rattle.std.proofs.Common.{◌≢◌, ◌++◌, [], Ok, refl, sym, ap, ◌∙◌, inl, inr, append_assoc, append-nil, arith}
+use Rattle.std.proofs.Common.{◌≢◌, ◌++◌, [], Ok, refl, sym, ap, ◌∙◌, inl, inr, append_assoc, append-nil, arith, rules}
 use Rattle.std.proofs.lemmas.Result.{err_from_is_err_and}
 use Rattle.http1.specs.declared.framing.Framing.TheVariants as Framed
-use Rattle.http_edge.proofs.Moved.{then, then_to}
+use Rattle.http_line.proofs.Moved.{then, then_to}
 use Rattle.http_edge.proofs.Come.{come_read, come_to_end}
+use Rattle.http_line.specs.Line.{no_call}
 use Rattle.http_edge.proofs.answer_body.read_plain_body.Goals as goal
 
 pub returns-in-End-clause-ok : goal.returns-in-End-clause-ok
@@ -114,3 +115,12 @@ reads-preserved g c =
       kept = c.in_ok-fill.ensures.kept ∙ inv.kept;
       ends = omega (arith, c.in_ok-fill.ensures.ends, inv.ends);
     }
+
+pub reads-init : goal.reads-init
+reads-init g c = record {
+  read = [];
+  body = [];
+  so_far = (no_call, search rules, search rules);
+  kept = refl;
+  ends = search rules;
+}

@@ -1,5 +1,6 @@
 use Rattle.std.proofs.Common.{◌≡◌, ◌≤◌, List, ℕ, [], ◌++◌}
-use Rattle.http_edge.specs.Steps.{Moves, work}
+use Rattle.http_line.specs.Line.{Moves}
+use Rattle.http_edge.specs.Steps.{work}
 use Rattle.http_edge.proofs.answer_head.read_answer_head.Given as goal
 
 pub record Reads (P : List ℕ → Type 0) (Q R : Type 0) : Type 0 where
@@ -10,8 +11,7 @@ pub record Reads (P : List ℕ → Type 0) (Q R : Type 0) : Type 0 where
 
 abbrev pub invariant-looks : goal.invariant-looks
 invariant-looks g l = Reads
-    (λ read. Moves (g.L.Line.received l.fn.line) (g.L.Line.received l.line) (g.L.Line.sent l.fn.line) (g.L.Line.sent
-    l.line) read [] × (l.buffer.items ≡ l.fn.buffer.items ++ read))
+    (λ read. Moves g.L.Line.gives g.L.Line.takes l.fn.line l.line read [] × (l.buffer.items ≡ l.fn.buffer.items ++ read))
     (g.L.Line.failed l.line ≡ g.L.Line.failed l.fn.line)
     (g.L.Line.ends l.fn.line ≤ g.L.Line.ends l.line)
 

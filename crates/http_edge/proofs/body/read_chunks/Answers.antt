@@ -1,7 +1,8 @@
-use Rattle.std.proofs.Common.{◌++◌, length, ap, ◌∙◌, append_assoc, length-drop, arith}
+use Rattle.std.proofs.Common.{◌++◌, length, ap, ◌∙◌, append_assoc, length-drop, arith, [], refl, rules}
 use Rattle.std.proofs.lemmas.Result.{err_from_is_err_and}
-use Rattle.http_edge.proofs.Moved.{then}
+use Rattle.http_line.proofs.Moved.{then}
 use Rattle.http_edge.proofs.Pieces.{at_more, ended_by}
+use Rattle.http_line.specs.Line.{no_call}
 use Rattle.http_edge.proofs.body.read_chunks.Goals as goal
 
 pub returns-in_err-more-clause-err : goal.returns-in_err-more-clause-err
@@ -41,3 +42,14 @@ reads-preserved g c =
       met = λ f.
           let met = c.in_ok-more.ensures.end (ended_by c.in_ok-more.more f) in omega (arith, met.1, inv.ends);
     }
+
+pub reads-init : goal.reads-init
+reads-init g c = record {
+  read = [];
+  so_far = (no_call, search rules);
+  fits = search rules;
+  work = search rules;
+  kept = refl;
+  ends = search rules;
+  met = search rules;
+}

@@ -1,6 +1,7 @@
 use Rattle.std.proofs.Common.{◌≡◌, ◌+◌, ◌<◌, ◌≤◌, true, List, ℕ, [], ◌++◌, length}
 use Rattle.http_edge.specs.Limits.{max_body}
-use Rattle.http_edge.specs.Steps.{Moves, work}
+use Rattle.http_line.specs.Line.{Moves}
+use Rattle.http_edge.specs.Steps.{work}
 use Rattle.http_edge.specs.Stages.{bytes_due, IsAt}
 use Rattle.http_edge.proofs.body.read_chunks.Given as goal
 
@@ -15,8 +16,7 @@ pub record Reads (P : List ℕ → Type 0) (F Q R S E : Type 0) : Type 0 where
 
 abbrev pub invariant-reads : goal.invariant-reads
 invariant-reads g l = Reads
-    (λ read. Moves (g.L.Line.received l.fn.line) (g.L.Line.received l.line) (g.L.Line.sent l.fn.line) (g.L.Line.sent
-    l.line) read []
+    (λ read. Moves g.L.Line.gives g.L.Line.takes l.fn.line l.line read []
     × IsAt (l.fn.buffer.items ++ read) l.part l.body.items l.buffer.items)
     (length l.body.items + bytes_due l.part ≤ max_body)
     (work (g.L.Line.reads_left l.line) l.buffer.items ≤ work (g.L.Line.reads_left l.fn.line) l.fn.buffer.items)

@@ -1,5 +1,6 @@
 use Rattle.std.proofs.Common.{◌≡◌, ◌≤◌, List, ℕ, [], ◌++◌}
-use Rattle.http_edge.specs.Steps.{Moves, work}
+use Rattle.http_line.specs.Line.{Moves}
+use Rattle.http_edge.specs.Steps.{work}
 use Rattle.http_edge.proofs.body.read_sized.Given as goal
 
 pub record Reads (P : List ℕ → Type 0) (Q R S : Type 0) : Type 0 where
@@ -11,8 +12,7 @@ pub record Reads (P : List ℕ → Type 0) (Q R S : Type 0) : Type 0 where
 
 abbrev pub invariant-reads : goal.invariant-reads
 invariant-reads g l = Reads
-    (λ read. Moves (g.L.Line.received l.fn.line) (g.L.Line.received l.line) (g.L.Line.sent l.fn.line) (g.L.Line.sent
-    l.line) read []
+    (λ read. Moves g.L.Line.gives g.L.Line.takes l.fn.line l.line read []
     × (l.buffer.items ≡ l.fn.buffer.items ++ read))
     (work (g.L.Line.reads_left l.line) l.buffer.items ≤ work (g.L.Line.reads_left l.fn.line) l.fn.buffer.items)
     (g.L.Line.failed l.line ≡ g.L.Line.failed l.fn.line)

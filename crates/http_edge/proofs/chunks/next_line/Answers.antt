@@ -1,6 +1,6 @@
 use Rattle.std.proofs.Common.{arith}
-use Rattle.http_edge.proofs.Pieces.{line_here, line_long, line_faulty, reaches_bytes, reaches_trailer, stops_line}
-use Rattle.http_edge.specs.Chunks.{FailsAt}
+use Rattle.http_edge.proofs.Pieces.{line_here, line_lacks, line_long, line_faulty, reaches_bytes, reaches_trailer, stops_line}
+use Rattle.http_edge.specs.Chunks.{FailsAt, LacksAt}
 use Rattle.http_edge.proofs.chunks.next_line.Goals as goal
 
 pub returns-then-size-gt0-clause-step : goal.returns-then-size-gt0-clause-step
@@ -28,6 +28,13 @@ returns-else-size-gt0-clause-piece c = λ stream body r.
     let here = line_here c.args.input.now c.min.result c.in-Ok-Complete.len c.in-Ok-Complete.size found.0 (omega arith)
     found.1 in
     reaches_trailer c.in-Ok-Complete.size r here.has found.1.size_is c.if-size-gt0.false
+
+pub returns-then-input-lt-MAX_PART-clause-piece : goal.returns-then-input-lt-MAX_PART-clause-piece
+returns-then-input-lt-MAX_PART-clause-piece c = λ stream body r.
+    let none = rw c.in-Ok-Partial.field-0-is at c.in-Ok-Partial.ensures.partial in
+    let may = rw c.in-Ok-Partial.field-0-is at c.in-Ok-Partial.ensures.unfinished in
+    stops_line {Fact = LacksAt} r (line_lacks c.args.input.now c.min.result (omega arith) c.if-input-lt-MAX_PART.true
+    none may)
 
 pub returns-else-input-lt-MAX_PART-clause-piece : goal.returns-else-input-lt-MAX_PART-clause-piece
 returns-else-input-lt-MAX_PART-clause-piece c = λ stream body r.

@@ -1,6 +1,6 @@
 use Rattle.std.proofs.Common.{arith, ap, Err}
-use Rattle.http_edge.proofs.Pieces.{trailer_here, trailer_many, trailer_long, trailer_faulty, stops_trailer}
-use Rattle.http_edge.specs.Chunks.{FailsAt}
+use Rattle.http_edge.proofs.Pieces.{trailer_here, trailer_lacks, trailer_many, trailer_long, trailer_faulty, stops_trailer}
+use Rattle.http_edge.specs.Chunks.{FailsAt, LacksAt}
 use Rattle.http_edge.proofs.chunks.next_trailer.Goals as goal
 
 pub returns-in-Ok-Complete-clause-piece : goal.returns-in-Ok-Complete-clause-piece
@@ -22,6 +22,14 @@ returns-then-line_ends-gt-MAX_FIELDS-clause-piece c = λ stream body r.
     let none = rw c.in-Ok-Partial.field-0-is at c.in-Ok-Partial.ensures.partial in
     stops_trailer {Fact = FailsAt} r (trailer_many c.args.input.now c.min.result (omega arith)
     (omega (arith, c.line_ends.ensures)) none)
+
+pub returns-else-line_ends-gt-MAX_FIELDS-clause-piece :
+    goal.returns-else-line_ends-gt-MAX_FIELDS-clause-piece
+returns-else-line_ends-gt-MAX_FIELDS-clause-piece c = λ stream body r.
+    let none = rw c.in-Ok-Partial.field-0-is at c.in-Ok-Partial.ensures.partial in
+    let may = rw c.in-Ok-Partial.field-0-is at c.in-Ok-Partial.ensures.unfinished in
+    stops_trailer {Fact = LacksAt} r (trailer_lacks c.args.input.now c.min.result (omega arith) (omega arith)
+    (omega (arith, c.line_ends.ensures)) none may)
 
 pub returns-in-Err-clause-piece : goal.returns-in-Err-clause-piece
 returns-in-Err-clause-piece c = λ stream body r.

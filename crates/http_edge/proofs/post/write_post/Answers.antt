@@ -1,8 +1,9 @@
-use Rattle.std.proofs.Common.{◌≡◌, ◌++◌, refl, sym, ap, ◌∙◌, append_assoc, length}
+use Rattle.std.proofs.Common.{◌≡◌, ◌++◌, refl, sym, ap, ◌∙◌, append_assoc, length, []}
 use Rattle.std.proofs.lemmas.Result.{err_from_is_err_and}
 use Rattle.http_edge.specs.Post.{post_head}
-use Rattle.http_edge.proofs.Moved.{then_to}
+use Rattle.http_line.proofs.Moved.{then_to}
 use Rattle.http_edge.proofs.Served.{cut_text}
+use Rattle.http_line.specs.Line.{no_call}
 use Rattle.http_edge.proofs.post.write_post.Goals as goal
 
 pub returns-in_err-send-clause-err : goal.returns-in_err-send-clause-err
@@ -37,3 +38,8 @@ returns-clause-ok g c =
     let head : c.as_slice.result.now ≡ post_head c.args.host.now (length c.args.payload.now) = c.as_slice.ensures.value
     ∙ c.in_ok-head.ensures in
     then_to c.in_ok-send.ensures.ok c.in_ok-send-2.ensures.ok refl (ap (λ v. v ++ c.args.payload.now) head)
+
+pub returns-in_err-head-clause-err : goal.returns-in_err-head-clause-err
+returns-in_err-head-clause-err g c =
+    let p = err_from_is_err_and c.from_residual.result c.from_residual.ensures.1 in
+    rw p.1 ([], _, refl, no_call)

@@ -64,7 +64,7 @@ returns-in_err-refuse-in-TooLong-clause-cut g c =
       written = interim_text c.requires.0 ++ f.0;
       moves = all_moves c.args.head.expects c.requires.0 is.says.expects c.in_ok-interim.ensures.ok e.1 f.3;
       missing = f.1;
-      due = subst (Due g.H.Handler.answers c.args.handler.now (c.args.buffer.now.items ++ e.0) c.args.handler.now)
+      due = subst (Due _ g.H.Handler.answers c.args.handler.now (c.args.buffer.now.items ++ e.0) c.args.handler.now)
           (cut_text (interim_text c.requires.0) f.0 f.1 (ap (λ (b : Bool). refusal_text b 413) (sym is.says.bodiless)
           ∙ f.2)) (refusing _ bad refl);
     })
@@ -84,7 +84,7 @@ returns-in_err-refuse-in-Bad-clause-cut g c =
       written = interim_text c.requires.0 ++ f.0;
       moves = all_moves c.args.head.expects c.requires.0 is.says.expects c.in_ok-interim.ensures.ok e.1 f.3;
       missing = f.1;
-      due = subst (Due g.H.Handler.answers c.args.handler.now (c.args.buffer.now.items ++ e.0) c.args.handler.now)
+      due = subst (Due _ g.H.Handler.answers c.args.handler.now (c.args.buffer.now.items ++ e.0) c.args.handler.now)
           (cut_text (interim_text c.requires.0) f.0 f.1 (ap (λ (b : Bool). refusal_text b 400) (sym is.says.bodiless)
           ∙ f.2)) (refusing _ bad refl);
     })
@@ -100,13 +100,14 @@ returns-in_err-goes-in-Whole-clause-cut g c =
     let a = c.in_err-goes-in-Whole.ensures.err h is.says in
     let p = err_from_is_err_and c.from_residual-in_err-goes-in-Whole.result
     c.from_residual-in_err-goes-in-Whole.ensures.1 in
+    let same = p.2 in
     rw p.1 (record {
       read = e.0;
       written = interim_text h ++ a.0;
       moves = all_moves c.args.head.expects h is.says.expects c.in_ok-interim.ensures.ok e.1 a.1;
-      missing = a.2.0;
+      missing = a.2;
       due = due_reply g.H.Handler.answers (c.args.buffer.now.items ++ e.0) c.read_body.new.buffer.items (whole_message
-          e.0 c.in-Whole.body.items c.read_body.new.buffer.items is r.0 r.1) a.2.1;
+          e.0 c.in-Whole.body.items c.read_body.new.buffer.items is r.0 r.1) a.3 (λ no. a.4 (cc));
     })
 
 pub returns-in-Ended-clause-over : goal.returns-in-Ended-clause-over

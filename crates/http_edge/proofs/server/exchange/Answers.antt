@@ -4,8 +4,8 @@ use Rattle.http_edge.specs.Talk.{RefusesHead, at_head, many_lines, nothing, refu
 use Rattle.http_edge.specs.Reply.{refusal_text}
 use Rattle.http_edge.specs.Stages.{IsBegin}
 use Rattle.http_edge.specs.declared.head.Begin.TheVariants.{More, TooMany}
-use Rattle.http_edge.proofs.Moved.{then_to}
-use Rattle.http_edge.proofs.Served.{goes_after, over_after, cut_after}
+use Rattle.http_line.proofs.Moved.{then_to}
+use Rattle.http_edge.proofs.Served.{goes_after, over_after, cut_after, cut_by}
 use Rattle.http_edge.proofs.server.exchange.Goals as goal
 
 pub returns-in_err-read_head-clause-cut : goal.returns-in_err-read_head-clause-cut
@@ -100,4 +100,5 @@ returns-in_err-goes-in-Whole-clause-cut g c =
     let e = c.in_ok-read_head.ensures.ok in
     let p = err_from_is_err_and c.from_residual-in_err-goes-in-Whole.result
     c.from_residual-in_err-goes-in-Whole.ensures.1 in
-    rw p.1 (cut_after e.1 e.2 c.in_err-goes-in-Whole.ensures.cut)
+    let same = p.2 in
+    rw p.1 (cut_by (cut_after e.1 e.2 c.in_err-goes-in-Whole.ensures.cut) (cc))

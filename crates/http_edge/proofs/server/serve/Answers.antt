@@ -1,8 +1,9 @@
-use Rattle.std.proofs.Common.{◌++◌, [], ◌∷◌, Ok, refl, sym, ap, ◌∙◌, append_assoc, arith}
+use Rattle.std.proofs.Common.{◌++◌, [], ◌∷◌, Ok, refl, sym, ap, ◌∙◌, append_assoc, arith, rules}
 use Rattle.std.proofs.lemmas.Result.{err_from_is_err_and}
 use Rattle.http_edge.specs.Talk.{told}
-use Rattle.http_edge.proofs.Moved.{then, then_to}
-use Rattle.http_edge.proofs.Served.{runs_more, told_more, asks_more, asks_read}
+use Rattle.http_line.proofs.Moved.{then, then_to}
+use Rattle.http_edge.proofs.Served.{runs_more, told_more, asks_more, asks_read, cut_by}
+use Rattle.http_line.specs.Line.{no_call}
 use Rattle.http_edge.proofs.server.serve.Goals as goal
 
 pub messages-preserved : goal.messages-preserved
@@ -48,8 +49,9 @@ returns-clause-talk g c =
 pub returns-in_err-exchange-clause-fault : goal.returns-in_err-exchange-clause-fault
 returns-in_err-exchange-clause-fault g c =
     let inv = c.messages.invariant in
-    let cut = c.in_err-exchange.ensures.cut in
     let p = err_from_is_err_and c.from_residual.result c.from_residual.ensures.1 in
+    let same = p.2 in
+    let cut = cut_by {other = p.0} c.in_err-exchange.ensures.cut (cc) in
     rw p.1 (
       inv.read ++ cut.read,
       told inv.exchanges ++ cut.written,
@@ -68,3 +70,12 @@ returns-in_err-exchange-clause-fault g c =
         },
       ),
     )
+
+pub messages-init : goal.messages-init
+messages-init g c = record {
+  read = [];
+  exchanges = [];
+  so_far = (no_call, refl, search rules);
+  kept = refl;
+  ends = search rules;
+}

@@ -1,5 +1,6 @@
 use Rattle.std.proofs.Common.{◌≡◌, ◌≤◌, List, ℕ}
-use Rattle.http_edge.specs.Steps.{Moves, work}
+use Rattle.http_line.specs.Line.{Moves}
+use Rattle.http_edge.specs.Steps.{work}
 use Rattle.http_edge.specs.Talk.{Exchange, Asks, told, Runs}
 use Rattle.http_edge.proofs.server.serve.Given as goal
 
@@ -12,8 +13,7 @@ pub record Served (P : List ℕ → List Exchange → Type 0) (Q R : Type 0) : T
 
 abbrev pub invariant-messages : goal.invariant-messages
 invariant-messages g l = Served
-    (λ read es. Moves (g.L.Line.received l.fn.line) (g.L.Line.received l.line) (g.L.Line.sent l.fn.line) (g.L.Line.sent
-    l.line) read (told es)
+    (λ read es. Moves g.L.Line.gives g.L.Line.takes l.fn.line l.line read (told es)
     × Runs g.H.Handler.answers l.fn.handler es l.handler
     × Asks read es l.buffer.items)
     (g.L.Line.failed l.line ≡ g.L.Line.failed l.fn.line)

@@ -1,5 +1,5 @@
 use Rattle.std.proofs.Common.{◌≡◌, ◌≤◌, ◌-◌, length, take, []}
-use Rattle.http_edge.specs.Steps.{Moves}
+use Rattle.http_line.specs.Line.{Moves}
 use Rattle.http_edge.proofs.wire.send.Given as goal
 
 pub record Sends (P : Type 0) (Q R S T : Type 0) : Type 0 where
@@ -12,7 +12,7 @@ pub record Sends (P : Type 0) (Q R S T : Type 0) : Type 0 where
 abbrev pub invariant-pieces : goal.invariant-pieces
 invariant-pieces g l = Sends
     (l.at ≤ length l.bytes)
-    (Moves (g.L.Line.received l.fn.line) (g.L.Line.received l.line) (g.L.Line.sent l.fn.line) (g.L.Line.sent l.line) []
+    (Moves g.L.Line.gives g.L.Line.takes l.fn.line l.line []
     (take l.at l.bytes))
     (g.L.Line.ends l.line ≡ g.L.Line.ends l.fn.line)
     (g.L.Line.reads_left l.line ≡ g.L.Line.reads_left l.fn.line)

@@ -1,0 +1,22 @@
+use Rattle.std.proofs.Common.{◌≡◌, [], take, arith, rules}
+use Rattle.std.proofs.lemmas.Result.{err_from_is_err_and}
+use Rattle.std.proofs.lemmas.Grind.{common_steps}
+use Rattle.http_line.proofs.Moved.{by_read}
+use Rattle.http_edge.proofs.wire.fill.Goals as goal
+
+pub returns-in_err-extend_from_slice-in-Ok-clause-err : goal.returns-in_err-extend_from_slice-in-Ok-clause-err
+returns-in_err-extend_from_slice-in-Ok-clause-err g c =
+    let p = err_from_is_err_and c.from_residual.result c.from_residual.ensures.1 in
+    rw p.1 (take c.in-Ok.count c.read_some.new.room, by_read c.in-Ok.ensures.bytes)
+
+pub returns-in_ok-extend_from_slice-in-Ok-clause-ok : goal.returns-in_ok-extend_from_slice-in-Ok-clause-ok
+returns-in_ok-extend_from_slice-in-Ok-clause-ok g c =
+    (take c.in-Ok.count c.read_some.new.room, by_read c.in-Ok.ensures.bytes, search rules)
+
+pub returns-in_ok-extend_from_slice-in-Ok-clause-quiet : goal.returns-in_ok-extend_from_slice-in-Ok-clause-quiet
+returns-in_ok-extend_from_slice-in-Ok-clause-quiet g c = λ is.
+    let none : c.in-Ok.count ≡ 0 = grind (arith, common_steps) in
+    by_read (rw none at c.in-Ok.ensures.bytes)
+
+pub returns-in-Err-clause-err : goal.returns-in-Err-clause-err
+returns-in-Err-clause-err g c = ([], by_read c.in-Err.ensures.err)
