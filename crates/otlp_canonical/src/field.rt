@@ -1,7 +1,7 @@
 //! Fields at the front of a text, as they are written. Each of those with `some` in its name is left out at its proto3
 //! default, so that it takes none of a text that begins otherwise.
 
-ghost use Rattle.std.specs.Prelude.{◌≡◌, ◌++◌, ◌∷◌, ◌<◌, ◌^◌, ◌*◌, ◌+◌, ℕ, length, option_map, IfSome, FitsSigned};
+ghost use Rattle.std.specs.Prelude.{◌≡◌, ◌++◌, ◌∷◌, ◌<◌, ◌^◌, ◌*◌, ◌+◌, ℕ, length, option_map, IfSome, IsTrue, FitsSigned};
 ghost use Rattle.std.specs.Int.{w32, w64, to_le_bytes};
 ghost use Rattle.std.specs.Str.{IsUtf8};
 ghost use Rattle.otlp_trace.specs.Text.{bytes_field, some_bytes, some_number, some_signed, some_eight, some_four};
@@ -11,6 +11,7 @@ ghost use Rattle.otlp_canonical.specs.Sound.{Any};
 use crate::number::{behind, content, shortest};
 
 /// What the field of this number and wire type `Bytes` at the front holds, and the rest.
+#[inline(always)]
 pub fn bytes_field(text: &[u8], number: u8) -> Option<(&[u8], &[u8])>
     requires fits { number < 16 }
     ensures parts { IfSome result (λ x. text.now ≡ bytes_field number x.0.now ++ x.1.now) }
@@ -22,6 +23,7 @@ pub fn bytes_field(text: &[u8], number: u8) -> Option<(&[u8], &[u8])>
 }
 
 /// Whether the text begins with a field of this number and wire type `Bytes`.
+#[inline(always)]
 pub fn begins(text: &[u8], number: u8) -> bool
     requires fits { number < 16 }
 {
@@ -29,6 +31,7 @@ pub fn begins(text: &[u8], number: u8) -> bool
 }
 
 /// What stands behind bytes that are left out where there are none.
+#[inline(always)]
 pub fn some_bytes(text: &[u8], number: u8) -> Option<&[u8]>
     requires fits { number < 16 }
     ensures { IfSome result (λ rest. Front (some_bytes number) Any text.now rest.now) }
@@ -40,7 +43,18 @@ pub fn some_bytes(text: &[u8], number: u8) -> Option<&[u8]>
     if bytes.is_empty() { None } else { Some(rest) }
 }
 
+/// Whether the bytes are UTF-8. Most strings are ASCII, which is found out by words.
+pub fn is_utf8(bytes: &[u8]) -> bool
+    ensures { IsTrue result → IsUtf8 bytes.now }
+{
+    if bytes.is_ascii() {
+        return true;
+    }
+    str::from_utf8(bytes).is_ok()
+}
+
 /// What stands behind a string that is left out where it is empty.
+#[inline(always)]
 pub fn some_string(text: &[u8], number: u8) -> Option<&[u8]>
     requires fits { number < 16 }
     ensures { IfSome result (λ rest. Front (some_bytes number) IsUtf8 text.now rest.now) }
@@ -52,14 +66,11 @@ pub fn some_string(text: &[u8], number: u8) -> Option<&[u8]>
     if bytes.is_empty() {
         return None;
     }
-    if str::from_utf8(bytes).is_err() {
-        None
-    } else {
-        Some(rest)
-    }
+    if is_utf8(bytes) { Some(rest) } else { None }
 }
 
 /// What stands behind a number of 32 bits that is left out where it is 0.
+#[inline(always)]
 pub fn some_number(text: &[u8], number: u8) -> Option<&[u8]>
     requires fits { number < 16 }
     ensures { IfSome result (λ rest. Front (some_number number) (λ x. x < 2 ^ 32) text.now rest.now) }
@@ -67,7 +78,7 @@ pub fn some_number(text: &[u8], number: u8) -> Option<&[u8]>
     let Some(value) = behind(text, number * 8) else {
         return Some(text);
     };
-    let (value, rest) = shortest(value, 9)?;
+    let (value, rest) = shortest(value)?;
     if value == 0 {
         return None;
     }
@@ -75,6 +86,7 @@ pub fn some_number(text: &[u8], number: u8) -> Option<&[u8]>
 }
 
 /// What stands behind a number of 32 bits with a sign that is left out where it is 0. A negative one has ten bytes.
+#[inline(always)]
 pub fn some_signed(text: &[u8], number: u8) -> Option<&[u8]>
     requires fits { number < 16 }
     ensures { IfSome result (λ rest. Front (some_signed number) (FitsSigned w32) text.now rest.now) }
@@ -82,7 +94,7 @@ pub fn some_signed(text: &[u8], number: u8) -> Option<&[u8]>
     let Some(value) = behind(text, number * 8) else {
         return Some(text);
     };
-    let (value, rest) = shortest(value, 9)?;
+    let (value, rest) = shortest(value)?;
     if value == 0 {
         return None;
     }
@@ -110,6 +122,7 @@ fn eight(value: &[u8]) -> Option<&[u8]>
 }
 
 /// What stands behind a number of eight bytes that is left out where it is 0.
+#[inline(always)]
 pub fn some_eight(text: &[u8], number: u8) -> Option<&[u8]>
     requires fits { number < 16 }
     ensures { IfSome result (λ rest. Front (some_eight number) (λ x. x < 2 ^ 64) text.now rest.now) }
@@ -136,6 +149,7 @@ fn four(value: &[u8]) -> Option<&[u8]>
 }
 
 /// What stands behind a number of four bytes that is left out where it is 0.
+#[inline(always)]
 pub fn some_four(text: &[u8], number: u8) -> Option<&[u8]>
     requires fits { number < 16 }
     ensures { IfSome result (λ rest. Front (some_four number) (λ x. x < 2 ^ 32) text.now rest.now) }

@@ -6,7 +6,7 @@ ghost use Rattle.otlp_trace.specs.Text.{any_text, kind_text, array_text, list_te
 ghost use Rattle.otlp_canonical.specs.Parts.{Whole, Front};
 ghost use Rattle.otlp_canonical.specs.Sound.{SoundAny, SoundKind, SoundArray, SoundList, SoundKeyValue};
 
-use crate::field::{begins, bytes_field, some_string};
+use crate::field::{begins, bytes_field, is_utf8, some_string};
 use crate::number::{behind, shortest, split};
 use crate::unknown::unknown;
 use otlp_trace::{AnyValue, ArrayValue, KeyValue, KeyValueList};
@@ -16,10 +16,7 @@ fn string(text: &[u8]) -> Option<&[u8]>
     ensures { (room : ℕ) → IfSome result (λ rest. Front kind_text (SoundKind room) text.now rest.now) }
 {
     let (bytes, rest) = bytes_field(text, 1)?;
-    if str::from_utf8(bytes).is_err() {
-        return None;
-    }
-    Some(rest)
+    if is_utf8(bytes) { Some(rest) } else { None }
 }
 
 /// What stands behind a bool, which is 0 or 1.
@@ -27,7 +24,7 @@ fn boolean(text: &[u8]) -> Option<&[u8]>
     ensures { (room : ℕ) → IfSome result (λ rest. Front kind_text (SoundKind room) text.now rest.now) }
 {
     let value = behind(text, 0x10)?;
-    let (value, rest) = shortest(value, 9)?;
+    let (value, rest) = shortest(value)?;
     if value < 2 { Some(rest) } else { None }
 }
 
@@ -36,7 +33,7 @@ fn int(text: &[u8]) -> Option<&[u8]>
     ensures { (room : ℕ) → IfSome result (λ rest. Front kind_text (SoundKind room) text.now rest.now) }
 {
     let value = behind(text, 0x18)?;
-    let (_value, rest) = shortest(value, 9)?;
+    let (_value, rest) = shortest(value)?;
     Some(rest)
 }
 
@@ -135,6 +132,40 @@ fn list(text: &[u8], room: u32) -> Option<()>
     Some(())
 }
 
+/// Goes over a key with a string behind which nothing stands, which most attributes are. Where all of it is ASCII, as
+/// tags and short lengths are, it is looked at once for all.
+#[inline(always)]
+fn string_pair(text: &[u8], room: u32) -> Option<()>
+    ensures { IfSome result (λ u. Whole key_value_text (SoundKeyValue room) text.now) }
+{
+    if room < 2 {
+        return None;
+    }
+    let (key, rest) = bytes_field(text, 1)?;
+    if key.is_empty() {
+        return None;
+    }
+    let (value, end) = bytes_field(rest, 2)?;
+    if !end.is_empty() {
+        return None;
+    }
+    let (string, more) = bytes_field(value, 1)?;
+    if !more.is_empty() {
+        return None;
+    }
+    if text.is_ascii() {
+        return Some(());
+    }
+    if !is_utf8(key) {
+        return None;
+    }
+    if str::from_utf8(string).is_err() {
+        None
+    } else {
+        Some(())
+    }
+}
+
 /// Goes over a key with or without a value.
 #[cycle(any)]
 pub fn key_value(text: &[u8], room: u32) -> Option<()>
@@ -142,6 +173,9 @@ pub fn key_value(text: &[u8], room: u32) -> Option<()>
 {
     if room == 0 {
         return None;
+    }
+    if string_pair(text, room).is_some() {
+        return Some(());
     }
     let key = some_string(text, 1)?;
     if !begins(key, 2) {

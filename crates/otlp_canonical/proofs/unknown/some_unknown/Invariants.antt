@@ -1,6 +1,6 @@
 use Rattle.std.proofs.Common.{length}
 use Rattle.otlp_read.specs.Nested.{Kept}
-use Rattle.otlp_canonical.proofs.unknown.unknown.Given as goal
+use Rattle.otlp_canonical.proofs.unknown.some_unknown.Given as goal
 
 -- what is left is fields that aren't known, and then so is the whole
 abbrev pub invariant-fields : goal.invariant-fields
