@@ -32,7 +32,7 @@ pub fn asked_task(args: &[String]) -> Option<Task<'_>>
 
 /// A decimal number from 1 to 2^32 - 1, which may begin with a plus.
 fn rounds(word: &str) -> Option<u32>
-    ensures some { IsSome result ↔ IsRounds word.now }
+    ensures valid { IsSome result ↔ IsRounds word.now }
     ensures value { IfSome result (λ rounds. rounds ≡ rounds_of word.now) }
 {
     match word.parse::<u32>() {

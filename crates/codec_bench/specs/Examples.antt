@@ -1,4 +1,4 @@
--- What the definitions give for small requests, numbers and arguments, worked out by hand.
+-- What the definitions give for small requests, numbers and arguments, worked out by hand. This project's own rule.
 use Rattle.std.specs.Prelude.{◌≡◌, codes, ℕ, ◌-◌, ◌^◌, List, [], ◌∷◌, map, replicate, None}
 use Rattle.otlp_trace.specs.Data.{ScopeSpansData, ResourceSpansData, RequestData}
 use Rattle.otlp_read.specs.declared.fault.ReadFault.TheVariants as read

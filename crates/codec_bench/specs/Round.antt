@@ -1,4 +1,5 @@
--- A body that is read and written again, and how many spans it has.
+-- A body that is read and written again, and how many spans it has. What is read and written is OTLP 1.x's request, in
+-- the proto3 encoding, as `otlp_read` and `otlp_trace` have it; the rest is this project's own rule.
 use Rattle.std.specs.Prelude.{◌≡◌, ◌-◌, ◌^◌, ℕ, List, length, min}
 use Rattle.std.specs.List.{sum_by}
 use Rattle.otlp_trace.specs.Data.{ScopeSpansData, ResourceSpansData, RequestData}

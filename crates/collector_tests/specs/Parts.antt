@@ -1,4 +1,5 @@
--- What the examples are made of: settings, spans and bodies.
+-- What the examples are made of: settings, spans and bodies. Bodies are OTLP 1.x's, in the proto3 encoding; all else is
+-- this project's own rule.
 use Rattle.std.specs.Prelude.{ℕ, pos, List, [], ◌∷◌, ◌++◌, replicate, None}
 use Rattle.tail_settings.specs.Policy.{PolicyData, always_sample, leaf}
 use Rattle.tail_settings.specs.Section.{SectionData}

@@ -1,10 +1,11 @@
--- What the definitions give on small scripts, worked out by hand, for the tests.
+-- What the definitions give on small scripts, worked out by hand, for the tests. Scripts are this project's own rule
+-- (docs/SCRIPT.md).
 use Rattle.std.specs.Prelude.{◌≡◌, ℕ, zero, ◌+◌, List, [], ◌∷◌, codes, Option, Some, None, Err}
 use Rattle.replay_script.specs.declared.fault.ScriptFault.TheVariants.{Script, Line}
 use Rattle.replay_script.specs.Command.{CommandData, Turn}
 use Rattle.replay_script.specs.Line.{lines_of}
 use Rattle.replay_script.specs.Answer.{idle_text}
-use Rattle.replay_script.specs.Told.{Told, BeginsTold, Ends}
+use Rattle.replay_script.specs.Transcript.{Told, BeginsTold, Ends}
 
 -- a session that knows shard 0 and no tenant. A turn is answered `idle` with the number of turns before it
 abbrev pub Counts : ℕ → CommandData → Option (List ℕ) → ℕ → Type 0

@@ -1,8 +1,8 @@
--- What the definitions give on small shards whose own steps are known, worked out by hand.
+-- What the definitions give on small shards whose own steps are known, worked out by hand. This project's own rules.
 use Rattle.std.specs.Prelude.{◌≡◌, ℕ, zero, suc, true, List, [], ◌∷◌, map, Option, Some, None}
 use Rattle.tail_settings.specs.Policy.{PolicyData, latency, leaf}
 use Rattle.tail_settings.specs.Section.{SectionData}
-use Rattle.tenant_rules.specs.declared.told.Told.TheVariants as tell
+use Rattle.tenant_rules.specs.declared.reply.StepReply.TheVariants as replies
 use Rattle.tenant_rules.specs.Own as own
 use Rattle.collector_tests.specs.Parts.{keep_all, plain as one_second, two_seconds, span, body}
 use Rattle.otlp_prepare.specs.Prepared.{PreparedData}
@@ -30,7 +30,7 @@ others = leaf (latency 0) ∷ []
 
 -- what a tenant is told of a body that was taken whole
 abbrev pub accepted : Answer
-accepted = Answered (tell.Reply (record { status = 200; body = [] }))
+accepted = Answered (replies.Reply (record { status = 200; body = [] }))
 
 abbrev pub taken : ℕ → Outcome
 taken tenant = outcome.Reply tenant (record { status = 200; body = [] })
@@ -73,9 +73,9 @@ pub record EachIsTold : Type 0 where
   pub steps_of_0 : own_steps 0 four_steps four_outcomes
       ≡ own_step (Post 0 (prepared 0 17 33)) ∷ plain (own.Turn 2000) ∷ []
   pub alone_0 : alone two_seconds [] (own_step (Post 0 (prepared 0 17 33)) ∷ plain (own.Turn 2000) ∷ [])
-      ≡ accepted ∷ Answered (tell.Job 1 (body 17 33)) ∷ []
+      ≡ accepted ∷ Answered (replies.Job 1 (body 17 33)) ∷ []
   pub told_to_0 : told_to 0 four_outcomes ≡ taken 0 ∷ outcome.Job 0 1 (body 17 33) ∷ []
-  pub named_0 : map (named 0) (accepted ∷ Answered (tell.Job 1 (body 17 33)) ∷ [])
+  pub named_0 : map (named 0) (accepted ∷ Answered (replies.Job 1 (body 17 33)) ∷ [])
       ≡ taken 0 ∷ outcome.Job 0 1 (body 17 33) ∷ []
   pub steps_of_1 : own_steps 1 four_steps four_outcomes
       ≡ own_step (Post 500 (prepared 1 18 34)) ∷ plain (own.Turn 2000) ∷ []

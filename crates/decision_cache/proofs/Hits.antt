@@ -3,7 +3,7 @@ use Rattle.std.proofs.Common.{◌≡◌, ℕ, ◌≤◌, Bool, true, false, List
 use Rattle.std.proofs.lemmas.List.{drop_more}
 use Rattle.decision_cache.specs.Recent.{without}
 use Rattle.decision_cache.specs.Ids.{is_same, contains}
-use Rattle.decision_cache.specs.Caches.{BothData, CachesData, cache_of, noted_in, all_noted, shown, found, AreIn, AreWithin, IsSound}
+use Rattle.decision_cache.specs.Caches.{BothData, CachesData, cache_of, noted_in, all_noted, shown, found, AreIn, AreWithin, CachesInvariant}
 use Rattle.decision_cache.proofs.Lists.{hits_keep, hits_keep_length, take_few}
 use Rattle.decision_cache.proofs.Same.{same_laws}
 
@@ -49,7 +49,7 @@ shown_has (hit ∷ hits) b within are other s =
     shown_has hits (noted_in hit.1 hit.0 b) on.0 on.1 other s ∙ noted_has hit.1 hit.0 other b are.0 within s
 
 -- what is found is what was found before the hits
-pub found_shown : (c : CachesData) → IsSound c → (id : List ℕ) → found id (shown c) ≡ found id c.kept
+pub found_shown : (c : CachesData) → CachesInvariant c → (id : List ℕ) → found id (shown c) ≡ found id c.kept
 found_shown c sound id =
     λ i. if shown_has c.hits c.kept sound.within sound.hits id true i then Some true
     else if shown_has c.hits c.kept sound.within sound.hits id false i then Some false else None
@@ -74,7 +74,7 @@ are_in_more [] hit b are there = (there, tt)
 are_in_more (x ∷ hits) hit b are there = (are.0, are_in_more hits hit b are.1 there)
 
 -- one more hit, of an id that is found
-pub one_more : (c : CachesData) (id : List ℕ) (sampled : Bool) → IsSound c → found id (shown c) ≡ Some sampled → IsSound (record { kept = c.kept; hits = c.hits ++ (id, sampled) ∷ [] })
+pub one_more : (c : CachesData) (id : List ℕ) (sampled : Bool) → CachesInvariant c → found id (shown c) ≡ Some sampled → CachesInvariant (record { kept = c.kept; hits = c.hits ++ (id, sampled) ∷ [] })
 one_more c id sampled sound there =
     record { within = sound.within; hits = are_in_more c.hits (id, sampled) c.kept sound.hits (found_in id c.kept sampled (sym (found_shown c sound id) ∙ there)) }
 
@@ -89,15 +89,15 @@ are_in_take (suc n) [] b are = tt
 are_in_take (suc n) (hit ∷ hits) b are = (are.0, are_in_take n hits b are.1)
 
 -- what each answer of a look-up says
-pub finds_sampled : (c : CachesData) (id : List ℕ) → IsSound c → contains id c.kept.sampled ≡ true → Some true ≡ found id (shown c)
+pub finds_sampled : (c : CachesData) (id : List ℕ) → CachesInvariant c → contains id c.kept.sampled ≡ true → Some true ≡ found id (shown c)
 finds_sampled c id sound is =
     sym (found_shown c sound id ∙ ap (λ (b : Bool). if b then Some true else if contains id c.kept.other then Some false else None) is)
 
-pub finds_other : (c : CachesData) (id : List ℕ) → IsSound c → contains id c.kept.sampled ≡ false → contains id c.kept.other ≡ true → Some false ≡ found id (shown c)
+pub finds_other : (c : CachesData) (id : List ℕ) → CachesInvariant c → contains id c.kept.sampled ≡ false → contains id c.kept.other ≡ true → Some false ≡ found id (shown c)
 finds_other c id sound is_not is =
     sym (found_shown c sound id ∙ λ i. if is_not i then Some true else if is i then Some false else None)
 
-pub finds_none : (c : CachesData) (id : List ℕ) → IsSound c → contains id c.kept.sampled ≡ false → contains id c.kept.other ≡ false → None ≡ found id (shown c)
+pub finds_none : (c : CachesData) (id : List ℕ) → CachesInvariant c → contains id c.kept.sampled ≡ false → contains id c.kept.other ≡ false → None ≡ found id (shown c)
 finds_none c id sound is_not nor =
     sym (found_shown c sound id ∙ λ i. if is_not i then Some true else if nor i then Some false else None)
 
@@ -109,7 +109,7 @@ pub put_shown : (hits : List (List ℕ × Bool)) (b : BothData) (sampled : Bool)
 put_shown hits b sampled id none = shown_none hits (noted_in sampled id b) none ∙ sym (ap (noted_in sampled id) (shown_none hits b none))
 
 -- a put leaves the caches sound where no hit waits
-pub put_sound : (c : CachesData) (sampled : Bool) (id : List ℕ) → c.hits ≡ [] → IsSound c → IsSound (record { kept = noted_in sampled id c.kept; hits = c.hits })
+pub put_sound : (c : CachesData) (sampled : Bool) (id : List ℕ) → c.hits ≡ [] → CachesInvariant c → CachesInvariant (record { kept = noted_in sampled id c.kept; hits = c.hits })
 put_sound c sampled id none sound = record {
   within = within sampled;
   hits = subst (λ (h : List (List ℕ × Bool)). AreIn h (noted_in sampled id c.kept)) (sym none) tt;

@@ -59,6 +59,6 @@ abbrev pub AreWithin : BothData → Type 0
 AreWithin b = (length b.sampled.ids ≤ b.sampled.size) × (length b.other.ids ≤ b.other.size)
 
 -- what holds of the caches at all times
-pub record IsSound (c : CachesData) : Type 0 where
+pub record CachesInvariant (c : CachesData) : Type 0 where
   pub within : AreWithin c.kept
   pub hits : AreIn c.hits c.kept

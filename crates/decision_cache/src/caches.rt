@@ -2,7 +2,7 @@
 
 ghost use Rattle.std.specs.Prelude.{◌≡◌, true, [], ◌∷◌, ◌++◌, take, length, Some, IsOk, IfOk, OnOk, OnErr};
 ghost use Rattle.decision_cache.specs.Ids.{contains};
-ghost use Rattle.decision_cache.specs.Caches.{both, with_hits, no_decisions, cache_of, noted_in, all_noted, shown, found, IsSound};
+ghost use Rattle.decision_cache.specs.Caches.{both, with_hits, no_decisions, cache_of, noted_in, all_noted, shown, found, CachesInvariant};
 
 use crate::recent::RecentIds;
 use std::alloc::{AllocError, Global};
@@ -21,13 +21,13 @@ pub struct DecisionCaches {
 }
 
 impl Model for DecisionCaches {
-    ghost use Rattle.decision_cache.specs.Caches.{CachesData, with_hits, IsSound};
+    ghost use Rattle.decision_cache.specs.Caches.{CachesData, with_hits, CachesInvariant};
 
     ghost Value = { CachesData };
 
     ghost view = { λ s. with_hits s.sampled s.other s.hits.items };
 
-    ghost invariant = { λ s. IsSound (with_hits s.sampled s.other s.hits.items) };
+    ghost invariant = { λ s. CachesInvariant (with_hits s.sampled s.other s.hits.items) };
 }
 
 impl DecisionCaches {
@@ -71,7 +71,7 @@ impl DecisionCaches {
         ensures hits { OnOk result (self.new ≡
             record self.old { hits = self.old.hits ++ (id, sampled) ∷ [] }) }
         ensures shown { OnOk result (shown self.new ≡ noted_in sampled id (shown self.old)) }
-        ensures refused { OnErr result (self.new ≡ self.old) }
+        ensures on_refusal { OnErr result (self.new ≡ self.old) }
     {
         self.hits.push((id, sampled))?;
         Ok(())
@@ -106,7 +106,7 @@ impl DecisionCaches {
         requires none { self.old.hits ≡ [] }
         ensures none { self.new.hits ≡ [] }
         ensures shown { OnOk result (shown self.new ≡ noted_in sampled id (shown self.old)) }
-        ensures refused { OnErr result (self.new ≡ self.old) }
+        ensures on_refusal { OnErr result (self.new ≡ self.old) }
     {
         if sampled {
             self.sampled.put(id)
@@ -118,8 +118,8 @@ impl DecisionCaches {
 
 /// Each id that was hit goes first in its cache, one after the other.
 fn promote_all(sampled: &mut RecentIds, other: &mut RecentIds, hits: &[([u8; 16], bool)])
-    requires sound { IsSound (with_hits sampled.old other.old hits.now) }
-    ensures sound { IsSound (with_hits sampled.new other.new []) }
+    requires invariant { CachesInvariant (with_hits sampled.old other.old hits.now) }
+    ensures invariant { CachesInvariant (with_hits sampled.new other.new []) }
     ensures noted { both sampled.new other.new ≡ all_noted hits.now (both sampled.old other.old) }
 {
     for hit in hits {

@@ -58,8 +58,8 @@ impl RecentIds {
 
     /// The id goes first, and the last one goes where there are too many.
     pub(crate) fn put(&mut self, id: [u8; 16]) -> Result<(), AllocError>
-        ensures ok { OnOk result (self.new ≡ with_id id self.old) }
-        ensures refused { OnErr result (self.new ≡ self.old) }
+        ensures on_success { OnOk result (self.new ≡ with_id id self.old) }
+        ensures on_refusal { OnErr result (self.new ≡ self.old) }
     {
         let Some(cache) = &mut self.cache else {
             return Ok(());

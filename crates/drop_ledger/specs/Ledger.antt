@@ -65,7 +65,7 @@ abbrev pub most_counted : ℕ
 most_counted = 2 ^ 62
 
 -- what always holds: each span that was taken is in one place, and no more are counted than may be
-pub record IsSound (ledger : LedgerData) : Type 0 where
+pub record LedgerInvariant (ledger : LedgerData) : Type 0 where
   pub each_once : in_places ledger.places ≡ ledger.accepted
   pub few : counted ledger ≤ most_counted
 

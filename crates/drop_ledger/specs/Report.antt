@@ -1,4 +1,4 @@
--- The line that reports a ledger: fourteen counters with their names, in decimal digits.
+-- The line that reports a ledger: fourteen counters with their names, in decimal digits. This project's own rule.
 use Rattle.std.specs.Prelude.{ℕ, List, codes, ◌++◌}
 use Rattle.std.specs.Fmt.{decimal}
 use Rattle.drop_ledger.specs.declared.places.Places.{Places}

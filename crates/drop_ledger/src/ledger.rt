@@ -2,7 +2,7 @@
 
 ghost use Rattle.std.specs.Prelude.{◌≡◌, ◌+◌, ◌≤◌, nat_le, IfOk};
 ghost use Rattle.std.specs.String.{string_bytes};
-ghost use Rattle.drop_ledger.specs.Ledger.{LedgerData, IsSound, held, counted, most_counted, no_spans, ledger_of, taken, moved, left_out};
+ghost use Rattle.drop_ledger.specs.Ledger.{LedgerData, LedgerInvariant, held, counted, most_counted, no_spans, ledger_of, taken, moved, left_out};
 ghost use Rattle.drop_ledger.specs.Report.{report_text};
 
 use crate::places::{Place, Places};
@@ -24,13 +24,13 @@ pub struct Ledger {
 }
 
 impl Model for Ledger {
-    ghost use Rattle.drop_ledger.specs.Ledger.{LedgerData, ledger_data, IsSound};
+    ghost use Rattle.drop_ledger.specs.Ledger.{LedgerData, ledger_data, LedgerInvariant};
 
     ghost Value = { LedgerData };
 
     ghost view = { λ l. ledger_data l.accepted l.places l.invalid l.over_budget };
 
-    ghost invariant = { λ l. IsSound (ledger_data l.accepted l.places l.invalid l.over_budget) };
+    ghost invariant = { λ l. LedgerInvariant (ledger_data l.accepted l.places l.invalid l.over_budget) };
 }
 
 impl Ledger {
@@ -48,7 +48,7 @@ impl Ledger {
 
     /// A ledger of these counters, in the order of the line that reports it.
     pub fn of(counters: [u64; 14]) -> Ledger
-        requires sound { IsSound (ledger_of counters) }
+        requires invariant { LedgerInvariant (ledger_of counters) }
         ensures { result ≡ ledger_of counters }
     {
         Ledger {
@@ -81,7 +81,7 @@ impl Ledger {
     /// Where the spans are that were taken. Together they are as many as were taken.
     pub fn places(&self) -> Places
         ensures same { result ≡ self.now.places }
-        ensures sound { IsSound self.now }
+        ensures invariant { LedgerInvariant self.now }
     {
         self.places
     }
@@ -92,7 +92,7 @@ impl Ledger {
         ensures same { ledger_of result ≡ self.now }
 
         // The eleven places add up to what was taken, and no more than 2^62 spans are counted.
-        ensures sound { IsSound (ledger_of result) }
+        ensures invariant { LedgerInvariant (ledger_of result) }
     {
         [
             self.accepted,
@@ -139,7 +139,7 @@ impl Ledger {
 
     /// Spans go from one place to another.
     pub fn move_spans(&mut self, from: Place, to: Place, spans: u64)
-        requires held { spans ≤ held from self.old.places }
+        requires enough_there { spans ≤ held from self.old.places }
         ensures { self.new ≡ moved from to spans self.old }
     {
         let mut places = self.places;

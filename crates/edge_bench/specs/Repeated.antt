@@ -1,4 +1,4 @@
--- A message that comes so many times, one after another.
+-- A message that comes so many times, one after another. This project's own rule.
 use Rattle.std.specs.Prelude.{ℕ, List, flat_map, replicate}
 
 -- the bytes of that

@@ -1,4 +1,4 @@
--- The statuses with which the program ends, and the faults of files.
+-- The statuses with which the program ends, and the faults of files. This project's own rule.
 use Rattle.std.specs.Prelude.{◌≡◌, ◌≢◌, ℕ, Result, Ok, Err}
 use Rattle.std.specs.declared.io.ErrorKind.{ErrorKind}
 use Rattle.std.specs.declared.io.ErrorKind.TheVariants as kinds

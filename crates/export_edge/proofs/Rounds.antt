@@ -2,16 +2,16 @@
 use Rattle.std.proofs.Common.{◌≡◌, ◌⊎◌, ℕ, List, [], ◌∷◌, ◌++◌, map, flat_map, Option, Some, None, MatchOption, option_to_list, refl, sym, ap, subst, ◌∙◌, append_assoc, append-nil}
 use Rattle.std.proofs.lemmas.List.{map-append}
 use Rattle.std.proofs.lemmas.List.Concat.{flat_map-append}
-use Rattle.numbered_items.specs.Numbered.{items_of}
+use Rattle.log_positions.specs.Numbered.{items_of}
 use Rattle.job_lane.specs.declared.job.Job.{Job}
-use Rattle.job_lane.specs.Lane.{Entry}
+use Rattle.job_lane.specs.Lane.{NumberedJob}
 use Rattle.export_edge.specs.Work.{Through, Ticks, Turn, moment_of, Turning, jobs_in, Posted, Given, Handed, posted_of, attempts, Hands, Sending}
 use Rattle.export_edge.proofs.Throughs.{through_more}
 use Rattle.export_edge.proofs.Ticking.{unasked, given_more, rested, may_rest, given_both}
 
 module _ {S B : Type 0} (turns : S → Turn → S → Type 0) (gives : B → ℕ → B → Type 0) (rests : B → B → Type 0) where
   -- the job that is held was pushed, or comes back
-  pub offered : (start now : S) (b0 b b' : B) (before pushes pushes' : List Entry) (job : Job) (back : Option Job)
+  pub offered : (start now : S) (b0 b b' : B) (before pushes pushes' : List NumberedJob) (job : Job) (back : Option Job)
       → MatchOption back ((n : ℕ) × (pushes' ≡ pushes ++ (n, job) ∷ [])) (λ k. (k ≡ job) × (pushes' ≡ pushes))
       → (b' ≡ b) ⊎ rests b b'
       → Turning turns gives rests start now b0 b before pushes (Some job)
@@ -35,7 +35,7 @@ module _ {S B : Type 0} (turns : S → Turn → S → Type 0) (gives : B → ℕ
   }
 
   -- a turn was made, at the moment that it was
-  pub turned : (start mid new : S) (b0 b told b' : B) (before pushes : List Entry) (made : Turn) (next : Option Job)
+  pub turned : (start mid new : S) (b0 b told b' : B) (before pushes : List NumberedJob) (made : Turn) (next : Option Job)
       → turns mid made new → jobs_in made ≡ option_to_list next → gives b made.now told → (b' ≡ told) ⊎ rests told b'
       → Turning turns gives rests start mid b0 b before pushes None
       → Turning turns gives rests start new b0 b' before pushes next
@@ -54,7 +54,7 @@ module _ {S B : Type 0} (turns : S → Turn → S → Type 0) (gives : B → ℕ
       }
 
   -- it was asked whether the work is over
-  pub turner_rested : (start now : S) (b0 b b' : B) (before pushes : List Entry) (held : Option Job) → rests b b'
+  pub turner_rested : (start now : S) (b0 b b' : B) (before pushes : List NumberedJob) (held : Option Job) → rests b b'
       → Turning turns gives rests start now b0 b before pushes held
       → Turning turns gives rests start now b0 b' before pushes held
   turner_rested start now b0 b b' before pushes held r t = record {
@@ -67,7 +67,7 @@ module _ {S B : Type 0} (turns : S → Turn → S → Type 0) (gives : B → ℕ
   }
 
   -- nothing was done yet
-  pub unturned : (start : S) (b : B) (before : List Entry) → Turning turns gives rests start start b b before before None
+  pub unturned : (start : S) (b : B) (before : List NumberedJob) → Turning turns gives rests start start b b before before None
   unturned start b before = record {
     made = [];
     runs = refl;
@@ -79,7 +79,7 @@ module _ {S B : Type 0} (turns : S → Turn → S → Type 0) (gives : B → ℕ
 
 module _ {B S T : Type 0} (posts : B → Posted → B → Type 0) (takes refuses : S → Given → S → Type 0) (gives : T → ℕ → T → Type 0) (rests : T → T → Type 0) where
   -- a job was popped and posted, and its answer was handed in
-  pub sent : (b0 b b' : B) (s0 s s' : S) (t0 t t' : T) (before pops pops' : List Entry) (n : ℕ) (h : Handed)
+  pub sent : (b0 b b' : B) (s0 s s' : S) (t0 t t' : T) (before pops pops' : List NumberedJob) (n : ℕ) (h : Handed)
       → pops' ≡ pops ++ (n, h.post.job) ∷ [] → posts b h.post b' → Hands takes refuses s h s'
       → Ticks gives rests t (attempts h) t'
       → Sending posts takes refuses gives rests b0 b s0 s t0 t before pops
@@ -101,7 +101,7 @@ module _ {B S T : Type 0} (posts : B → Posted → B → Type 0) (takes refuses
       }
 
   -- there was no job, or it was asked whether the work is over
-  pub sender_rested : (b0 b : B) (s0 s : S) (t0 t t' : T) (before pops : List Entry) → rests t t'
+  pub sender_rested : (b0 b : B) (s0 s : S) (t0 t t' : T) (before pops : List NumberedJob) → rests t t'
       → Sending posts takes refuses gives rests b0 b s0 s t0 t before pops
       → Sending posts takes refuses gives rests b0 b s0 s t0 t' before pops
   sender_rested b0 b s0 s t0 t t' before pops r w = record {
@@ -115,7 +115,7 @@ module _ {B S T : Type 0} (posts : B → Posted → B → Type 0) (takes refuses
   }
 
   -- nothing was done yet
-  pub unsent : (b : B) (s : S) (t : T) (before : List Entry)
+  pub unsent : (b : B) (s : S) (t : T) (before : List NumberedJob)
       → Sending posts takes refuses gives rests b b s s t t before before
   unsent b s t before = record {
     sent = [];

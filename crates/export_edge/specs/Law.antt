@@ -1,5 +1,6 @@
 -- Laws of turners' and senders' work: who takes notes of what is asked of it has, after a whole work, noted just what
--- the work is said to be. So the steps from a first state to a last are as many as the items, and no others.
+-- the work is said to be. So the steps from a first state to a last are as many as the items, and no others. Laws of
+-- this project's own.
 use Rattle.std.specs.Prelude.{◌≡◌, ℕ, List, [], ◌∷◌, ◌++◌, map}
 use Rattle.export_edge.specs.Work.{Through, Ticks, Turn, Posted, Given, Handed, taken_of, Hands}
 

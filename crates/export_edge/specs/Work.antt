@@ -1,11 +1,11 @@
 -- What turners and senders do, over their whole work. This project's own rules.
 use Rattle.std.specs.Prelude.{◌≡◌, ℕ, List, [], ◌∷◌, ◌++◌, map, flat_map, Option, Some, None, option_to_list}
-use Rattle.numbered_items.specs.Numbered.{items_of}
+use Rattle.log_positions.specs.Numbered.{items_of}
 use Rattle.job_lane.specs.declared.job.Job.{Job}
-use Rattle.job_lane.specs.Lane.{Entry}
+use Rattle.job_lane.specs.Lane.{NumberedJob}
 use Rattle.send_retry.specs.Class.{AnswerData}
-use Rattle.export_edge.specs.declared.work.Turned.{Turned}
-use Rattle.export_edge.specs.declared.work.Turned.TheVariants as turned
+use Rattle.export_edge.specs.declared.work.TurnResult.{TurnResult}
+use Rattle.export_edge.specs.declared.work.TurnResult.TheVariants as turned
 
 -- one step for each item, in order, from the state old to the state new
 abbrev pub Through : {S X : Type 0} → (S → X → S → Type 0) → S → List X → S → Type 0
@@ -27,14 +27,14 @@ pub record Ticks {B : Type 0} (gives : B → ℕ → B → Type 0) (rests : B �
 -- a turn: its moment, and what it came to
 pub record Turn : Type 0 where
   pub now : ℕ
-  pub came_to : Turned
+  pub came_to : TurnResult
 
 -- the turn at a moment
-abbrev pub turn_at : ℕ → Turned → Turn
+abbrev pub turn_at : ℕ → TurnResult → Turn
 turn_at now came_to = record { now = now; came_to = came_to }
 
 -- the job of what a turn came to, if there is one
-abbrev pub job_of : Turned → List Job
+abbrev pub job_of : TurnResult → List Job
 job_of (turned.Job job) = job ∷ []
 job_of turned.Worked = []
 job_of turned.Idle = []
@@ -50,12 +50,12 @@ moment_of t = t.now
 -- What a turner did: turns, each at the moment that the beat then gave, and their jobs, in order, are those that it
 -- pushed, each once, and the one that it still holds.
 pub record Turning {S B : Type 0} (turns : S → Turn → S → Type 0) (gives : B → ℕ → B → Type 0)
-    (rests : B → B → Type 0) (old new : S) (beat beat' : B) (before after : List Entry) (held : Option Job)
+    (rests : B → B → Type 0) (old new : S) (beat beat' : B) (before after : List NumberedJob) (held : Option Job)
     : Type 0 where
   pub made : List Turn
   pub runs : Through turns old made new
   pub moments : Ticks gives rests beat (map moment_of made) beat'
-  pub pushed : List Entry
+  pub pushed : List NumberedJob
   pub pushes : after ≡ before ++ pushed
   pub jobs : flat_map jobs_in made ≡ items_of pushed ++ option_to_list held
 
@@ -115,11 +115,11 @@ pub record Hands {S : Type 0} (takes refuses : S → Given → S → Type 0) (ol
 -- each time at the moment that the beat then gave.
 pub record Sending {B S T : Type 0} (posts : B → Posted → B → Type 0) (takes refuses : S → Given → S → Type 0)
     (gives : T → ℕ → T → Type 0) (rests : T → T → Type 0) (back_end back_end' : B) (sink sink' : S) (beat beat' : T)
-    (before after : List Entry) : Type 0 where
+    (before after : List NumberedJob) : Type 0 where
   pub sent : List Handed
   pub posting : Through posts back_end (map posted_of sent) back_end'
   pub handing : Through (Hands takes refuses) sink sent sink'
   pub moments : Ticks gives rests beat (flat_map attempts sent) beat'
-  pub popped : List Entry
+  pub popped : List NumberedJob
   pub pops : after ≡ before ++ popped
   pub jobs : map (λ h. h.post.job) sent ≡ items_of popped

@@ -27,7 +27,7 @@ pub use crate::posting::post_over;
 pub use crate::sender::run_sender;
 pub use crate::tcp::{TcpBackEnd, TcpDialer};
 pub use crate::turner::run_turner;
-pub use crate::work::{AnswerRefused, AnswerSink, Beat, JobSource, Turned};
+pub use crate::work::{AnswerRefused, AnswerSink, Beat, JobSource, TurnResult};
 
 /// A source that notes its turns has noted those that a turner is said to have made: a law over the definitions.
 pub fn turns_are_noted<S: JobSource>()

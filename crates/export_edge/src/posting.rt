@@ -28,9 +28,11 @@ fn exchange<L: Line>(
     host: &str,
     payload: &[u8],
 ) -> Result<Answer, EdgeFault>
-    ensures ok { IfOk result (λ answer. Exchanges L.gives L.takes L.ends (post_text host.now payload.now) line.old
+    ensures on_success { IfOk result (λ answer. Exchanges L.gives L.takes L.ends (post_text host.now payload.now)
+        line.old
         line.new (answer_view answer)) }
-    ensures err { IfErr result (λ fault. BreaksOff L.gives L.takes L.failed (post_text host.now payload.now) line.old
+    ensures on_error { IfErr result (λ fault. BreaksOff L.gives L.takes L.failed (post_text host.now payload.now)
+        line.old
         line.new fault) }
 {
     write_post(alloc, line, host, payload)?;

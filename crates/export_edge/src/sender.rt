@@ -1,6 +1,6 @@
 //! Who takes jobs from the lane, posts them and hands in the answers.
 ghost use Rattle.std.specs.Prelude.{◌≡◌, ℕ, List, [], ◌∷◌, ◌++◌};
-ghost use Rattle.job_lane.specs.Lane.{Entry};
+ghost use Rattle.job_lane.specs.Lane.{NumberedJob};
 ghost use Rattle.send_retry.specs.Class.{AnswerData, answer_view};
 ghost use Rattle.export_edge.specs.Work.{posted, handed, Hands, Sending, Ticks};
 
@@ -29,13 +29,13 @@ pub fn run_sender<B: BackEnd, S: AnswerSink, T: Beat, R: Wait>(
         if beat.is_over() {
             return;
         }
-        go_on(rt, lane, seat, back_end, sink, beat);
+        send_once(rt, lane, seat, back_end, sink, beat);
     }
     unreachable!()
 }
 
 /// Sends the lane's first job, or pauses where there is none.
-fn go_on<B: BackEnd, S: AnswerSink, T: Beat, R: Wait>(
+fn send_once<B: BackEnd, S: AnswerSink, T: Beat, R: Wait>(
     rt: &R,
     lane: &Lane,
     seat: &mut LaneSeat,
@@ -46,7 +46,7 @@ fn go_on<B: BackEnd, S: AnswerSink, T: Beat, R: Wait>(
     requires { seat.old.lane ≡ lane.now.name }
     ensures same { (seat.new.lane ≡ seat.old.lane) × (seat.new.pushes ≡ seat.old.pushes) }
     // Whatever was done before.
-    ensures work { (b : B) (s : S) (t : T) (before : List Entry)
+    ensures work { (b : B) (s : S) (t : T) (before : List NumberedJob)
         → Sending B.posts S.takes S.refuses T.gives T.rests b back_end.old s sink.old t beat.old before seat.old.pops
         → Sending B.posts S.takes S.refuses T.gives T.rests b back_end.new s sink.new t beat.new before seat.new.pops }
 {

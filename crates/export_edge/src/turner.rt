@@ -1,9 +1,9 @@
 //! Who makes turns and hands their jobs to the lane.
 ghost use Rattle.std.specs.Prelude.{◌≡◌, ◌⊎◌, ℕ, List, ◌++◌, ◌∷◌, [], MatchOption, option_to_list};
-ghost use Rattle.job_lane.specs.Lane.{Entry};
+ghost use Rattle.job_lane.specs.Lane.{NumberedJob};
 ghost use Rattle.export_edge.specs.Work.{Turn, Turning, jobs_in, job_of};
 
-use crate::work::{Beat, JobSource, Turned};
+use crate::work::{Beat, JobSource, TurnResult};
 use job_lane::{Job, Lane, LaneSeat};
 use std::sync::Wait;
 
@@ -27,13 +27,13 @@ pub fn run_turner<S: JobSource, B: Beat, R: Wait>(
         if beat.is_over() {
             return held;
         }
-        held = go_on(rt, lane, seat, source, beat, held);
+        held = turn_once(rt, lane, seat, source, beat, held);
     }
     unreachable!()
 }
 
 /// Pushes the job that is held, or makes a turn where there is none. The job that is then held.
-fn go_on<S: JobSource, B: Beat, R: Wait>(
+fn turn_once<S: JobSource, B: Beat, R: Wait>(
     rt: &R,
     lane: &Lane,
     seat: &mut LaneSeat,
@@ -44,7 +44,7 @@ fn go_on<S: JobSource, B: Beat, R: Wait>(
     requires { seat.old.lane ≡ lane.now.name }
     ensures same { (seat.new.lane ≡ seat.old.lane) × (seat.new.pops ≡ seat.old.pops) }
     // Whatever was done before.
-    ensures work { (start : S) (b : B) (before : List Entry)
+    ensures work { (start : S) (b : B) (before : List NumberedJob)
         → Turning S.turns B.gives B.rests start source.old b beat.old before seat.old.pushes held
         → Turning S.turns B.gives B.rests start source.new b beat.new before seat.new.pushes result }
 {
@@ -89,14 +89,14 @@ fn next_job<S: JobSource, B: Beat>(source: &mut S, beat: &mut B) -> Option<Job>
 }
 
 /// The job that a turn gave, if it gave one. Pauses where there was nothing to do.
-fn job_in<B: Beat>(turned: Turned, beat: &mut B) -> Option<Job>
+fn job_in<B: Beat>(turned: TurnResult, beat: &mut B) -> Option<Job>
     ensures job { job_of turned ≡ option_to_list result }
     ensures rests { (beat.new ≡ beat.old) ⊎ B.rests beat.old beat.new }
 {
     match turned {
-        Turned::Job(job) => Some(job),
-        Turned::Worked => None,
-        Turned::Idle => {
+        TurnResult::Job(job) => Some(job),
+        TurnResult::Worked => None,
+        TurnResult::Idle => {
             beat.pause();
             None
         }

@@ -8,7 +8,7 @@ use send_retry::Answer;
 
 /// What a turn came to.
 #[derive(Drop)]
-pub enum Turned {
+pub enum TurnResult {
     /// A job is to be sent.
     Job(Job),
     /// Something was done, and no job came of it: another turn may be worth while at once.
@@ -23,7 +23,7 @@ pub trait JobSource {
     ghost turns: { Self → Turn → Self → Type 0 };
 
     /// Makes one turn at the moment `now`, in milliseconds.
-    fn turn(&mut self, now: u64) -> Turned
+    fn turn(&mut self, now: u64) -> TurnResult
         ensures { turns self.old (turn_at now result) self.new };
 }
 
@@ -48,7 +48,8 @@ pub trait AnswerSink {
         answer: &Answer,
     ) -> Result<(), AnswerRefused>
         ensures taken { OnOk result (takes self.old (given tenant now ticket (answer_view answer.now)) self.new) }
-        ensures refused { OnErr result (refuses self.old (given tenant now ticket (answer_view answer.now)) self.new) };
+        ensures on_refusal { OnErr result (refuses self.old (given tenant now ticket (answer_view answer.now))
+            self.new) };
 }
 
 /// To what turners and senders work: what the moment is, and when their work is over.

@@ -11,7 +11,7 @@ use Rattle.httparse.specs.declared.spans.HeaderSpan.{HeaderSpan}
 use Rattle.httparse.specs.declared.spans.ResponseSpans.{ResponseSpans}
 use Rattle.http_edge.specs.Message.{max_fields, max_head}
 use Rattle.http_edge.specs.Post.{answer_framing_in, answer_framing_of, retry_after_in, retry_after_of, HasAnswerHead, HasFinalHead, RefusesAnswerHead, bad, many, long, SkipsInterims, is_interim, Tells, whole, many_interims, bad_head, bad_framing, bad_body, cut_head, cut_body}
-use Rattle.http_edge.specs.Kept.{IsAnswerHead, IsAnswerBody}
+use Rattle.http_edge.specs.AnswerBody.{IsAnswerHead, IsAnswerBody}
 use Rattle.http_edge.specs.declared.answer_head.AnswerHead.{AnswerHead}
 use Rattle.send_retry.specs.Class.{AnswerData, Http, Failed}
 use Rattle.http1.specs.declared.framing.Framing.{Framing}

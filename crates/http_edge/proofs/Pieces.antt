@@ -12,8 +12,8 @@ use Rattle.httparse.proofs.ChunkLemmas.{ReadsChunkLine-append}
 use Rattle.httparse.proofs.GrammarLemmas.{ReadsSection-append}
 use Rattle.http_edge.specs.Limits.{max_fields}
 use Rattle.http_edge.specs.Chunks.{HasLine, BadLine, faulty_line, long_line, LacksLine, line_ends, HasTrailer, BadTrailer, faulty_trailer, many_trailers, many_trailer_lines, long_trailer, LacksTrailer, HasChunk, HasChunks, Part, line_part, bytes_part, trailer_part, Reaches, FailsAt, LacksAt, HasChunkedBody, StatesMore, StopsAt}
-use Rattle.http_edge.specs.declared.chunks.Part.{Part as PartCode}
-use Rattle.http_edge.specs.declared.chunks.Part.TheVariants.{Line, Bytes, Trailer}
+use Rattle.http_edge.specs.declared.chunks.ChunkedState.{ChunkedState as PartCode}
+use Rattle.http_edge.specs.declared.chunks.ChunkedState.TheVariants.{Line, Bytes, Trailer}
 use Rattle.http_edge.specs.Stages.{bytes_due, IsInData, IsAt}
 use Rattle.http_edge.proofs.Parts.{bad_line_more, bad_trailer_more, trailer_more, chunks_more, opens_more}
 use Rattle.http_edge.proofs.Once.{fails_not}

@@ -3,10 +3,10 @@ use Rattle.std.proofs.Common.{◌≡◌, ℕ, ◌≤◌, Bool, true, false, not,
 use Rattle.httparse.specs.Grammar.{RequestHead}
 use Rattle.http_edge.specs.declared.head.Head.{Head}
 use Rattle.http_edge.specs.declared.wire.EdgeFault.{EdgeFault}
-use Rattle.http_edge.specs.Message.{Request, Answer, Message, Frame, sized, chunked, HasBody, HasMessage, request_of, closes, expects, max_body}
+use Rattle.http_edge.specs.Message.{Request, Response, Message, Frame, sized, chunked, HasBody, HasMessage, request_of, closes, expects, max_body}
 use Rattle.http_edge.specs.Talk.{Exchange, exchange_text, interim_text, Asks, told, Runs, Due, MayBreak, MayInterim, interim, replying}
 use Rattle.http_edge.specs.Reply.{continue_text}
-use Rattle.http_edge.specs.Stages.{IsHead, frame_by, message_with, IsCut, IsOver, GoesOn, Replies}
+use Rattle.http_edge.specs.Stages.{IsHead, frame_by, message_with, IsCut, IsOver, StaysOpen, Replies}
 use Rattle.http_line.specs.Line.{Moves}
 use Rattle.http_line.proofs.Moved.{then_to}
 use Rattle.http_edge.proofs.Heads.{has_head_more}
@@ -41,7 +41,7 @@ pub asks_more : (es : List Exchange) (e : Exchange) (read rest after : List ℕ)
 asks_more [] e read rest after p q stays = (after, subst (λ v. HasMessage v e.message after) (sym p) q, stays, refl)
 asks_more (d ∷ es) e read rest after p q stays = (p.0, p.1, p.2, asks_more es e p.0 rest after p.3 q stays)
 
-pub runs_more : {H : Type 0} (answers : H → Request → Answer → H → Type 0) (old mid new : H) (es : List Exchange)
+pub runs_more : {H : Type 0} (answers : H → Request → Response → H → Type 0) (old mid new : H) (es : List Exchange)
     (e : Exchange) → Runs answers old es mid → answers mid (request_of e.message) e.reply new
     → Runs answers old (es ++ e ∷ []) new
 runs_more answers old mid new [] e p q = (new, rw p at q, refl)
@@ -63,7 +63,7 @@ may_interim {bytes} {head} {h} read p = record {
   short = p.fits;
 }
 
-pub due_interim : {H : Type 0} {fault : EdgeFault} (answers : H → Request → Answer → H → Type 0) (s : H) {bytes : List ℕ} {head : Head}
+pub due_interim : {H : Type 0} {fault : EdgeFault} (answers : H → Request → Response → H → Type 0) (s : H) {bytes : List ℕ} {head : Head}
     {h : RequestHead} (read front missing : List ℕ) → IsHead bytes head h
     → (if head.expects then continue_text else []) ≡ front ++ missing → Due fault answers s (bytes ++ read) s (front
     ++ missing)
@@ -83,14 +83,14 @@ pub all_moves : {L : Type 0} {gives takes : L → L → List ℕ → Type 0} {l0
     → Moves gives takes l2 l3 [] text → Moves gives takes l0 l3 read (interim_text h ++ text)
 all_moves {read = read} due h e p q r = then_to (first_moves due h e p q) r (append-nil read) refl
 
-pub reply_whole : {H : Type 0} (answers : H → Request → Answer → H
+pub reply_whole : {H : Type 0} (answers : H → Request → Response → H
     → Type 0) {old new : H} {m : Message} {text missing : List ℕ} (p : Replies answers old new m text missing)
     → exchange_text (record { message = m; reply = p.reply }) ≡ (interim_text m.head ++ text) ++ missing
 unfolding exchange_text
 reply_whole answers {old} {new} {m} {text} {missing} p = ap (λ v. interim_text m.head ++ v) p.text
     ∙ sym (append_assoc (interim_text m.head) text missing)
 
-pub due_reply : {H : Type 0} {fault : EdgeFault} (answers : H → Request → Answer → H
+pub due_reply : {H : Type 0} {fault : EdgeFault} (answers : H → Request → Response → H
     → Type 0) {old new : H} {m : Message} {text missing : List ℕ} (bytes after : List ℕ) → HasMessage bytes m after
     → (p : Replies answers old new m text missing) → MayBreak fault p.reply
     → Due fault answers old bytes new ((interim_text m.head ++ text) ++ missing)
@@ -111,10 +111,10 @@ whole_message {bytes} {head} {h} read body after p b short = record {
 }
 
 -- the same from an earlier moment, before these bytes were read
-pub goes_after : {H : Type 0} {answers : H → Request → Answer → H
+pub goes_after : {H : Type 0} {answers : H → Request → Response → H
     → Type 0} {old new : H} {L : Type 0} {gives takes : L → L → List ℕ → Type 0} {l0 l1 l2 : L} {b0 b1 after read : List ℕ}
-    → Moves gives takes l0 l1 read [] → b1 ≡ b0 ++ read → GoesOn answers old new gives takes l1 l2 b1 after
-    → GoesOn answers old new gives takes l0 l2 b0 after
+    → Moves gives takes l0 l1 read [] → b1 ≡ b0 ++ read → StaysOpen answers old new gives takes l1 l2 b1 after
+    → StaysOpen answers old new gives takes l0 l2 b0 after
 goes_after {H} {answers} {old} {new} {L} {gives} {takes} {l0} {l1} {l2} {b0} {b1} {after} {read} p e q = record {
   read = read ++ q.read;
   exchange = q.exchange;
@@ -124,7 +124,7 @@ goes_after {H} {answers} {old} {new} {L} {gives} {takes} {l0} {l1} {l2} {b0} {b1
   answered = q.answered;
 }
 
-pub over_after : {H : Type 0} {answers : H → Request → Answer → H
+pub over_after : {H : Type 0} {answers : H → Request → Response → H
     → Type 0} {old new : H} {L : Type 0} {gives takes : L → L → List ℕ → Type 0} {l0 l1 l2 : L} {b0 b1 read : List ℕ} {ended1 ended0 : Type 0}
     → (ended1 → ended0) → Moves gives takes l0 l1 read [] → b1 ≡ b0 ++ read
     → IsOver answers old new gives takes l1 l2 ended1 b1 → IsOver answers old new gives takes l0 l2 ended0 b0
@@ -138,7 +138,7 @@ over_after {H} {answers} {old} {new} {L} {gives} {takes} {l0} {l1} {l2} {b0} {b1
       end = λ f. since (q.end f);
     }
 
-pub cut_after : {H : Type 0} {fault : EdgeFault} {answers : H → Request → Answer → H
+pub cut_after : {H : Type 0} {fault : EdgeFault} {answers : H → Request → Response → H
     → Type 0} {old new : H} {L : Type 0} {gives takes : L → L → List ℕ → Type 0} {l0 l1 l2 : L} {b0 b1 read : List ℕ} → Moves gives takes l0 l1 read []
     → b1 ≡ b0 ++ read → IsCut fault answers old new gives takes l1 l2 b1
     → IsCut fault answers old new gives takes l0 l2 b0
@@ -151,7 +151,7 @@ cut_after {H} {fault} {answers} {old} {new} {L} {gives} {takes} {l0} {l1} {l2} {
 }
 
 -- by the same fault
-pub cut_by : {H : Type 0} {fault other : EdgeFault} {answers : H → Request → Answer → H
+pub cut_by : {H : Type 0} {fault other : EdgeFault} {answers : H → Request → Response → H
     → Type 0} {old new : H} {L : Type 0} {gives takes : L → L → List ℕ → Type 0} {first last : L} {before : List ℕ}
     → IsCut fault answers old new gives takes first last before → fault ≡ other
     → IsCut other answers old new gives takes first last before

@@ -1,4 +1,4 @@
--- The numbers of an edge's faults.
+-- The numbers of an edge's faults. This project's own rule.
 use Rattle.std.specs.Prelude.{ℕ, Option, Some, None}
 use Rattle.http_edge.specs.declared.wire.EdgeFault.{EdgeFault}
 use Rattle.http_edge.specs.declared.wire.EdgeFault.TheVariants.{ReadFailed, WriteFailed, OutOfMemory}

@@ -40,7 +40,8 @@ framing_by_length None = None
 framing_by_length (Some n) = Some (Length n)
 
 -- how the end of the body is found, from `Transfer-Encoding` and `Content-Length`, and from what no field means:
--- chunks where the coding is `chunked` (any case), or a length of 1 to 19 digits, and never both
+-- chunks where the coding is `chunked` (any case), or a length of 1 to 19 digits, and never both (RFC 9112, section
+-- 6.3)
 abbrev pub framing_by_fields : Framing → Single → Single → Option Framing
 framing_by_fields unstated absent absent = Some unstated
 framing_by_fields unstated absent (one text) = framing_by_length (number_of 19 text)
@@ -65,10 +66,11 @@ is_host_fit minor repeated = false
 abbrev pub is_expectation : Header → Bool
 is_expectation h = is_named (codes "expect") h && eq_ignore_case h.1 (codes "100-continue")
 
--- the sender of this head waits for 100 Continue, which HTTP/1.0 does not know
+-- the sender of this head waits for 100 Continue, which HTTP/1.0 does not know (RFC 9110, section 10.1.1)
 unfoldable pub expects_in : ℕ → List Header → Bool
 expects_in minor headers = (minor == 1) && list_any is_expectation headers
 
--- the connection ends after the reply: the version is 1.0, or `Connection` lists `close` (any case)
+-- the connection ends after the reply: the version is 1.0, or `Connection` lists `close` (any case; RFC 9112, section
+-- 9.3)
 unfoldable pub closes_in : ℕ → List Header → Bool
 closes_in minor headers = (minor == 0) || (known_fields headers).close

@@ -1,4 +1,4 @@
--- How much of a message is taken.
+-- How much of a message is taken. This project's own rule.
 use Rattle.std.specs.Prelude.{ℕ}
 
 -- so many fields of a head, and of a trailer

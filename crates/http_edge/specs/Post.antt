@@ -1,4 +1,5 @@
--- A post and what a back end answers to it, on the wire.
+-- A post and what a back end answers to it, on the wire. (OTLP/HTTP Request and OTLP/HTTP Response; RFC 9112, sections
+-- 3 and 4.) What is kept of an answer is this project's own rule.
 use Rattle.std.specs.Prelude.{◌≡◌, ℕ, zero, suc, ◌/◌, ◌≤◌, ◌==◌, ◌&&◌, ◌||◌, not, nat_le, min, Bool, true, false, List, [], ◌++◌, length, map, take, Option, Some, None, if◌then◌else◌, codes, decimal, ◌^◌, ◌-◌}
 use Rattle.httparse.specs.Ascii.{crlf_bytes}
 use Rattle.httparse.specs.Grammar.{ResponseHead, IsResponseHead, print_response, HasNoResponse, NeverHasResponse, status_code}
@@ -22,7 +23,7 @@ before_length = crlf_bytes ++ codes "Content-Type: application/x-protobuf" ++ cr
 abbrev pub after_length : List ℕ
 after_length = crlf_bytes ++ codes "Connection: close" ++ crlf_bytes ++ crlf_bytes
 
--- the head of a post to this host of so many bytes
+-- the head of a post to this host of so many bytes (RFC 9112, section 3)
 unfoldable pub post_head : List ℕ → ℕ → List ℕ
 post_head host len = before_host ++ (host ++ (before_length ++ (decimal len ++ after_length)))
 
@@ -62,7 +63,7 @@ answer_fields h = map name_and_value h.fields
 abbrev pub is_bodiless_status : ℕ → Bool
 is_bodiless_status status = (status == 101) || ((status == 204) || (status == 304))
 
--- how the end of an answer's body is found, from its status and its fields
+-- how the end of an answer's body is found, from its status and its fields (RFC 9112, section 6.3)
 abbrev pub answer_framing_in : ℕ → List Header → Option Framing
 answer_framing_in status headers = if is_bodiless_status status then Some NoBody else framing_in UntilClose headers
 

@@ -1,7 +1,7 @@
 -- The bytes of a reply: a status line, fields and a body (RFC 9112, section 4).
 use Rattle.std.specs.Prelude.{ℕ, Bool, true, ◌==◌, ◌&&◌, List, [], ◌∷◌, ◌++◌, length, if◌then◌else◌, codes, decimal}
 use Rattle.httparse.specs.Ascii.{crlf_bytes}
-use Rattle.http_edge.specs.Message.{Answer}
+use Rattle.http_edge.specs.Message.{Response}
 
 -- the reason phrase (RFC 9110, section 15), and none for a status that this server has no use for
 abbrev pub phrase_of : ℕ → List ℕ
@@ -38,7 +38,7 @@ head_text_of close status len =
     ++ (close_line close ++ (codes "Content-Length: " ++ (decimal len ++ (crlf_bytes ++ crlf_bytes)))))))))
 
 -- the bytes of a reply as it stands; the answer to HEAD has no body (RFC 9110, section 9.3.2)
-abbrev pub plain_text : Bool → Bool → Answer → List ℕ
+abbrev pub plain_text : Bool → Bool → Response → List ℕ
 plain_text bodiless close reply =
     head_text_of close reply.status (length reply.body) ++ (if bodiless then [] else reply.body)
 
@@ -47,15 +47,15 @@ abbrev pub status_body : List ℕ → List ℕ
 status_body message = 18 ∷ length message ∷ message
 
 -- the reply where there was no memory for another
-abbrev pub out_of_memory : Answer
+abbrev pub out_of_memory : Response
 out_of_memory = record { status = 503; body = status_body (codes "out of memory") }
 
 -- a 503 without a body stands for it, so that it takes no memory to ask for it
-abbrev pub is_for_no_memory : Answer → Bool
+abbrev pub is_for_no_memory : Response → Bool
 is_for_no_memory reply = (reply.status == 503) && (length reply.body == 0)
 
 -- the bytes that are written for a reply
-unfoldable pub reply_text : Bool → Bool → Answer → List ℕ
+unfoldable pub reply_text : Bool → Bool → Response → List ℕ
 reply_text bodiless close reply =
     if is_for_no_memory reply then plain_text bodiless close out_of_memory else plain_text bodiless close reply
 
@@ -66,7 +66,7 @@ refusal_message status =
     else (if status == 431 then codes "too many header fields" else codes "bad request")
 
 -- the reply to a bad message
-abbrev pub refusal : ℕ → Answer
+abbrev pub refusal : ℕ → Response
 refusal status = record { status = status; body = status_body (refusal_message status) }
 
 -- its bytes: the connection closes after it

@@ -1,4 +1,5 @@
--- What the private functions find at the front of the buffer, and how far they get.
+-- What the private functions find at the front of the buffer, and how far they get. The messages are those of RFC 9112,
+-- as Message has them; the stages are this project's own.
 use Rattle.std.specs.Prelude.{◌≡◌, ℕ, ◌+◌, ◌<◌, ◌≤◌, ◌++◌, Bool, true, false, List, map, take, drop, length, Some, None, Option, ⊤}
 use Rattle.httparse.specs.Grammar.{RequestHead, HasNoRequest, MayBecomeRequest, print_request}
 use Rattle.httparse.specs.declared.Error.{Error}
@@ -7,8 +8,8 @@ use Rattle.http_edge.specs.declared.single.Single.{Single}
 use Rattle.http_edge.specs.declared.single.Single.TheVariants as Code
 use Rattle.http_edge.specs.Fields.{Single as SingleData, absent, one, repeated}
 use Rattle.http_edge.specs.declared.head.Head.{Head}
-use Rattle.http_edge.specs.declared.head.Begin.{Begin}
-use Rattle.http_edge.specs.declared.head.Begin.TheVariants.{Whole, More, TooMany, Refuse}
+use Rattle.http_edge.specs.declared.head.HeadProgress.{HeadProgress}
+use Rattle.http_edge.specs.declared.head.HeadProgress.TheVariants.{Whole, More, TooMany, Refuse}
 use Rattle.http_edge.specs.declared.head.BodyKind.{BodyKind}
 use Rattle.http_edge.specs.declared.head.BodyKind.TheVariants.{Sized, Chunks}
 use Rattle.http_edge.specs.declared.body.BodyRead.{BodyRead}
@@ -16,12 +17,12 @@ use Rattle.http_edge.specs.declared.body.BodyRead.TheVariants as Read
 use Rattle.http_edge.specs.declared.body.Pieces.{Pieces}
 use Rattle.http_edge.specs.declared.body.Pieces.TheVariants as Piece
 use Rattle.http_edge.specs.declared.wire.EdgeFault.{EdgeFault}
-use Rattle.http_edge.specs.declared.chunks.Part.{Part as PartCode}
-use Rattle.http_edge.specs.declared.chunks.Part.TheVariants.{Line, Bytes, Trailer}
+use Rattle.http_edge.specs.declared.chunks.ChunkedState.{ChunkedState as PartCode}
+use Rattle.http_edge.specs.declared.chunks.ChunkedState.TheVariants.{Line, Bytes, Trailer}
 use Rattle.http_edge.specs.declared.chunks.Piece.{Piece as PieceCode}
 use Rattle.http_edge.specs.declared.chunks.Piece.TheVariants as Found
 use Rattle.http_edge.specs.Chunks.{line_part, bytes_part, trailer_part, Reaches, FailsAt, LacksAt, HasChunkedBody, StopsAt}
-use Rattle.http_edge.specs.Message.{Request, Answer, Message, Frame, sized, chunked, headers_of, framing_of, max_fields, max_body, HasHead, HasBody, IsTooLong, IsBroken, LacksBody, HasMessage, request_of, expects, closes, is_bodiless}
+use Rattle.http_edge.specs.Message.{Request, Response, Message, Frame, sized, chunked, headers_of, framing_of, max_fields, max_body, HasHead, HasBody, IsTooLong, IsBroken, LacksBody, HasMessage, request_of, expects, closes, is_bodiless}
 use Rattle.http_edge.specs.Talk.{RefusesHead, head_lines, Exchange, exchange_text, Ends, Due}
 use Rattle.http_edge.specs.Reply.{reply_text, refusal_text}
 use Rattle.http_line.specs.Line.{Moves}
@@ -70,11 +71,11 @@ pub record IsHead (bytes : List ℕ) (head : Head) (h : RequestHead) : Type 0 wh
   pub says : IsHeadOf head h
 
 -- what the bytes begin with
-abbrev pub IsBegin : List ℕ → Begin → Type 0
-IsBegin bytes (Whole head) = (h : RequestHead) × IsHead bytes head h
-IsBegin bytes More = HasNoRequest bytes × MayBecomeRequest bytes
-IsBegin bytes TooMany = HasNoRequest bytes × MayBecomeRequest bytes × (max_fields + 1 < head_lines bytes)
-IsBegin bytes (Refuse status bodiless) = RefusesHead bytes (refusal_text bodiless status)
+abbrev pub IsHeadProgress : List ℕ → HeadProgress → Type 0
+IsHeadProgress bytes (Whole head) = (h : RequestHead) × IsHead bytes head h
+IsHeadProgress bytes More = HasNoRequest bytes × MayBecomeRequest bytes
+IsHeadProgress bytes TooMany = HasNoRequest bytes × MayBecomeRequest bytes × (max_fields + 1 < head_lines bytes)
+IsHeadProgress bytes (Refuse status bodiless) = RefusesHead bytes (refusal_text bodiless status)
 
 -- how many bytes of data are still due
 abbrev pub bytes_due : PartCode → ℕ
@@ -140,14 +141,14 @@ IsRead frame stream after Read.Bad = (frame ≡ chunked) × IsBroken stream
 IsRead frame stream after Read.Ended = LacksBody frame stream
 
 -- the handler's answer and what is written of it
-pub record Replies {H : Type 0} (answers : H → Request → Answer → H
+pub record Replies {H : Type 0} (answers : H → Request → Response → H
     → Type 0) (old new : H) (m : Message) (written missing : List ℕ) : Type 0 where
-  pub reply : Answer
+  pub reply : Response
   pub answered : answers old (request_of m) reply new
   pub text : reply_text (is_bodiless m.head) (closes m.head) reply ≡ written ++ missing
 
 -- a message was answered, and the connection goes on
-pub record GoesOn {H : Type 0} (answers : H → Request → Answer → H
+pub record StaysOpen {H : Type 0} (answers : H → Request → Response → H
     → Type 0) (old new : H) {L : Type 0} (gives takes : L → L → List ℕ → Type 0) (first last : L)
     (before after : List ℕ) : Type 0 where
   pub read : List ℕ
@@ -158,7 +159,7 @@ pub record GoesOn {H : Type 0} (answers : H → Request → Answer → H
   pub answered : answers old (request_of exchange.message) exchange.reply new
 
 -- the talk has come to its end
-pub record IsOver {H : Type 0} (answers : H → Request → Answer → H
+pub record IsOver {H : Type 0} (answers : H → Request → Response → H
     → Type 0) (old new : H) {L : Type 0} (gives takes : L → L → List ℕ → Type 0) (first last : L) (ended : Type 0)
     (before : List ℕ) : Type 0 where
   pub read : List ℕ
@@ -169,7 +170,7 @@ pub record IsOver {H : Type 0} (answers : H → Request → Answer → H
   pub end : over ≡ false → ended
 
 -- this fault broke it off
-pub record IsCut {H : Type 0} (fault : EdgeFault) (answers : H → Request → Answer → H
+pub record IsCut {H : Type 0} (fault : EdgeFault) (answers : H → Request → Response → H
     → Type 0) (old new : H) {L : Type 0} (gives takes : L → L → List ℕ → Type 0) (first last : L) (before : List ℕ)
     : Type 0 where
   pub read : List ℕ

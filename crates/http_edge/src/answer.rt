@@ -5,10 +5,10 @@ ghost use Rattle.send_retry.specs.Class.{answer_view};
 ghost use Rattle.http_line.specs.Line.{Moves};
 ghost use Rattle.http_edge.specs.Steps.{HasFailed};
 ghost use Rattle.http_edge.specs.Post.{Tells, OneAnswer, HasFinalHead};
-ghost use Rattle.http_edge.specs.Kept.{IsFinal, IsAnswerHead};
+ghost use Rattle.http_edge.specs.AnswerBody.{IsFinal, IsAnswerHead};
 
 use crate::answer_body::read_answer_body;
-use crate::answer_head::{AnswerBegin, AnswerHead, read_answer_head};
+use crate::answer_head::{AnswerHead, AnswerHeadProgress, read_answer_head};
 use crate::wire::{EdgeFault, drop_front};
 use http_line::Line;
 use send_retry::Answer;
@@ -19,10 +19,10 @@ const MOST_INTERIMS: usize = 16;
 /// Reads the answer to a post. `Answer::Failed` is no whole answer: a bad head, framing or body, or an end too early.
 pub fn read_answer<L: Line>(alloc: Global, line: &mut L) -> Result<Answer, EdgeFault>
     // The answer is what the bytes read tell.
-    ensures ok { IfOk result (λ answer. (read : List ℕ)
+    ensures on_success { IfOk result (λ answer. (read : List ℕ)
         × Moves L.gives L.takes line.old line.new read []
         × Tells read (nat_lt (L.ends line.old) (L.ends line.new)) (answer_view answer)) }
-    ensures err { OnErr result ((read : List ℕ)
+    ensures on_error { OnErr result ((read : List ℕ)
         × Moves L.gives L.takes line.old line.new read []) }
     ensures failed { result ≡ Err EdgeFault.ReadFailed → HasFailed (L.failed line.old) (L.failed line.new) }
     ensures no_write { result ≢ Err EdgeFault.WriteFailed }
@@ -44,10 +44,10 @@ fn read_final_head<L: Line>(
     buffer: &mut Vec<u8>,
 ) -> Result<Option<AnswerHead>, EdgeFault>
     requires { buffer.old.items ≡ [] }
-    ensures ok { IfOk result (λ found. (read : List ℕ)
+    ensures on_success { IfOk result (λ found. (read : List ℕ)
         × Moves L.gives L.takes line.old line.new read []
         × IsFinal read (nat_lt (L.ends line.old) (L.ends line.new)) buffer.new.items found) }
-    ensures err { OnErr result ((read : List ℕ)
+    ensures on_error { OnErr result ((read : List ℕ)
         × Moves L.gives L.takes line.old line.new read []) }
     ensures ends { L.ends line.old ≤ L.ends line.new }
     ensures kept { OnOk result (L.failed line.new ≡ L.failed line.old) }
@@ -57,9 +57,9 @@ fn read_final_head<L: Line>(
     let mut interims = 0;
     'heads: loop {
         match read_answer_head(line, buffer)? {
-            AnswerBegin::More => return Ok(None),
-            AnswerBegin::Bad => return Ok(None),
-            AnswerBegin::Whole(head) => {
+            AnswerHeadProgress::More => return Ok(None),
+            AnswerHeadProgress::Bad => return Ok(None),
+            AnswerHeadProgress::Whole(head) => {
                 if !is_interim(head.status) {
                     return Ok(Some(head));
                 }
@@ -88,11 +88,12 @@ fn read_after<L: Line>(
     head: AnswerHead,
 ) -> Result<Answer, EdgeFault>
     requires { head.len ≤ length buffer.old.items }
-    ensures ok { IfOk result (λ answer. (h : ResponseHead) → IsAnswerHead buffer.old.items head h → (read : List ℕ)
+    ensures on_success { IfOk result (λ answer. (h : ResponseHead) → IsAnswerHead buffer.old.items head h
+        → (read : List ℕ)
         × Moves L.gives L.takes line.old line.new read []
         × ((before : List ℕ) → HasFinalHead before h (drop head.len buffer.old.items)
         → Tells (before ++ read) (nat_lt (L.ends line.old) (L.ends line.new)) (answer_view answer))) }
-    ensures err { OnErr result ((read : List ℕ)
+    ensures on_error { OnErr result ((read : List ℕ)
         × Moves L.gives L.takes line.old line.new read []) }
     ensures ends { L.ends line.old ≤ L.ends line.new }
     ensures failed { result ≡ Err EdgeFault.ReadFailed → HasFailed (L.failed line.old) (L.failed line.new) }

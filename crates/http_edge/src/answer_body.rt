@@ -3,9 +3,9 @@ ghost use Rattle.std.specs.Prelude.{◌≡◌, ◌≢◌, ℕ, ◌<◌, ◌≤�
 ghost use Rattle.http_line.specs.Line.{Moves};
 ghost use Rattle.http_edge.specs.Steps.{HasFailed};
 ghost use Rattle.http_edge.specs.Stages.{IsAt};
-ghost use Rattle.http_edge.specs.Kept.{Keeps, HasCome, IsPlainPieces, IsChunkPieces, IsPlainBody, IsAnswerBody};
+ghost use Rattle.http_edge.specs.AnswerBody.{Keeps, HasCome, IsPlainPieces, IsChunkPieces, IsPlainBody, IsAnswerBody};
 
-use crate::chunks::{Part, Piece, next_piece};
+use crate::chunks::{ChunkedState, Piece, next_piece};
 use crate::wire::{EdgeFault, Watch, drop_front, fill};
 use http_line::Line;
 use http1::Limits;
@@ -22,12 +22,12 @@ const MAX_PART: usize = 65536;
 
 /// The body of an answer as far as it has come: its bytes, and none once there are too many.
 #[derive(Drop)]
-pub(crate) struct Kept {
+pub(crate) struct AnswerBody {
     pub bytes: Vec<u8>,
     pub is_over: bool,
 }
 
-impl Kept {
+impl AnswerBody {
     /// Takes one piece more.
     fn add(&mut self, piece: &[u8]) -> Result<(), AllocError>
         ensures { OnOk result ((body : List ℕ) → Keeps body self.old → Keeps (body ++ piece.now) self.new) }
@@ -59,11 +59,11 @@ pub(crate) fn read_answer_body<L: Line>(
     buffer: &mut Vec<u8>,
     framing: Framing,
 ) -> Result<Option<Vec<u8>>, EdgeFault>
-    ensures ok { IfOk result (λ found. (read : List ℕ)
+    ensures on_success { IfOk result (λ found. (read : List ℕ)
         × Moves L.gives L.takes line.old line.new read []
         × IsAnswerBody framing (buffer.old.items ++ read) (L.ends line.old < L.ends line.new) (option_map (λ v.
         v.items) found)) }
-    ensures err { OnErr result ((read : List ℕ)
+    ensures on_error { OnErr result ((read : List ℕ)
         × Moves L.gives L.takes line.old line.new read []) }
     ensures ends { L.ends line.old ≤ L.ends line.new }
     ensures kept { OnOk result (L.failed line.new ≡ L.failed line.old) }
@@ -96,19 +96,19 @@ fn read_answer_chunks<L: Line>(
     line: &mut L,
     buffer: &mut Vec<u8>,
 ) -> Result<Option<Vec<u8>>, EdgeFault>
-    ensures ok { IfOk result (λ found. (read : List ℕ)
+    ensures on_success { IfOk result (λ found. (read : List ℕ)
         × Moves L.gives L.takes line.old line.new read []
         × IsAnswerBody Framing.Chunked (buffer.old.items ++ read) (L.ends line.old < L.ends line.new) (option_map (λ v.
         v.items) found)) }
-    ensures err { OnErr result ((read : List ℕ)
+    ensures on_error { OnErr result ((read : List ℕ)
         × Moves L.gives L.takes line.old line.new read []) }
     ensures ends { L.ends line.old ≤ L.ends line.new }
     ensures kept { OnOk result (L.failed line.new ≡ L.failed line.old) }
     ensures failed { result ≡ Err EdgeFault.ReadFailed → HasFailed (L.failed line.old) (L.failed line.new) }
     ensures no_write { result ≢ Err EdgeFault.WriteFailed }
 {
-    let mut part = Part::Line;
-    let mut kept = Kept {
+    let mut part = ChunkedState::Line;
+    let mut kept = AnswerBody {
         bytes: Vec::new(alloc),
         is_over: false,
     };
@@ -135,8 +135,8 @@ fn read_answer_chunks<L: Line>(
 /// them, it takes none.
 fn take_chunks(
     bytes: &[u8],
-    part: &mut Part,
-    kept: &mut Kept,
+    part: &mut ChunkedState,
+    kept: &mut AnswerBody,
     due: bool,
 ) -> Result<(usize, AnswerPieces), AllocError>
     ensures within { IfOk result (λ r. r.0 ≤ length bytes.now) }
@@ -156,7 +156,7 @@ fn take_chunks(
             }
             Piece::Data { len, left } => {
                 kept.add(&rest[..len])?;
-                *part = Part::Bytes(left);
+                *part = ChunkedState::Bytes(left);
                 at += len;
             }
             Piece::End { len } => return Ok((at + len, AnswerPieces::End)),
@@ -170,7 +170,7 @@ fn take_chunks(
 fn take_plain(
     bytes: &[u8],
     decoder: &mut Decoder,
-    kept: &mut Kept,
+    kept: &mut AnswerBody,
 ) -> Result<(usize, AnswerPieces), AllocError>
     ensures within { IfOk result (λ r. r.0 ≤ length bytes.now) }
     ensures pieces { IfOk result (λ r. (framing : Framing) (stream body : List ℕ)
@@ -200,11 +200,11 @@ fn read_plain_body<L: Line>(
     buffer: &mut Vec<u8>,
     framing: Framing,
 ) -> Result<Option<Vec<u8>>, EdgeFault>
-    ensures ok { IfOk result (λ found. (read : List ℕ)
+    ensures on_success { IfOk result (λ found. (read : List ℕ)
         × Moves L.gives L.takes line.old line.new read []
         × IsPlainBody framing (buffer.old.items ++ read) (L.ends line.old < L.ends line.new) (option_map (λ v.
         v.items) found)) }
-    ensures err { OnErr result ((read : List ℕ)
+    ensures on_error { OnErr result ((read : List ℕ)
         × Moves L.gives L.takes line.old line.new read []) }
     ensures ends { L.ends line.old ≤ L.ends line.new }
     ensures kept { OnOk result (L.failed line.new ≡ L.failed line.old) }
@@ -217,7 +217,7 @@ fn read_plain_body<L: Line>(
         max_trailers_len: MAX_PART,
     };
     let mut decoder = Decoder::new(framing, &limits);
-    let mut kept = Kept {
+    let mut kept = AnswerBody {
         bytes: Vec::new(alloc),
         is_over: false,
     };

@@ -5,7 +5,7 @@ ghost use Rattle.http_edge.specs.Message.{max_head};
 ghost use Rattle.http_line.specs.Line.{Moves};
 ghost use Rattle.http_edge.specs.Steps.{work, HasFailed};
 ghost use Rattle.http_edge.specs.Post.{is_bodiless_status, answer_framing_in, retry_after_in, seconds_of};
-ghost use Rattle.http_edge.specs.Kept.{IsAnswerBegin};
+ghost use Rattle.http_edge.specs.AnswerBody.{IsAnswerHeadProgress};
 
 use crate::fields::{field, framing_in, number};
 use crate::single::Single;
@@ -33,7 +33,7 @@ pub(crate) struct AnswerHead {
 
 /// What the buffer begins with.
 #[derive(Clone, Copy, Drop)]
-pub(crate) enum AnswerBegin {
+pub(crate) enum AnswerHeadProgress {
     Whole(AnswerHead),
     More,
     Bad,
@@ -43,13 +43,13 @@ pub(crate) enum AnswerBegin {
 pub(crate) fn read_answer_head<L: Line>(
     line: &mut L,
     buffer: &mut Vec<u8>,
-) -> Result<AnswerBegin, EdgeFault>
-    ensures ok { IfOk result (λ begin. (read : List ℕ)
+) -> Result<AnswerHeadProgress, EdgeFault>
+    ensures on_success { IfOk result (λ begin. (read : List ℕ)
         × Moves L.gives L.takes line.old line.new read []
         × (buffer.new.items ≡ buffer.old.items ++ read)
-        × IsAnswerBegin buffer.new.items begin) }
-    ensures end { result ≡ Ok AnswerBegin.More → L.ends line.old < L.ends line.new }
-    ensures err { OnErr result ((read : List ℕ)
+        × IsAnswerHeadProgress buffer.new.items begin) }
+    ensures end { result ≡ Ok AnswerHeadProgress.More → L.ends line.old < L.ends line.new }
+    ensures on_error { OnErr result ((read : List ℕ)
         × Moves L.gives L.takes line.old line.new read []) }
     ensures ends { L.ends line.old ≤ L.ends line.new }
     ensures kept { OnOk result (L.failed line.new ≡ L.failed line.old) }
@@ -60,7 +60,7 @@ pub(crate) fn read_answer_head<L: Line>(
     'looks: loop {
         if watch.is_due(buffer, false) {
             match answer_head_at(buffer) {
-                AnswerBegin::More => {}
+                AnswerHeadProgress::More => {}
                 begin => return Ok(begin),
             }
         }
@@ -71,28 +71,28 @@ pub(crate) fn read_answer_head<L: Line>(
 }
 
 /// What the bytes begin with. More of a head than there is room for is bad.
-fn answer_head_at(bytes: &[u8]) -> AnswerBegin
-    ensures { IsAnswerBegin bytes.now result }
+fn answer_head_at(bytes: &[u8]) -> AnswerHeadProgress
+    ensures { IsAnswerHeadProgress bytes.now result }
 {
     if bytes.len() < MAX_HEAD {
         return answer_begin_at(bytes);
     }
     match answer_begin_at(&bytes[..MAX_HEAD]) {
-        AnswerBegin::More => AnswerBegin::Bad,
-        AnswerBegin::Whole(head) => AnswerBegin::Whole(head),
-        AnswerBegin::Bad => AnswerBegin::Bad,
+        AnswerHeadProgress::More => AnswerHeadProgress::Bad,
+        AnswerHeadProgress::Whole(head) => AnswerHeadProgress::Whole(head),
+        AnswerHeadProgress::Bad => AnswerHeadProgress::Bad,
     }
 }
 
-fn answer_begin_at(bytes: &[u8]) -> AnswerBegin
+fn answer_begin_at(bytes: &[u8]) -> AnswerHeadProgress
     requires { length bytes.now ≤ max_head }
-    ensures { IsAnswerBegin bytes.now result }
+    ensures { IsAnswerHeadProgress bytes.now result }
 {
     let mut spans = [EMPTY_HEADER_SPAN; MAX_FIELDS];
     match parse_response(bytes, &mut spans) {
-        Ok(Status::Complete(found)) => AnswerBegin::Whole(answer_head(bytes, found, &spans)),
-        Ok(Status::Partial) => AnswerBegin::More,
-        Err(_) => AnswerBegin::Bad,
+        Ok(Status::Complete(found)) => AnswerHeadProgress::Whole(answer_head(bytes, found, &spans)),
+        Ok(Status::Partial) => AnswerHeadProgress::More,
+        Err(_) => AnswerHeadProgress::Bad,
     }
 }
 
@@ -102,7 +102,7 @@ fn answer_head(bytes: &[u8], found: ResponseSpans, spans: &[HeaderSpan]) -> Answ
     requires room { length spans.now ≤ 64 }
     requires within { IsResponseWithin bytes.now spans.now found }
     requires head { IsResponseOf bytes.now spans.now found }
-    ensures { IsAnswerBegin bytes.now (AnswerBegin.Whole result) }
+    ensures { IsAnswerHeadProgress bytes.now (AnswerHeadProgress.Whole result) }
 {
     let fields = &spans[..found.headers];
     AnswerHead {

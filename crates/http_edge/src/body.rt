@@ -5,7 +5,7 @@ ghost use Rattle.http_line.specs.Line.{Moves};
 ghost use Rattle.http_edge.specs.Steps.{work, HasFailed};
 ghost use Rattle.http_edge.specs.Stages.{frame_by, bytes_due, IsAt, IsPieces, IsRead};
 
-use crate::chunks::{Part, Piece, bytes_due, next_piece};
+use crate::chunks::{ChunkedState, Piece, bytes_due, next_piece};
 use crate::head::BodyKind;
 use crate::wire::{EdgeFault, Watch, drop_front, fill};
 use http_line::Line;
@@ -39,10 +39,10 @@ pub(crate) fn read_body<L: Line>(
     kind: BodyKind,
 ) -> Result<BodyRead, EdgeFault>
     requires { (n : ℕ) → frame_by kind ≡ sized n → n ≤ max_body }
-    ensures ok { IfOk result (λ found. (read : List ℕ)
+    ensures on_success { IfOk result (λ found. (read : List ℕ)
         × Moves L.gives L.takes line.old line.new read []
         × IsRead (frame_by kind) (buffer.old.items ++ read) buffer.new.items found) }
-    ensures err { OnErr result ((read : List ℕ)
+    ensures on_error { OnErr result ((read : List ℕ)
         × Moves L.gives L.takes line.old line.new read []) }
     ensures end { result ≡ Ok BodyRead.Ended → L.ends line.old < L.ends line.new }
     ensures work { OnOk result (work (L.reads_left line.new) buffer.new.items ≤ work (L.reads_left line.old)
@@ -72,10 +72,10 @@ fn read_sized<L: Line>(
     len: usize,
 ) -> Result<BodyRead, EdgeFault>
     requires { len ≤ max_body }
-    ensures ok { IfOk result (λ found. (read : List ℕ)
+    ensures on_success { IfOk result (λ found. (read : List ℕ)
         × Moves L.gives L.takes line.old line.new read []
         × IsRead (sized len) (buffer.old.items ++ read) buffer.new.items found) }
-    ensures err { OnErr result ((read : List ℕ)
+    ensures on_error { OnErr result ((read : List ℕ)
         × Moves L.gives L.takes line.old line.new read []) }
     ensures end { result ≡ Ok BodyRead.Ended → L.ends line.old < L.ends line.new }
     ensures work { OnOk result (work (L.reads_left line.new) buffer.new.items ≤ work (L.reads_left line.old)
@@ -101,10 +101,10 @@ fn read_chunks<L: Line>(
     line: &mut L,
     buffer: &mut Vec<u8>,
 ) -> Result<BodyRead, EdgeFault>
-    ensures ok { IfOk result (λ found. (read : List ℕ)
+    ensures on_success { IfOk result (λ found. (read : List ℕ)
         × Moves L.gives L.takes line.old line.new read []
         × IsRead chunked (buffer.old.items ++ read) buffer.new.items found) }
-    ensures err { OnErr result ((read : List ℕ)
+    ensures on_error { OnErr result ((read : List ℕ)
         × Moves L.gives L.takes line.old line.new read []) }
     ensures end { result ≡ Ok BodyRead.Ended → L.ends line.old < L.ends line.new }
     ensures work { OnOk result (work (L.reads_left line.new) buffer.new.items ≤ work (L.reads_left line.old)
@@ -114,7 +114,7 @@ fn read_chunks<L: Line>(
     ensures failed { result ≡ Err EdgeFault.ReadFailed → HasFailed (L.failed line.old) (L.failed line.new) }
     ensures no_write { result ≢ Err EdgeFault.WriteFailed }
 {
-    let mut part = Part::Line;
+    let mut part = ChunkedState::Line;
     let mut body = Vec::new(alloc);
     let mut watch = Watch::within_body();
     let mut ended = false;
@@ -140,7 +140,7 @@ fn read_chunks<L: Line>(
 /// them, it takes none.
 fn take_pieces(
     bytes: &[u8],
-    part: &mut Part,
+    part: &mut ChunkedState,
     body: &mut Vec<u8>,
     due: bool,
 ) -> Result<(usize, Pieces), AllocError>
@@ -166,7 +166,7 @@ fn take_pieces(
             }
             Piece::Data { len, left } => {
                 body.extend_from_slice(&rest[..len])?;
-                *part = Part::Bytes(left);
+                *part = ChunkedState::Bytes(left);
                 at += len;
             }
             Piece::End { len } => return Ok((at + len, Pieces::End)),

@@ -12,7 +12,7 @@ const MAX_FIELDS: usize = 64;
 
 /// What is due next: the line of a chunk, so many bytes of data and the end of their line, or the trailer.
 #[derive(Clone, Copy, Debug, Drop, PartialEq, Eq)]
-pub(crate) enum Part {
+pub(crate) enum ChunkedState {
     Line,
     Bytes(u64),
     Trailer,
@@ -22,7 +22,7 @@ pub(crate) enum Part {
 /// which so many are left; the end of the body; less than the part; or something else.
 #[derive(Clone, Copy, Debug, Drop, PartialEq, Eq)]
 pub(crate) enum Piece {
-    Passed { len: usize, next: Part },
+    Passed { len: usize, next: ChunkedState },
     Data { len: usize, left: u64 },
     End { len: usize },
     More,
@@ -30,51 +30,51 @@ pub(crate) enum Piece {
 }
 
 /// How many bytes of data are still due.
-pub(crate) fn bytes_due(part: Part) -> u64
+pub(crate) fn bytes_due(part: ChunkedState) -> u64
     ensures { result ≡ bytes_due part }
 {
     match part {
-        Part::Line => 0,
-        Part::Bytes(left) => left,
-        Part::Trailer => 0,
+        ChunkedState::Line => 0,
+        ChunkedState::Bytes(left) => left,
+        ChunkedState::Trailer => 0,
     }
 }
 
 /// Looks for a part at the front of the input.
-pub(crate) fn next_piece(part: Part, input: &[u8]) -> Piece
+pub(crate) fn next_piece(part: ChunkedState, input: &[u8]) -> Piece
     ensures within { piece_len result ≤ length input.now }
     ensures step { IsStep part result }
     ensures piece { (stream body : List ℕ) → IsAt stream part body input.now
         → IsPiece stream part body input.now result }
 {
     match part {
-        Part::Line => next_line(input),
-        Part::Bytes(left) => if left > 0 {
+        ChunkedState::Line => next_line(input),
+        ChunkedState::Bytes(left) => if left > 0 {
             next_bytes(left, input)
         } else {
             next_end(input)
         },
-        Part::Trailer => next_trailer(input),
+        ChunkedState::Trailer => next_trailer(input),
     }
 }
 
 fn next_line(input: &[u8]) -> Piece
     ensures within { piece_len result ≤ length input.now }
-    ensures step { IsStep Part.Line result }
-    ensures piece { (stream body : List ℕ) → IsAt stream Part.Line body input.now
-        → IsPiece stream Part.Line body input.now result }
+    ensures step { IsStep ChunkedState.Line result }
+    ensures piece { (stream body : List ℕ) → IsAt stream ChunkedState.Line body input.now
+        → IsPiece stream ChunkedState.Line body input.now result }
 {
     let front = &input[..input.len().min(MAX_PART)];
     match parse_chunk_size(front) {
         Ok(Status::Complete((len, size))) => if size > 0 {
             Piece::Passed {
                 len,
-                next: Part::Bytes(size),
+                next: ChunkedState::Bytes(size),
             }
         } else {
             Piece::Passed {
                 len,
-                next: Part::Trailer,
+                next: ChunkedState::Trailer,
             }
         },
         Ok(Status::Partial) => if input.len() < MAX_PART {
@@ -89,9 +89,9 @@ fn next_line(input: &[u8]) -> Piece
 fn next_bytes(left: u64, input: &[u8]) -> Piece
     requires { 0 < left }
     ensures within { piece_len result ≤ length input.now }
-    ensures step { IsStep (Part.Bytes left) result }
-    ensures piece { (stream body : List ℕ) → IsAt stream (Part.Bytes left) body input.now
-        → IsPiece stream (Part.Bytes left) body input.now result }
+    ensures step { IsStep (ChunkedState.Bytes left) result }
+    ensures piece { (stream body : List ℕ) → IsAt stream (ChunkedState.Bytes left) body input.now
+        → IsPiece stream (ChunkedState.Bytes left) body input.now result }
 {
     if input.is_empty() {
         return Piece::More;
@@ -106,9 +106,9 @@ fn next_bytes(left: u64, input: &[u8]) -> Piece
 /// Looks for the end of the line that data stands on.
 fn next_end(input: &[u8]) -> Piece
     ensures within { piece_len result ≤ length input.now }
-    ensures step { IsStep (Part.Bytes 0) result }
-    ensures piece { (stream body : List ℕ) → IsAt stream (Part.Bytes 0) body input.now
-        → IsPiece stream (Part.Bytes 0) body input.now result }
+    ensures step { IsStep (ChunkedState.Bytes 0) result }
+    ensures piece { (stream body : List ℕ) → IsAt stream (ChunkedState.Bytes 0) body input.now
+        → IsPiece stream (ChunkedState.Bytes 0) body input.now result }
 {
     if input.is_empty() {
         return Piece::More;
@@ -124,15 +124,15 @@ fn next_end(input: &[u8]) -> Piece
     }
     Piece::Passed {
         len: 2,
-        next: Part::Line,
+        next: ChunkedState::Line,
     }
 }
 
 fn next_trailer(input: &[u8]) -> Piece
     ensures within { piece_len result ≤ length input.now }
-    ensures step { IsStep Part.Trailer result }
-    ensures piece { (stream body : List ℕ) → IsAt stream Part.Trailer body input.now
-        → IsPiece stream Part.Trailer body input.now result }
+    ensures step { IsStep ChunkedState.Trailer result }
+    ensures piece { (stream body : List ℕ) → IsAt stream ChunkedState.Trailer body input.now
+        → IsPiece stream ChunkedState.Trailer body input.now result }
 {
     let front = &input[..input.len().min(MAX_PART)];
     let mut spans = [EMPTY_HEADER_SPAN; MAX_FIELDS];

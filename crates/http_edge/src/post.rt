@@ -16,9 +16,9 @@ pub fn write_post<L: Line>(
     host: &str,
     payload: &[u8],
 ) -> Result<(), EdgeFault>
-    ensures ok { OnOk result (Moves L.gives L.takes line.old line.new []
+    ensures on_success { OnOk result (Moves L.gives L.takes line.old line.new []
         (post_text host.now payload.now)) }
-    ensures err { OnErr result ((front : List ℕ) × (missing : List ℕ) × (post_text host.now payload.now ≡ front
+    ensures on_error { OnErr result ((front : List ℕ) × (missing : List ℕ) × (post_text host.now payload.now ≡ front
         ++ missing)
         × Moves L.gives L.takes line.old line.new [] front) }
     ensures failed { result ≡ Err EdgeFault.WriteFailed → HasFailed (L.failed line.old) (L.failed line.new) }

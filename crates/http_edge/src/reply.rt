@@ -1,6 +1,6 @@
 //! Replies as bytes.
 ghost use Rattle.std.specs.Prelude.{◌≡◌, IfOk, false, decimal, if◌then◌else◌};
-ghost use Rattle.http_edge.specs.Seen.{answer_of};
+ghost use Rattle.http_edge.specs.Seen.{response_of};
 ghost use Rattle.http_edge.specs.Reply.{phrase_of, advice_of, close_line, head_text_of, plain_text, reply_text, out_of_memory, is_for_no_memory, status_body, refusal_message};
 
 use crate::message::Reply;
@@ -10,7 +10,7 @@ use std::alloc::{AllocError, Global};
 /// there was no memory.
 #[tactic(auto, unfolding(crate::specs::Reply::reply_text))]
 pub fn reply_bytes(alloc: Global, reply: &Reply, close: bool) -> Result<Vec<u8>, AllocError>
-    ensures { IfOk result (λ v. v.items ≡ reply_text false close (answer_of reply.now)) }
+    ensures { IfOk result (λ v. v.items ≡ reply_text false close (response_of reply.now)) }
 {
     if is_for_no_memory(reply) {
         Vec::from_slice(alloc, no_memory_bytes(close, false))
@@ -21,7 +21,7 @@ pub fn reply_bytes(alloc: Global, reply: &Reply, close: bool) -> Result<Vec<u8>,
 
 /// Whether the reply stands for the one that is written where there is no memory for another.
 pub(crate) fn is_for_no_memory(reply: &Reply) -> bool
-    ensures { result ≡ is_for_no_memory (answer_of reply.now) }
+    ensures { result ≡ is_for_no_memory (response_of reply.now) }
 {
     reply.status == 503 && reply.body.len() == 0
 }
@@ -54,7 +54,7 @@ pub(crate) fn plain_bytes(
     close: bool,
     bodiless: bool,
 ) -> Result<Vec<u8>, AllocError>
-    ensures { IfOk result (λ v. v.items ≡ plain_text bodiless close (answer_of reply.now)) }
+    ensures { IfOk result (λ v. v.items ≡ plain_text bodiless close (response_of reply.now)) }
 {
     let mut text = head_bytes(alloc, reply.status, reply.body.len(), close)?;
     if !bodiless {

@@ -6,11 +6,11 @@ ghost use Rattle.http_edge.specs.Reply.{refusal_text, reply_text, continue_text}
 ghost use Rattle.http_edge.specs.Message.{closes, max_fields, max_head};
 ghost use Rattle.http_line.specs.Line.{Moves};
 ghost use Rattle.http_edge.specs.Steps.{work, HasFailed};
-ghost use Rattle.http_edge.specs.Seen.{seen, header_of, answer_of};
-ghost use Rattle.http_edge.specs.Stages.{IsBegin, IsHeadOf, message_with, Replies, GoesOn, IsOver, IsCut};
+ghost use Rattle.http_edge.specs.Seen.{seen, header_of, response_of};
+ghost use Rattle.http_edge.specs.Stages.{IsHeadProgress, IsHeadOf, message_with, Replies, StaysOpen, IsOver, IsCut};
 
 use crate::body::{BodyRead, read_body};
-use crate::head::{Begin, Head, head_at};
+use crate::head::{Head, HeadProgress, head_at};
 use crate::message::{Handler, HttpMessage, Reply};
 use crate::reply::{is_for_no_memory, no_memory_bytes, plain_bytes, refusal_body};
 use crate::wire::{EdgeFault, Watch, drop_front, fill, send};
@@ -51,13 +51,13 @@ fn exchange<T: Threads + Sync, L: Line, H: Handler>(
     handler: &mut H,
     buffer: &mut Vec<u8>,
 ) -> Result<bool, EdgeFault>
-    ensures on { result ≡ Ok true → GoesOn H.answers handler.old handler.new
+    ensures stays_open { result ≡ Ok true → StaysOpen H.answers handler.old handler.new
         L.gives L.takes line.old line.new buffer.old.items
         buffer.new.items }
-    ensures over { result ≡ Ok false → IsOver H.answers handler.old handler.new
+    ensures closes { result ≡ Ok false → IsOver H.answers handler.old handler.new
         L.gives L.takes line.old line.new (L.ends line.old < L.ends
         line.new) buffer.old.items }
-    ensures cut { IfErr result (λ fault. IsCut fault H.answers handler.old handler.new
+    ensures on_error { IfErr result (λ fault. IsCut fault H.answers handler.old handler.new
         L.gives L.takes line.old line.new buffer.old.items) }
     ensures work { result ≡ Ok true → work (L.reads_left line.new) buffer.new.items < work (L.reads_left line.old)
         buffer.old.items }
@@ -67,32 +67,36 @@ fn exchange<T: Threads + Sync, L: Line, H: Handler>(
     ensures write { result ≡ Err EdgeFault.WriteFailed → HasFailed (L.failed line.old) (L.failed line.new) }
 {
     match read_head(alloc, line, buffer)? {
-        Begin::More => Ok(false),
-        Begin::TooMany => {
+        HeadProgress::More => Ok(false),
+        HeadProgress::TooMany => {
             refuse(alloc, line, 431, false)?;
             Ok(false)
         }
-        Begin::Refuse { status, bodiless } => {
+        HeadProgress::Refuse { status, bodiless } => {
             refuse(alloc, line, status, bodiless)?;
             Ok(false)
         }
-        Begin::Whole(head) => {
-            let goes = attend(rt, alloc, line, handler, buffer, head)?;
+        HeadProgress::Whole(head) => {
+            let goes = serve_message(rt, alloc, line, handler, buffer, head)?;
             Ok(goes)
         }
     }
 }
 
 /// Reads until a head is there, a bad message, or the end.
-fn read_head<L: Line>(alloc: Global, line: &mut L, buffer: &mut Vec<u8>) -> Result<Begin, EdgeFault>
-    ensures ok { IfOk result (λ begin. (read : List ℕ)
+fn read_head<L: Line>(
+    alloc: Global,
+    line: &mut L,
+    buffer: &mut Vec<u8>,
+) -> Result<HeadProgress, EdgeFault>
+    ensures on_success { IfOk result (λ begin. (read : List ℕ)
         × Moves L.gives L.takes line.old line.new read []
         × (buffer.new.items ≡ buffer.old.items ++ read)
-        × IsBegin buffer.new.items begin) }
-    ensures end { result ≡ Ok Begin.More → L.ends line.old < L.ends line.new }
-    ensures short { result ≡ Ok Begin.More → length buffer.new.items < max_head }
-    ensures few { result ≡ Ok Begin.More → head_lines buffer.new.items ≤ max_fields + 1 }
-    ensures err { OnErr result ((read : List ℕ)
+        × IsHeadProgress buffer.new.items begin) }
+    ensures end { result ≡ Ok HeadProgress.More → L.ends line.old < L.ends line.new }
+    ensures short { result ≡ Ok HeadProgress.More → length buffer.new.items < max_head }
+    ensures lines_bounded { result ≡ Ok HeadProgress.More → head_lines buffer.new.items ≤ max_fields + 1 }
+    ensures on_error { OnErr result ((read : List ℕ)
         × Moves L.gives L.takes line.old line.new read []) }
     ensures work { OnOk result (work (L.reads_left line.new) buffer.new.items ≤ work (L.reads_left line.old)
         buffer.old.items) }
@@ -115,15 +119,15 @@ fn look<L: Line>(
     line: &mut L,
     buffer: &mut Vec<u8>,
     watch: &mut Watch,
-) -> Result<Option<Begin>, EdgeFault>
-    ensures ok { OnOk result ((read : List ℕ)
+) -> Result<Option<HeadProgress>, EdgeFault>
+    ensures on_success { OnOk result ((read : List ℕ)
         × Moves L.gives L.takes line.old line.new read []
         × (buffer.new.items ≡ buffer.old.items ++ read)) }
-    ensures found { IfOk result (λ found. IfSome found (IsBegin buffer.new.items)) }
-    ensures end { result ≡ Ok (Some Begin.More) → L.ends line.old < L.ends line.new }
-    ensures short { result ≡ Ok (Some Begin.More) → length buffer.new.items < max_head }
-    ensures few { result ≡ Ok (Some Begin.More) → head_lines buffer.new.items ≤ max_fields + 1 }
-    ensures err { OnErr result ((read : List ℕ)
+    ensures found { IfOk result (λ found. IfSome found (IsHeadProgress buffer.new.items)) }
+    ensures end { result ≡ Ok (Some HeadProgress.More) → L.ends line.old < L.ends line.new }
+    ensures short { result ≡ Ok (Some HeadProgress.More) → length buffer.new.items < max_head }
+    ensures lines_bounded { result ≡ Ok (Some HeadProgress.More) → head_lines buffer.new.items ≤ max_fields + 1 }
+    ensures on_error { OnErr result ((read : List ℕ)
         × Moves L.gives L.takes line.old line.new read []) }
     ensures work { OnOk result (work (L.reads_left line.new) buffer.new.items ≤ work (L.reads_left line.old)
         buffer.old.items) }
@@ -136,7 +140,7 @@ fn look<L: Line>(
 {
     if watch.is_due(buffer, false) {
         match head_at(alloc, buffer)? {
-            Begin::More => {}
+            HeadProgress::More => {}
             begin => return Ok(Some(begin)),
         }
     }
@@ -153,9 +157,9 @@ fn refuse<L: Line>(
     status: u16,
     bodiless: bool,
 ) -> Result<(), EdgeFault>
-    ensures ok { OnOk result (Moves L.gives L.takes line.old line.new []
+    ensures on_success { OnOk result (Moves L.gives L.takes line.old line.new []
         (refusal_text bodiless status)) }
-    ensures err { OnErr result ((front : List ℕ) × (missing : List ℕ) × (refusal_text bodiless status ≡ front
+    ensures on_error { OnErr result ((front : List ℕ) × (missing : List ℕ) × (refusal_text bodiless status ≡ front
         ++ missing)
         × Moves L.gives L.takes line.old line.new [] front) }
     ensures end { L.ends line.new ≡ L.ends line.old }
@@ -168,11 +172,11 @@ fn refuse<L: Line>(
         status,
         body: Vec::from_slice(alloc, refusal_body(status))?,
     };
-    say(alloc, line, &reply, true, bodiless)
+    write_reply(alloc, line, &reply, true, bodiless)
 }
 
 /// Reads the body of a head's message, and answers it.
-fn attend<T: Threads + Sync, L: Line, H: Handler>(
+fn serve_message<T: Threads + Sync, L: Line, H: Handler>(
     rt: &T,
     alloc: Global,
     line: &mut L,
@@ -180,14 +184,14 @@ fn attend<T: Threads + Sync, L: Line, H: Handler>(
     buffer: &mut Vec<u8>,
     head: Head,
 ) -> Result<bool, EdgeFault>
-    requires { IsBegin buffer.old.items (Begin.Whole head) }
-    ensures on { result ≡ Ok true → GoesOn H.answers handler.old handler.new
+    requires { IsHeadProgress buffer.old.items (HeadProgress.Whole head) }
+    ensures stays_open { result ≡ Ok true → StaysOpen H.answers handler.old handler.new
         L.gives L.takes line.old line.new buffer.old.items
         buffer.new.items }
-    ensures over { result ≡ Ok false → IsOver H.answers handler.old handler.new
+    ensures closes { result ≡ Ok false → IsOver H.answers handler.old handler.new
         L.gives L.takes line.old line.new (L.ends line.old < L.ends
         line.new) buffer.old.items }
-    ensures cut { IfErr result (λ fault. IsCut fault H.answers handler.old handler.new
+    ensures on_error { IfErr result (λ fault. IsCut fault H.answers handler.old handler.new
         L.gives L.takes line.old line.new buffer.old.items) }
     ensures work { result ≡ Ok true → work (L.reads_left line.new) buffer.new.items < work (L.reads_left line.old)
         buffer.old.items }
@@ -209,7 +213,7 @@ fn attend<T: Threads + Sync, L: Line, H: Handler>(
             Ok(false)
         }
         BodyRead::Whole(body) => {
-            let goes = answer(rt, alloc, line, handler, head, body)?;
+            let goes = handle_message(rt, alloc, line, handler, head, body)?;
             Ok(goes)
         }
     }
@@ -217,9 +221,10 @@ fn attend<T: Threads + Sync, L: Line, H: Handler>(
 
 /// Writes 100 Continue where it is due.
 fn interim<L: Line>(line: &mut L, due: bool) -> Result<(), EdgeFault>
-    ensures ok { OnOk result (Moves L.gives L.takes line.old line.new []
+    ensures on_success { OnOk result (Moves L.gives L.takes line.old line.new []
         (if due then continue_text else [])) }
-    ensures err { OnErr result ((front : List ℕ) × (missing : List ℕ) × ((if due then continue_text else []) ≡ front
+    ensures on_error { OnErr result ((front : List ℕ) × (missing : List ℕ)
+        × ((if due then continue_text else []) ≡ front
         ++ missing)
         × Moves L.gives L.takes line.old line.new [] front) }
     ensures end { L.ends line.new ≡ L.ends line.old }
@@ -237,7 +242,7 @@ fn interim<L: Line>(line: &mut L, due: bool) -> Result<(), EdgeFault>
 }
 
 /// Answers a message.
-fn answer<T: Threads + Sync, L: Line, H: Handler>(
+fn handle_message<T: Threads + Sync, L: Line, H: Handler>(
     rt: &T,
     alloc: Global,
     line: &mut L,
@@ -245,11 +250,11 @@ fn answer<T: Threads + Sync, L: Line, H: Handler>(
     head: Head,
     body: Vec<u8>,
 ) -> Result<bool, EdgeFault>
-    ensures ok { IfOk result (λ goes. (h : RequestHead) → IsHeadOf head h → (text : List ℕ)
+    ensures on_success { IfOk result (λ goes. (h : RequestHead) → IsHeadOf head h → (text : List ℕ)
         × Moves L.gives L.takes line.old line.new [] text
         × Replies H.answers handler.old handler.new (message_with h body.items) text []
         × (goes ≡ not (closes h))) }
-    ensures err { IfErr result (λ fault. (h : RequestHead) → IsHeadOf head h → (text : List ℕ)
+    ensures on_error { IfErr result (λ fault. (h : RequestHead) → IsHeadOf head h → (text : List ℕ)
         × Moves L.gives L.takes line.old line.new [] text
         × (missing : List ℕ)
         × (told : Replies H.answers handler.old handler.new (message_with h body.items) text missing)
@@ -264,25 +269,25 @@ fn answer<T: Threads + Sync, L: Line, H: Handler>(
     let bodiless = head.bodiless;
     let message = message_of(head, body);
     let reply = handler.handle(rt, &message);
-    say(alloc, line, &reply, closes, bodiless)?;
+    write_reply(alloc, line, &reply, closes, bodiless)?;
     Ok(!closes)
 }
 
 /// Writes a reply.
 #[tactic(auto, unfolding(crate::specs::Reply::reply_text))]
-fn say<L: Line>(
+fn write_reply<L: Line>(
     alloc: Global,
     line: &mut L,
     reply: &Reply,
     close: bool,
     bodiless: bool,
 ) -> Result<(), EdgeFault>
-    ensures ok { OnOk result (Moves L.gives L.takes line.old line.new []
-        (reply_text bodiless close (answer_of reply.now))) }
-    ensures err { OnErr result ((front : List ℕ) × (missing : List ℕ)
-        × (reply_text bodiless close (answer_of reply.now) ≡ front ++ missing)
+    ensures on_success { OnOk result (Moves L.gives L.takes line.old line.new []
+        (reply_text bodiless close (response_of reply.now))) }
+    ensures on_error { OnErr result ((front : List ℕ) × (missing : List ℕ)
+        × (reply_text bodiless close (response_of reply.now) ≡ front ++ missing)
         × Moves L.gives L.takes line.old line.new [] front) }
-    ensures memory { IfErr result (λ fault. MayBreak fault (answer_of reply.now)) }
+    ensures memory { IfErr result (λ fault. MayBreak fault (response_of reply.now)) }
     ensures end { L.ends line.new ≡ L.ends line.old }
     ensures reads { L.reads_left line.new ≡ L.reads_left line.old }
     ensures kept { OnOk result (L.failed line.new ≡ L.failed line.old) }

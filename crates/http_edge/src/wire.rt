@@ -50,10 +50,10 @@ const ROOM: usize = 4096;
 
 /// Reads once to the end of the buffer, and says whether a byte came.
 pub(crate) fn fill<L: Line>(line: &mut L, buffer: &mut Vec<u8>) -> Result<bool, EdgeFault>
-    ensures ok { OnOk result ((read : List ℕ)
+    ensures on_success { OnOk result ((read : List ℕ)
         × Moves L.gives L.takes line.old line.new read []
         × (buffer.new.items ≡ buffer.old.items ++ read)) }
-    ensures err { OnErr result ((read : List ℕ)
+    ensures on_error { OnErr result ((read : List ℕ)
         × Moves L.gives L.takes line.old line.new read []) }
     ensures end { IfOk result (λ more. more ≡ false → (buffer.new.items ≡ buffer.old.items)
         × (L.ends line.old < L.ends line.new)) }
@@ -174,9 +174,9 @@ pub(crate) fn drop_front(
 
 /// Writes all the bytes.
 pub(crate) fn send<L: Line>(line: &mut L, bytes: &[u8]) -> Result<(), EdgeFault>
-    ensures ok { OnOk result (Moves L.gives L.takes line.old line.new []
+    ensures on_success { OnOk result (Moves L.gives L.takes line.old line.new []
         bytes.now) }
-    ensures err { OnErr result ((front : List ℕ) × (missing : List ℕ) × (bytes.now ≡ front ++ missing)
+    ensures on_error { OnErr result ((front : List ℕ) × (missing : List ℕ) × (bytes.now ≡ front ++ missing)
         × Moves L.gives L.takes line.old line.new [] front) }
     ensures end { L.ends line.new ≡ L.ends line.old }
     ensures reads { L.reads_left line.new ≡ L.reads_left line.old }

@@ -1,4 +1,5 @@
--- What calls of a line do: to its bytes, one call after another, and to its counts of failures and of ends.
+-- What calls of a line do: to its bytes, one call after another, and to its counts of failures and of ends. This
+-- project's own rule.
 use Rattle.std.specs.Prelude.{ℕ, ◌+◌, ◌-◌, ◌^◌, ◌&&◌, ◌==◌, nat_lt, min, if◌then◌else◌, List, [], ◌++◌, Result, Ok, Err}
 
 -- From the first state of a line on these bytes were read in all, and these written: by calls one after another, each

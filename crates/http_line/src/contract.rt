@@ -26,7 +26,7 @@ pub trait Line {
     fn read_some(&mut self, room: &mut [u8]) -> Result<usize, LineFailed>
         ensures bound { IfOk result (λ n. n ≤ length room.old) }
         ensures bytes { IfOk result (λ n. gives self.old self.new (take n room.new)) }
-        ensures err { OnErr result (gives self.old self.new []) }
+        ensures on_error { OnErr result (gives self.old self.new []) }
         ensures end { ends self.new ≡ ends self.old + met_end (length room.old) result }
         ensures failed { failed self.new ≡ raised (failed self.old) result }
         ensures budget { OnOk result (reads_left self.new < reads_left self.old) };
@@ -34,9 +34,9 @@ pub trait Line {
     /// Writes a front of the bytes, at least one where there are any, and says how many were written.
     fn write_some(&mut self, bytes: &[u8]) -> Result<usize, LineFailed>
         ensures bound { IfOk result (λ n. n ≤ length bytes.now) }
-        ensures some { IfOk result (λ n. 0 < length bytes.now → 0 < n) }
+        ensures makes_progress { IfOk result (λ n. 0 < length bytes.now → 0 < n) }
         ensures bytes { IfOk result (λ n. takes self.old self.new (take n bytes.now)) }
-        ensures err { OnErr result (takes self.old self.new []) }
+        ensures on_error { OnErr result (takes self.old self.new []) }
         ensures end { ends self.new ≡ ends self.old }
         ensures failed { failed self.new ≡ raised (failed self.old) result }
         ensures budget { reads_left self.new ≡ reads_left self.old };

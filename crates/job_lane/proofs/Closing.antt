@@ -3,9 +3,9 @@ use Rattle.std.proofs.Common.{◌≡◌, ℕ, ◌+◌, ◌-◌, ◌*◌, ◌^◌
 use Rattle.std.proofs.lemmas.List.{nil_from_length}
 use Rattle.std.proofs.lemmas.List.Elements.{All-nil, All-cons, All-head}
 use Rattle.crossbeam_queue.specs.Fifo.{Held}
-use Rattle.numbered_items.specs.Numbered.{AreRising, AreAllOf}
-use Rattle.numbered_items.proofs.Orders.{all_front, all_back}
-use Rattle.numbered_items.proofs.Numbered.{length-AreAllOf}
+use Rattle.log_positions.specs.Numbered.{AreRising, AreAllOf}
+use Rattle.log_positions.proofs.Orders.{all_front, all_back}
+use Rattle.log_positions.proofs.Numbered.{length-AreAllOf}
 use Rattle.job_lane.specs.declared.view.SeatView.{SeatView}
 use Rattle.job_lane.specs.Lane.{LaneName, SeatLists, IsWholeRun}
 use Rattle.job_lane.specs.Rule.{seat_view, with_seat, Counted}

@@ -1,9 +1,9 @@
 -- The laws of lanes.
 use Rattle.std.proofs.Common.{◌≡◌, ◌++◌, length, take, sym, ap, ◌∙◌, subst, arith, length-append}
 use Rattle.std.proofs.Math.Seq.{take-append_seam}
-use Rattle.numbered_items.specs.Numbered.{items_of, AreAllOf}
-use Rattle.numbered_items.proofs.Numbered.{length-AreAllOf, AreFrom-all, AreFrom-longer, Contains-from}
-use Rattle.numbered_items.proofs.Law.{in_order}
+use Rattle.log_positions.specs.Numbered.{items_of, AreAllOf}
+use Rattle.log_positions.proofs.Numbered.{length-AreAllOf, AreFrom-all, AreFrom-longer, Contains-from}
+use Rattle.log_positions.proofs.Law.{in_order}
 use Rattle.job_lane.specs.Law.{LoneSeatsKnow, PopsWerePushed, FirstInFirstOut, all_pushes, all_pops}
 
 pub lone_seats_know : LoneSeatsKnow

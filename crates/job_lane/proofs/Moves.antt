@@ -5,22 +5,22 @@ use lib.ListN.{get_elem?}
 use Rattle.crossbeam_queue.specs.Fifo as fifo
 use Rattle.crossbeam_queue.proofs.Lists.{at_set, at_snoc}
 use Rattle.std.proofs.lemmas.List.Sums.{sum_by_push}
-use Rattle.numbered_items.specs.Numbered.{AreAllOf}
-use Rattle.numbered_items.proofs.Shares.{sum-set, two_parts, each_set}
-use Rattle.numbered_items.proofs.Gathered.{gathered-only}
-use Rattle.numbered_items.proofs.Numbered.{AreAllOf-none, AreBelow-from, holder_from, holder_adds, holder_keeps, holder_comes, holder_takes_in}
+use Rattle.log_positions.specs.Numbered.{AreAllOf}
+use Rattle.log_positions.proofs.Shares.{sum-set, two_parts, each_set}
+use Rattle.log_positions.proofs.Gathered.{gathered-only}
+use Rattle.log_positions.proofs.Numbered.{AreAllOf-none, AreBelow-from, holder_from, holder_adds, holder_keeps, holder_comes, holder_takes_in}
 use Rattle.job_lane.specs.declared.job.Job.{Job}
 use Rattle.job_lane.specs.declared.view.SeatView.{SeatView}
-use Rattle.job_lane.specs.Lane.{Entry, IsInOrder}
+use Rattle.job_lane.specs.Lane.{NumberedJob, IsInOrder}
 use Rattle.job_lane.specs.Rule.{seat_view, Fits, IsLane, Pushes, Pops, Learned, Counted}
 
 abbrev parts_of : SeatView → ℕ
 parts_of v = v.parts
 
-abbrev pushes_of : SeatView → List Entry
+abbrev pushes_of : SeatView → List NumberedJob
 pushes_of v = v.pushes
 
-abbrev pops_of : SeatView → List Entry
+abbrev pops_of : SeatView → List NumberedJob
 pops_of v = v.pops
 
 -- who has nothing fits

@@ -1,8 +1,8 @@
 -- What a step tells keeps what a seat's type says.
 use Rattle.std.proofs.Common.{◌≡◌, ℕ, ◌+◌, [], ◌∷◌, ◌++◌, length, Option, Some, None, MatchOption, IfSome, sym, ap, subst, arith, length-append}
 use Rattle.crossbeam_queue.specs.Fifo.{Held}
-use Rattle.numbered_items.specs.Numbered.{AreBelow, AreRising}
-use Rattle.numbered_items.proofs.Numbered.{AreRising-push}
+use Rattle.log_positions.specs.Numbered.{AreBelow, AreRising}
+use Rattle.log_positions.proofs.Numbered.{AreRising-push}
 use Rattle.job_lane.specs.declared.job.Job.{Job}
 use Rattle.job_lane.specs.declared.view.SeatView.{SeatView}
 use Rattle.job_lane.specs.Lane.{IsMoment}

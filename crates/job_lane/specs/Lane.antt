@@ -3,12 +3,12 @@
 use Rattle.std.specs.Prelude.{◌≡◌, ℕ, List, [], ◌++◌, length, flat_map, All}
 use Rattle.atomic_table.specs.Seated.{TableId}
 use Rattle.crossbeam_queue.specs.Fifo.{Held}
-use Rattle.numbered_items.specs.Numbered.{AreRising, AreFrom, AreAllOf}
+use Rattle.log_positions.specs.Numbered.{AreRising, AreFrom, AreAllOf}
 use Rattle.job_lane.specs.declared.job.Job.{Job}
 
 -- a job with its number
-abbrev pub Entry : Type 0
-Entry = ℕ × Job
+abbrev pub NumberedJob : Type 0
+NumberedJob = ℕ × Job
 
 -- which lane it is, and how many seats it was opened with
 pub record LaneName : Type 0 where
@@ -23,8 +23,8 @@ pub record LaneShape : Type 0 where
 -- a seat: whose it is, what it pushed and what it popped, each in its order
 pub record SeatLists : Type 0 where
   pub lane : LaneName
-  pub pushes : List Entry
-  pub pops : List Entry
+  pub pushes : List NumberedJob
+  pub pops : List NumberedJob
 
 -- a lane's name
 abbrev pub lane_name : TableId → ℕ → LaneName
@@ -35,13 +35,13 @@ abbrev pub new_seat : LaneName → SeatLists
 new_seat lane = record { lane = lane; pushes = []; pops = [] }
 
 -- the jobs that were popped, and then those that the lane holds, are all that were pushed, in order
-pub record IsInOrder (pushes pops : List Entry) (gone held : List Job) : Type 0 where
+pub record IsInOrder (pushes pops : List NumberedJob) (gone held : List Job) : Type 0 where
   pub pushed : AreAllOf (gone ++ held) pushes
   pub popped : AreAllOf gone pops
 
 -- a moment at which the lane held these jobs, as a seat knows it that had then done what it did: each job that it
 -- pushed is among all that were pushed, each that it popped among all that were popped. A lane's only seat did it all
-pub record IsMoment (seats : ℕ) (pushes pops : List Entry) (held : List Job) : Type 0 where
+pub record IsMoment (seats : ℕ) (pushes pops : List NumberedJob) (held : List Job) : Type 0 where
   pub gone : List Job
   pub pushed : AreFrom (gone ++ held) pushes
   pub popped : AreFrom gone pops

@@ -1,7 +1,7 @@
--- Laws of lanes.
+-- Laws of lanes. This project's own rule.
 use Rattle.std.specs.Prelude.{◌≡◌, ℕ, ◌+◌, List, length, take, flat_map, All, Contains}
-use Rattle.numbered_items.specs.Numbered.{items_of, AreRising}
-use Rattle.job_lane.specs.Lane.{Entry, SeatLists, WasFull, WasEmpty, IsWholeRun}
+use Rattle.log_positions.specs.Numbered.{items_of, AreRising}
+use Rattle.job_lane.specs.Lane.{NumberedJob, SeatLists, WasFull, WasEmpty, IsWholeRun}
 
 -- where a lane's only seat found it full, it had pushed as many more as the lane holds, and where it found it empty, it
 -- had popped all
@@ -11,11 +11,11 @@ LoneSeatsKnow = (capacity : ℕ) (s : SeatLists) → s.lane.seats ≡ 1 →
     × (WasEmpty s → length s.pushes ≡ length s.pops)
 
 -- the pushes and the pops of all seats
-abbrev pub all_pushes : List SeatLists → List Entry
+abbrev pub all_pushes : List SeatLists → List NumberedJob
 all_pushes seats = flat_map (λ s. s.pushes) seats
 
 -- their pops
-abbrev pub all_pops : List SeatLists → List Entry
+abbrev pub all_pops : List SeatLists → List NumberedJob
 all_pops seats = flat_map (λ s. s.pops) seats
 
 -- what was popped was pushed, under the same number, and what was pushed and not popped is left

@@ -1,14 +1,15 @@
--- The rule of the queue under a lane, which its passes keep: the machine that `specs/Lane` is proved by.
+-- The rule of the queue under a lane, which its passes keep: the machine that `specs/Lane` is proved by. This project's
+-- own rule.
 use Rattle.std.specs.Prelude.{◌≡◌, ℕ, ◌+◌, ◌<◌, List, [], ◌∷◌, ◌++◌, sum_by, flat_map}
 use mathlib.Core.Option.{some}
 use lib.ListN.{get_elem?}
-use Rattle.numbered_items.specs.Numbered.{AreBelow}
+use Rattle.log_positions.specs.Numbered.{AreBelow}
 use Rattle.job_lane.specs.declared.job.Job.{Job}
 use Rattle.job_lane.specs.declared.view.SeatView.{SeatView}
-use Rattle.job_lane.specs.Lane.{Entry, SeatLists, IsInOrder, IsMoment}
+use Rattle.job_lane.specs.Lane.{NumberedJob, SeatLists, IsInOrder, IsMoment}
 
 -- what a pass knows: its parts, the parts of all, its pushes and its pops
-abbrev pub seat_view : ℕ → ℕ → List Entry → List Entry → SeatView
+abbrev pub seat_view : ℕ → ℕ → List NumberedJob → List NumberedJob → SeatView
 seat_view parts whole pushes pops = record { parts = parts; whole = whole; pushes = pushes; pops = pops }
 
 -- who has a part knows how many there are, and who has none did nothing

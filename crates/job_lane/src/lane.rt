@@ -2,7 +2,7 @@
 
 ghost use Rattle.std.specs.Prelude.{◌≡◌, ℕ, ◌+◌, ◌^◌, ◌<◌, ◌≤◌, ◌⊎◌, ◌++◌, ◌∷◌, [], length, All, OnOk, IfErr, IfOk, IfSome, IfNone, vec_len, replicate};
 ghost use Rattle.crossbeam_queue.specs.Passes.{view as known, IsPassOf};
-ghost use Rattle.numbered_items.specs.Numbered.{AreBelow, AreRising};
+ghost use Rattle.log_positions.specs.Numbered.{AreBelow, AreRising};
 ghost use Rattle.job_lane.specs.Lane.{lane_name, new_seat, WasFull, WasEmpty, IsWholeRun};
 ghost use Rattle.job_lane.specs.Rule.{seat_view, with_seat};
 
@@ -134,7 +134,7 @@ impl Lane {
     pub fn close<R: Wait>(self, rt: &R, keeper: LaneKeeper, mut seats: Vec<LaneSeat>) -> LaneTotals
         requires keeper { keeper ≡ self.name }
         requires all { vec_len seats ≡ keeper.seats }
-        requires ours { All (λ s. s.lane ≡ keeper) seats.items }
+        requires same_lane { All (λ s. s.lane ≡ keeper) seats.items }
         ensures run { IsWholeRun seats.items result.taken result.left }
         ensures pushed { result.pushed ≡ result.taken + result.left }
         ensures left { result.left ≤ self.capacity }

@@ -6,7 +6,7 @@
 //! pushed once and popped once or not at all, first in first out, and how many were left (`specs/Lane`).
 //!
 //! It stands on `crossbeam_queue`'s queue under a rule of the caller's (`specs/Rule`), on `bytes`, and on
-//! `numbered_items`. The rule of the lane is this project's own.
+//! `log_positions`. The rule of the lane is this project's own.
 #![tactic(auto)]
 
 ghost use Rattle.std.specs.Prelude.{◌≡◌, ◌↔◌, true};

@@ -27,7 +27,7 @@ impl Model for LaneSeat {
 
     ghost use Rattle.std.specs.Prelude.{◌≡◌, ◌≤◌, ◌^◌, length, []};
     ghost use Rattle.crossbeam_queue.specs.Passes.{view as known};
-    ghost use Rattle.numbered_items.specs.Numbered.{AreRising};
+    ghost use Rattle.log_positions.specs.Numbered.{AreRising};
     ghost use Rattle.job_lane.specs.Lane.{lane_name};
 
     ghost view = { λ s. record {

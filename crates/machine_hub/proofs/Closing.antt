@@ -5,7 +5,7 @@ use Rattle.std.specs.List.{cons_option}
 use Rattle.std.proofs.lemmas.List.{append-nil, length-map, reverse-reverse, reverse-append}
 use Rattle.std.proofs.lemmas.List.Sums.{sum_by-cons}
 use Rattle.atomic_table.specs.Seated.{TableId}
-use Rattle.numbered_items.specs.Numbered.{AreRising, AreAllOf}
+use Rattle.log_positions.specs.Numbered.{AreRising, AreAllOf}
 use Rattle.machine_hub.specs.declared.view.Home.{Home}
 use Rattle.machine_hub.specs.declared.view.Standing.{Standing}
 use Rattle.machine_hub.specs.Slot.{stored}

@@ -6,10 +6,10 @@ use Rattle.crossbeam_queue.specs.Fifo as fifo
 use Rattle.crossbeam_queue.proofs.Lists.{at_set, at_snoc}
 use Rattle.std.proofs.lemmas.List.{nil_from_length}
 use Rattle.std.proofs.lemmas.List.Sums.{sum_by_push}
-use Rattle.numbered_items.specs.Numbered.{AreFrom, AreAllOf}
-use Rattle.numbered_items.proofs.Shares.{sum-set, sum-only, part_of, two_parts, each_set}
-use Rattle.numbered_items.proofs.Gathered.{gathered-only}
-use Rattle.numbered_items.proofs.Numbered.{AreAllOf-none, holder_from, holder_adds, holder_keeps, holder_comes, holder_takes_in}
+use Rattle.log_positions.specs.Numbered.{AreFrom, AreAllOf}
+use Rattle.log_positions.proofs.Shares.{sum-set, sum-only, part_of, two_parts, each_set}
+use Rattle.log_positions.proofs.Gathered.{gathered-only}
+use Rattle.log_positions.proofs.Numbered.{AreAllOf-none, holder_from, holder_adds, holder_keeps, holder_comes, holder_takes_in}
 use Rattle.machine_hub.specs.declared.entry.Entry.{Entry}
 use Rattle.machine_hub.specs.declared.view.Home.{Home}
 use Rattle.machine_hub.specs.declared.view.SlotView.{SlotView}
@@ -35,7 +35,7 @@ module _ {M S O : Type 0} (steps : M → S → O → M → Type 0) where
   none_held None e = refl
   none_held (Some s) e = absurd (omega arith)
 
-  -- who has the machine out has it as it stands, the slot is empty, and no other has it
+  -- who has the machine out has it stands, the slot is empty, and no other has it
   record IsHolding (items : List (Standing M S O)) (views : List (SlotView M S O)) (h : IsSlot steps items views) (i : ℕ) (v : SlotView M S O) (old : Standing M S O) : Type 0 where
     empty : items ≡ []
     state : IsState steps h.home h.entries h.stopped old

@@ -1,8 +1,8 @@
 -- What a step tells of a seat.
 use Rattle.std.proofs.Common.{◌≡◌, ℕ, ◌<◌, List, [], ◌∷◌, ◌++◌, length, Bool, true, false, true≢false, Option, Some, None, refl, sym, ap, ◌∙◌, subst, arith}
 use Rattle.atomic_table.specs.Seated.{TableId}
-use Rattle.numbered_items.specs.Numbered.{AreBelow, AreRising}
-use Rattle.numbered_items.proofs.Numbered.{AreBelow-from, AreRising-push}
+use Rattle.log_positions.specs.Numbered.{AreBelow, AreRising}
+use Rattle.log_positions.proofs.Numbered.{AreBelow-from, AreRising-push}
 use Rattle.machine_hub.specs.declared.entry.Entry.{Entry}
 use Rattle.machine_hub.specs.declared.view.Home.{Home}
 use Rattle.machine_hub.specs.declared.view.SlotView.{SlotView}

@@ -1,8 +1,9 @@
 -- What contracts see of a hub of machines, of its callers, and of what all their calls tell of the machines at the end.
+-- This project's own rule.
 use Rattle.std.specs.Prelude.{◌≡◌, ℕ, ◌<◌, List, [], ◌∷◌, map, flat_map, sum_by, length, Bool, true, false, Option, Some, option_map, slice_get, slice_set, All}
 use Rattle.std.specs.List.{filter_map}
 use Rattle.atomic_table.specs.Seated.{TableId}
-use Rattle.numbered_items.specs.Numbered.{AreRising, AreAllOf}
+use Rattle.log_positions.specs.Numbered.{AreRising, AreAllOf}
 use Rattle.machine_hub.specs.declared.entry.Entry.{Entry}
 use Rattle.machine_hub.specs.declared.view.Home.{Home}
 use Rattle.machine_hub.specs.declared.view.Standing.{Standing}

@@ -1,4 +1,5 @@
--- The keepers of a hub's shards while its callers are taken in, by which `specs/Hub` is proved.
+-- The keepers of a hub's shards while its callers are taken in, by which `specs/Hub` is proved. This project's own
+-- rule.
 use Rattle.std.specs.Prelude.{◌≡◌, ℕ, ◌<◌, List, [], ◌∷◌, ◌++◌, length, map, replicate}
 use Rattle.atomic_table.specs.Seated.{TableId}
 use Rattle.machine_hub.specs.declared.view.Home.{Home}

@@ -1,4 +1,4 @@
--- Runs of a state machine, as its log has them.
+-- Runs of a state machine, as its log has them. This project's own rule.
 use Rattle.std.specs.Prelude.{◌≡◌, ℕ, List, [], ◌∷◌, ◌++◌, length, Bool, true, false, Option, Some, None}
 use Rattle.machine_hub.specs.declared.entry.Entry.{Entry}
 use Rattle.machine_hub.specs.declared.view.Standing.{Standing}

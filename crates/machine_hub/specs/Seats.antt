@@ -1,7 +1,7 @@
--- What contracts see of a slot, its seats and its keeper.
+-- What contracts see of a slot, its seats and its keeper. This project's own rule.
 use Rattle.std.specs.Prelude.{◌≡◌, ℕ, ◌+◌, ◌<◌, List, [], ◌∷◌, ◌++◌, length, Bool, true, false, Option, Some, None}
 use Rattle.atomic_table.specs.Seated.{TableId}
-use Rattle.numbered_items.specs.Numbered.{AreBelow, AreFrom, AreAllOf}
+use Rattle.log_positions.specs.Numbered.{AreBelow, AreFrom, AreAllOf}
 use Rattle.machine_hub.specs.declared.entry.Entry.{Entry}
 use Rattle.machine_hub.specs.declared.view.Home.{Home}
 use Rattle.machine_hub.specs.declared.view.SlotView.{SlotView}

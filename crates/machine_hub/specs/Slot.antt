@@ -1,10 +1,10 @@
 -- The rule of a slot: it holds a machine with its log, or one seat has it out. The machine that `specs/Seats` is proved
 -- by. What the machine did is known whether or not its log keeps: a machine that a seat has out is known with the
--- entries of all steps that it made until it was refused memory.
+-- entries of all steps that it made until it was refused memory. This project's own rule.
 use Rattle.std.specs.Prelude.{◌≡◌, ℕ, ◌+◌, ◌-◌, ◌^◌, ◌<◌, List, [], ◌∷◌, ◌++◌, length, Bool, true, false, Option, Some, None, IfSome, sum_by, flat_map}
 use mathlib.Core.Option.{some}
 use lib.ListN.{get_elem?}
-use Rattle.numbered_items.specs.Numbered.{AreFrom, AreAllOf}
+use Rattle.log_positions.specs.Numbered.{AreFrom, AreAllOf}
 use Rattle.machine_hub.specs.declared.entry.Entry.{Entry}
 use Rattle.machine_hub.specs.declared.view.Home.{Home}
 use Rattle.machine_hub.specs.declared.view.SlotView.{SlotView}

@@ -55,7 +55,7 @@ impl<M: Machine, L: StepLog<M>> Hub<M, L> {
         ensures keeper { IfOk result (λ r. r.1 ≡ keeping r.0 (homes_of machines.items) callers) }
         ensures callers { IfOk result (λ r.
             r.2.items ≡ replicate callers (new_caller r.0 (homes_of machines.items))) }
-        ensures mine { IfOk result (λ r. AreCallersOf r.0 r.2.items) }
+        ensures same_hub { IfOk result (λ r. AreCallersOf r.0 r.2.items) }
     {
         let room = Vec::with_capacity(alloc, machines.len())?;
         let opening = open_all(rt, alloc, machines, callers)?;
@@ -91,10 +91,10 @@ impl<M: Machine, L: StepLog<M>> Hub<M, L> {
         call: M::Call,
     ) -> Result<(M::Outcome, Option<Receipt>), AllocError>
         requires shard { shard < length self.now }
-        requires mine { slots_of me.old ≡ self.now }
-        ensures mine { slots_of me.new ≡ self.now }
+        requires same_hub { slots_of me.old ≡ self.now }
+        ensures same_hub { slots_of me.new ≡ self.now }
         ensures call { IfOk result (λ r. IsCallOn M.asks M.steps me.old me.new shard call r.0 r.1) }
-        ensures refused { OnErr result (IsRefusedOn me.old me.new shard) }
+        ensures on_refusal { OnErr result (IsRefusedOn me.old me.new shard) }
     {
         let seat = &mut me.seats[shard];
         let (outcome, given) = self.shards[shard].step(rt, alloc, seat, call)?;
@@ -112,8 +112,8 @@ impl<M: Machine, L: StepLog<M>> Hub<M, L> {
         question: &M::Question,
     ) -> Told
         requires shard { shard < length self.now }
-        requires mine { slots_of me.old ≡ self.now }
-        ensures told { IsToldOn M.steps M.is_so me.old shard question.now result }
+        requires same_hub { slots_of me.old ≡ self.now }
+        ensures answer { IsToldOn M.steps M.is_so me.old shard question.now result }
         ensures same { me.new ≡ me.old }
     {
         let seat = &mut me.seats[shard];

@@ -8,7 +8,7 @@
 //! run of its machine from what it was at first, and that each entry is one call's (`specs/Hub`).
 //!
 //! It stands on `crossbeam_queue`'s queue under a rule of the caller's, whose one place holds the machine while nobody
-//! steps it, beside a lock on which threads wait, and on `numbered_items`. The rule is this project's own.
+//! steps it, beside a lock on which threads wait, and on `log_positions`. The rule is this project's own.
 #![tactic(auto)]
 
 ghost use Rattle.std.specs.Prelude.{◌≡◌, ◌↔◌, true};

@@ -33,5 +33,5 @@ pub trait StepLog<M: Machine>: Drop + Send {
         ensures same { keeping self.new ≡ keeping self.old }
         ensures kept { IfOk result (λ kept. (arc_value kept ≡ entry)
             × ((keeping self.old ≡ true) → entries self.new ≡ entries self.old ++ entry ∷ [])) }
-        ensures refused { OnErr result (entries self.new ≡ entries self.old) };
+        ensures on_refusal { OnErr result (entries self.new ≡ entries self.old) };
 }

@@ -76,7 +76,7 @@ impl<M: Machine, L: StepLog<M>> LoggedMachine<M, L> {
     ) -> Result<(M::Outcome, Given<M>), AllocError>
         ensures made { IfOk result (λ r. IsMade M.asks M.steps call self.old self.new r.0
             (option_map (λ given. (given.0, arc_value given.1)) r.1)) }
-        ensures refused { OnErr result ((self.new.entries ≡ self.old.entries) × (self.new.stopped ≡ true)) }
+        ensures on_refusal { OnErr result ((self.new.entries ≡ self.old.entries) × (self.new.stopped ≡ true)) }
         ensures same { (self.new.number ≡ self.old.number) × (self.new.keeps ≡ self.old.keeps) }
     {
         if self.stopped {
@@ -99,7 +99,7 @@ impl<M: Machine, L: StepLog<M>> LoggedMachine<M, L> {
         requires { self.old.stopped ≡ false }
         ensures made { IfOk result (λ r. IsMade M.asks M.steps call self.old self.new r.0
             (option_map (λ given. (given.0, arc_value given.1)) r.1)) }
-        ensures refused { OnErr result (self.new.entries ≡ self.old.entries) }
+        ensures on_refusal { OnErr result (self.new.entries ≡ self.old.entries) }
         ensures same { (self.new.number ≡ self.old.number) × (self.new.keeps ≡ self.old.keeps) }
     {
         self.log.room(alloc, self.number)?;

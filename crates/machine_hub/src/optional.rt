@@ -65,7 +65,7 @@ impl<M: Machine> StepLog<M> for OptionalLog<M> {
             map arc_value self.new.kept.items ≡ map arc_value self.old.kept.items ++ entry ∷ [])) }
         ensures nothing { (self.old.keeps ≡ false) →
             map arc_value self.new.kept.items ≡ map arc_value self.old.kept.items }
-        ensures refused { OnErr result (map arc_value self.new.kept.items ≡ map arc_value self.old.kept.items) }
+        ensures on_refusal { OnErr result (map arc_value self.new.kept.items ≡ map arc_value self.old.kept.items) }
     {
         let theirs = Arc::new(alloc, entry)?;
         if self.keeps {

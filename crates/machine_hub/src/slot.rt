@@ -3,7 +3,7 @@
 ghost use Rattle.std.specs.Prelude.{◌≡◌, ◌+◌, ◌<◌, [], length, true, false, Some, None, IfOk, IfSome, OnErr, replicate, option_map};
 ghost use Rattle.std.specs.Arc.{arc_value};
 ghost use Rattle.crossbeam_queue.specs.Passes.{view as known, IsPassOf, IsSamePass, ruled_capacity};
-ghost use Rattle.numbered_items.specs.Numbered.{AreRising};
+ghost use Rattle.log_positions.specs.Numbered.{AreRising};
 ghost use Rattle.machine_hub.specs.Slot.{seat_view, home_of, Taken, Stepped, Stopped, Returned, IsSteppedBy, IsStoppedBy, IsReturnedBy};
 ghost use Rattle.machine_hub.specs.Seats.{new_seat, new_keeper, keeper_with, seat_refused, IsStepOf, WasTold, IsWholeRun, with_seat};
 
@@ -36,7 +36,7 @@ impl<M: Machine, L: StepLog<M>> Model for SlotSeat<M, L> {
 
     ghost use Rattle.std.specs.Prelude.{◌≡◌, [], None};
     ghost use Rattle.crossbeam_queue.specs.Passes.{view as known};
-    ghost use Rattle.numbered_items.specs.Numbered.{AreRising};
+    ghost use Rattle.log_positions.specs.Numbered.{AreRising};
 
     ghost view = { λ s. record {
       slot = s.pass.table_id;
@@ -159,7 +159,7 @@ impl<M: Machine, L: StepLog<M>> Slot<M, L> {
         requires { me.old.slot ≡ self.now }
         ensures made { IfOk result (λ r. IsStepOf M.asks M.steps me.old me.new call r.0
             (option_map (λ given. (given.0, arc_value given.1)) r.1)) }
-        ensures refused { OnErr result (me.new ≡ seat_refused me.old) }
+        ensures on_refusal { OnErr result (me.new ≡ seat_refused me.old) }
     {
         let _guard = self.gate.lock(rt);
         let mut machine = take(rt, &self.cell, &mut me.pass);
@@ -178,7 +178,7 @@ impl<M: Machine, L: StepLog<M>> Slot<M, L> {
     /// Whether the question's answer is yes. It makes no step, and the machine's log has nothing of it.
     pub fn ask<R: Wait>(&self, rt: &R, me: &mut SlotSeat<M, L>, question: &M::Question) -> Told
         requires { me.old.slot ≡ self.now }
-        ensures told { WasTold M.steps M.is_so me.old question.now result }
+        ensures answer { WasTold M.steps M.is_so me.old question.now result }
         ensures same { me.new ≡ me.old }
     {
         let _guard = self.gate.lock(rt);

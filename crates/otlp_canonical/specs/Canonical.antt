@@ -1,4 +1,5 @@
 -- What it means that a text is a message's canonical text: it is written of a value, and it is read as that very value.
+-- Canonical text is that of `otlp_trace`'s Text, in the proto3 encoding.
 use Rattle.std.specs.Prelude.{◌≡◌, Ok, ℕ, List, ◌++◌}
 use Rattle.otlp_trace.specs.Data.{ResourceData, ScopeData, SpanData, RequestData}
 use Rattle.otlp_trace.specs.Text.{span_text, resource_text, scope_text, request_text}

@@ -1,4 +1,5 @@
--- Texts that are written of a value, whole or at the front.
+-- Texts that are written of a value, whole or at the front. Canonical text is that of `otlp_trace`'s Text, in the
+-- proto3 encoding.
 use Rattle.std.specs.Prelude.{◌≡◌, List, ℕ, ◌++◌}
 
 -- the text is what is written of a sound value

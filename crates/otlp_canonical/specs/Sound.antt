@@ -1,5 +1,6 @@
 -- Values that the types of the code hold and a reader takes: strings are UTF-8, numbers fit their widths, and messages
--- are nested no deeper than there is room for.
+-- are nested no deeper than there is room for (the proto3 language guide, "Scalar Value Types"; how deep they are
+-- nested is this project's own rule).
 use Rattle.std.specs.Prelude.{ℕ, ◌<◌, ◌^◌, FitsSigned, IfSome}
 use Rattle.std.specs.Int.{w32}
 use Rattle.std.specs.Str.{IsUtf8}

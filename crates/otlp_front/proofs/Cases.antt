@@ -3,7 +3,7 @@ use Rattle.std.proofs.Common.{◌≡◌, ℕ, Bool, true, false, cond, not, List
 use Rattle.std.proofs.lemmas.Slice.Eq.{bytes_eq-Decides}
 use Rattle.http1.specs.Fields.{Header, values_named}
 use Rattle.http1.specs.Text.{eq_ignore_case}
-use Rattle.http_edge.specs.Message.{Request, Answer}
+use Rattle.http_edge.specs.Message.{Request, Response}
 use Rattle.http_edge.specs.Fields.{single, field, only}
 use Rattle.otlp_front.specs.Target.{path_of, is_for_traces}
 use Rattle.otlp_front.specs.Fields.{media_type, is_protobuf, has_protobuf, are_plain}
@@ -11,13 +11,13 @@ use Rattle.otlp_front.specs.Route.{Names, Route, post, refuse, no_such_path, met
 use Rattle.otlp_front.specs.Passes.{IsPostTo, PostsPass}
 
 -- two tests, and what comes after them
-tests_passed : (p m : Bool) (a b : Answer) (rest : Route) (t : ℕ)
+tests_passed : (p m : Bool) (a b : Response) (rest : Route) (t : ℕ)
     → cond (not p) (refuse a) (cond (not m) (refuse b) rest) ≡ post t → (p ≡ true) × (m ≡ true) × (rest ≡ post t)
 tests_passed false m a b rest t e = cc
 tests_passed true false a b rest t e = cc
 tests_passed true true a b rest t e = (refl, refl, e)
 
-tests_pass : (p m : Bool) (a b : Answer) (rest : Route) (t : ℕ) → p ≡ true → m ≡ true → rest ≡ post t
+tests_pass : (p m : Bool) (a b : Response) (rest : Route) (t : ℕ) → p ≡ true → m ≡ true → rest ≡ post t
     → cond (not p) (refuse a) (cond (not m) (refuse b) rest) ≡ post t
 tests_pass p m a b rest t x y e = rw (x, y) e
 

@@ -11,7 +11,8 @@ use Rattle.http_edge.specs.Fields.{field, only}
 abbrev pub media_type : List ℕ → List ℕ
 media_type value = trim_ows (before_first (λ b. b == 59) value)
 
--- the one `Content-Type` is that of Protocol Buffers in OTLP/HTTP, in any case and with any parameters
+-- the one `Content-Type` is that of Protocol Buffers in OTLP/HTTP, in any case and with any parameters (OTLP/HTTP,
+-- "Binary Protobuf Encoding")
 abbrev pub is_protobuf : Option (List ℕ) → Bool
 is_protobuf None = false
 is_protobuf (Some value) = eq_ignore_case (media_type value) (codes "application/x-protobuf")
@@ -28,6 +29,6 @@ is_identity coding = eq_ignore_case coding (codes "identity")
 abbrev pub is_plain : Header → Bool
 is_plain h = not (is_named (codes "content-encoding") h) || is_identity h.1
 
--- no `Content-Encoding` says that the content is coded: nothing is decompressed here
+-- no `Content-Encoding` says that the content is coded: nothing is decompressed here (RFC 9110, section 8.4)
 abbrev pub are_plain : List Header → Bool
 are_plain headers = list_all is_identity (values_named (codes "content-encoding") headers)

@@ -1,4 +1,5 @@
--- What a post is, told as a whole and not in the order of the rules.
+-- What a post is, told as a whole and not in the order of the rules. The rules are those of Route, after OTLP/HTTP
+-- Request and RFC 9110.
 use Rattle.std.specs.Prelude.{◌≡◌, ◌↔◌, ℕ, List, [], ◌∷◌, Some, codes, IsTrue}
 use Rattle.http1.specs.Text.{eq_ignore_case}
 use Rattle.http1.specs.Fields.{values_named}

@@ -1,8 +1,10 @@
 -- Which tenant a request is for, and why one is for none. The first rule that fails settles the answer, in this order:
--- path, method, tenant, content type, content encoding.
+-- path, method, tenant, content type, content encoding. Paths and methods are of OTLP/HTTP (OTLP/HTTP Request), content
+-- and codings of RFC 9110, sections 8.3 and 8.4; the field that names a tenant, and the order, are this project's own
+-- rule.
 use Rattle.std.specs.Prelude.{ℕ, Bool, not, List, map, position, Option, Some, None, option_and_then, if◌then◌else◌, codes, bytes_eq}
 use Rattle.http1.specs.Fields.{Header}
-use Rattle.http_edge.specs.Message.{Request, Answer}
+use Rattle.http_edge.specs.Message.{Request, Response}
 use Rattle.http_edge.specs.Reply.{status_body}
 use Rattle.http_edge.specs.Fields.{field, only}
 use Rattle.tail_settings.specs.Settings.{SettingsData}
@@ -21,30 +23,30 @@ names_in s = record { header = s.global.tenant_header; tenants = map (λ t. t.na
 -- where a request goes: to the tenant of this number, or nowhere, with this answer
 pub data Route : Type 0 where
   post : ℕ → Route
-  refuse : Answer → Route
+  refuse : Response → Route
 
 -- a refusal: OTLP/HTTP has a `google.rpc.Status` in each
-abbrev pub refused : ℕ → List ℕ → Answer
+abbrev pub refused : ℕ → List ℕ → Response
 refused status message = record { status = status; body = status_body message }
 
 -- the path is none to which anything is posted (404, RFC 9110, section 15.5.5)
-abbrev pub no_such_path : Answer
+abbrev pub no_such_path : Response
 no_such_path = refused 404 (codes "no such path")
 
 -- the method isn't POST (405, RFC 9110, section 15.5.6)
-abbrev pub method_not_allowed : Answer
+abbrev pub method_not_allowed : Response
 method_not_allowed = refused 405 (codes "method not allowed")
 
 -- no field names the tenant, more than one does, or there is no tenant of that name (403, RFC 9110, section 15.5.4)
-abbrev pub unknown_tenant : Answer
+abbrev pub unknown_tenant : Response
 unknown_tenant = refused 403 (codes "unknown tenant")
 
 -- the content isn't in Protocol Buffers' encoding (415, RFC 9110, section 15.5.16)
-abbrev pub unsupported_type : Answer
+abbrev pub unsupported_type : Response
 unsupported_type = refused 415 (codes "unsupported content type")
 
 -- the content is compressed (415, RFC 9110, section 15.5.16)
-abbrev pub unsupported_encoding : Answer
+abbrev pub unsupported_encoding : Response
 unsupported_encoding = refused 415 (codes "unsupported content encoding")
 
 -- OTLP/HTTP posts; methods are told apart by case (RFC 9110, section 9.1)

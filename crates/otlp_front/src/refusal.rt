@@ -1,8 +1,8 @@
 //! Why a message goes to no tenant, and what its sender is told.
 
 ghost use Rattle.std.specs.Prelude.{◌≡◌, IfOk};
-ghost use Rattle.http_edge.specs.Seen.{answer_of};
-ghost use Rattle.otlp_front.specs.Seen.{answer_for};
+ghost use Rattle.http_edge.specs.Seen.{response_of};
+ghost use Rattle.otlp_front.specs.Seen.{response_for};
 
 use http_edge::Reply;
 use std::alloc::{AllocError, Global};
@@ -31,7 +31,7 @@ pub enum RouteRefusal {
 impl RouteRefusal {
     /// The status code of the reply (RFC 9110, section 15).
     pub fn status(self) -> u16
-        ensures { result ≡ (answer_for self).status }
+        ensures { result ≡ (response_for self).status }
     {
         match self {
             RouteRefusal::NoSuchPath => 404,
@@ -43,7 +43,7 @@ impl RouteRefusal {
 
     /// The content of the reply: a `google.rpc.Status` with the message alone.
     pub fn body(self) -> &'static [u8]
-        ensures { result.now ≡ (answer_for self).body }
+        ensures { result.now ≡ (response_for self).body }
     {
         match self {
             RouteRefusal::NoSuchPath => b"\x12\x0cno such path",
@@ -56,7 +56,7 @@ impl RouteRefusal {
 
     /// The reply. Where memory is refused, a 503 without a body takes none.
     pub fn reply(self, alloc: Global) -> Result<Reply, AllocError>
-        ensures { IfOk result (λ reply. answer_of reply ≡ answer_for self) }
+        ensures { IfOk result (λ reply. response_of reply ≡ response_for self) }
     {
         Ok(Reply {
             status: self.status(),

@@ -1,5 +1,5 @@
 -- A body read so that of its messages only texts are kept: what the code follows, field by field. The rules are those
--- of `otlp_read`'s Value.
+-- of `otlp_read`'s Value. So they are those of the proto3 encoding.
 use Rattle.std.specs.Prelude.{ℕ, ◌+◌, ◌-◌, ◌^◌, ◌==◌, min, if◌then◌else◌, List, [], ◌∷◌, ◌++◌, Option, Some, None, option_map, Result, Ok}
 use Rattle.pb_wire.specs.Grammar.{Bytes}
 use Rattle.otlp_trace.specs.Data.{SpanData, ScopeData, ResourceData}

@@ -1,4 +1,4 @@
--- What the types of the code stand for, without where their bytes lie in memory.
+-- What the types of the code stand for, without where their bytes lie in memory. This project's own rule.
 use Rattle.std.specs.Prelude.{map, Option, Some, None}
 use Rattle.otlp_trace.specs.Data.{ScopeData, ResourceData}
 use Rattle.otlp_parts.specs.ReadAs.{scope_of, resource_of, scope_among, resource_among}

@@ -1,5 +1,6 @@
 -- What a body's reader makes of a text that stands in the body: a span's and a scope's message is at depth 3, a
--- resource's and a scope spans' at depth 2, a resource spans' at depth 1.
+-- resource's and a scope spans' at depth 2, a resource spans' at depth 1. Which message holds which is of OTLP 1.x's
+-- trace.proto; the depths are this project's own rule.
 use Rattle.std.specs.Prelude.{◌≡◌, ◌≤◌, ◌-◌, ℕ, List, length, slice_range, Option, Some, Result, Ok, Err}
 use Rattle.otlp_trace.specs.Data.{SpanData, ResourceData, ScopeData, ScopeSpansData, ResourceSpansData}
 use Rattle.otlp_read.specs.declared.fault.ReadFault.{ReadFault}

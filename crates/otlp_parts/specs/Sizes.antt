@@ -1,4 +1,4 @@
--- How many bytes the texts of parts have.
+-- How many bytes the texts of parts have. This project's own rule.
 use Rattle.std.specs.Prelude.{ℕ, ◌+◌, List, length, Option, Some, None}
 use Rattle.std.specs.List.{sum_by}
 use Rattle.otlp_parts.specs.Texts.{ScopeTexts, ResourceTexts, BodyTexts}

@@ -46,7 +46,7 @@ fn with_resource_spans(
     requires within { end ≤ length text.now }
     ensures exact { Gives body_parts_view result
         (resource_spans_onto (body_parts_view before) (slice_range text.now start end)) }
-    ensures held { IfOk result (λ after. sliced.new + body_size (body_parts_view before)
+    ensures sliced_within { IfOk result (λ after. sliced.new + body_size (body_parts_view before)
         ≤ sliced.old + body_size (body_parts_view after)) }
 {
     let inside = text.slice(start..end)?;

@@ -16,7 +16,7 @@ const HEAD: usize = 11;
 
 /// Bytes as the one field of a text.
 pub fn as_field(alloc: Global, number: u32, bytes: &[u8]) -> Result<Vec<u8>, ReadFault>
-    requires some { 0 < number }
+    requires number_not_zero { 0 < number }
     requires fits { number < 2 ^ 29 }
     ensures exact { Gives (λ field. field.items) result (Ok (bytes_field number bytes.now)) }
     ensures short { length bytes.now < 2 ^ 64 }

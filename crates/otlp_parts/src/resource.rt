@@ -133,7 +133,7 @@ fn resource_part(
     sliced: &mut usize,
 ) -> Result<Option<Bytes>, ReadFault>
     ensures exact { Gives (λ text. text) result (Ok (option_map resource_text (found_resource_view found))) }
-    ensures held { IfOk result (λ text. sliced.new ≤ sliced.old + text_size text) }
+    ensures sliced_within { IfOk result (λ text. sliced.new ≤ sliced.old + text_size text) }
 {
     match found {
         FoundResource::Missing => Ok(None),
@@ -164,7 +164,7 @@ pub fn resource_parts(
     sliced: &mut usize,
 ) -> Result<ResourceParts, ReadFault>
     ensures exact { Gives resource_parts_view result (Ok (kept_resource_texts (resource_reading_view reading))) }
-    ensures held { IfOk result (λ parts.
+    ensures sliced_within { IfOk result (λ parts.
         sliced.new + scopes_size (map scope_parts_view reading.scopes.items)
         ≤ sliced.old + resource_size (resource_parts_view parts)) }
 {
@@ -190,7 +190,7 @@ fn with_scope_spans(
     requires within { end ≤ length text.now }
     ensures exact { Gives resource_reading_view result
         (scope_spans_onto (resource_reading_view before) (slice_range text.now start end)) }
-    ensures held { IfOk result (λ after. sliced.new + scopes_size (map scope_parts_view before.scopes.items)
+    ensures sliced_within { IfOk result (λ after. sliced.new + scopes_size (map scope_parts_view before.scopes.items)
         ≤ sliced.old + scopes_size (map scope_parts_view after.scopes.items)) }
 {
     let inside = text.slice(start..end)?;

@@ -128,7 +128,7 @@ fn scope_part(
     sliced: &mut usize,
 ) -> Result<Option<Bytes>, ReadFault>
     ensures exact { Gives (λ text. text) result (Ok (option_map scope_text (found_scope_view found))) }
-    ensures held { IfOk result (λ text. sliced.new ≤ sliced.old + text_size text) }
+    ensures sliced_within { IfOk result (λ text. sliced.new ≤ sliced.old + text_size text) }
 {
     match found {
         FoundScope::Missing => Ok(None),
@@ -159,7 +159,7 @@ pub fn scope_parts(
     sliced: &mut usize,
 ) -> Result<ScopeParts, ReadFault>
     ensures exact { Gives scope_parts_view result (Ok (kept_scope_texts (scope_reading_view reading))) }
-    ensures held { IfOk result (λ parts.
+    ensures sliced_within { IfOk result (λ parts.
         sliced.new + texts_size reading.spans.items ≤ sliced.old + scope_size (scope_parts_view parts)) }
 {
     *sliced = sliced.saturating_add(reading.schema_url.len());
@@ -184,7 +184,7 @@ fn with_span(
     requires within { end ≤ length text.now }
     ensures exact { Gives scope_reading_view result
         (span_onto (scope_reading_view before) (slice_range text.now start end)) }
-    ensures held { IfOk result (λ after.
+    ensures sliced_within { IfOk result (λ after.
         sliced.new + texts_size before.spans.items ≤ sliced.old + texts_size after.spans.items) }
 {
     let mut reading = before;

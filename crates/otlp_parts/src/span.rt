@@ -77,7 +77,7 @@ pub fn span_part(
     requires order { start ≤ end }
     requires within { end ≤ length text.now }
     ensures exact { Gives (λ part. part) result (kept_span (slice_range text.now start end)) }
-    ensures held { IfOk result (λ part. sliced.new ≤ sliced.old + text_size part) }
+    ensures sliced_within { IfOk result (λ part. sliced.new ≤ sliced.old + text_size part) }
 {
     let bytes = &text.as_slice()[start..end];
     if is_span_text(bytes, SPAN_ROOM) {

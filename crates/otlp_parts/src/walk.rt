@@ -36,7 +36,7 @@ pub trait Walked: Drop {
         requires stands { (content : List ℕ) → datum field.value ≡ bytes_datum content → Stands text.now end content }
         ensures exact { (room : ℕ) (spelled : List ℕ) →
             Gives view result (step room (view self) (entry field.entry) spelled) }
-        ensures held { IfOk result (λ after. sliced.new + size (view self) ≤ sliced.old + size (view after)) };
+        ensures sliced_within { IfOk result (λ after. sliced.new + size (view self) ≤ sliced.old + size (view after)) };
 }
 
 /// Goes on reading a message, where there is room for so many levels, its own among them.
@@ -49,7 +49,7 @@ pub fn walk_fields<M: Walked>(
 ) -> Result<M, ReadFault>
     requires room { room ≤ 101 }
     ensures exact { Gives M.view result (read_with M.step room (M.view before) text.now) }
-    ensures held { IfOk result (λ after.
+    ensures sliced_within { IfOk result (λ after.
         sliced.new + M.size (M.view before) ≤ sliced.old + M.size (M.view after)) }
 {
     if room == 0 {

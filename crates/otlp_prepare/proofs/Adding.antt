@@ -11,23 +11,23 @@ use Rattle.span_pool.specs.Stored.{Origin as OriginData, bytes_of}
 use Rattle.tail_settings.specs.Policy.{PolicyData}
 use Rattle.tail_policy.specs.declared.note.ResourceBits.{ResourceBits}
 use Rattle.tenant_rules.specs.Arrivals.{is_valid}
-use Rattle.otlp_prepare.specs.declared.noted.Origin.{Origin}
+use Rattle.otlp_prepare.specs.declared.noted.SpanOrigin.{SpanOrigin}
 use Rattle.otlp_prepare.specs.Arrivals.{origin_view, no_origin, origin_at, arrival_with}
-use Rattle.otlp_prepare.specs.Found.{PartData, part_with, part_arrival, part_arrivals, bits_in, IsFound, AreFound, Adds, IsValidRead, IsAround}
+use Rattle.otlp_prepare.specs.BodySpans.{UnnotedSpanData, part_with, part_arrival, part_arrivals, bits_in, IsFound, AreFound, Adds, IsValidRead, IsAround}
 use Rattle.otlp_prepare.proofs.Lists.{every_append}
 use Rattle.otlp_prepare.proofs.Read.{AllTold, told}
 
 -- ---- the origins that were there
 
-origin_kept : (os : List Origin) (o : Origin) (i : ℕ) → i < length os → origin_at (os ++ o ∷ []) i ≡ origin_at os i
-origin_kept os o i within = ap (λ (x : Origin). origin_view x) (get_or_append_left os (o ∷ []) no_origin i within)
+origin_kept : (os : List SpanOrigin) (o : SpanOrigin) (i : ℕ) → i < length os → origin_at (os ++ o ∷ []) i ≡ origin_at os i
+origin_kept os o i within = ap (λ (x : SpanOrigin). origin_view x) (get_or_append_left os (o ∷ []) no_origin i within)
 
-arrival_kept : (os : List Origin) (o : Origin) (part : PartData) → part.origin < length os
+arrival_kept : (os : List SpanOrigin) (o : SpanOrigin) (part : UnnotedSpanData) → part.origin < length os
     → part_arrival (os ++ o ∷ []) part ≡ part_arrival os part
 arrival_kept os o part within =
     ap (λ (around : OriginData). arrival_with around part.text) (origin_kept os o part.origin within)
 
-found_kept : (policies : List PolicyData) (os : List Origin) (o : Origin) (part : PartData) → IsFound policies os part
+found_kept : (policies : List PolicyData) (os : List SpanOrigin) (o : SpanOrigin) (part : UnnotedSpanData) → IsFound policies os part
     → IsFound policies (os ++ o ∷ []) part
 found_kept policies os o part is =
     let same = origin_kept os o part.origin is.within in
@@ -41,12 +41,12 @@ found_kept policies os o part is =
       around = subst (λ (around : OriginData). IsShort (bytes_of around.resource)) (sym same) is.around;
     }
 
-all_kept : (policies : List PolicyData) (os : List Origin) (o : Origin) (parts : List PartData) → AreFound policies os parts
+all_kept : (policies : List PolicyData) (os : List SpanOrigin) (o : SpanOrigin) (parts : List UnnotedSpanData) → AreFound policies os parts
     → AreFound policies (os ++ o ∷ []) parts
 all_kept policies os o [] are = tt
 all_kept policies os o (part ∷ parts) are = (found_kept policies os o part are.0, all_kept policies os o parts are.1)
 
-arrivals_kept : (policies : List PolicyData) (os : List Origin) (o : Origin) (parts : List PartData) → AreFound policies os parts
+arrivals_kept : (policies : List PolicyData) (os : List SpanOrigin) (o : SpanOrigin) (parts : List UnnotedSpanData) → AreFound policies os parts
     → part_arrivals (os ++ o ∷ []) parts ≡ part_arrivals os parts
 arrivals_kept policies os o [] are = refl
 arrivals_kept policies os o (part ∷ parts) are =
@@ -56,15 +56,15 @@ arrivals_kept policies os o (part ∷ parts) are =
 
 -- ---- the one that came
 
-origin_added : (os : List Origin) (o : Origin) (around : OriginData) → origin_view o ≡ around
+origin_added : (os : List SpanOrigin) (o : SpanOrigin) (around : OriginData) → origin_view o ≡ around
     → origin_at (os ++ o ∷ []) (length os) ≡ around
-origin_added os o around is = ap (λ (x : Origin). origin_view x) (get_or-append_seam os o [] no_origin) ∙ is
+origin_added os o around is = ap (λ (x : SpanOrigin). origin_view x) (get_or-append_seam os o [] no_origin) ∙ is
 
 -- a span with these ids is valid
 abbrev are_ids : SpanFacts → Bool
 are_ids f = is_id 16 f.trace_id && is_id 8 f.span_id
 
-found_added : (law : AllTold) (policies : List PolicyData) (os : List Origin) (o : Origin) (around : OriginData) (bits : ResourceBits)
+found_added : (law : AllTold) (policies : List PolicyData) (os : List SpanOrigin) (o : SpanOrigin) (around : OriginData) (bits : ResourceBits)
     → origin_view o ≡ around → IsAround policies around.resource bits → (text : List ℕ) → IsValidRead text → IsShort text
     → IsFound policies (os ++ o ∷ []) (part_with bits (length os) text)
 found_added law policies os o around bits is resource text read short =
@@ -80,7 +80,7 @@ found_added law policies os o around bits is resource text read short =
       around = subst (λ (a : OriginData). IsShort (bytes_of a.resource)) (sym at) resource.short;
     }
 
-all_added : (law : AllTold) (policies : List PolicyData) (os : List Origin) (o : Origin) (around : OriginData) (bits : ResourceBits)
+all_added : (law : AllTold) (policies : List PolicyData) (os : List SpanOrigin) (o : SpanOrigin) (around : OriginData) (bits : ResourceBits)
     → origin_view o ≡ around → IsAround policies around.resource bits → (texts : List (List ℕ)) → AllByRecursion IsValidRead texts
     → AllByRecursion IsShort texts → AreFound policies (os ++ o ∷ []) (map (part_with bits (length os)) texts)
 all_added law policies os o around bits is resource [] read short = tt
@@ -89,7 +89,7 @@ all_added law policies os o around bits is resource (text ∷ texts) read short 
   all_added law policies os o around bits is resource texts read.1 short.1,
 )
 
-arrivals_added : (os : List Origin) (o : Origin) (around : OriginData) (bits : ResourceBits) → origin_view o ≡ around → (texts : List (List ℕ))
+arrivals_added : (os : List SpanOrigin) (o : SpanOrigin) (around : OriginData) (bits : ResourceBits) → origin_view o ≡ around → (texts : List (List ℕ))
     → part_arrivals (os ++ o ∷ []) (map (part_with bits (length os)) texts) ≡ map (arrival_with around) texts
 arrivals_added os o around bits is [] = refl
 arrivals_added os o around bits is (text ∷ texts) =
@@ -99,9 +99,9 @@ arrivals_added os o around bits is (text ∷ texts) =
 
 -- ---- both
 
-added_behind : (law : AllTold) (policies : List PolicyData) (os : List Origin) (o : Origin) (around : OriginData) (bits : ResourceBits)
+added_behind : (law : AllTold) (policies : List PolicyData) (os : List SpanOrigin) (o : SpanOrigin) (around : OriginData) (bits : ResourceBits)
     → origin_view o ≡ around → IsAround policies around.resource bits → (texts : List (List ℕ)) → AllByRecursion IsValidRead texts
-    → AllByRecursion IsShort texts → (parts : List PartData) → AreFound policies os parts
+    → AllByRecursion IsShort texts → (parts : List UnnotedSpanData) → AreFound policies os parts
     → Adds policies (map (arrival_with around) texts) os parts (os ++ o ∷ []) (parts ++ map (part_with bits (length os)) texts)
 added_behind law policies os o around bits is resource texts read short parts are =
     let before = all_kept policies os o parts are in
@@ -114,18 +114,18 @@ added_behind law policies os o around bits is resource texts read short parts ar
     }
 
 -- the spans of one scope that has some, as the code adds them
-pub added : (law : AllTold) (policies : List PolicyData) (os os' : List Origin) (o : Origin) (around : OriginData) (bits : ResourceBits) (n : ℕ)
+pub added : (law : AllTold) (policies : List PolicyData) (os os' : List SpanOrigin) (o : SpanOrigin) (around : OriginData) (bits : ResourceBits) (n : ℕ)
     → origin_view o ≡ around → IsAround policies around.resource bits → (texts : List (List ℕ)) → AllByRecursion IsValidRead texts
-    → AllByRecursion IsShort texts → (parts parts' : List PartData) → AreFound policies os parts → os' ≡ os ++ o ∷ [] → n ≡ length os
+    → AllByRecursion IsShort texts → (parts parts' : List UnnotedSpanData) → AreFound policies os parts → os' ≡ os ++ o ∷ [] → n ≡ length os
     → parts' ≡ parts ++ map (part_with bits n) texts → Adds policies (map (arrival_with around) texts) os parts os' parts'
 added law policies os os' o around bits n is resource texts read short parts parts' are pushed index behind =
     let all = added_behind law policies os o around bits is resource texts read short parts are in
     let spans : parts' ≡ parts ++ map (part_with bits (length os)) texts = behind ∙ ap (λ (i : ℕ). parts ++ map (part_with bits i) texts) index in
-    let placed = subst (λ (xs : List Origin). Adds policies (map (arrival_with around) texts) os parts xs (parts ++ map (part_with bits (length os)) texts)) (sym pushed) all in
-    subst (λ (xs : List PartData). Adds policies (map (arrival_with around) texts) os parts os' xs) (sym spans) placed
+    let placed = subst (λ (xs : List SpanOrigin). Adds policies (map (arrival_with around) texts) os parts xs (parts ++ map (part_with bits (length os)) texts)) (sym pushed) all in
+    subst (λ (xs : List UnnotedSpanData). Adds policies (map (arrival_with around) texts) os parts os' xs) (sym spans) placed
 
 -- of one that has none
-pub none_added : (policies : List PolicyData) (os : List Origin) (around : OriginData) (texts : List (List ℕ)) (parts : List PartData)
+pub none_added : (policies : List PolicyData) (os : List SpanOrigin) (around : OriginData) (texts : List (List ℕ)) (parts : List UnnotedSpanData)
     → length texts ≡ 0 → AreFound policies os parts → Adds policies (map (arrival_with around) texts) os parts os parts
 none_added policies os around [] parts none are = record { found = are; whole = sym (append-nil (part_arrivals os parts)) }
 none_added policies os around (text ∷ texts) parts none are = absurd (omega (arith, none))

@@ -4,7 +4,7 @@ use Rattle.otlp_trace.specs.Text.{span_text}
 use Rattle.otlp_read.specs.Value.{no_span}
 use Rattle.otlp_read.proofs.MessageSound.{empty_span, empty_span_typed}
 use Rattle.otlp_read.specs.RoundTrip.{IsShort}
-use Rattle.otlp_prepare.specs.Found.{IsSpanRead}
+use Rattle.otlp_prepare.specs.BodySpans.{IsSpanRead}
 
 pub empty_read : IsSpanRead (span_text no_span)
 empty_read = record { span = no_span; typed = empty_span_typed; nested = empty_span 97; same = refl }

@@ -14,7 +14,7 @@ use Rattle.span_view.specs.Reading.{facts_of}
 use Rattle.span_pool.specs.Ids.{is_id}
 use Rattle.span_pool.specs.Stored.{bytes_of}
 use Rattle.span_pool.specs.Read.{IsReadSpan, IsReadResource}
-use Rattle.otlp_prepare.specs.Found.{IsSpanRead, IsValidRead, IsResourceRead}
+use Rattle.otlp_prepare.specs.BodySpans.{IsSpanRead, IsValidRead, IsResourceRead}
 
 -- a view over the texts of any span and resource that were read has keys and strings in UTF-8
 abbrev pub AllViewed : Type 0

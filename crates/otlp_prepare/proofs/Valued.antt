@@ -10,11 +10,11 @@ use Rattle.otlp_parts.specs.Texts.{is_valid_span, BodyTexts, scope_texts, resour
 use Rattle.span_pool.specs.Stored.{Origin as OriginData}
 use Rattle.tail_settings.specs.Policy.{PolicyData}
 use Rattle.tail_settings.specs.Section.{SectionData}
-use Rattle.otlp_prepare.specs.declared.noted.Origin.{Origin}
+use Rattle.otlp_prepare.specs.declared.noted.SpanOrigin.{SpanOrigin}
 use Rattle.otlp_prepare.specs.declared.noted.NotedSpan.{NotedSpan}
 use Rattle.otlp_prepare.specs.Arrivals.{origin_of, arrival_of, arrival_with, arrivals_of_scope, arrivals_of_resource, arrivals_of, arrivals_in}
 use Rattle.otlp_prepare.specs.Prepared.{PreparedData, prepared_of}
-use Rattle.otlp_prepare.specs.Found.{arrivals_in_scope, arrivals_in_resource, arrivals_in_body, PartData, part_arrivals, noted, AreFound, IsSpanRead, IsValidRead, IsResourceRead, IsScopeRead, IsGroupRead, AreRead}
+use Rattle.otlp_prepare.specs.BodySpans.{arrivals_in_scope, arrivals_in_resource, arrivals_in_body, UnnotedSpanData, part_arrivals, noted, AreFound, IsSpanRead, IsValidRead, IsResourceRead, IsScopeRead, IsGroupRead, AreRead}
 use Rattle.otlp_prepare.proofs.Lists.{every_front, every_back, every_filtered, every_passed}
 use Rattle.otlp_prepare.proofs.Read.{AllTold, told}
 use Rattle.otlp_prepare.proofs.Joined.{IsShortArrival, noted_arrivals, short_arrivals}
@@ -111,8 +111,8 @@ body_arrives : (law : AllTold) (v : RequestData) → TypedRequest v → NestedRe
 body_arrives law v typed nested short = groups_arrive law v.resource_spans typed.resource_spans nested.resource_spans short
 
 -- the spans that were found among the parts of a value, with their notes, are those that arrive
-pub all_arrive : (law : AllTold) (v : RequestData) (body : BodyTexts) (policies : List PolicyData) (origins : List Origin)
-    → (parts : List PartData) (spans : List NotedSpan) → TypedRequest v → NestedRequest v → body ≡ texts_of v
+pub all_arrive : (law : AllTold) (v : RequestData) (body : BodyTexts) (policies : List PolicyData) (origins : List SpanOrigin)
+    → (parts : List UnnotedSpanData) (spans : List NotedSpan) → TypedRequest v → NestedRequest v → body ≡ texts_of v
     → AreFound policies origins parts → part_arrivals origins parts ≡ arrivals_in_body body
     → spans ≡ map (noted policies) parts → arrivals_in origins spans ≡ arrivals_of v
 all_arrive law v body policies origins parts spans typed nested same are found is =
@@ -122,8 +122,8 @@ all_arrive law v body policies origins parts spans typed nested same are found i
     ∙ (noted_arrivals policies origins parts ∙ (texts ∙ body_arrives law v typed nested short))
 
 -- so what is prepared of them is what the value is made ready as
-pub all_prepared : (law : AllTold) (v : RequestData) (body : BodyTexts) (policies given : List PolicyData) (origins : List Origin)
-    → (parts : List PartData) (spans : List NotedSpan) (tenant : ℕ) (section : SectionData) (result : PreparedData)
+pub all_prepared : (law : AllTold) (v : RequestData) (body : BodyTexts) (policies given : List PolicyData) (origins : List SpanOrigin)
+    → (parts : List UnnotedSpanData) (spans : List NotedSpan) (tenant : ℕ) (section : SectionData) (result : PreparedData)
     → TypedRequest v → NestedRequest v → body ≡ texts_of v → AreFound policies origins parts
     → part_arrivals origins parts ≡ arrivals_in_body body → spans ≡ map (noted policies) parts
     → given ≡ section.tail_sampling.policies

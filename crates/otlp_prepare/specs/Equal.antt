@@ -1,4 +1,4 @@
--- When bodies that were read are equal.
+-- When bodies that were read are equal. This project's own rule.
 use Rattle.std.specs.Prelude.{ℕ, ℤ, pos, negsuc, Bool, List, [], ◌∷◌, map, nat_eq}
 use Rattle.std.specs.Cmp.{IsPartialEquivalence, partial_equiv_from_equiv, on_per, and_per, nat_eq_equiv}
 use Rattle.std.specs.Cmp.Lexicographic.{pointwise, lists_per}
@@ -7,12 +7,12 @@ use Rattle.tail_settings.specs.Policy.{StatusData, unset, ok, error, LeafData, a
 use Rattle.span_pool.specs.Stored.{same_bytes}
 use Rattle.span_pool.specs.Equal.{origin_eq, bytes_laws, origin_laws}
 use Rattle.tenant_rules.specs.Arrivals.{Arrival}
-use Rattle.otlp_prepare.specs.declared.noted.Origin.{Origin}
+use Rattle.otlp_prepare.specs.declared.noted.SpanOrigin.{SpanOrigin}
 use Rattle.otlp_prepare.specs.Arrivals.{origin_view}
 use Rattle.otlp_prepare.specs.Prepared.{PreparedData}
 
 -- the same resource and scope with the same schemas, whose URLs may be missing or empty
-abbrev pub same_origin : Origin → Origin → Bool
+abbrev pub same_origin : SpanOrigin → SpanOrigin → Bool
 same_origin = on origin_view origin_eq
 
 -- which is symmetric and transitive

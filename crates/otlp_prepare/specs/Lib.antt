@@ -1,4 +1,4 @@
 pub mod Arrivals
 pub mod Prepared
 pub mod Equal
-pub mod Found
+pub mod BodySpans

@@ -11,11 +11,11 @@ ghost use Rattle.otlp_read.specs.declared.fault.ReadFault.{ReadFault};
 ghost use Rattle.otlp_parts.specs.Parts.{body_parts_view};
 ghost use Rattle.otlp_parts.specs.Texts.{ArePartsOf, texts_of};
 ghost use Rattle.tail_settings.specs.Section.{section_view};
-ghost use Rattle.otlp_prepare.specs.Found.{AreRead};
+ghost use Rattle.otlp_prepare.specs.BodySpans.{AreRead};
 ghost use Rattle.otlp_prepare.specs.Prepared.{IsPrepared, prepared_of};
 ghost use Rattle.otlp_prepare.specs.declared.refusal.Refusal.TheVariants as refusal;
 
-use crate::found::found_in;
+use crate::body_spans::found_in;
 use crate::notes::noted_in;
 use crate::prepared::Prepared;
 use crate::refusal::Refusal;

@@ -5,7 +5,7 @@
 //! all of its spans, and so is its digest made. What it gives is exactly the section's policies and the body's value,
 //! with one note a valid span; a body is bad exactly where it has no value.
 //!
-//! A [`Prepared`] keeps a span as a [`NotedSpan`], its own text with the index of an [`Origin`]: the texts of its
+//! A [`Prepared`] keeps a span as a [`NotedSpan`], its own text with the index of an [`SpanOrigin`]: the texts of its
 //! resource, its scope and their schemas, each with its digest (`text_pool`), once for all spans of one scope of one
 //! resource. Spans that aren't valid are counted, and nothing is kept of them.
 //!
@@ -15,14 +15,14 @@
 #![tactic(auto)]
 
 mod body;
-mod found;
+mod body_spans;
 mod noted;
 mod notes;
-mod part;
 mod prepared;
 mod refusal;
+mod unnoted;
 
 pub use body::prepare;
-pub use noted::{NotedSpan, Origin};
+pub use noted::{NotedSpan, SpanOrigin};
 pub use prepared::{Prepared, equal_bodies_are_the_same};
 pub use refusal::Refusal;

@@ -5,19 +5,19 @@ ghost use Rattle.span_pool.specs.Stored.{bytes_of, same_bytes, same_text};
 
 use bytes::Bytes;
 use tail_policy::TraceNote;
-use text_pool::Text;
+use text_pool::SharedBytes;
 
 /// The texts that the spans of one scope of one resource share: canonical, each with its digest.
 #[derive(Debug, Drop)]
-pub struct Origin {
+pub struct SpanOrigin {
     /// The resource's.
-    pub resource: Option<Text>,
+    pub resource: Option<SharedBytes>,
     /// The URL of the resource's schema, where that isn't empty.
-    pub resource_schema_url: Option<Text>,
+    pub resource_schema_url: Option<SharedBytes>,
     /// The scope's.
-    pub scope: Option<Text>,
+    pub scope: Option<SharedBytes>,
     /// The URL of the scope's schema, where that isn't empty.
-    pub scope_schema_url: Option<Text>,
+    pub scope_schema_url: Option<SharedBytes>,
 }
 
 /// A valid span with what the tenant's policies keep of it.
@@ -34,7 +34,7 @@ pub struct NotedSpan {
 }
 
 /// Whether both are the same text, or missing. Digests are looked at first.
-fn is_same_text(one: &Option<Text>, other: &Option<Text>) -> bool
+fn is_same_text(one: &Option<SharedBytes>, other: &Option<SharedBytes>) -> bool
     ensures { result ≡ same_text one.now other.now }
 {
     match (one, other) {
@@ -45,7 +45,7 @@ fn is_same_text(one: &Option<Text>, other: &Option<Text>) -> bool
 }
 
 /// Whether both are the same URL, which is empty where it is missing.
-fn is_same_url(one: &Option<Text>, other: &Option<Text>) -> bool
+fn is_same_url(one: &Option<SharedBytes>, other: &Option<SharedBytes>) -> bool
     ensures { result ≡ same_bytes (bytes_of one.now) (bytes_of other.now) }
 {
     match (one, other) {
@@ -55,14 +55,14 @@ fn is_same_url(one: &Option<Text>, other: &Option<Text>) -> bool
     }
 }
 
-impl PartialEq for Origin {
+impl PartialEq for SpanOrigin {
     ghost use Rattle.otlp_prepare.specs.Equal.{same_origin, same_origin_laws};
 
     ghost eq = { same_origin };
 
     ghost laws = { same_origin_laws };
 
-    fn eq(&self, other: &Origin) -> bool {
+    fn eq(&self, other: &SpanOrigin) -> bool {
         is_same_text(&self.resource, &other.resource)
             && is_same_url(&self.resource_schema_url, &other.resource_schema_url)
             && is_same_text(&self.scope, &other.scope)

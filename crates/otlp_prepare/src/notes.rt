@@ -3,10 +3,10 @@
 ghost use Rattle.std.specs.Prelude.{◌≡◌, ◌<◌, ◌≤◌, List, [], map, IfOk};
 ghost use Rattle.span_view.specs.Reading.{facts_of};
 ghost use Rattle.tail_settings.specs.Policy.{PolicyData};
-ghost use Rattle.otlp_prepare.specs.Found.{own_note, noted};
+ghost use Rattle.otlp_prepare.specs.BodySpans.{own_note, noted};
 
 use crate::noted::NotedSpan;
-use crate::part::SpanPart;
+use crate::unnoted::UnnotedSpan;
 use span_view::SpanRef;
 use std::alloc::{AllocError, Global};
 use std::thread::Threads;
@@ -14,7 +14,7 @@ use tail_notes::note_all;
 use tail_policy::{TenantPolicies, TraceNote};
 
 /// What each span tells by itself.
-fn own_views(alloc: Global, parts: &[SpanPart]) -> Result<Vec<SpanRef<'_>>, AllocError>
+fn own_views(alloc: Global, parts: &[UnnotedSpan]) -> Result<Vec<SpanRef<'_>>, AllocError>
     ensures { IfOk result (λ views. views.items ≡ map (λ p. facts_of p.text []) parts.now) }
 {
     parts.iter().map(|part| part.own_view()).collect(alloc)
@@ -25,7 +25,7 @@ fn own_notes<R: Threads + Sync>(
     rt: &R,
     alloc: Global,
     policies: &TenantPolicies<'_>,
-    parts: &[SpanPart],
+    parts: &[UnnotedSpan],
     threads: u32,
 ) -> Result<Vec<TraceNote>, AllocError>
     requires { (0 < threads) × (threads ≤ 16) }
@@ -38,7 +38,7 @@ fn own_notes<R: Threads + Sync>(
 /// Spans with their notes, by their notes without their resources.
 fn with_notes(
     alloc: Global,
-    parts: Vec<SpanPart>,
+    parts: Vec<UnnotedSpan>,
     own: Vec<TraceNote>,
 ) -> Result<Vec<NotedSpan>, AllocError>
     ensures { (policies : List PolicyData) → own.items ≡ map (own_note policies) parts.items
@@ -56,7 +56,7 @@ pub fn noted_in<R: Threads + Sync>(
     rt: &R,
     alloc: Global,
     policies: &TenantPolicies<'_>,
-    parts: Vec<SpanPart>,
+    parts: Vec<UnnotedSpan>,
     threads: u32,
 ) -> Result<Vec<NotedSpan>, AllocError>
     requires { (0 < threads) × (threads ≤ 16) }

@@ -7,7 +7,7 @@ ghost use Rattle.std.specs.Cmp.Lexicographic.{pointwise};
 ghost use Rattle.otlp_prepare.specs.Arrivals.{arrival_in, arrivals_in};
 ghost use Rattle.otlp_prepare.specs.Equal.{arrival_eq, prepared_eq};
 
-use crate::noted::{NotedSpan, Origin};
+use crate::noted::{NotedSpan, SpanOrigin};
 use std::marker::Model;
 use std::sync::ArcSlice;
 use tail_settings::{PolicySpec, same_policies};
@@ -18,7 +18,7 @@ use tail_settings::{PolicySpec, same_policies};
 pub struct Prepared {
     tenant: u32,
     policies: ArcSlice<PolicySpec>,
-    origins: Vec<Origin>,
+    origins: Vec<SpanOrigin>,
     spans: Vec<NotedSpan>,
     // How many spans were left out, since an id of theirs has another length or is all zeros.
     invalid: u64,
@@ -56,7 +56,12 @@ impl PartialEq for Prepared {
 }
 
 /// Whether two spans of these origins are the same, with what stands round them.
-fn is_same_span(origins: &[Origin], one: &NotedSpan, others: &[Origin], other: &NotedSpan) -> bool
+fn is_same_span(
+    origins: &[SpanOrigin],
+    one: &NotedSpan,
+    others: &[SpanOrigin],
+    other: &NotedSpan,
+) -> bool
     requires one { one.now.origin < length origins.now }
     requires other { other.now.origin < length others.now }
     ensures { result ≡ arrival_eq (arrival_in origins.now one.now) (arrival_in others.now other.now) }
@@ -66,9 +71,9 @@ fn is_same_span(origins: &[Origin], one: &NotedSpan, others: &[Origin], other: &
 
 /// Whether these are the same spans, in the same order.
 fn are_same_spans(
-    origins: &[Origin],
+    origins: &[SpanOrigin],
     spans: &[NotedSpan],
-    others: &[Origin],
+    others: &[SpanOrigin],
     more: &[NotedSpan],
 ) -> bool
     requires one { AllByRecursion (λ s. s.origin < length origins.now) spans.now }
@@ -97,7 +102,7 @@ impl Prepared {
     pub(crate) fn of(
         tenant: u32,
         policies: ArcSlice<PolicySpec>,
-        origins: Vec<Origin>,
+        origins: Vec<SpanOrigin>,
         spans: Vec<NotedSpan>,
         invalid: u64,
     ) -> Prepared
@@ -160,7 +165,7 @@ impl Prepared {
 
     /// What stands round the spans, once for all spans of one scope of one resource, and the valid spans in the order
     /// of the body.
-    pub fn parts(&self) -> (&[Origin], &[NotedSpan])
+    pub fn parts(&self) -> (&[SpanOrigin], &[NotedSpan])
         ensures arrivals { arrivals_in result.0.now result.1.now ≡ self.now.arrivals }
         ensures ready { AreReady self.now.policies result.0.now result.1.now }
     {

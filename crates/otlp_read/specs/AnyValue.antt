@@ -1,5 +1,6 @@
 -- Attribute values, which may hold others: of the members of the value's oneof the last one wins, and a message member
--- that stands again with no other member between is merged.
+-- that stands again with no other member between is merged (the proto3 language guide, "Oneof", and the encoding guide,
+-- "Last One Wins").
 use Rattle.std.specs.Prelude.{ℕ, zero, suc, ◌-◌, ◌==◌, if◌then◌else◌, List, [], ◌++◌, Some, None, Ok, Err}
 use Rattle.pb_wire.specs.Grammar.{Varint, Eight, Bytes}
 use Rattle.otlp_trace.specs.Data.{AnyValueData, any_value, KindData, unset, string, boolean, int, double, array, kvlist, bytes, ArrayValueData, array_value, AnyValues, no_values, a_value, KeyValueListData, key_value_list, KeyValueData, bare_key, key_value, KeyValues, no_key_values, a_key_value}

@@ -1,4 +1,4 @@
--- What a reader answers, beside a value that is a function of the bytes.
+-- What a reader answers, beside a value that is a function of the bytes. The faults are this project's own rule.
 use Rattle.std.specs.Prelude.{◌≡◌, ℕ, Option, Some, None, Result, Ok, Err}
 use Rattle.pb_wire.specs.declared.field.WireFault.{WireFault}
 use Rattle.pb_wire.specs.declared.field.WireFault.TheVariants as wire

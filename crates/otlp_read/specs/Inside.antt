@@ -1,4 +1,5 @@
--- What is promised of the messages in a body: they have their values and faults by the same rules as the body itself.
+-- What is promised of the messages in a body: they have their values and faults by the same rules as the body itself
+-- (the proto3 encoding guide, "Submessages").
 use Rattle.std.specs.Prelude.{◌≡◌, ◌↔◌, ◌-◌, ℕ, suc, List, Ok, Err}
 use Rattle.otlp_read.specs.declared.fault.ReadFault.{ReadFault}
 use Rattle.otlp_read.specs.declared.fault.ReadFault.TheVariants.{TooDeep}

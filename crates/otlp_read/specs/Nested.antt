@@ -1,6 +1,7 @@
 -- Values that a reader takes: nested no deeper than there is room for, and with nothing kept but fields that the
 -- message that keeps them doesn't know. A message has room for so many levels, its own among them: for 101 - d at
--- depth d.
+-- depth d. How deep they are nested is this project's own rule; which fields a message doesn't know is of the proto3
+-- language guide, "Unknown Fields".
 use Rattle.std.specs.Prelude.{◌≡◌, ◌-◌, ℕ, zero, suc, List, None, IfSome}
 use Rattle.std.specs.List.{AllByRecursion}
 use Rattle.otlp_trace.specs.Data.{AnyValueData, any_value, KindData, array, kvlist, ArrayValueData, array_value, AnyValues, no_values, a_value, KeyValueListData, key_value_list, KeyValueData, bare_key, key_value, KeyValues, no_key_values, a_key_value, ResourceData, ScopeData, StatusData, EventData, LinkData, SpanData, ScopeSpansData, ResourceSpansData, RequestData}

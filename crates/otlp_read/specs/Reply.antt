@@ -1,4 +1,4 @@
--- What the reply that the code read stands for.
+-- What the reply that the code read stands for (OTLP 1.x's trace_service.proto).
 use Rattle.std.specs.Prelude.{Option, option_map}
 use Rattle.otlp_trace.specs.Data.{PartialSuccessData, ResponseData}
 use Rattle.otlp_read.specs.declared.response.Partial.{Partial}

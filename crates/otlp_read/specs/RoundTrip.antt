@@ -1,5 +1,6 @@
 -- What it means that a message reads back: the text that is written of it is read as the message, where the message is
--- nested no deeper than a reader takes. The text is shorter than 2^64 bytes, as any text in memory is.
+-- nested no deeper than a reader takes. The text is shorter than 2^64 bytes, as any text in memory is (the proto3
+-- encoding, as Value and `otlp_trace`'s Text have it).
 use Rattle.std.specs.Prelude.{◌≡◌, ◌<◌, ◌^◌, ℕ, List, length, Ok}
 use Rattle.otlp_trace.specs.Data.{ResourceData, ScopeData, SpanData, RequestData, ResponseData}
 use Rattle.otlp_trace.specs.Text.{resource_text, scope_text, span_text, request_text, response_text}

@@ -1,4 +1,5 @@
--- What message a text's fields make, and where a fault stands in the text.
+-- What message a text's fields make, and where a fault stands in the text (the proto3 encoding guide, "Message
+-- Structure"; faults are this project's own).
 use Rattle.std.specs.Prelude.{◌≡◌, ℕ, List, ◌++◌, Ok, Err}
 use Rattle.pb_wire.specs.declared.field.WireFault.{WireFault}
 use Rattle.pb_wire.specs.Grammar.{Entry, IsField, Fault}

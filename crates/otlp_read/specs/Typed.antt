@@ -1,4 +1,5 @@
--- What the types of the code give: strings are UTF-8, a double has its eight bytes, and numbers fit their widths.
+-- What the types of the code give: strings are UTF-8, a double has its eight bytes, and numbers fit their widths (the
+-- proto3 language guide, "Scalar Value Types").
 use Rattle.std.specs.Prelude.{◌≡◌, ◌<◌, ◌^◌, length, FitsSigned, IfSome}
 use Rattle.std.specs.Int.{w32, w64}
 use Rattle.std.specs.List.{AllByRecursion}

@@ -1,4 +1,4 @@
--- The fields of a text, taken one after the other into a message.
+-- The fields of a text, taken one after the other into a message (the proto3 encoding guide, "Message Structure").
 use Rattle.std.specs.Prelude.{◌≡◌, ℕ, zero, suc, ◌-◌, List, [], ◌∷◌, ◌++◌, length, take, Option, Some, None, unwrap_or, Result, Ok, Err}
 use Rattle.pb_wire.specs.declared.field.WireFault.{WireFault}
 use Rattle.pb_wire.specs.Grammar.{Entry, Datum, IsField}

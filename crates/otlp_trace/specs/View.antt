@@ -1,4 +1,5 @@
--- What the types of the code stand for: the data of the same message, without where it lies in memory.
+-- What the types of the code stand for: the data of the same message, without where it lies in memory. Messages are
+-- those of opentelemetry-proto, as Data has them.
 use Rattle.std.specs.Prelude.{ℕ, List, [], ◌∷◌, map, Option, Some, None, option_map, string_bytes}
 use Rattle.otlp_trace.specs.Data.{AnyValueData, any_value, KindData, unset, string, boolean, int, double, array, kvlist, bytes, ArrayValueData, array_value, AnyValues, no_values, a_value, KeyValueListData, key_value_list, KeyValueData, bare_key, key_value, KeyValues, no_key_values, a_key_value, ResourceData, ScopeData, StatusData, EventData, LinkData, SpanData, ScopeSpansData, ResourceSpansData, RequestData, PartialSuccessData, ResponseData}
 use Rattle.otlp_trace.specs.declared.value.AnyValue.{AnyValue}

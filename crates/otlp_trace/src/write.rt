@@ -26,8 +26,8 @@ use std::mem;
 /// Puts a message's text into an empty vector, whose room it takes. Where memory is refused the vector stays empty.
 fn fill<M: Message>(alloc: Global, out: &mut Vec<u8>, message: &M) -> Result<(), AllocError>
     requires empty { out.old.items ≡ [] }
-    ensures ok { OnOk result (out.new.items ≡ M.text (M.view message.now)) }
-    ensures err { OnErr result (out.new.items ≡ []) }
+    ensures on_success { OnOk result (out.new.items ≡ M.text (M.view message.now)) }
+    ensures on_refusal { OnErr result (out.new.items ≡ []) }
 {
     let mut text = mem::replace(out, Vec::new(alloc));
     message.put(&mut text)?;
@@ -37,8 +37,8 @@ fn fill<M: Message>(alloc: Global, out: &mut Vec<u8>, message: &M) -> Result<(),
 
 /// Appends all of a message's text, or nothing.
 fn append<M: Message>(alloc: Global, out: &mut Vec<u8>, message: &M) -> Result<(), AllocError>
-    ensures ok { OnOk result (out.new.items ≡ out.old.items ++ M.text (M.view message.now)) }
-    ensures err { OnErr result (out.new.items ≡ out.old.items) }
+    ensures on_success { OnOk result (out.new.items ≡ out.old.items ++ M.text (M.view message.now)) }
+    ensures on_refusal { OnErr result (out.new.items ≡ out.old.items) }
 {
     // Room that was asked for is taken as it is; else the text is held in no more than it needs.
     if out.is_empty() && out.capacity() > 0 {
@@ -55,16 +55,16 @@ pub fn write_request(
     out: &mut Vec<u8>,
     request: &ExportTraceServiceRequest,
 ) -> Result<(), AllocError>
-    ensures ok { OnOk result (out.new.items ≡ out.old.items ++ request_text (request_view request.now)) }
-    ensures err { OnErr result (out.new.items ≡ out.old.items) }
+    ensures on_success { OnOk result (out.new.items ≡ out.old.items ++ request_text (request_view request.now)) }
+    ensures on_refusal { OnErr result (out.new.items ≡ out.old.items) }
 {
     append(alloc, out, request)
 }
 
 /// Appends a span's canonical text, or nothing where memory is refused.
 pub fn write_span(alloc: Global, out: &mut Vec<u8>, span: &Span) -> Result<(), AllocError>
-    ensures ok { OnOk result (out.new.items ≡ out.old.items ++ span_text (span_view span.now)) }
-    ensures err { OnErr result (out.new.items ≡ out.old.items) }
+    ensures on_success { OnOk result (out.new.items ≡ out.old.items ++ span_text (span_view span.now)) }
+    ensures on_refusal { OnErr result (out.new.items ≡ out.old.items) }
 {
     append(alloc, out, span)
 }
@@ -75,8 +75,8 @@ pub fn write_resource(
     out: &mut Vec<u8>,
     resource: &Resource,
 ) -> Result<(), AllocError>
-    ensures ok { OnOk result (out.new.items ≡ out.old.items ++ resource_text (resource_view resource.now)) }
-    ensures err { OnErr result (out.new.items ≡ out.old.items) }
+    ensures on_success { OnOk result (out.new.items ≡ out.old.items ++ resource_text (resource_view resource.now)) }
+    ensures on_refusal { OnErr result (out.new.items ≡ out.old.items) }
 {
     append(alloc, out, resource)
 }
@@ -87,8 +87,8 @@ pub fn write_scope(
     out: &mut Vec<u8>,
     scope: &InstrumentationScope,
 ) -> Result<(), AllocError>
-    ensures ok { OnOk result (out.new.items ≡ out.old.items ++ scope_text (scope_view scope.now)) }
-    ensures err { OnErr result (out.new.items ≡ out.old.items) }
+    ensures on_success { OnOk result (out.new.items ≡ out.old.items ++ scope_text (scope_view scope.now)) }
+    ensures on_refusal { OnErr result (out.new.items ≡ out.old.items) }
 {
     append(alloc, out, scope)
 }
@@ -99,8 +99,8 @@ pub fn write_response(
     out: &mut Vec<u8>,
     response: &ExportTraceServiceResponse,
 ) -> Result<(), AllocError>
-    ensures ok { OnOk result (out.new.items ≡ out.old.items ++ response_text (response_view response.now)) }
-    ensures err { OnErr result (out.new.items ≡ out.old.items) }
+    ensures on_success { OnOk result (out.new.items ≡ out.old.items ++ response_text (response_view response.now)) }
+    ensures on_refusal { OnErr result (out.new.items ≡ out.old.items) }
 {
     append(alloc, out, response)
 }
@@ -108,8 +108,8 @@ pub fn write_response(
 /// Appends the status of a refused request (`google.rpc.Status`) with its message alone, or nothing where memory is
 /// refused.
 pub fn write_status(alloc: Global, out: &mut Vec<u8>, message: &str) -> Result<(), AllocError>
-    ensures ok { OnOk result (out.new.items ≡ out.old.items ++ refusal_text message.now) }
-    ensures err { OnErr result (out.new.items ≡ out.old.items) }
+    ensures on_success { OnOk result (out.new.items ≡ out.old.items ++ refusal_text message.now) }
+    ensures on_refusal { OnErr result (out.new.items ≡ out.old.items) }
 {
     let mut text = Vec::new(alloc);
     put_some_bytes(&mut text, 2, message.as_bytes())?;

@@ -37,7 +37,7 @@ abbrev pub entry : Field → Entry
 entry field = record { number = field.number; value = datum field.value }
 
 -- Base 128 varints: groups of seven bits, the least significant group first. The top bit of each
--- byte says whether another byte follows.
+-- byte says whether another byte follows ("Base 128 Varints").
 pub data Spells : List ℕ → ℕ → Type 0 where
   last_byte : {b : ℕ} → b < 128 → Spells (b ∷ []) b
   more_bytes : {b high : ℕ} {text : List ℕ} → 128 ≤ b → Spells text high
@@ -114,14 +114,14 @@ pub record Begins (depth : ℕ) (text : List ℕ) (field : Entry) (rest : List �
 -- refused.
 
 -- each byte says that another follows
-pub data GoesOn : List ℕ → Type 0 where
-  nothing : GoesOn []
-  byte : {b : ℕ} {text : List ℕ} → 128 ≤ b → GoesOn text → GoesOn (b ∷ text)
+pub data AreContinuationBytes : List ℕ → Type 0 where
+  nothing : AreContinuationBytes []
+  byte : {b : ℕ} {text : List ℕ} → 128 ≤ b → AreContinuationBytes text → AreContinuationBytes (b ∷ text)
 
 -- no varint stands at the front: the text ends inside it, or ten bytes say that another follows
 pub data NoNumber : List ℕ → WireFault → Type 0 where
-  cut : {text : List ℕ} → GoesOn text → length text < 10 → NoNumber text faults.Truncated
-  long : {text : List ℕ} (rest : List ℕ) → GoesOn text → length text ≡ 10
+  cut : {text : List ℕ} → AreContinuationBytes text → length text < 10 → NoNumber text faults.Truncated
+  long : {text : List ℕ} (rest : List ℕ) → AreContinuationBytes text → length text ≡ 10
       → NoNumber (text ++ rest) faults.VarintTooLong
 
 -- no value of this wire type stands at the front: the text ends, or a varint goes on too long

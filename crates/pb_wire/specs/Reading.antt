@@ -1,7 +1,7 @@
 -- Wire text read from left to right, with the first fault that is met: the grammar as functions on
 -- lists. `whole_text` and `next_field` prove that these functions and the relations of Grammar
 -- agree, so a reader need believe the grammar alone. What these functions add is which fault is met
--- first.
+-- first. The grammar is of the Protocol Buffers encoding guide; which fault is met first is this project's own rule.
 use Rattle.std.specs.Prelude.{option_map, ℕ, zero, suc, ◌+◌, ◌-◌, ◌*◌, ◌/◌, ◌%◌, ◌^◌, Bool, true, false, List, [], ◌∷◌, length, take, drop, Option, Some, None, Result, Ok, Err, nat_lt, ◌==◌, if◌then◌else◌}
 use Rattle.std.specs.Borrow.{Bor}
 use Rattle.pb_wire.specs.declared.field.WireFault.{WireFault}

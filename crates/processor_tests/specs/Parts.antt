@@ -1,4 +1,4 @@
--- What the examples are made of: settings, spans, posts and counters.
+-- What the examples are made of: settings, spans, posts and counters. This project's own rule.
 use Rattle.std.specs.Prelude.{ℕ, pos, List, [], ◌∷◌, ◌++◌, replicate, None}
 use Rattle.tail_settings.specs.Policy.{always_sample, status_code, error, leaf}
 use Rattle.tail_settings.specs.Section.{SectionData}

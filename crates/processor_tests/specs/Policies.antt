@@ -1,4 +1,5 @@
--- What no policies sample, worked out by hand. Settings have one at least, so no test of what loads them comes here.
+-- What no policies sample, worked out by hand. Settings have one at least, so no test of what loads them comes here
+-- (the Collector's tailsamplingprocessor).
 use Rattle.std.specs.Prelude.{◌≡◌, pos, false, [], ◌∷◌}
 use Rattle.span_view.specs.Facts.{SpanFacts}
 use Rattle.tail_policy.specs.Meaning.{keeps}

@@ -1,11 +1,11 @@
 -- Posts, rows, eviction and budget, on examples that were worked out by hand: what a tenant is told, and what is
--- counted.
+-- counted (`num_traces` of the Collector's tailsamplingprocessor; the budget is this project's own rule).
 use Rattle.std.specs.Prelude.{◌≡◌, ℕ, List, [], ◌∷◌, map, replicate, codes, Some, None}
 use Rattle.decision_cache.specs.Ids.{IdsData}
 use Rattle.decision_cache.specs.Caches.{both}
 use Rattle.drop_ledger.specs.Ledger.{no_places, no_spans}
 use Rattle.drop_ledger.specs.Report.{report_text}
-use Rattle.tenant_rules.specs.declared.told.Told.TheVariants as tell
+use Rattle.tenant_rules.specs.declared.reply.StepReply.TheVariants as replies
 use Rattle.tenant_rules.specs.Own.{Own, Post, Turn, Report, Drain}
 use Rattle.tenant_rules.specs.State.{state, ledger}
 use Rattle.tenant_rules.specs.Answers.{answer}
@@ -14,18 +14,18 @@ use Rattle.processor_tests.specs.Parts.{plain, with_rows, with_ids, with_errors,
 
 -- a span leaves a second after it came, and is exported; before, nothing is counted
 pub record OneSpan : Type 0 where
-  pub reply : answer plain [] (one 0 17 33) ≡ tell.Reply (record { status = 200; body = [] })
+  pub reply : answer plain [] (one 0 17 33) ≡ replies.Reply (record { status = 200; body = [] })
   pub nothing_yet : ledger plain [] ≡ no_spans
-  pub too_soon : answer plain (one 0 17 33 ∷ []) (Turn 999) ≡ tell.Worked
+  pub too_soon : answer plain (one 0 17 33 ∷ []) (Turn 999) ≡ replies.Worked
   pub ready_at : ready (state plain (one 0 17 33 ∷ [])) ≡ Some 1000
-  pub leaves : answer plain (one 0 17 33 ∷ []) (Turn 1000) ≡ tell.Job 1 (body 17 33)
-  pub taken : answer plain (Turn 1000 ∷ one 0 17 33 ∷ []) (status 1000 1 0 200) ≡ tell.Done
+  pub leaves : answer plain (one 0 17 33 ∷ []) (Turn 1000) ≡ replies.Job 1 (body 17 33)
+  pub taken : answer plain (Turn 1000 ∷ one 0 17 33 ∷ []) (status 1000 1 0 200) ≡ replies.Done
   pub counted : ledger plain (status 1000 1 0 200 ∷ Turn 1000 ∷ one 0 17 33 ∷ []) ≡
       counts 1 (record no_places { exported = 1 })
   pub twice : answer plain (status 1000 1 0 200 ∷ Turn 1000 ∷ one 0 17 33 ∷ []) (status 1000 1 0 200) ≡
-      tell.UnknownTicket
+      replies.UnknownTicket
   pub report : answer plain (status 1000 1 0 200 ∷ Turn 1000 ∷ one 0 17 33 ∷ []) (Report 1000) ≡
-      tell.Report (report_text (counts 1 (record no_places { exported = 1 })))
+      replies.Report (report_text (counts 1 (record no_places { exported = 1 })))
 
 -- a span a millisecond before the decision leaves with the first, one at the decision leaves alone, once the only
 -- consumer is free
@@ -33,18 +33,18 @@ abbrev pub boundary : List Own
 boundary = one 1000 17 35 ∷ one 999 17 34 ∷ one 0 17 33 ∷ []
 
 pub record Boundary : Type 0 where
-  pub both : answer plain boundary (Turn 1000) ≡ tell.Job 1 (body_of_two (text 17 33) (text 17 34))
+  pub both : answer plain boundary (Turn 1000) ≡ replies.Job 1 (body_of_two (text 17 33) (text 17 34))
   pub no_consumer : ready (state plain (Turn 1000 ∷ boundary)) ≡ None
-  pub done : answer plain (Turn 1000 ∷ boundary) (status 1000 1 0 200) ≡ tell.Done
+  pub done : answer plain (Turn 1000 ∷ boundary) (status 1000 1 0 200) ≡ replies.Done
   pub alone : answer plain (status 1000 1 0 200 ∷ Turn 1000 ∷ one 1000 17 35 ∷ one 0 17 33 ∷ []) (Turn 1000) ≡
-      tell.Job 2 (body 17 35)
+      replies.Job 2 (body 17 35)
 
 -- one row at most: three traces in one post evict each other
 pub record EvictedInOnePost : Type 0 where
   pub counted : ledger (with_rows 1) (Post 0 (span 17 33 ∷ span 18 34 ∷ span 17 35 ∷ []) ∷ []) ≡
       counts 3 (record no_places { undecided = 1; too_early = 2 })
   pub last_leaves : answer (with_rows 1) (Post 0 (span 17 33 ∷ span 18 34 ∷ span 17 35 ∷ []) ∷ []) (Turn 1000) ≡
-      tell.Job 1 (body 17 35)
+      replies.Job 1 (body 17 35)
 
 -- one row at most: a late span, then a row that evicts one that was decided, then one that evicts one that wasn't
 abbrev pub mixed : List Own
@@ -59,22 +59,22 @@ late_and_new = one 1000 18 35 ∷ one 1000 17 34 ∷ one 0 17 33 ∷ []
 
 pub record LatePastBudget : Type 0 where
   pub late_taken : answer (with_budget 1) (one 0 17 33 ∷ []) (one 1000 17 34) ≡
-      tell.Reply (record { status = 200; body = [] })
+      replies.Reply (record { status = 200; body = [] })
   pub counted : ledger (with_budget 1) late_and_new ≡ counts 3 (record no_places { undecided = 1; queued = 2 })
   pub full : answer (with_budget 1) late_and_new (one 1000 19 36) ≡
-      tell.Reply (record { status = 429; body = 18 ∷ 21 ∷ codes "span budget exhausted" })
+      replies.Reply (record { status = 429; body = 18 ∷ 21 ∷ codes "span budget exhausted" })
   pub late_is_full_too : answer (with_budget 1) late_and_new (one 1000 17 36) ≡
-      tell.Reply (record { status = 429; body = 18 ∷ 21 ∷ codes "span budget exhausted" })
+      replies.Reply (record { status = 429; body = 18 ∷ 21 ∷ codes "span budget exhausted" })
 
 -- one span at most is held: a turn in between changes no reply but by its moment, and where that is later than the
 -- post's, time has gone on and the row is decided
 pub record TurnBetween : Type 0 where
   pub full : answer (with_budget 1) (one 0 17 33 ∷ []) (one 900 18 34) ≡
-      tell.Reply (record { status = 429; body = 18 ∷ 21 ∷ codes "span budget exhausted" })
+      replies.Reply (record { status = 429; body = 18 ∷ 21 ∷ codes "span budget exhausted" })
   pub full_after_a_turn : answer (with_budget 1) (Turn 800 ∷ one 0 17 33 ∷ []) (one 900 18 34) ≡
-      tell.Reply (record { status = 429; body = 18 ∷ 21 ∷ codes "span budget exhausted" })
+      replies.Reply (record { status = 429; body = 18 ∷ 21 ∷ codes "span budget exhausted" })
   pub later_turn : answer (with_budget 1) (Turn 1000 ∷ one 0 17 33 ∷ []) (one 900 18 34) ≡
-      tell.Reply (record { status = 200; body = [] })
+      replies.Reply (record { status = 200; body = [] })
 
 -- one row at most: a trace that was decided before another one took its row, and a span of it that comes later
 abbrev pub come_again : List Own

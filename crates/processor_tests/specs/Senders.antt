@@ -1,4 +1,4 @@
--- What the last tickets are, worked out by hand: a sender hands out 2^62 of them.
+-- What the last tickets are, worked out by hand: a sender hands out 2^62 of them. This project's own rule.
 use Rattle.std.specs.Prelude.{◌≡◌, ◌-◌, ◌^◌, ℕ, [], ◌∷◌, Some, None}
 use Rattle.tail_settings.specs.RetryOnFailure.{RetryData}
 use Rattle.send_queue.specs.Sender.{BatchData, SenderData, no_batches, offered, job, ready}

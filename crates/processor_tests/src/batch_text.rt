@@ -9,11 +9,11 @@ use span_batcher::{batches_are_requests, encode_batch};
 use span_pool::{StoredSpan, TextKeys};
 use std::alloc::{AllocError, Global};
 use std::test::Fail;
-use text_pool::{Text, TextPool};
+use text_pool::{SharedBytes, TextPool};
 
 /// Resources of which one and two attributes were left out: field 2; a scope named s: field 1; URLs, and an empty text.
-fn text_of(name: &str) -> Text {
-    Text::of(Bytes::from_static(match name {
+fn text_of(name: &str) -> SharedBytes {
+    SharedBytes::of(Bytes::from_static(match name {
         "one" => b"\x10\x01",
         "two" => b"\x10\x02",
         "s" => b"\x0a\x01s",

@@ -6,7 +6,7 @@ use Rattle.replay_script.specs.declared.fault.ScriptFault.{ScriptFault}
 use Rattle.replay_script.specs.declared.fault.ScriptFault.TheVariants.{Script, Line, OutOfMemory}
 use Rattle.replay_script.specs.Command.{CommandData}
 use Rattle.replay_script.specs.Line.{kind_of, lines_of}
-use Rattle.replay_script.specs.Told.{Told, BeginsTold, Ends}
+use Rattle.replay_script.specs.Transcript.{Told, BeginsTold, Ends}
 use Rattle.replay_script.specs.Step.{Adds, Refuses}
 use Rattle.replay_script.specs.Input.{TakesLine, ReadsOne, kept_of, IsOutside}
 use Rattle.replay_script.specs.Output.{Sends}

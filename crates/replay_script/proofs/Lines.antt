@@ -6,8 +6,8 @@ use Rattle.std.proofs.lemmas.List.{append-nil, append_assoc}
 use Rattle.std.proofs.lemmas.List.Elements.{All-head, All-tail, All-append}
 use Rattle.std.proofs.lemmas.Bool.{ne_eqb}
 use Rattle.std.proofs.lemmas.Bool.Decides.{nat_tests}
-use Rattle.replay_script.specs.declared.input.Part.{Part}
-use Rattle.replay_script.specs.declared.input.Part.TheVariants.{More, LineEnd, InputEnd}
+use Rattle.replay_script.specs.declared.input.FragmentEnd.{FragmentEnd}
+use Rattle.replay_script.specs.declared.input.FragmentEnd.TheVariants.{More, LineEnd, InputEnd}
 use Rattle.replay_script.specs.Line.{lines_of}
 use Rattle.replay_script.specs.Input.{TakesPart, TakesLine, ReadsOne, kept_of}
 use Rattle.replay_script.proofs.Kept.{kept_more, kept_again, kept_some, kept_none}
@@ -125,8 +125,8 @@ reading_over (Some text) now after old new found reading part e =
     last_line (so_far.0 ++ part.0) text new after found is (All-append (λ b. b ≢ 10) so_far.0 part.0 so_far.4 part.1)
     (behind.1 ∙ ap Some none) (kept_on so_far.0 part.0 old new so_far.5 part.2) e
 
-pub taken : {E : Type 0} (r : Result Part E) (part : Part) (P : Part → Type 0) → IfOk r P → r ≡ Ok part → P part
+pub taken : {E : Type 0} (r : Result FragmentEnd E) (part : FragmentEnd) (P : FragmentEnd → Type 0) → IfOk r P → r ≡ Ok part → P part
 taken r part P h e = subst (λ r. IfOk r P) e h
 
-pub part_fits : (now after : Option (List ℕ)) (old new : List ℕ) (part : Part) → TakesPart now after old new part → kept_of new ≡ new
+pub part_fits : (now after : Option (List ℕ)) (old new : List ℕ) (part : FragmentEnd) → TakesPart now after old new part → kept_of new ≡ new
 part_fits now after old new part h = ap kept_of h.2 ∙ kept_again (old ++ h.0) ∙ sym h.2

@@ -5,7 +5,7 @@ use Rattle.replay_script.specs.declared.fault.ScriptFault.{ScriptFault}
 use Rattle.replay_script.specs.declared.fault.ScriptFault.TheVariants.{Script, Line, OutOfMemory}
 use Rattle.replay_script.specs.Command.{CommandData}
 use Rattle.replay_script.specs.Line.{Kind, Skipped, Says, Faulty, kind_of, lines_of}
-use Rattle.replay_script.specs.Told.{Goes, Told, BeginsTold, ToldSoFar, Ends}
+use Rattle.replay_script.specs.Transcript.{Goes, Told, BeginsTold, ToldSoFar, Ends}
 use Rattle.replay_script.specs.Step.{Adds, IsFaulty}
 
 module _ {S : Type 0} (answers : S → CommandData → Option (List ℕ) → S → Type 0) where

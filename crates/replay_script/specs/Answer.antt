@@ -1,4 +1,4 @@
--- The lines that answer a script's commands.
+-- The lines that answer a script's commands. This project's own rule (docs/SCRIPT.md).
 use Rattle.std.specs.Prelude.{ℕ, List, [], ◌∷◌, ◌++◌, codes}
 use Rattle.std.specs.Fmt.{decimal}
 use Rattle.hex.specs.Hex.{encode_lower}

@@ -1,4 +1,4 @@
--- The commands of a script, and which line says which.
+-- The commands of a script, and which line says which. This project's own rule (docs/SCRIPT.md).
 use Rattle.std.specs.Prelude.{ℕ, Bool, true, false, ◌&&◌, if◌then◌else◌, List, [], ◌∷◌, codes, Option, Some, None, option_map}
 use Rattle.std.specs.Str.{bytes_eq}
 use Rattle.send_retry.specs.Class.{AnswerData, Http, Failed}

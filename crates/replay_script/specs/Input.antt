@@ -1,9 +1,9 @@
--- Reading a script's lines from a reader.
+-- Reading a script's lines from a reader. This project's own rule.
 use Rattle.std.specs.Prelude.{◌≡◌, ◌≢◌, ◌≤◌, ◌+◌, ℕ, Bool, true, false, if◌then◌else◌, List, [], ◌∷◌, ◌++◌, length, take, codes, Option, Some, All, OnSome}
 use Rattle.std.specs.Str.{bytes_eq}
 use Rattle.std.specs.Io.KnownBytes.{Consumes, IsAtEnd}
-use Rattle.replay_script.specs.declared.input.Part.{Part}
-use Rattle.replay_script.specs.declared.input.Part.TheVariants.{More, LineEnd, InputEnd}
+use Rattle.replay_script.specs.declared.input.FragmentEnd.{FragmentEnd}
+use Rattle.replay_script.specs.declared.input.FragmentEnd.TheVariants.{More, LineEnd, InputEnd}
 use Rattle.replay_script.specs.declared.fault.ScriptFault.{ScriptFault}
 use Rattle.replay_script.specs.declared.fault.ScriptFault.TheVariants.{Script, Line, OutOfMemory}
 use Rattle.replay_script.specs.Line.{lines_of}
@@ -22,13 +22,13 @@ abbrev pub kept_of : List ℕ → List ℕ
 kept_of line = if begins_answer line then line else take line_room line
 
 -- bytes with no line end, and what stands behind them
-abbrev pub with_end : Part → List ℕ → List ℕ
+abbrev pub with_end : FragmentEnd → List ℕ → List ℕ
 with_end LineEnd bytes = bytes ++ 10 ∷ []
 with_end More bytes = bytes
 with_end InputEnd bytes = bytes
 
 -- a part of a line was taken from a reader, and joined to what was kept of that line
-abbrev pub TakesPart : Option (List ℕ) → Option (List ℕ) → List ℕ → List ℕ → Part → Type 0
+abbrev pub TakesPart : Option (List ℕ) → Option (List ℕ) → List ℕ → List ℕ → FragmentEnd → Type 0
 TakesPart before after old new part = (bytes : List ℕ) × All (λ byte. byte ≢ 10) bytes
     × (new ≡ kept_of (old ++ bytes)) × Consumes before after (with_end part bytes)
     × (part ≡ InputEnd → (bytes ≡ []) × OnSome before (IsAtEnd after))

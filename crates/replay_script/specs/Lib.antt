@@ -3,7 +3,7 @@ pub mod Command
 pub mod Named
 pub mod Line
 pub mod Answer
-pub mod Told
+pub mod Transcript
 pub mod Input
 pub mod Output
 pub mod Step

@@ -1,4 +1,4 @@
--- The lines of a script, and what each is.
+-- The lines of a script, and what each is. This project's own rule (docs/SCRIPT.md).
 use Rattle.std.specs.Prelude.{ℕ, ◌==◌, if◌then◌else◌, List, [], ◌∷◌, Option, Some, None}
 use Rattle.std.specs.List.{onto_first}
 use Rattle.replay_script.specs.Command.{CommandData, command_of}

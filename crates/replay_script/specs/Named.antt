@@ -1,4 +1,4 @@
--- The command that a value of the code stands for.
+-- The command that a value of the code stands for. This project's own rule.
 use Rattle.send_retry.specs.Class.{answer_view}
 use Rattle.replay_script.specs.declared.command.Command.{Command}
 use Rattle.replay_script.specs.declared.command.Command.TheVariants as variants

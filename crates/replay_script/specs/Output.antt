@@ -1,4 +1,4 @@
--- Text on its way to a writer.
+-- Text on its way to a writer. This project's own rule.
 use Rattle.std.specs.Prelude.{◌≡◌, ℕ, List, ◌++◌, Option}
 use Rattle.std.specs.Io.KnownBytes.{Appends}
 

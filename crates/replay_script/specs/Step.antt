@@ -1,9 +1,9 @@
--- What one line of a script does.
+-- What one line of a script does. This project's own rule.
 use Rattle.std.specs.Prelude.{◌≡◌, ℕ, List, [], Some, None}
 use Rattle.replay_script.specs.declared.fault.ScriptFault.{ScriptFault}
 use Rattle.replay_script.specs.declared.fault.ScriptFault.TheVariants.{Script, Line, OutOfMemory}
 use Rattle.replay_script.specs.Line.{Kind, Skipped, Says, Faulty}
-use Rattle.replay_script.specs.Told.{AnswersOf}
+use Rattle.replay_script.specs.Transcript.{AnswersOf}
 
 -- a line of this kind added this text
 abbrev pub Adds : {S : Type 0} → AnswersOf S → S → Kind → List ℕ → S → Type 0

@@ -1,4 +1,5 @@
--- The words of a script's line, and the names, decimal numbers and hexadecimal bytes that they spell.
+-- The words of a script's line, and the names, decimal numbers and hexadecimal bytes that they spell. This project's
+-- own rule (docs/SCRIPT.md).
 use Rattle.std.specs.Prelude.{ℕ, ◌*◌, ◌^◌, ◌==◌, ◌&&◌, ◌||◌, Bool, nat_le, nat_lt, min, if◌then◌else◌, List, [], length, codes, Option, Some, None, option_map}
 use Rattle.std.specs.List.{slice_split, list_all}
 use Rattle.std.specs.Char.{is_ascii_alphanumeric, is_ascii_digit}

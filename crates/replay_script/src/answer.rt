@@ -14,8 +14,8 @@ pub fn put_reply(
     status: u16,
     body: &[u8],
 ) -> Result<(), AllocError>
-    ensures ok { OnOk result (out.new.items ≡ out.old.items ++ reply_text name.now status body.now) }
-    ensures err { OnErr result (out.new.items ≡ out.old.items) }
+    ensures on_success { OnOk result (out.new.items ≡ out.old.items ++ reply_text name.now status body.now) }
+    ensures on_refusal { OnErr result (out.new.items ≡ out.old.items) }
 {
     let body = hex(alloc, body)?;
     let line = format!(in alloc; "reply {name} {status} {body}\n")?;
@@ -30,8 +30,8 @@ pub fn put_job(
     ticket: u64,
     payload: &[u8],
 ) -> Result<(), AllocError>
-    ensures ok { OnOk result (out.new.items ≡ out.old.items ++ job_text name.now ticket payload.now) }
-    ensures err { OnErr result (out.new.items ≡ out.old.items) }
+    ensures on_success { OnOk result (out.new.items ≡ out.old.items ++ job_text name.now ticket payload.now) }
+    ensures on_refusal { OnErr result (out.new.items ≡ out.old.items) }
 {
     let payload = hex(alloc, payload)?;
     let line = format!(in alloc; "job {name} {ticket} {payload}\n")?;
@@ -40,8 +40,8 @@ pub fn put_job(
 
 /// Appends the line of a tenant's turn that had no job.
 pub fn put_worked(alloc: Global, out: &mut Vec<u8>, name: &str) -> Result<(), AllocError>
-    ensures ok { OnOk result (out.new.items ≡ out.old.items ++ worked_text name.now) }
-    ensures err { OnErr result (out.new.items ≡ out.old.items) }
+    ensures on_success { OnOk result (out.new.items ≡ out.old.items ++ worked_text name.now) }
+    ensures on_refusal { OnErr result (out.new.items ≡ out.old.items) }
 {
     let line = format!(in alloc; "worked {name}\n")?;
     out.extend_from_slice(line.as_bytes())
@@ -49,8 +49,8 @@ pub fn put_worked(alloc: Global, out: &mut Vec<u8>, name: &str) -> Result<(), Al
 
 /// Appends the line of a turn in which no tenant of the shard was ready.
 pub fn put_idle(alloc: Global, out: &mut Vec<u8>, shard: u64) -> Result<(), AllocError>
-    ensures ok { OnOk result (out.new.items ≡ out.old.items ++ idle_text shard) }
-    ensures err { OnErr result (out.new.items ≡ out.old.items) }
+    ensures on_success { OnOk result (out.new.items ≡ out.old.items ++ idle_text shard) }
+    ensures on_refusal { OnErr result (out.new.items ≡ out.old.items) }
 {
     let line = format!(in alloc; "idle {shard}\n")?;
     out.extend_from_slice(line.as_bytes())
@@ -63,8 +63,8 @@ pub fn put_refused(
     name: &str,
     number: u8,
 ) -> Result<(), AllocError>
-    ensures ok { OnOk result (out.new.items ≡ out.old.items ++ refused_text name.now number) }
-    ensures err { OnErr result (out.new.items ≡ out.old.items) }
+    ensures on_success { OnOk result (out.new.items ≡ out.old.items ++ refused_text name.now number) }
+    ensures on_refusal { OnErr result (out.new.items ≡ out.old.items) }
 {
     let line = format!(in alloc; "refused {name} {number}\n")?;
     out.extend_from_slice(line.as_bytes())
@@ -72,8 +72,8 @@ pub fn put_refused(
 
 /// Appends the line of an answer to a job, or of a drain, that was done.
 pub fn put_done(alloc: Global, out: &mut Vec<u8>, name: &str) -> Result<(), AllocError>
-    ensures ok { OnOk result (out.new.items ≡ out.old.items ++ done_text name.now) }
-    ensures err { OnErr result (out.new.items ≡ out.old.items) }
+    ensures on_success { OnOk result (out.new.items ≡ out.old.items ++ done_text name.now) }
+    ensures on_refusal { OnErr result (out.new.items ≡ out.old.items) }
 {
     let line = format!(in alloc; "done {name}\n")?;
     out.extend_from_slice(line.as_bytes())
@@ -86,8 +86,8 @@ pub fn put_report(
     name: &str,
     report: &[u8],
 ) -> Result<(), AllocError>
-    ensures ok { OnOk result (out.new.items ≡ out.old.items ++ report_text name.now report.now) }
-    ensures err { OnErr result (out.new.items ≡ out.old.items) }
+    ensures on_success { OnOk result (out.new.items ≡ out.old.items ++ report_text name.now report.now) }
+    ensures on_refusal { OnErr result (out.new.items ≡ out.old.items) }
 {
     let mut line = format!(in alloc; "report {name} ")?.into_bytes();
     line.extend_from_slice(report)?;

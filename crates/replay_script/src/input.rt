@@ -3,7 +3,7 @@
 ghost use Rattle.std.specs.Prelude.{◌≡◌, ◌≢◌, ◌==◌, ℕ, ◌+◌, ◌<◌, ◌≤◌, ◌∷◌, [], ◌++◌, All, take, length, IfOk, IfErr, OnOk, OnErr, IfSome};
 ghost use Rattle.std.specs.Io.KnownBytes.{Keeps};
 ghost use Rattle.std.specs.List.{position};
-ghost use Rattle.replay_script.specs.declared.input.Part.TheVariants.{More, LineEnd, InputEnd};
+ghost use Rattle.replay_script.specs.declared.input.FragmentEnd.TheVariants.{More, LineEnd, InputEnd};
 ghost use Rattle.replay_script.specs.Input.{TakesPart, TakesLine, ReadsOne, kept_of, with_end, IsOutside};
 ghost use Rattle.replay_script.specs.Output.{Sends};
 
@@ -19,7 +19,7 @@ const LINE_ROOM: usize = 41_943_131;
 
 /// What came behind a part of a line.
 #[derive(Debug, Clone, Copy, PartialEq, Eq)]
-pub enum Part {
+pub enum FragmentEnd {
     /// The line may go on.
     More,
     /// The line's end, which is read too.
@@ -30,11 +30,11 @@ pub enum Part {
 
 /// The place of a part of a line in bytes that were read.
 #[derive(Debug, Clone, Copy)]
-struct Cut {
+struct Fragment {
     len: usize,
     read: usize,
     ahead: usize,
-    part: Part,
+    part: FragmentEnd,
 }
 
 /// How far a reader was used.
@@ -62,47 +62,47 @@ pub fn next_line<R: BufRead, W: Write>(
     ensures sends { Sends (W.contents writer.old) (W.contents writer.new)
         output.old.text.items [] output.new.text.items }
     ensures reads { OnOk result (input.new.reads < input.old.reads) }
-    ensures err { IfErr result IsOutside }
+    ensures on_error { IfErr result IsOutside }
 {
     line.clear();
     'parts: while input.reads > 0 {
         input.reads -= 1;
         output.send_before_wait(writer, input.ahead)?;
-        match take_part(reader, &mut input.ahead, output, line)? {
-            Part::More => {}
-            Part::LineEnd => return Ok(true),
-            Part::InputEnd => return Ok(!line.is_empty()),
+        match take_fragment(reader, &mut input.ahead, output, line)? {
+            FragmentEnd::More => {}
+            FragmentEnd::LineEnd => return Ok(true),
+            FragmentEnd::InputEnd => return Ok(!line.is_empty()),
         }
     }
     Err(ScriptFault::Line)
 }
 
 /// Takes what one read gives of the line. Nothing is held back while the reader may have to wait.
-fn take_part<R: BufRead>(
+fn take_fragment<R: BufRead>(
     reader: &mut R,
     ahead: &mut usize,
     held: &Output,
     line: &mut Vec<u8>,
-) -> Result<Part, ScriptFault>
+) -> Result<FragmentEnd, ScriptFault>
     requires kept { kept_of line.old.items ≡ line.old.items }
     requires nothing_held { ahead.old ≡ 0 → held.now.text.items ≡ [] }
     ensures part { IfOk result
         (TakesPart (R.remaining reader.old) (R.remaining reader.new) line.old.items line.new.items) }
     ensures unread { OnErr result (Keeps (R.remaining reader.old) (R.remaining reader.new)) }
-    ensures err { IfErr result IsOutside }
+    ensures on_error { IfErr result IsOutside }
 {
     prove!(*ahead > 0 || held.text.is_empty());
     let shown = match reader.fill_buf() {
         Ok(shown) => shown,
         Err(error) => {
             return if error.kind() == ErrorKind::Interrupted {
-                Ok(Part::More)
+                Ok(FragmentEnd::More)
             } else {
                 Err(ScriptFault::Line)
             };
         }
     };
-    let cut = find_part(shown);
+    let cut = find_fragment(shown);
     keep(line, &shown[..cut.len])?;
     reader.consume(cut.read);
     *ahead = cut.ahead;
@@ -110,7 +110,7 @@ fn take_part<R: BufRead>(
 }
 
 /// The part of a line that bytes begin with.
-fn find_part(shown: &[u8]) -> Cut
+fn find_fragment(shown: &[u8]) -> Fragment
     ensures len { result.len ≤ length shown.now }
     ensures read { result.read + result.ahead ≡ length shown.now }
     ensures inside { All (λ byte. byte ≢ 10) (take result.len shown.now) }
@@ -118,20 +118,20 @@ fn find_part(shown: &[u8]) -> Cut
     ensures end { result.part ≡ InputEnd → length shown.now ≡ 0 }
 {
     match line_end(shown) {
-        Some(at) => Cut {
+        Some(at) => Fragment {
             len: at,
             read: at + 1,
             ahead: shown.len() - (at + 1),
-            part: Part::LineEnd,
+            part: FragmentEnd::LineEnd,
         },
-        None => Cut {
+        None => Fragment {
             len: shown.len(),
             read: shown.len(),
             ahead: 0,
             part: if shown.is_empty() {
-                Part::InputEnd
+                FragmentEnd::InputEnd
             } else {
-                Part::More
+                FragmentEnd::More
             },
         },
     }

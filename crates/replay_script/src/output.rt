@@ -37,7 +37,7 @@ impl Output {
         ensures sends { Sends (W.contents writer.old) (W.contents writer.new)
             self.old.text.items [] self.new.text.items }
         ensures little { OnOk result (length self.new.text.items < ENOUGH) }
-        ensures err { IfErr result (λ fault. fault ≡ ScriptFault.Line) }
+        ensures on_error { IfErr result (λ fault. fault ≡ ScriptFault.Line) }
     {
         if self.text.len() < ENOUGH {
             return Ok(());
@@ -54,7 +54,7 @@ impl Output {
         ensures sends { Sends (W.contents writer.old) (W.contents writer.new)
             self.old.text.items [] self.new.text.items }
         ensures all { OnOk result (ahead ≡ 0 → self.new.text.items ≡ []) }
-        ensures err { IfErr result (λ fault. fault ≡ ScriptFault.Line) }
+        ensures on_error { IfErr result (λ fault. fault ≡ ScriptFault.Line) }
     {
         if ahead > 0 {
             return Ok(());
@@ -68,7 +68,7 @@ impl Output {
         ensures sends { Sends (W.contents writer.old) (W.contents writer.new)
             self.old.text.items [] self.new.text.items }
         ensures all { OnOk result (self.new.text.items ≡ []) }
-        ensures err { IfErr result (λ fault. fault ≡ ScriptFault.Line) }
+        ensures on_error { IfErr result (λ fault. fault ≡ ScriptFault.Line) }
     {
         if self.text.is_empty() {
             return Ok(());
@@ -82,7 +82,7 @@ impl Output {
 
 fn flush<W: Write>(writer: &mut W) -> Result<(), ScriptFault>
     ensures keeps { Keeps (W.contents writer.old) (W.contents writer.new) }
-    ensures err { IfErr result (λ fault. fault ≡ ScriptFault.Line) }
+    ensures on_error { IfErr result (λ fault. fault ≡ ScriptFault.Line) }
 {
     match writer.flush() {
         Ok(()) => Ok(()),
@@ -98,7 +98,7 @@ fn write_out<W: Write>(
 ) -> (usize, Result<(), ScriptFault>)
     ensures bound { result.0 ≤ length text.now }
     ensures all { OnOk result.1 (result.0 ≡ length text.now) }
-    ensures err { IfErr result.1 (λ fault. fault ≡ ScriptFault.Line) }
+    ensures on_error { IfErr result.1 (λ fault. fault ≡ ScriptFault.Line) }
     ensures bytes { Appends (W.contents writer.old) (W.contents writer.new) (take result.0 text.now) }
 {
     let mut written = 0;

@@ -3,7 +3,7 @@
 ghost use Rattle.std.specs.Prelude.{◌≡◌, ℕ, ◌<◌, List, ◌++◌, length, IfSome, IfErr, OnOk, OnErr};
 ghost use Rattle.std.specs.Io.KnownBytes.{Appends};
 ghost use Rattle.replay_script.specs.Line.{kind_of, lines_of};
-ghost use Rattle.replay_script.specs.Told.{Ends};
+ghost use Rattle.replay_script.specs.Transcript.{Ends};
 ghost use Rattle.replay_script.specs.Step.{Adds, Refuses};
 ghost use Rattle.replay_script.specs.Output.{Sends};
 
@@ -30,7 +30,7 @@ pub fn run_script<T: Threads + Sync, S: Session, R: BufRead, W: Write>(
     reader: &mut R,
     writer: &mut W,
 ) -> Result<(), ScriptFault>
-    ensures told { IfSome (R.remaining reader.old) (λ script. (written : List ℕ)
+    ensures output { IfSome (R.remaining reader.old) (λ script. (written : List ℕ)
         × Appends (W.contents writer.old) (W.contents writer.new) written
         × Ends S.answers (lines_of script) session.old (R.remaining reader.new) written result) }
 {
@@ -49,7 +49,7 @@ fn answer_lines<T: Threads + Sync, S: Session, R: BufRead, W: Write>(
     writer: &mut W,
     output: &mut Output,
 ) -> Result<(), ScriptFault>
-    ensures told { IfSome (R.remaining reader.old) (λ script. (text : List ℕ)
+    ensures output { IfSome (R.remaining reader.old) (λ script. (text : List ℕ)
         × Sends (W.contents writer.old) (W.contents writer.new) output.old.text.items text output.new.text.items
         × Ends S.answers (lines_of script) session.old (R.remaining reader.new) text result) }
     ensures little { OnOk result (length output.old.text.items < 65536 → length output.new.text.items < 65536) }
@@ -85,10 +85,10 @@ fn answer_line<T: Threads + Sync, S: Session>(
     number: u64,
     out: &mut Vec<u8>,
 ) -> Result<(), ScriptFault>
-    ensures ok { OnOk result ((text : List ℕ) × (out.new.items ≡ out.old.items ++ text)
+    ensures on_success { OnOk result ((text : List ℕ) × (out.new.items ≡ out.old.items ++ text)
         × Adds S.answers session.old (kind_of line.now) text session.new) }
     ensures fault { IfErr result (Refuses S.answers session.old (kind_of line.now) number) }
-    ensures err { OnErr result (out.new.items ≡ out.old.items) }
+    ensures on_error { OnErr result (out.new.items ≡ out.old.items) }
 {
     if line.is_empty() || line[0] == b'#' {
         return Ok(());

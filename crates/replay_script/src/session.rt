@@ -27,11 +27,11 @@ pub trait Session {
     ) -> Result<(), AnswerFault>
         // Threads may share what starts them, which the bound says of a function, but not yet of a trait's method.
         requires { IsSync T.row }
-        ensures ok { OnOk result ((line : List ℕ) × (out.new.items ≡ out.old.items ++ line)
+        ensures on_success { OnOk result ((line : List ℕ) × (out.new.items ≡ out.old.items ++ line)
             × answers self.old (command_view command.entry) (Some line) self.new) }
         ensures unknown { result ≡ Err AnswerFault.Unknown
             → answers self.old (command_view command.entry) None self.new }
-        ensures err { OnErr result (out.new.items ≡ out.old.items) };
+        ensures on_error { OnErr result (out.new.items ≡ out.old.items) };
 }
 
 /// Why a command got no answer.

@@ -1,4 +1,4 @@
--- What a sender keeps, and what always holds of it.
+-- What a sender keeps, and what always holds of it. This project's own rule.
 use Rattle.std.specs.Prelude.{◌≡◌, ℕ, ◌+◌, ◌<◌, ◌≤◌, Bool, false, ◌==◌, ◌&&◌, if◌then◌else◌, List, [], ◌∷◌, length, map, Option, Some, None, is_some}
 use Rattle.std.specs.Ordering.{nat_cmp, ordering_then}
 use Rattle.std.specs.declared.cmp.Ordering.{Ordering}
@@ -102,7 +102,7 @@ inside_view a = record {
 }
 
 -- what always holds of it
-abbrev pub IsSound : Inside → Type 0
-IsSound a =
+abbrev pub QueueInvariant : Inside → Type 0
+QueueInvariant a =
     IsWhole a.active (heap_items a.retries) (heap_len a.retries) (heap_capacity a.retries) a.sending.num_consumers
     a.handed_out

@@ -1,4 +1,4 @@
--- Rust values as the definitions see them.
+-- Rust values as the definitions see them. This project's own rule.
 use Rattle.std.specs.Prelude.{ℕ, List, map, Option, Some, None}
 use Rattle.send_retry.specs.Delay.{state_view}
 use Rattle.send_queue.specs.declared.batch.Batch.{Batch}

@@ -55,8 +55,8 @@ impl Actives {
     /// One more batch, under a ticket that is later than all others.
     pub(crate) fn put(&mut self, ticket: u64, active: Active) -> Result<(), AllocError>
         requires later { AllBefore ticket self.old }
-        ensures ok { OnOk result (self.new ≡ self.old ++ active_view (ticket, active) ∷ []) }
-        ensures refused { OnErr result (self.new ≡ self.old) }
+        ensures on_success { OnOk result (self.new ≡ self.old ++ active_view (ticket, active) ∷ []) }
+        ensures on_refusal { OnErr result (self.new ≡ self.old) }
     {
         self.entries.insert(ticket, active)?;
         Ok(())

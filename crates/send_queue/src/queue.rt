@@ -45,11 +45,11 @@ impl Model for SendQueue {
 
     ghost Value = { SenderData };
 
-    ghost use Rattle.send_queue.specs.Inside.{inside_view, IsSound};
+    ghost use Rattle.send_queue.specs.Inside.{inside_view, QueueInvariant};
 
     ghost view = { inside_view };
 
-    ghost invariant = { IsSound };
+    ghost invariant = { QueueInvariant };
 }
 
 impl SendQueue {
@@ -83,9 +83,9 @@ impl SendQueue {
     /// is refused; nothing has changed then.
     pub fn offer(&mut self, batch: Batch) -> Result<(), OfferFault>
         ensures full { (result ≡ Err (Full batch)) ↔ (is_full self.old ≡ true) }
-        ensures ok { OnOk result (self.new ≡ offered (batch_view batch) self.old) }
+        ensures on_success { OnOk result (self.new ≡ offered (batch_view batch) self.old) }
         ensures back { IfErr result (λ fault. batch_in fault ≡ batch) }
-        ensures refused { OnErr result (self.new ≡ self.old) }
+        ensures on_error { OnErr result (self.new ≡ self.old) }
     {
         if self.queue.len() >= self.sending.queue_size as usize {
             return Err(OfferFault::Full(batch));
@@ -114,7 +114,7 @@ impl SendQueue {
     pub fn take_job(&mut self, moment: u64) -> Result<Option<(u64, Bytes)>, AllocError>
         ensures job { IfOk result (λ taken. taken ≡ job moment self.old) }
         ensures asked { OnOk result (self.new ≡ asked moment self.old) }
-        ensures refused { OnErr result (self.new ≡ self.old) }
+        ensures on_refusal { OnErr result (self.new ≡ self.old) }
     {
         if self.handed_out == MOST_TICKETS {
             return Ok(None);
@@ -176,7 +176,7 @@ impl SendQueue {
         ensures job { IfOk result (λ job. Some job ≡ job_of (retried (under retry.ticket self.old.active)) self.old) }
         ensures asked { OnOk result
             (self.new ≡ handed_of 0 (retried (under retry.ticket self.old.active)) self.old) }
-        ensures refused { OnErr result (self.new ≡ self.old) }
+        ensures on_refusal { OnErr result (self.new ≡ self.old) }
     {
         let Some(active) = self.active.get(retry.ticket) else {
             unreachable!()
@@ -199,7 +199,7 @@ impl SendQueue {
         requires tickets { self.old.handed_out < 2 ^ 62 }
         ensures job { IfOk result (λ job. job ≡ job_of (choice_by None self.old) self.old) }
         ensures asked { OnOk result (self.new ≡ handed_of moment (choice_by None self.old) self.old) }
-        ensures refused { OnErr result (self.new ≡ self.old) }
+        ensures on_refusal { OnErr result (self.new ≡ self.old) }
     {
         if !self.has_consumer() {
             return Ok(None);
@@ -230,7 +230,7 @@ impl SendQueue {
         requires moment { now ≤ 2 ^ 62 }
         ensures settled { result ≡ ok_or (settled ticket now word (answer_view answer.now) self.old) UnknownTicket }
         ensures answered { self.new ≡ answered ticket now word (answer_view answer.now) self.old }
-        ensures refused { OnErr result (self.new ≡ self.old) }
+        ensures on_error { OnErr result (self.new ≡ self.old) }
     {
         let (spans, fate) = match self.active.get(ticket) {
             Some(active) if active.due.is_none() => {

@@ -32,8 +32,8 @@ impl RetryState {
 
     /// The delay that a word picks, in milliseconds.
     pub(crate) fn picked(&self, word: u32) -> u64
-        ensures is { result ≡ picked (state_view self.now) word }
-        ensures few { result ≤ 172800001 }
+        ensures value { result ≡ picked (state_view self.now) word }
+        ensures bounded { result ≤ 172800001 }
     {
         let spread = self.interval * u64::from(self.settings.randomization_factor) / 1000;
         self.interval - spread + (2 * spread + 1) * u64::from(word) / (1 << 32)

@@ -1,7 +1,7 @@
 //! A beat, a source of jobs, a back end and a sink of answers that take notes of what they are asked.
 
 use bytes::Bytes;
-use export_edge::{AnswerRefused, AnswerSink, BackEnd, Beat, JobSource, Turned};
+use export_edge::{AnswerRefused, AnswerSink, BackEnd, Beat, JobSource, TurnResult};
 use job_lane::Job;
 use send_retry::Answer;
 use std::alloc::Global;
@@ -55,17 +55,17 @@ pub(crate) struct Turns {
 impl JobSource for Turns {
     ghost turns = { λ _ _ _. Unit {0} };
 
-    fn turn(&mut self, now: u64) -> Turned {
+    fn turn(&mut self, now: u64) -> TurnResult {
         self.made = self.made.saturating_add(1);
         if now != self.made {
             self.made = u64::MAX;
         }
         match now {
-            1 => Turned::Job(job(1, 1)),
-            2 => Turned::Worked,
-            3 => Turned::Job(job(1, 2)),
-            5 => Turned::Job(job(1, 3)),
-            _ => Turned::Idle,
+            1 => TurnResult::Job(job(1, 1)),
+            2 => TurnResult::Worked,
+            3 => TurnResult::Job(job(1, 2)),
+            5 => TurnResult::Job(job(1, 3)),
+            _ => TurnResult::Idle,
         }
     }
 }

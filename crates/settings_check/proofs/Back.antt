@@ -21,7 +21,7 @@ use Rattle.tail_settings.specs.RetryOnFailure.{retry_of}
 use Rattle.tail_settings.specs.Section.{SectionData, section_of}
 use Rattle.tail_settings.specs.SendingQueue.{sending_queue_of}
 use Rattle.tail_settings.specs.Settings.{TenantData, SettingsData, name_of, tenant_of, tenants_of, spans_of, settings_of_table, settings_of}
-use Rattle.tail_settings.specs.Sound.{IsSoundGlobal, IsSoundLeaf, IsSoundPolicy, IsSoundTailSampling, IsSoundBatch, IsSoundSendingQueue, IsSoundRetry, IsSoundSection, IsSound}
+use Rattle.tail_settings.specs.Valid.{IsValidGlobal, IsValidLeaf, IsValidPolicy, IsValidTailSampling, IsValidBatch, IsValidSendingQueue, IsValidRetry, IsValidSection, AreValidSettings}
 use Rattle.tail_settings.specs.TailSampling.{TailSamplingData, tail_sampling_of}
 use Rattle.tail_settings.specs.Texts.{is_name, is_address, is_header, is_attribute_key, address_at, header_at, attribute_key_at}
 use Rattle.settings_check.specs.Document.{number, tables, texts, global_table, status_name, leaf_table, policy_table, cache_table, sampling_table, batch_table, queue_table, retry_table, section_table, tenant_table, document_of}
@@ -120,7 +120,7 @@ map_same (x ∷ xs) = ap (λ rest. x ∷ rest) (map_same xs)
 
 -- ---- tables of numbers and texts
 
-pub global_back : (s : SettingsData) → IsSoundGlobal s.global → global_of (document_of s) ≡ Ok s.global
+pub global_back : (s : SettingsData) → IsValidGlobal s.global → global_of (document_of s) ≡ Ok s.global
 unfolding global_of
 global_back s h =
     let g = s.global in
@@ -140,7 +140,7 @@ max_size_fits : (size max_size : ℕ) → (0 < max_size → size ≤ max_size) �
 max_size_fits size zero h = refl
 max_size_fits size (suc n) h = rw (le-leb size (suc n) (h (omega arith)), or-true (suc n == 0)) refl
 
-batch_back : (name : List ℕ) (s : SectionData) → IsSoundBatch s.batch → batch_of (section_table name s) ≡ Ok s.batch
+batch_back : (name : List ℕ) (s : SectionData) → IsValidBatch s.batch → batch_of (section_table name s) ≡ Ok s.batch
 unfolding batch_of
 batch_back name s h =
     let b = s.batch in
@@ -153,7 +153,7 @@ batch_back name s h =
       max_size_fits b.send_batch_size b.send_batch_max_size h.none_or_more,
     ) refl
 
-queue_back : (name : List ℕ) (s : SectionData) → IsSoundSendingQueue s.sending_queue → sending_queue_of (section_table name s) ≡ Ok s.sending_queue
+queue_back : (name : List ℕ) (s : SectionData) → IsValidSendingQueue s.sending_queue → sending_queue_of (section_table name s) ≡ Ok s.sending_queue
 unfolding sending_queue_of
 queue_back name s h =
     let q = s.sending_queue in
@@ -164,7 +164,7 @@ queue_back name s h =
       number_back (codes "num_consumers") 1 1000 10 q.num_consumers m refl h.num_consumers,
     ) refl
 
-retry_back : (name : List ℕ) (s : SectionData) → IsSoundRetry s.retry_on_failure → retry_of (section_table name s) ≡ Ok s.retry_on_failure
+retry_back : (name : List ℕ) (s : SectionData) → IsValidRetry s.retry_on_failure → retry_of (section_table name s) ≡ Ok s.retry_on_failure
 unfolding retry_of
 retry_back name s h =
     let r = s.retry_on_failure in
@@ -188,7 +188,7 @@ status_back error = refl
 min_low : (n high : ℕ) → n ≤ high → min n high ≡ n
 min_low n high h = omega arith
 
-leaf_type_back : (l : LeafData) → IsSoundLeaf l → (type : List ℕ) × (text_at (codes "type") (leaf_table l) ≡ Ok type) × (bytes_eq type (codes "and") ≡ false) × (leaf_of_type type (leaf_table l) ≡ Ok l)
+leaf_type_back : (l : LeafData) → IsValidLeaf l → (type : List ℕ) × (text_at (codes "type") (leaf_table l) ≡ Ok type) × (bytes_eq type (codes "and") ≡ false) × (leaf_of_type type (leaf_table l) ≡ Ok l)
 unfolding leaf_of_type status_code_of string_attribute_of values_of numeric_attribute_of
 leaf_type_back always_sample h = (codes "always_sample", text_back (codes "type") (codes "always_sample") (leaf_table always_sample) refl, refl, refl)
 leaf_type_back (latency t) h =
@@ -234,13 +234,13 @@ leaf_type_back (numeric_attribute key low high) h =
       ) refl,
     )
 
-leaf_back : (l : LeafData) → IsSoundLeaf l → leaf_of (leaf_table l) ≡ Ok l
+leaf_back : (l : LeafData) → IsValidLeaf l → leaf_of (leaf_table l) ≡ Ok l
 unfolding leaf_of
 leaf_back l h =
     let (type, read, other, back) = leaf_type_back l h in
     rw (read, back) refl
 
-policy_back : (p : PolicyData) → IsSoundPolicy p → policy_of (policy_table p) ≡ Ok p
+policy_back : (p : PolicyData) → IsValidPolicy p → policy_of (policy_table p) ≡ Ok p
 unfolding policy_of and_of
 policy_back (leaf l) h =
     let (type, read, other, back) = leaf_type_back l h in
@@ -250,14 +250,14 @@ policy_back (and ls) h =
     let leaves : each (λ _. leaf_of) [] (map leaf_table ls) ≡ Ok ls = each_back leaf_of leaf_table [] ls (λ k d short. leaf_back (get_or ls k d) (h.1 k d short)) in
     rw (text_back (codes "type") (codes "and") m refl, some_tables_back (codes "and_sub_policy") leaf_table ls m refl h.0, leaves) refl
 
-policies_back : (s : TailSamplingData) → IsSoundTailSampling s → policies_of (sampling_table s) ≡ Ok s.policies
+policies_back : (s : TailSamplingData) → IsValidTailSampling s → policies_of (sampling_table s) ≡ Ok s.policies
 unfolding policies_of
 policies_back s h =
     let ps = s.policies in
     let read : each (λ _. policy_of) [] (map policy_table ps) ≡ Ok ps = each_back policy_of policy_table [] ps (λ k d short. policy_back (get_or ps k d) (h.policies k d short)) in
     rw (some_tables_back (codes "policy") policy_table ps (sampling_table s) refl h.some_policy, read, le-leb (leaves_of ps) 64 h.few_leaves) refl
 
-sampling_back : (name : List ℕ) (s : SectionData) → IsSoundTailSampling s.tail_sampling → tail_sampling_of (section_table name s) ≡ Ok s.tail_sampling
+sampling_back : (name : List ℕ) (s : SectionData) → IsValidTailSampling s.tail_sampling → tail_sampling_of (section_table name s) ≡ Ok s.tail_sampling
 unfolding tail_sampling_of
 sampling_back name s h =
     let t = s.tail_sampling in
@@ -275,7 +275,7 @@ sampling_back name s h =
 
 -- ---- tenants
 
-section_back : (name : List ℕ) (s : SectionData) → IsSoundSection s → section_of (section_table name s) ≡ Ok s
+section_back : (name : List ℕ) (s : SectionData) → IsValidSection s → section_of (section_table name s) ≡ Ok s
 unfolding section_of
 section_back name s h =
     let m = section_table name s in
@@ -293,7 +293,7 @@ section_back name s h =
 abbrev IsNew : List TenantData → TenantData → Type 0
 IsNew before t = list_any (λ u. bytes_eq t.name u.name) before ≡ false
 
-tenant_back : (before : List TenantData) (t : TenantData) → IsTrue (is_name t.name) → IsSoundSection t.section → IsNew before t → tenant_of before (tenant_table t) ≡ Ok t
+tenant_back : (before : List TenantData) (t : TenantData) → IsTrue (is_name t.name) → IsValidSection t.section → IsNew before t → tenant_of before (tenant_table t) ≡ Ok t
 unfolding tenant_of name_of
 tenant_back before t named sound new =
     rw (text_back (codes "name") t.name (tenant_table t) refl, named, new, section_back t.name t.section sound) refl
@@ -309,19 +309,19 @@ new_behind : (before : List TenantData) (t u : TenantData) → t.name ≢ u.name
 new_behind before t u apart new =
     rw (list_any-append (λ v. bytes_eq u.name v.name) before (t ∷ []), new, differs u.name t.name (λ e. apart (sym e))) refl
 
-tenants_back : (before ts : List TenantData) → All (λ t. IsTrue (is_name t.name)) ts → All (λ t. IsSoundSection t.section) ts → AllPairs (λ t u. t.name ≢ u.name) ts → All (IsNew before) ts → each tenant_of before (map tenant_table ts) ≡ Ok (before ++ ts)
+tenants_back : (before ts : List TenantData) → All (λ t. IsTrue (is_name t.name)) ts → All (λ t. IsValidSection t.section) ts → AllPairs (λ t u. t.name ≢ u.name) ts → All (IsNew before) ts → each tenant_of before (map tenant_table ts) ≡ Ok (before ++ ts)
 tenants_back before [] names sections apart new = ap Ok (sym (append-nil before))
 tenants_back before (t ∷ ts) names sections apart new =
-    let head = tenant_back before t (All-head (λ u. IsTrue (is_name u.name)) t ts names) (All-head (λ u. IsSoundSection u.section) t ts sections) (All-head (IsNew before) t ts new) in
+    let head = tenant_back before t (All-head (λ u. IsTrue (is_name u.name)) t ts names) (All-head (λ u. IsValidSection u.section) t ts sections) (All-head (IsNew before) t ts new) in
     let behind : All (IsNew (before ++ t ∷ [])) ts = λ k d short. new_behind before t (get_or ts k d) (apart 0 (suc k) d (omega arith) (omega arith)) (All-tail (IsNew before) t ts new k d short) in
     rw head
-    (tenants_back (before ++ t ∷ []) ts (All-tail (λ u. IsTrue (is_name u.name)) t ts names) (All-tail (λ u. IsSoundSection u.section) t ts sections)
+    (tenants_back (before ++ t ∷ []) ts (All-tail (λ u. IsTrue (is_name u.name)) t ts names) (All-tail (λ u. IsValidSection u.section) t ts sections)
     (λ i j d below short. apart (suc i) (suc j) d (omega arith) (omega arith)) behind
     ∙ ap Ok (append_assoc before (t ∷ []) ts))
 
 -- ---- documents
 
-all_tenants_back : (s : SettingsData) → IsSound s → tenants_of (document_of s) ≡ Ok s.tenants
+all_tenants_back : (s : SettingsData) → AreValidSettings s → tenants_of (document_of s) ≡ Ok s.tenants
 unfolding tenants_of
 all_tenants_back s h =
     let ts = s.tenants in
@@ -333,10 +333,10 @@ all_tenants_back s h =
     )
     (tenants_back [] ts h.tenants.names h.tenants.sections h.tenants.distinct (λ k d _. refl))
 
-pub document_back : (s : SettingsData) → IsSound s → settings_of_table (document_of s) ≡ Ok s
+pub document_back : (s : SettingsData) → AreValidSettings s → settings_of_table (document_of s) ≡ Ok s
 unfolding settings_of_table
 document_back s h = rw (global_back s h.global, all_tenants_back s h, le-leb (spans_of s.tenants) (2 ^ 31) h.few_spans) refl
 
-pub text_back_to : (text : List ℕ) (s : SettingsData) → parse_document text ≡ Some (document_of s) → IsSound s → settings_of text ≡ Ok s
+pub text_back_to : (text : List ℕ) (s : SettingsData) → parse_document text ≡ Some (document_of s) → AreValidSettings s → settings_of text ≡ Ok s
 unfolding settings_of
 text_back_to text s parsed h = rw parsed (document_back s h)

@@ -8,7 +8,7 @@ use Rattle.tail_settings.specs.Fault.{FaultData}
 use Rattle.tail_settings.specs.Settings.{settings_of}
 use Rattle.settings_check.specs.Place.{NamesFirst, tenants_in}
 use Rattle.settings_check.specs.Report.{Reports, IsReport}
-use Rattle.settings_check.specs.Told.{fault_text}
+use Rattle.settings_check.specs.FaultTexts.{fault_text}
 use Rattle.settings_check.specs.Warning.{warnings_of}
 
 pub fault_reports : (o : Option FaultData) (text place words head told : List ℕ) → IsSomeAnd o (λ seen. head ≡ fault_text place seen words) → IfSome o (λ seen. settings_of text ≡ Err seen) → ((seen : FaultData) → o ≡ Some seen → NamesFirst seen 1 (tenants_in (parse_document text)) place) → told ≡ head ++ warnings_of (parse_document text) → IsReport text false told

@@ -1,5 +1,5 @@
 -- The document that says all of some settings: every table with every key, nothing left to a default. Keys stand in
--- the order of their bytes, which is that of the tables of the TOML library.
+-- the order of their bytes, which is that of the tables of the TOML library. This project's own rule.
 use Rattle.std.specs.Prelude.{codes, ℕ, min, ◌^◌, pos, List, map}
 use Rattle.toml.specs.Data.{Data, string, integer, array, table, Members, no_members, member}
 use Rattle.toml.specs.View.{items_of}

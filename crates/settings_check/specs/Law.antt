@@ -1,5 +1,5 @@
 -- How the keys of src/table.rt stand to those that `tail_settings` reads: other keys have no effect, and each of these
--- has one.
+-- has one. This project's own rule.
 use Rattle.std.specs.Prelude.{◌≡◌, codes, ℕ, pos, true, List, [], ◌∷◌, Result, Err}
 use Rattle.toml.specs.Data.{string, integer, boolean, array, table, no_items, item, Members, no_members, member, get_member}
 use Rattle.tail_settings.specs.Batch.{batch_of}

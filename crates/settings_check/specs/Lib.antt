@@ -4,7 +4,7 @@ pub mod Unknown
 pub mod Warning
 pub mod Put
 pub mod Document
-pub mod Told
+pub mod FaultTexts
 pub mod Place
 pub mod Report
 pub mod Law

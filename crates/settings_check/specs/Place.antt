@@ -1,4 +1,5 @@
--- In which tenant a document's fault is: the first whose table by itself, as a document, has this fault.
+-- In which tenant a document's fault is: the first whose table by itself, as a document, has this fault. This project's
+-- own rule.
 use Rattle.std.specs.Prelude.{◌≡◌, codes, ℕ, ◌+◌, ◌≤◌, true, List, [], ◌++◌, ◌⊎◌, Option, unwrap_or, IsSome, Err}
 use Rattle.toml.specs.Data.{Data, array, Items, no_items, item, Members, no_members, member, as_table, depth, has_valid_dates}
 use Rattle.tail_settings.specs.Fault.{FaultData}

@@ -1,4 +1,4 @@
--- Putting a value at a key of a table, for the proofs of how a table is built.
+-- Putting a value at a key of a table, for the proofs of how a table is built. This project's own rule.
 use Rattle.std.specs.Prelude.{ℕ, List}
 use Rattle.std.specs.Cmp.Lexicographic.{slice_cmp}
 use Rattle.std.specs.Ordering.{nat_cmp, match_ordering}

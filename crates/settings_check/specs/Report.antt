@@ -1,4 +1,4 @@
--- The report on a text, which is good exactly where the text means settings.
+-- The report on a text, which is good exactly where the text means settings. This project's own rule.
 use Rattle.std.specs.Prelude.{◌≡◌, codes, ℕ, Bool, true, false, List, ◌++◌, Option, Result, Ok, Err}
 use Rattle.std.specs.Str.{IsUtf8}
 use Rattle.toml.specs.Data.{Members}
@@ -8,7 +8,7 @@ use Rattle.tail_settings.specs.Fault.{FaultData}
 use Rattle.tail_settings.specs.Settings.{SettingsData, settings_of}
 use Rattle.settings_check.specs.Document.{document_of}
 use Rattle.settings_check.specs.Place.{NamesFirst, tenants_in}
-use Rattle.settings_check.specs.Told.{fault_text}
+use Rattle.settings_check.specs.FaultTexts.{fault_text}
 use Rattle.settings_check.specs.Warning.{warnings_of}
 
 -- Of settings: the warnings, and a document that says all of them and means them again. Of a fault: that fault, with

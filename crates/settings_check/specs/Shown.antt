@@ -1,4 +1,4 @@
--- How the keys and names of a document are shown on a line. They may hold any bytes.
+-- How the keys and names of a document are shown on a line. They may hold any bytes. This project's own rule.
 use Rattle.std.specs.Prelude.{codes, ℕ, List, [], ◌∷◌, ◌++◌, Bool, ◌&&◌, not, ◌==◌, nat_le, if◌then◌else◌}
 use Rattle.hex.specs.Hex.{encode_lower}
 

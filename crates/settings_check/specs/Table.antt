@@ -1,5 +1,5 @@
 -- The kinds of tables that a settings document has, and the keys of each (src/table.rt). Which tables and keys there
--- are is for `tail_settings` to say, and for docs/SETTINGS.md in words.
+-- are is for `tail_settings` to say, and for docs/SETTINGS.md in words. This project's own rule.
 use Rattle.std.specs.Prelude.{codes, ℕ, List, [], ◌∷◌, Bool, Option, Some, None, is_some, if◌then◌else◌}
 use Rattle.std.specs.Str.{bytes_eq}
 use Rattle.settings_check.specs.declared.table.Key.{Key}

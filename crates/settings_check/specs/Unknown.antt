@@ -1,4 +1,4 @@
--- The keys of a document's tables that no setting has. `tail_settings` reads past them.
+-- The keys of a document's tables that no setting has. `tail_settings` reads past them. This project's own rule.
 use Rattle.std.specs.Prelude.{codes, ℕ, ◌+◌, List, [], ◌∷◌, ◌++◌, Option, unwrap_or, option_and_then, if◌then◌else◌}
 use Rattle.std.specs.Fmt.{decimal}
 use Rattle.toml.specs.Data.{Data, Items, no_items, item, Members, no_members, member, get_member, as_str, as_array, as_table}

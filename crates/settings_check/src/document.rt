@@ -11,7 +11,7 @@ ghost use Rattle.tail_settings.specs.RetryOnFailure.{retry_view};
 ghost use Rattle.tail_settings.specs.Section.{section_view};
 ghost use Rattle.tail_settings.specs.SendingQueue.{sending_queue_view};
 ghost use Rattle.tail_settings.specs.Settings.{settings_view, settings_of};
-ghost use Rattle.tail_settings.specs.Sound.{IsSound};
+ghost use Rattle.tail_settings.specs.Valid.{AreValidSettings};
 ghost use Rattle.tail_settings.specs.TailSampling.{tail_sampling_view};
 ghost use Rattle.settings_check.specs.Document.{number, tables, texts, global_table, status_name, leaf_table, policy_table, cache_table, sampling_table, batch_table, queue_table, retry_table, section_tables, section_table, tenant_table, document_of};
 ghost use Rattle.settings_check.specs.Put.{put_member};
@@ -322,7 +322,7 @@ fn document(alloc: Global, settings: &Settings) -> Result<Table, AllocError>
 pub fn settings_text(alloc: Global, settings: &Settings) -> Result<String, AllocError>
     ensures text { IfOk result (λ text.
         IsDocumentText false (document_of (settings_view settings.now)) (string_bytes text)) }
-    ensures loads { IfOk result (λ text. IsSound (settings_view settings.now)
+    ensures loads { IfOk result (λ text. AreValidSettings (settings_view settings.now)
         → settings_of (string_bytes text) ≡ Ok (settings_view settings.now)) }
 {
     let document = document(alloc, settings)?;

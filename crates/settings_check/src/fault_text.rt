@@ -3,7 +3,7 @@
 ghost use Rattle.std.specs.Prelude.{◌≡◌, IfOk, IsSomeAnd, string_bytes};
 ghost use Rattle.tail_settings.specs.Fault.{fault_view};
 ghost use Rattle.settings_check.specs.Table.{place_of};
-ghost use Rattle.settings_check.specs.Told.{key_lines, key_text, double_text, many_text, fault_text};
+ghost use Rattle.settings_check.specs.FaultTexts.{key_lines, key_text, double_text, many_text, fault_text};
 
 use crate::table::{TableKind, find_key};
 use std::alloc::{AllocError, Global};

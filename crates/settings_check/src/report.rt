@@ -4,7 +4,7 @@ ghost use Rattle.std.specs.Prelude.{◌≡◌, option_map, IfOk, IfSome, Ok, Err
 ghost use Rattle.toml.specs.View.{table_view};
 ghost use Rattle.tail_settings.specs.Fault.{fault_view};
 ghost use Rattle.tail_settings.specs.Settings.{settings_view, settings_of};
-ghost use Rattle.tail_settings.specs.Sound.{IsSound};
+ghost use Rattle.tail_settings.specs.Valid.{AreValidSettings};
 ghost use Rattle.settings_check.specs.Report.{IsReport, IsFileReport};
 ghost use Rattle.settings_check.specs.Warning.{warnings_of};
 
@@ -48,7 +48,7 @@ fn warnings(alloc: Global, document: Option<&Table>) -> Result<String, AllocErro
 /// The report on a text that gives these settings.
 fn good_report(alloc: Global, text: &str, settings: &Settings) -> Result<Report, AllocError>
     requires loaded { settings_of text.now ≡ Ok (settings_view settings.now) }
-    requires sound { IsSound (settings_view settings.now) }
+    requires valid { AreValidSettings (settings_view settings.now) }
     ensures { IfOk result (λ report. IsReport text.now report.is_good (string_bytes report.text)) }
 {
     let (document, _words) = read::document(alloc, text)?;

@@ -5,7 +5,7 @@ use Rattle.tail_settings.specs.Policy.{always_sample, latency, string_attribute,
 use Rattle.tail_settings.specs.Section.{SectionData}
 use Rattle.tail_settings.specs.Settings.{TenantData, SettingsData}
 use Rattle.tail_settings.specs.Examples.{default_global, default_batch, default_queue, default_retry}
-use Rattle.tail_settings.specs.Sound.{IsSoundLeaf, IsSoundBatch, AreSoundTenants, IsSound}
+use Rattle.tail_settings.specs.Valid.{IsValidLeaf, IsValidBatch, AreSoundTenants, AreValidSettings}
 
 -- every default: a trace waits 30 s, 50,000 traces are held, and no id is remembered
 abbrev pub default_section : SectionData
@@ -34,13 +34,13 @@ smallest = record { global = default_global; tenants = named (codes "a") ∷ [] 
 
 -- by derivation
 pub record Sound : Type 0 where
-  pub smallest_is : IsSound smallest
+  pub smallest_is : AreValidSettings smallest
   -- 2^40 ms, and one more
-  pub slow_is : IsSoundLeaf (latency 1099511627776)
-  pub slow_is_not : IsSoundLeaf (latency 1099511627777) → ⊥
-  pub no_values : IsSoundLeaf (string_attribute (codes "k") []) → ⊥
+  pub slow_is : IsValidLeaf (latency 1099511627776)
+  pub slow_is_not : IsValidLeaf (latency 1099511627777) → ⊥
+  pub no_values : IsValidLeaf (string_attribute (codes "k") []) → ⊥
   -- a greatest size that is the size at which a batch is cut, and one below it
-  pub batch_is : IsSoundBatch (record default_batch { send_batch_max_size = 8192 })
-  pub batch_is_not : IsSoundBatch (record default_batch { send_batch_max_size = 8191 }) → ⊥
+  pub batch_is : IsValidBatch (record default_batch { send_batch_max_size = 8192 })
+  pub batch_is_not : IsValidBatch (record default_batch { send_batch_max_size = 8191 }) → ⊥
   pub tenants_are : AreSoundTenants (named (codes "a") ∷ named (codes "b") ∷ [])
   pub tenants_are_not : AreSoundTenants (named (codes "a") ∷ named (codes "a") ∷ []) → ⊥

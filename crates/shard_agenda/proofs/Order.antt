@@ -2,23 +2,23 @@
 use Rattle.std.proofs.Common.{◌≡◌, ℕ, zero, suc, ◌<◌, ◌≤◌, List, [], ◌∷◌, length, refl, ap, ◌∙◌, arith, Bool, true, false, Option, Some, None, eqb, inl, inr, subst}
 use Rattle.std.proofs.lemmas.Bool.Decides.{nat_tests}
 use Rattle.std.specs.Prelude.{slice_get}
-use Rattle.shard_agenda.specs.declared.Entry.{Entry}
+use Rattle.shard_agenda.specs.declared.AgendaEntry.{AgendaEntry}
 use Rattle.shard_agenda.specs.Agenda.{ready_of, is_member, AreApart}
 use Rattle.shard_agenda.specs.Firsts.{is_before, precedes, IsRight}
 use Rattle.shard_agenda.specs.Pick.{NotAfter, IsPick}
 use Rattle.shard_agenda.proofs.Tree.{first_is_least, first_is_there}
 
 -- no other stands before this one
-abbrev IsLeast : Entry → List Entry → Type 0
+abbrev IsLeast : AgendaEntry → List AgendaEntry → Type 0
 IsLeast e [] = Unit
 IsLeast e (x ∷ xs) = (precedes x e ≡ false) × IsLeast e xs
 
-IsLeast-at : (e : Entry) (es : List Entry) → ((j : ℕ) (x : Entry) → slice_get es j ≡ Some x → precedes x e ≡ false) → IsLeast e es
+IsLeast-at : (e : AgendaEntry) (es : List AgendaEntry) → ((j : ℕ) (x : AgendaEntry) → slice_get es j ≡ Some x → precedes x e ≡ false) → IsLeast e es
 IsLeast-at e [] h = tt
 IsLeast-at e (x ∷ xs) h = (h 0 x refl, IsLeast-at e xs (λ j y at. h (suc j) y at))
 
 -- the pick
-pub not_after : (m t : ℕ) (es : List Entry) → IsLeast (record { ready = Some m; tenant = t }) es → (u k : ℕ) → ready_of es u ≡ Some k → NotAfter m t k u
+pub not_after : (m t : ℕ) (es : List AgendaEntry) → IsLeast (record { ready = Some m; tenant = t }) es → (u k : ℕ) → ready_of es u ≡ Some k → NotAfter m t k u
 not_after m t [] least u k is = absurd (cc)
 not_after m t (x ∷ xs) least u k is = by_test (eqb x.tenant u) refl (not_after m t xs least.1 u k)
   where
@@ -37,7 +37,7 @@ not_after m t (x ∷ xs) least u k is = by_test (eqb x.tenant u) refl (not_after
     by_test true e rec = let is' : x.ready ≡ Some k = rw e at is in here x.ready is' least.0 (grind (arith, nat_tests, e))
     by_test false e rec = let is' : ready_of xs u ≡ Some k = rw e at is in rec is'
 
-pub never : (t : ℕ) (es : List Entry) → IsLeast (record { ready = None; tenant = t }) es → (u k : ℕ) → ready_of es u ≡ Some k → ⊥
+pub never : (t : ℕ) (es : List AgendaEntry) → IsLeast (record { ready = None; tenant = t }) es → (u k : ℕ) → ready_of es u ≡ Some k → ⊥
 never t [] least u k is = cc
 never t (x ∷ xs) least u k is = by_test (eqb x.tenant u) refl (never t xs least.1 u k)
   where
@@ -50,14 +50,14 @@ never t (x ∷ xs) least u k is = by_test (eqb x.tenant u) refl (never t xs leas
     by_test false e rec = let is' : ready_of xs u ≡ Some k = rw e at is in rec is'
 
 -- who stands at a place has the moment that stands there
-is_member-at : (es : List Entry) (j : ℕ) (x : Entry) → slice_get es j ≡ Some x → is_member es x.tenant ≡ true
+is_member-at : (es : List AgendaEntry) (j : ℕ) (x : AgendaEntry) → slice_get es j ≡ Some x → is_member es x.tenant ≡ true
 is_member-at [] j x at = absurd (cc)
-is_member-at (y ∷ ys) zero x at = let same : y ≡ x = cc in subst (λ (z : Entry). is_member (y ∷ ys) z.tenant ≡ true) same (grind (arith, nat_tests))
+is_member-at (y ∷ ys) zero x at = let same : y ≡ x = cc in subst (λ (z : AgendaEntry). is_member (y ∷ ys) z.tenant ≡ true) same (grind (arith, nat_tests))
 is_member-at (y ∷ ys) (suc j) x at = grind (arith, nat_tests, is_member-at ys j x at)
 
-ready_of-at : (es : List Entry) (j : ℕ) (x : Entry) → AreApart es → slice_get es j ≡ Some x → ready_of es x.tenant ≡ x.ready
+ready_of-at : (es : List AgendaEntry) (j : ℕ) (x : AgendaEntry) → AreApart es → slice_get es j ≡ Some x → ready_of es x.tenant ≡ x.ready
 ready_of-at [] j x apart at = absurd (cc)
-ready_of-at (y ∷ ys) zero x apart at = let same : y ≡ x = cc in subst (λ (z : Entry). ready_of (y ∷ ys) z.tenant ≡ z.ready) same (grind (arith, nat_tests))
+ready_of-at (y ∷ ys) zero x apart at = let same : y ≡ x = cc in subst (λ (z : AgendaEntry). ready_of (y ∷ ys) z.tenant ≡ z.ready) same (grind (arith, nat_tests))
 ready_of-at (y ∷ ys) (suc j) x apart at = by_test (eqb y.tenant x.tenant) refl (ready_of-at ys j x apart.1 at)
   where
     by_test : (b : Bool) → eqb y.tenant x.tenant ≡ b → ready_of ys x.tenant ≡ x.ready → ready_of (y ∷ ys) x.tenant ≡ x.ready
@@ -69,7 +69,7 @@ ready_of-at (y ∷ ys) (suc j) x apart at = by_test (eqb y.tenant x.tenant) refl
     by_test false e rec = rw e rec
 
 -- the pick, by what stands first of all
-module _ (es fs : List Entry) (right : IsRight es fs) (x : Entry) (first : slice_get fs 0 ≡ Some x) where
+module _ (es fs : List AgendaEntry) (right : IsRight es fs) (x : AgendaEntry) (first : slice_get fs 0 ≡ Some x) where
   least : IsLeast x es
   least = IsLeast-at x es (λ j y at. first_is_least es fs right x first j y at)
 
@@ -91,7 +91,7 @@ module _ (es fs : List Entry) (right : IsRight es fs) (x : Entry) (first : slice
   pub none_at : (now : ℕ) → x.ready ≡ None → IsPick (ready_of es) now None
   none_at now ready = λ u k at. absurd (never x.tenant es (subst (λ (r : Option ℕ). IsLeast (record { ready = r; tenant = x.tenant }) es) ready least) u k at)
 
-pub empty_at : (es fs : List Entry) (now : ℕ) → length fs ≡ length es → slice_get fs 0 ≡ None → IsPick (ready_of es) now None
+pub empty_at : (es fs : List AgendaEntry) (now : ℕ) → length fs ≡ length es → slice_get fs 0 ≡ None → IsPick (ready_of es) now None
 empty_at [] fs now even at = λ u k absent. absurd (cc)
 empty_at (x ∷ es) [] now even at = absurd (omega arith)
 empty_at (x ∷ es) (y ∷ fs) now even at = absurd (cc)

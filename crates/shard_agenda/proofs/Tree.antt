@@ -3,7 +3,7 @@ use Rattle.std.proofs.Common.{◌≡◌, ◌≢◌, ℕ, zero, suc, ◌+◌, ◌
 use Rattle.std.proofs.lemmas.Bool.Decides.{nat_tests}
 use Rattle.std.proofs.lemmas.Option.{slice_get_within}
 use Rattle.std.specs.Prelude.{slice_get}
-use Rattle.shard_agenda.specs.declared.Entry.{Entry}
+use Rattle.shard_agenda.specs.declared.AgendaEntry.{AgendaEntry}
 use Rattle.shard_agenda.specs.Firsts.{is_before, precedes, first_of, first_below, IsRight, IsRightBut}
 
 -- the order
@@ -27,10 +27,10 @@ not_before (Some x) a (Some y) b None c h k = absurd (cc)
 not_before (Some x) a (Some y) b (Some z) c h k = grind (arith, nat_tests, h, k)
 
 -- the first of two isn't after either, and is one of them
-abbrev After : Entry → Option Entry → Type 0
-After x o = (r : Entry) × (o ≡ Some r) × (precedes x r ≡ false)
+abbrev After : AgendaEntry → Option AgendaEntry → Type 0
+After x o = (r : AgendaEntry) × (o ≡ Some r) × (precedes x r ≡ false)
 
-after_left : (x : Entry) (o : Option Entry) → After x (first_of (Some x) o)
+after_left : (x : AgendaEntry) (o : Option AgendaEntry) → After x (first_of (Some x) o)
 after_left x None = (x, refl, irreflexive x.ready x.tenant)
 after_left x (Some y) = by_test (precedes y x) refl
   where
@@ -38,7 +38,7 @@ after_left x (Some y) = by_test (precedes y x) refl
     by_test true t = (y, rw t refl, asymmetric y.ready y.tenant x.ready x.tenant t)
     by_test false t = (x, rw t refl, irreflexive x.ready x.tenant)
 
-after_right : (o : Option Entry) (y : Entry) → After y (first_of o (Some y))
+after_right : (o : Option AgendaEntry) (y : AgendaEntry) → After y (first_of o (Some y))
 after_right None y = (y, refl, irreflexive y.ready y.tenant)
 after_right (Some x) y = by_test (precedes y x) refl
   where
@@ -46,13 +46,13 @@ after_right (Some x) y = by_test (precedes y x) refl
     by_test true t = (y, rw t refl, irreflexive y.ready y.tenant)
     by_test false t = (x, rw t refl, t)
 
-after_both : (x : Entry) (a b : Option Entry) → After x a → After x (first_of a b)
+after_both : (x : AgendaEntry) (a b : Option AgendaEntry) → After x a → After x (first_of a b)
 after_both x a b there =
     let here : After there.0 (first_of (Some there.0) b) = after_left there.0 b in
     let r = here.0 in
-    (r, ap (λ (o : Option Entry). first_of o b) there.1 ∙ here.1, not_before x.ready x.tenant there.0.ready there.0.tenant r.ready r.tenant there.2 here.2)
+    (r, ap (λ (o : Option AgendaEntry). first_of o b) there.1 ∙ here.1, not_before x.ready x.tenant there.0.ready there.0.tenant r.ready r.tenant there.2 here.2)
 
-one_of : (a b : Option Entry) (x : Entry) → first_of a b ≡ Some x → (a ≡ Some x) ⊎ (b ≡ Some x)
+one_of : (a b : Option AgendaEntry) (x : AgendaEntry) → first_of a b ≡ Some x → (a ≡ Some x) ⊎ (b ≡ Some x)
 one_of None b x e = inr e
 one_of (Some a) None x e = inl e
 one_of (Some a) (Some b) x e = by_test (precedes b a) refl
@@ -62,21 +62,21 @@ one_of (Some a) (Some b) x e = by_test (precedes b a) refl
     by_test false t = inl (rw t at e)
 
 -- what a place tells, its own entry and those below it
-module _ (es fs : List Entry) where
-  after_own : (k : ℕ) (x : Entry) → slice_get es k ≡ Some x → After x (first_below es fs k)
+module _ (es fs : List AgendaEntry) where
+  after_own : (k : ℕ) (x : AgendaEntry) → slice_get es k ≡ Some x → After x (first_below es fs k)
   after_own k x at =
       let left = slice_get fs (2 * k + 1) in
-      after_both x (first_of (slice_get es k) left) (slice_get fs (2 * k + 2)) (subst (λ (o : Option Entry). After x (first_of o left)) (sym at) (after_left x left))
+      after_both x (first_of (slice_get es k) left) (slice_get fs (2 * k + 2)) (subst (λ (o : Option AgendaEntry). After x (first_of o left)) (sym at) (after_left x left))
 
-  after_first : (k : ℕ) (x : Entry) → slice_get fs (2 * k + 1) ≡ Some x → After x (first_below es fs k)
+  after_first : (k : ℕ) (x : AgendaEntry) → slice_get fs (2 * k + 1) ≡ Some x → After x (first_below es fs k)
   after_first k x at =
       let own = slice_get es k in
-      after_both x (first_of own (slice_get fs (2 * k + 1))) (slice_get fs (2 * k + 2)) (subst (λ (o : Option Entry). After x (first_of own o)) (sym at) (after_right own x))
+      after_both x (first_of own (slice_get fs (2 * k + 1))) (slice_get fs (2 * k + 2)) (subst (λ (o : Option AgendaEntry). After x (first_of own o)) (sym at) (after_right own x))
 
-  after_second : (k : ℕ) (x : Entry) → slice_get fs (2 * k + 2) ≡ Some x → After x (first_below es fs k)
+  after_second : (k : ℕ) (x : AgendaEntry) → slice_get fs (2 * k + 2) ≡ Some x → After x (first_below es fs k)
   after_second k x at =
       let own = first_of (slice_get es k) (slice_get fs (2 * k + 1)) in
-      subst (λ (o : Option Entry). After x (first_of own o)) (sym at) (after_right own x)
+      subst (λ (o : Option AgendaEntry). After x (first_of own o)) (sym at) (after_right own x)
 
 -- each place but the top has one above it
 above : (k : ℕ) → (p : ℕ) × (p ≤ k) × ((suc k ≡ 2 * p + 1) ⊎ (suc k ≡ 2 * p + 2))
@@ -86,29 +86,29 @@ above k = by_rest (k % 2) refl
     by_rest zero e = (k / 2, omega arith, inl (omega arith))
     by_rest (suc r) e = (k / 2, omega arith, inr (omega arith))
 
-module _ (es fs : List Entry) (right : IsRight es fs) where
-  up : (x : Entry) (p : ℕ) → After x (first_below es fs p) → After x (slice_get fs p)
+module _ (es fs : List AgendaEntry) (right : IsRight es fs) where
+  up : (x : AgendaEntry) (p : ℕ) → After x (first_below es fs p) → After x (slice_get fs p)
   up x p there = (there.0, right p ∙ there.1, there.2)
 
   -- the top isn't after what any place tells
-  to_top : (fuel k : ℕ) → k ≤ fuel → (x : Entry) → slice_get fs k ≡ Some x → After x (slice_get fs 0)
+  to_top : (fuel k : ℕ) → k ≤ fuel → (x : AgendaEntry) → slice_get fs k ≡ Some x → After x (slice_get fs 0)
   to_top fuel zero le x at = (x, at, irreflexive x.ready x.tenant)
   to_top zero (suc k) le x at = absurd (omega arith)
   to_top (suc fuel) (suc k) le x at = through (above k) (λ p less y there. to_top fuel p (omega (arith, le, less)) y there)
     where
-      higher : (p : ℕ) → p ≤ k → After x (slice_get fs p) → ((p : ℕ) → p ≤ k → (y : Entry) → slice_get fs p ≡ Some y → After y (slice_get fs 0)) → After x (slice_get fs 0)
+      higher : (p : ℕ) → p ≤ k → After x (slice_get fs p) → ((p : ℕ) → p ≤ k → (y : AgendaEntry) → slice_get fs p ≡ Some y → After y (slice_get fs 0)) → After x (slice_get fs 0)
       higher p less there rec =
           let y = there.0 in
           let top : After y (slice_get fs 0) = rec p less y there.1 in
           let r = top.0 in
           (r, top.1, not_before x.ready x.tenant y.ready y.tenant r.ready r.tenant there.2 top.2)
 
-      through : ((p : ℕ) × (p ≤ k) × ((suc k ≡ 2 * p + 1) ⊎ (suc k ≡ 2 * p + 2))) → ((p : ℕ) → p ≤ k → (y : Entry) → slice_get fs p ≡ Some y → After y (slice_get fs 0)) → After x (slice_get fs 0)
+      through : ((p : ℕ) × (p ≤ k) × ((suc k ≡ 2 * p + 1) ⊎ (suc k ≡ 2 * p + 2))) → ((p : ℕ) → p ≤ k → (y : AgendaEntry) → slice_get fs p ≡ Some y → After y (slice_get fs 0)) → After x (slice_get fs 0)
       through (p, less, inl e) rec = higher p less (up x p (after_first es fs p x (sym (ap (slice_get fs) e) ∙ at))) rec
       through (p, less, inr e) rec = higher p less (up x p (after_second es fs p x (sym (ap (slice_get fs) e) ∙ at))) rec
 
   -- what a place tells is an entry
-  from_own : (fuel k : ℕ) → length fs ≤ k + fuel → (x : Entry) → slice_get fs k ≡ Some x → (j : ℕ) × (slice_get es j ≡ Some x)
+  from_own : (fuel k : ℕ) → length fs ≤ k + fuel → (x : AgendaEntry) → slice_get fs k ≡ Some x → (j : ℕ) × (slice_get es j ≡ Some x)
   from_own zero k le x at = absurd (omega (arith, slice_get_within fs k x at))
   from_own (suc fuel) k le x at =
       by_second (one_of (first_of (slice_get es k) (slice_get fs (2 * k + 1))) (slice_get fs (2 * k + 2)) x (sym (right k) ∙ at)) (from_own fuel (2 * k + 1) (omega (arith, le)) x) (from_own fuel (2 * k + 2) (omega (arith, le)) x)
@@ -121,39 +121,39 @@ module _ (es fs : List Entry) (right : IsRight es fs) where
       by_second (inl other) rec rec' = by_first (one_of (slice_get es k) (slice_get fs (2 * k + 1)) x other) rec
       by_second (inr second) rec rec' = rec' second
 
-pub first_is_least : (es fs : List Entry) → IsRight es fs → (r : Entry) → slice_get fs 0 ≡ Some r → (j : ℕ) (x : Entry) → slice_get es j ≡ Some x → precedes x r ≡ false
+pub first_is_least : (es fs : List AgendaEntry) → IsRight es fs → (r : AgendaEntry) → slice_get fs 0 ≡ Some r → (j : ℕ) (x : AgendaEntry) → slice_get es j ≡ Some x → precedes x r ≡ false
 first_is_least es fs right r first j x at =
     let here : After x (slice_get fs j) = up es fs right x j (after_own es fs j x at) in
     let y = here.0 in
     let top : After y (slice_get fs 0) = to_top es fs right j j (omega arith) y here.1 in
     let same : Some top.0 ≡ Some r = sym top.1 ∙ first in
     let same' : top.0 ≡ r = cc in
-    subst (λ (z : Entry). precedes x z ≡ false) same' (not_before x.ready x.tenant y.ready y.tenant top.0.ready top.0.tenant here.2 top.2)
+    subst (λ (z : AgendaEntry). precedes x z ≡ false) same' (not_before x.ready x.tenant y.ready y.tenant top.0.ready top.0.tenant here.2 top.2)
 
-pub first_is_there : (es fs : List Entry) → IsRight es fs → (r : Entry) → slice_get fs 0 ≡ Some r → (j : ℕ) × (slice_get es j ≡ Some r)
+pub first_is_there : (es fs : List AgendaEntry) → IsRight es fs → (r : AgendaEntry) → slice_get fs 0 ≡ Some r → (j : ℕ) × (slice_get es j ≡ Some r)
 first_is_there es fs right r first = from_own es fs right (length fs) 0 (omega arith) r first
 
 -- lists with another element at a place, or one more
-pub slice_get-same : (xs : List Entry) (i : ℕ) (e : Entry) → i < length xs → slice_get (set xs i e) i ≡ Some e
+pub slice_get-same : (xs : List AgendaEntry) (i : ℕ) (e : AgendaEntry) → i < length xs → slice_get (set xs i e) i ≡ Some e
 slice_get-same [] i e lt = absurd (omega arith)
 slice_get-same (x ∷ xs) zero e lt = refl
 slice_get-same (x ∷ xs) (suc i) e lt = slice_get-same xs i e (omega (arith, lt))
 
-pub slice_get-other : (xs : List Entry) (i k : ℕ) (e : Entry) → k ≢ i → slice_get (set xs i e) k ≡ slice_get xs k
+pub slice_get-other : (xs : List AgendaEntry) (i k : ℕ) (e : AgendaEntry) → k ≢ i → slice_get (set xs i e) k ≡ slice_get xs k
 slice_get-other [] i k e ne = refl
 slice_get-other (x ∷ xs) zero zero e ne = absurd (ne refl)
 slice_get-other (x ∷ xs) zero (suc k) e ne = refl
 slice_get-other (x ∷ xs) (suc i) zero e ne = refl
 slice_get-other (x ∷ xs) (suc i) (suc k) e ne = slice_get-other xs i k e (λ same. ne (ap (λ (n : ℕ). suc n) same))
 
-slice_get-behind : (xs : List Entry) (k : ℕ) (e : Entry) → k ≢ length xs → slice_get (xs ++ e ∷ []) k ≡ slice_get xs k
+slice_get-behind : (xs : List AgendaEntry) (k : ℕ) (e : AgendaEntry) → k ≢ length xs → slice_get (xs ++ e ∷ []) k ≡ slice_get xs k
 slice_get-behind [] zero e ne = absurd (ne refl)
 slice_get-behind [] (suc k) e ne = refl
 slice_get-behind (x ∷ xs) zero e ne = refl
 slice_get-behind (x ∷ xs) (suc k) e ne = slice_get-behind xs k e (λ same. ne (grind (arith, same)))
 
 -- a place is set right
-module _ (es fs : List Entry) (at : ℕ) (e : Entry) (within : at < length fs) (right : IsRightBut at es fs) (is : Some e ≡ first_below es fs at) where
+module _ (es fs : List AgendaEntry) (at : ℕ) (e : AgendaEntry) (within : at < length fs) (right : IsRightBut at es fs) (is : Some e ≡ first_below es fs at) where
   below_stays : (k : ℕ) → 2 * k + 1 ≢ at → 2 * k + 2 ≢ at → first_below es (set fs at e) k ≡ first_below es fs k
   below_stays k ne ne' = rw (slice_get-other fs at (2 * k + 1) e ne, slice_get-other fs at (2 * k + 2) e ne') refl
 
@@ -174,10 +174,10 @@ module _ (es fs : List Entry) (at : ℕ) (e : Entry) (within : at < length fs) (
   pub right_above : 0 < at → IsRightBut ((at - 1) / 2) es (set fs at e)
   right_above pos = λ k ne _ _. written k (λ (same : 2 * k + 1 ≡ at). ne (omega (arith, same))) (λ (same : 2 * k + 2 ≡ at). ne (omega (arith, same, pos)))
 
-pub right_set : (es fs : List Entry) (at : ℕ) (e : Entry) → IsRight es fs → IsRightBut at (set es at e) fs
+pub right_set : (es fs : List AgendaEntry) (at : ℕ) (e : AgendaEntry) → IsRight es fs → IsRightBut at (set es at e) fs
 right_set es fs at e right = λ k ne _ _. right k ∙ rw (slice_get-other es at k e ne) refl
 
-pub right_behind : (es fs : List Entry) (e : Entry) → length fs ≡ length es → IsRight es fs → IsRightBut (length es) (es ++ e ∷ []) (fs ++ e ∷ [])
+pub right_behind : (es fs : List AgendaEntry) (e : AgendaEntry) → length fs ≡ length es → IsRight es fs → IsRightBut (length es) (es ++ e ∷ []) (fs ++ e ∷ [])
 right_behind es fs e even right = λ k ne ne' ne''.
     let same = slice_get-behind fs k e (omega (arith, even, ne)) in
     let left = slice_get-behind fs (2 * k + 1) e (omega (arith, even, ne')) in

@@ -3,7 +3,7 @@ use Rattle.std.specs.Prelude.{◌≡◌, ◌≢◌, ℕ, ◌+◌, ◌*◌, Bool,
 use Rattle.std.specs.Ordering.{nat_cmp}
 use Rattle.std.specs.BTreeMap.{BTreeMap}
 use Rattle.std.specs.BTreeMap as tree
-use Rattle.shard_agenda.specs.declared.Entry.{Entry}
+use Rattle.shard_agenda.specs.declared.AgendaEntry.{AgendaEntry}
 use Rattle.shard_agenda.specs.Agenda.{AreApart, place}
 
 -- one stands before another: by moment, then by number; a member without a moment stands last
@@ -15,31 +15,31 @@ is_before (Some moment) tenant (Some moment') tenant' =
     nat_lt moment moment' || moment == moment' && nat_lt tenant tenant'
 
 -- the same of two entries
-abbrev pub precedes : Entry → Entry → Bool
+abbrev pub precedes : AgendaEntry → AgendaEntry → Bool
 precedes a b = is_before a.ready a.tenant b.ready b.tenant
 
 -- the one that stands first, of those that there are
-abbrev pub first_of : Option Entry → Option Entry → Option Entry
+abbrev pub first_of : Option AgendaEntry → Option AgendaEntry → Option AgendaEntry
 first_of None b = b
 first_of (Some a) None = Some a
 first_of (Some a) (Some b) = if precedes b a then Some b else Some a
 
 -- the first of a place's own entry and those below it, as the two places there tell
-abbrev pub first_below : List Entry → List Entry → ℕ → Option Entry
+abbrev pub first_below : List AgendaEntry → List AgendaEntry → ℕ → Option AgendaEntry
 first_below entries firsts at =
     first_of (first_of (slice_get entries at) (slice_get firsts (2 * at + 1))) (slice_get firsts (2 * at + 2))
 
 -- each place tells the first of those below it
-abbrev pub IsRight : List Entry → List Entry → Type 0
+abbrev pub IsRight : List AgendaEntry → List AgendaEntry → Type 0
 IsRight entries firsts = (at : ℕ) → slice_get firsts at ≡ first_below entries firsts at
 
 -- the same, but perhaps of one place and of the place above it
-abbrev pub IsRightBut : ℕ → List Entry → List Entry → Type 0
+abbrev pub IsRightBut : ℕ → List AgendaEntry → List AgendaEntry → Type 0
 IsRightBut changed entries firsts = (at : ℕ) → at ≢ changed → 2 * at + 1 ≢ changed → 2 * at + 2 ≢ changed →
     slice_get firsts at ≡ first_below entries firsts at
 
 -- what always holds of an agenda
-pub record IsSound (entries firsts : List Entry) (places : BTreeMap ℕ ℕ) : Type 0 where
+pub record AgendaInvariant (entries firsts : List AgendaEntry) (places : BTreeMap ℕ ℕ) : Type 0 where
   pub apart : AreApart entries
   pub even : length firsts ≡ length entries
   pub right : IsRight entries firsts

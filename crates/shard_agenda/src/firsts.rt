@@ -3,10 +3,10 @@
 ghost use Rattle.std.specs.Prelude.{◌≡◌, ◌<◌, Some, length};
 ghost use Rattle.shard_agenda.specs.Firsts.{precedes, first_of, first_below, IsRight, IsRightBut};
 
-use crate::Entry;
+use crate::AgendaEntry;
 
 /// Whether one entry stands before another.
-fn precedes(a: &Entry, b: &Entry) -> bool
+fn precedes(a: &AgendaEntry, b: &AgendaEntry) -> bool
     ensures { result ≡ precedes a.now b.now }
 {
     match (a.ready, b.ready) {
@@ -18,7 +18,7 @@ fn precedes(a: &Entry, b: &Entry) -> bool
 }
 
 /// The one that stands first.
-fn first_of(a: Entry, b: Option<Entry>) -> Entry
+fn first_of(a: AgendaEntry, b: Option<AgendaEntry>) -> AgendaEntry
     ensures { Some result ≡ first_of (Some a) b }
 {
     match b {
@@ -28,7 +28,7 @@ fn first_of(a: Entry, b: Option<Entry>) -> Entry
 }
 
 /// The first of a place's own entry and those below it, as the two places there tell.
-fn first_below(entries: &[Entry], firsts: &[Entry], at: usize) -> Entry
+fn first_below(entries: &[AgendaEntry], firsts: &[AgendaEntry], at: usize) -> AgendaEntry
     requires { at < length entries.now }
     ensures { Some result ≡ first_below entries.now firsts.now at }
 {
@@ -37,7 +37,7 @@ fn first_below(entries: &[Entry], firsts: &[Entry], at: usize) -> Entry
 }
 
 /// Sets right what was right but for this place and the one above it.
-pub fn mend(entries: &[Entry], firsts: &mut [Entry], mut at: usize)
+pub fn mend(entries: &[AgendaEntry], firsts: &mut [AgendaEntry], mut at: usize)
     requires within { at < length entries.now }
     requires even { length firsts.old ≡ length entries.now }
     requires right { IsRightBut at entries.now firsts.old }

@@ -21,7 +21,7 @@ use std::marker::Model;
 
 /// A member, and when it is ready next.
 #[derive(Clone, Copy, Debug)]
-pub struct Entry {
+pub struct AgendaEntry {
     /// In milliseconds; none where nothing of the member's is waiting.
     pub ready: Option<u64>,
     /// The member's number.
@@ -31,24 +31,24 @@ pub struct Entry {
 /// All members, in the order in which they were admitted.
 #[derive(Drop)]
 pub struct Agenda {
-    entries: Vec<Entry>,
+    entries: Vec<AgendaEntry>,
     // At each place the first of its own entry and those below it. Straight below place k are 2k + 1 and 2k + 2, so the
     // first of all is at 0.
-    firsts: Vec<Entry>,
+    firsts: Vec<AgendaEntry>,
     // The place of each tenant's entry.
     places: BTreeMap<u32, usize>,
 }
 
 impl Model for Agenda {
     ghost use Rattle.std.specs.Prelude.{List};
-    ghost use Rattle.shard_agenda.specs.declared.Entry.{Entry};
-    ghost use Rattle.shard_agenda.specs.Firsts.{IsSound};
+    ghost use Rattle.shard_agenda.specs.declared.AgendaEntry.{AgendaEntry};
+    ghost use Rattle.shard_agenda.specs.Firsts.{AgendaInvariant};
 
-    ghost Value = { List Entry };
+    ghost Value = { List AgendaEntry };
 
     ghost view = { λ a. a.entries.items };
 
-    ghost invariant = { λ a. IsSound a.entries.items a.firsts.items a.places };
+    ghost invariant = { λ a. AgendaInvariant a.entries.items a.firsts.items a.places };
 }
 
 impl Agenda {
@@ -68,7 +68,7 @@ impl Agenda {
         ensures members { OnOk result ((other : ℕ) →
             is_member self.new other ≡ (tenant == other || is_member self.old other)) }
         ensures ready { ready_of self.new ≡ ready_of self.old }
-        ensures err { OnErr result (self.new ≡ self.old) }
+        ensures on_refusal { OnErr result (self.new ≡ self.old) }
     {
         if self.places.contains_key(&tenant) {
             return Ok(());
@@ -77,7 +77,7 @@ impl Agenda {
         self.entries.reserve(1)?;
         self.firsts.reserve(1)?;
         self.places.insert(tenant, at)?;
-        let entry = Entry {
+        let entry = AgendaEntry {
             ready: None,
             tenant,
         };
@@ -100,7 +100,7 @@ impl Agenda {
         let Some(at) = self.places.get(&tenant).copied() else {
             unreachable!()
         };
-        self.entries[at] = Entry { ready, tenant };
+        self.entries[at] = AgendaEntry { ready, tenant };
         mend(&self.entries, &mut self.firsts, at);
     }
 

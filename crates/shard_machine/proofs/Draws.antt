@@ -10,7 +10,7 @@ use Rattle.std.specs.BTreeMap.{BTreeMap}
 use Rattle.std.specs.BTreeMap as tree
 use Rattle.rand_pcg.specs.Lcg.{Lcg}
 use Rattle.rand_pcg.specs.Pcg.{pcg32}
-use Rattle.shard_machine.specs.Words.{start, next_word, moved, first_words, after_words, Source, generator_of, or_start, IsDraw, IsSeeded, Drawn, words_of, EachHasItsOwn}
+use Rattle.shard_machine.specs.Jitter.{start, next_word, moved, first_words, after_words, TenantGenerator, generator_of, or_start, IsDraw, IsSeeded, Drawn, words_of, EachHasItsOwn}
 
 -- what the map has at a tenant is the tenant's generator
 pub at_tenant : (m : BTreeMap ℕ Lcg) (tenant : ℕ) → tree.get nat_cmp m tenant ≡ generator_of tenant m.entries
@@ -34,7 +34,7 @@ drawn m n tenant word had has is given updates = record {
   others = others m n tenant (Some has) updates;
 }
 
-pub draw_none : (tenant : ℕ) (sources : List Source) → generator_of tenant sources ≡ None → IsDraw tenant sources None sources
+pub draw_none : (tenant : ℕ) (sources : List TenantGenerator) → generator_of tenant sources ≡ None → IsDraw tenant sources None sources
 draw_none tenant sources none = record {
   word_is = ap (option_map next_word) (sym none);
   own = none ∙ ap (option_map moved) (sym none);
@@ -52,7 +52,7 @@ seeded m n tenant seed starts none is updates = record {
   others = others m n tenant (Some starts) updates;
 }
 
-pub seeded_before : (tenant seed : ℕ) (sources : List Source) → is_some (generator_of tenant sources) ≡ true → IsSeeded tenant seed sources sources
+pub seeded_before : (tenant seed : ℕ) (sources : List TenantGenerator) → is_some (generator_of tenant sources) ≡ true → IsSeeded tenant seed sources sources
 seeded_before tenant seed sources has = record { own = still (generator_of tenant sources) has; others = λ other apart. refl }
   where
     still : (o : Option Lcg) → is_some o ≡ true → o ≡ Some (or_start o seed)
@@ -60,7 +60,7 @@ seeded_before tenant seed sources has = record { own = still (generator_of tenan
     still (Some g) has = refl
 
 -- what one tenant drew, and where its generator stands then
-abbrev IsOwn : ℕ → List Drawn → List Source → Lcg → Type 0
+abbrev IsOwn : ℕ → List Drawn → List TenantGenerator → Lcg → Type 0
 IsOwn tenant ds new g = (words_of tenant ds ≡ first_words (length (words_of tenant ds)) g) × (generator_of tenant new ≡ Some (after_words (length (words_of tenant ds)) g))
 
 pub own_words : EachHasItsOwn

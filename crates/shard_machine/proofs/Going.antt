@@ -4,7 +4,7 @@ use Rattle.std.proofs.lemmas.Bool.{cases_eq}
 use Rattle.std.specs.Prelude.{option_map, ◌≢◌}
 use Rattle.rand_pcg.specs.Lcg.{Lcg}
 use Rattle.send_retry.specs.declared.answer.Answer.{Answer}
-use Rattle.shard_machine.specs.Words.{next_word, moved, Source, generator_of, IsDraw}
+use Rattle.shard_machine.specs.Jitter.{next_word, moved, TenantGenerator, generator_of, IsDraw}
 use Rattle.tenant_shard.specs.declared.step.Step.{Step}
 use Rattle.tenant_shard.specs.declared.step.Step.TheVariants as steps
 use Rattle.tenant_shard.specs.declared.step.Outcome.{Outcome}
@@ -12,14 +12,14 @@ use Rattle.tenant_shard.specs.declared.step.Outcome.TheVariants.{Refused}
 use Rattle.tenant_shard.specs.View.{View, kept_of}
 use Rattle.tenant_shard.specs.Outcomes.{not_member}
 use Rattle.tenant_shard.specs.Refusal.{ShardRefuses}
-use Rattle.tenant_shard.specs.GoesOn.{refusal_number, ShardGoesOn}
+use Rattle.tenant_shard.specs.Follows.{refusal_number, ShardFollows}
 use Rattle.tenant_shard.specs.Run.{ShardSteps}
 use Rattle.tenant_rules.specs.State.{State}
-use Rattle.shard_machine.specs.declared.step.WordOf.{WordOf}
-use Rattle.shard_machine.specs.declared.step.WordOf.TheVariants as word
-use Rattle.shard_machine.specs.declared.step.WordedStep.{WordedStep}
+use Rattle.shard_machine.specs.declared.step.WordSource.{WordSource}
+use Rattle.shard_machine.specs.declared.step.WordSource.TheVariants as word
+use Rattle.shard_machine.specs.declared.step.LoggedStep.{LoggedStep}
 use Rattle.shard_machine.specs.Drawing.{IsReady}
-use Rattle.shard_machine.specs.Worded.{Worded, WordsGoOn, WordedDoes, AreMembers}
+use Rattle.shard_machine.specs.MachineState.{MachineState, GeneratorsMove, MachineDoes, AreMembers}
 
 -- who is no member stays so
 abbrev StaysNone : List View → List View → Type 0
@@ -32,7 +32,7 @@ stays_but own before old new was others tenant none = by (cases_eq tenant own)
     by (inl same) = let there : kept_of tenant old ≡ Some before = ap (λ t. kept_of t old) same ∙ was in absurd (cc)
     by (inr apart) = others tenant apart ∙ none
 
-stays_on : (step : Step) (old : List View) (outcome : Outcome) (new : List View) → ShardGoesOn step old outcome new → StaysNone old new
+stays_on : (step : Step) (old : List View) (outcome : Outcome) (new : List View) → ShardFollows step old outcome new → StaysNone old new
 stays_on step old outcome new (inl n) tenant none = ap (kept_of tenant) n.new_is ∙ none
 stays_on step old outcome new (inr m) tenant none = stays_but m.0 m.1.before old new m.1.was m.1.others tenant none
 
@@ -49,14 +49,14 @@ unmapped None e = refl
 unmapped (Some g) e = absurd (cc)
 
 -- who has no generator had none
-draw_none : (own : ℕ) (word : Option ℕ) (old new : List Source) → IsDraw own old word new → (tenant : ℕ) → generator_of tenant new ≡ None → generator_of tenant old ≡ None
+draw_none : (own : ℕ) (word : Option ℕ) (old new : List TenantGenerator) → IsDraw own old word new → (tenant : ℕ) → generator_of tenant new ≡ None → generator_of tenant old ≡ None
 draw_none own word old new d tenant none = by (cases_eq tenant own)
   where
     by : (tenant ≡ own) ⊎ (tenant ≢ own) → generator_of tenant old ≡ None
     by (inl same) = unmapped (generator_of tenant old) (ap (λ t. option_map moved (generator_of t old)) same ∙ sym d.own ∙ ap (λ t. generator_of t new) (sym same) ∙ none)
     by (inr apart) = sym (d.others tenant apart) ∙ none
 
-ready_none : (w : WordOf) (step : Step) (old new : List Source) → IsReady w step old new → (tenant : ℕ) → generator_of tenant new ≡ None → generator_of tenant old ≡ None
+ready_none : (w : WordSource) (step : Step) (old new : List TenantGenerator) → IsReady w step old new → (tenant : ℕ) → generator_of tenant new ≡ None → generator_of tenant old ≡ None
 ready_none word.Caller step old new ready tenant none = ap (generator_of tenant) (sym ready) ∙ none
 ready_none word.Generator (steps.Post now prepared) old new ready tenant none = absurd ready
 ready_none word.Generator (steps.Turn now) old new ready tenant none = absurd ready
@@ -69,21 +69,21 @@ ready_none word.Nobody (steps.Answer other now ticket drawn answer) old new read
 ready_none word.Nobody (steps.Report other now) old new ready tenant none = absurd ready
 ready_none word.Nobody (steps.Drain other now) old new ready tenant none = absurd ready
 
-pub members_after : (w : WordOf) (step : Step) (outcome : Outcome) (old new : List Source) (views views' : List View) → AreMembers old views → IsReady w step old new → ShardGoesOn step views outcome views' → AreMembers new views'
+pub members_after : (w : WordSource) (step : Step) (outcome : Outcome) (old new : List TenantGenerator) (views views' : List View) → AreMembers old views → IsReady w step old new → ShardFollows step views outcome views' → AreMembers new views'
 members_after w step outcome old new views views' are ready goes tenant none = stays_on step views outcome views' goes tenant (are tenant (ready_none w step old new ready tenant none))
 
-pub members_refused : (w : WordOf) (step : Step) (old new : List Source) (views views' : List View) → AreMembers old views → IsReady w step old new → ShardRefuses step views views' → AreMembers new views'
+pub members_refused : (w : WordSource) (step : Step) (old new : List TenantGenerator) (views views' : List View) → AreMembers old views → IsReady w step old new → ShardRefuses step views views' → AreMembers new views'
 members_refused w step old new views views' are ready lost tenant none = stays_refused step views views' lost tenant (are tenant (ready_none w step old new ready tenant none))
 
 -- a step of no member that names a tenant
-not_a_member : (tenant now ticket drawn : ℕ) (answer : Answer) (outcome : Outcome) (views views' : List View) → kept_of tenant views ≡ None → ShardGoesOn (steps.Answer tenant now ticket drawn answer) views outcome views' → outcome ≡ Refused tenant not_member
+not_a_member : (tenant now ticket drawn : ℕ) (answer : Answer) (outcome : Outcome) (views views' : List View) → kept_of tenant views ≡ None → ShardFollows (steps.Answer tenant now ticket drawn answer) views outcome views' → outcome ≡ Refused tenant not_member
 not_a_member tenant now ticket drawn answer outcome views views' none (inl n) = n.outcome_is ∙ ap (λ k. Refused tenant (refusal_number k)) none
 not_a_member tenant now ticket drawn answer outcome views views' none (inr m) =
     let same : tenant ≡ m.0 = m.1.whose.0 in
     let there : kept_of tenant views ≡ Some m.1.before = ap (λ t. kept_of t views) same ∙ m.1.was in
     absurd (cc)
 
-words_go_on : (w : WordOf) (step : Step) (outcome : Outcome) (old new : List Source) (views views' : List View) → AreMembers old views → IsReady w step old new → ShardGoesOn step views outcome views' → WordsGoOn w step outcome old new
+words_go_on : (w : WordSource) (step : Step) (outcome : Outcome) (old new : List TenantGenerator) (views views' : List View) → AreMembers old views → IsReady w step old new → ShardFollows step views outcome views' → GeneratorsMove w step outcome old new
 words_go_on word.Caller step outcome old new views views' are ready goes = ready
 words_go_on word.Generator (steps.Post now prepared) outcome old new views views' are ready goes = absurd ready
 words_go_on word.Generator (steps.Turn now) outcome old new views views' are ready goes = absurd ready
@@ -97,9 +97,9 @@ words_go_on word.Nobody (steps.Answer other now ticket drawn answer) outcome old
 words_go_on word.Nobody (steps.Report other now) outcome old new views views' are ready goes = absurd ready
 words_go_on word.Nobody (steps.Drain other now) outcome old new views views' are ready goes = absurd ready
 
-pub worded_does : (old : Worded) (made : WordedStep) (outcome : Outcome) (new : Worded) → AreMembers old.words old.views → IsReady made.word made.step old.words new.words → ShardSteps made.step old.views outcome new.views
-    → ShardGoesOn made.step old.views outcome new.views → WordedDoes old made outcome new
+pub worded_does : (old : MachineState) (made : LoggedStep) (outcome : Outcome) (new : MachineState) → AreMembers old.words old.views → IsReady made.word made.step old.words new.words → ShardSteps made.step old.views outcome new.views
+    → ShardFollows made.step old.views outcome new.views → MachineDoes old made outcome new
 worded_does old made outcome new are ready ok goes = record {
-  shard = record { by_own_steps = ok; goes_on = goes };
+  shard = record { by_own_steps = ok; from_state = goes };
   words = words_go_on made.word made.step outcome old.words new.words old.views new.views are ready goes;
 }

@@ -3,24 +3,24 @@ use Rattle.std.proofs.Common.{◌≡◌, ℕ, ◌==◌, List, [], ◌∷◌, len
 use Rattle.std.specs.Prelude.{option_map, if◌then◌else◌, ◌≢◌}
 use Rattle.std.proofs.lemmas.Bool.Decides.{nat_tests}
 use Rattle.rand_pcg.specs.Lcg.{Lcg}
-use Rattle.shard_machine.specs.Words.{next_word, moved, first_words, Source, generator_of, IsDraw}
+use Rattle.shard_machine.specs.Jitter.{next_word, moved, first_words, TenantGenerator, generator_of, IsDraw}
 use Rattle.tenant_shard.specs.declared.step.Step.{Step}
 use Rattle.tenant_shard.specs.declared.step.Step.TheVariants as steps
 use Rattle.tenant_shard.specs.declared.step.Outcome.{Outcome}
-use Rattle.shard_machine.specs.declared.step.WordOf.{WordOf}
-use Rattle.shard_machine.specs.declared.step.WordOf.TheVariants as word
-use Rattle.shard_machine.specs.Worded.{Worded, WordsGoOn}
+use Rattle.shard_machine.specs.declared.step.WordSource.{WordSource}
+use Rattle.shard_machine.specs.declared.step.WordSource.TheVariants as word
+use Rattle.shard_machine.specs.MachineState.{MachineState, GeneratorsMove}
 use Rattle.shard_machine.specs.Run.{with_word, drawn_for, RunsAreShardRuns, WordsAreInOrder}
 
 pub shard_runs : RunsAreShardRuns
-shard_runs old new [] run = ap (λ (s : Worded). s.views) (sym run)
+shard_runs old new [] run = ap (λ (s : MachineState). s.views) (sym run)
 shard_runs old new (e ∷ es) run = (run.0.views, run.1.shard, shard_runs run.0 new es run.2)
 
 -- the rest is in order from wherever the tenant's generator stands
-abbrev RestIsIn : ℕ → List Source → List ℕ → Type 0
+abbrev RestIsIn : ℕ → List TenantGenerator → List ℕ → Type 0
 RestIsIn tenant words rest = (g : Lcg) → generator_of tenant words ≡ Some g → rest ≡ first_words (length rest) g
 
-drawn_step : (tenant other drawn : ℕ) (old next : List Source) (g : Lcg) (rest : List ℕ) → IsDraw other old (Some drawn) next → generator_of tenant old ≡ Some g → RestIsIn tenant next rest
+drawn_step : (tenant other drawn : ℕ) (old next : List TenantGenerator) (g : Lcg) (rest : List ℕ) → IsDraw other old (Some drawn) next → generator_of tenant old ≡ Some g → RestIsIn tenant next rest
     → (let ws : List ℕ = if other == tenant then drawn ∷ rest else rest in ws ≡ first_words (length ws) g)
 drawn_step tenant other drawn old next g rest step is goes = by (eqb other tenant) refl
   where
@@ -36,7 +36,7 @@ drawn_step tenant other drawn old next g rest step is goes = by (eqb other tenan
         let apart : tenant ≢ other = λ same. let t : eqb other tenant ≡ true = grind (arith, nat_tests) in absurd (cc) in
         goes g (step.others tenant apart ∙ is)
 
-words_step : (tenant : ℕ) (w : WordOf) (step : Step) (outcome : Outcome) (old next : List Source) (g : Lcg) (rest : List ℕ) → WordsGoOn w step outcome old next → generator_of tenant old ≡ Some g → RestIsIn tenant next rest
+words_step : (tenant : ℕ) (w : WordSource) (step : Step) (outcome : Outcome) (old next : List TenantGenerator) (g : Lcg) (rest : List ℕ) → GeneratorsMove w step outcome old next → generator_of tenant old ≡ Some g → RestIsIn tenant next rest
     → with_word tenant w step rest ≡ first_words (length (with_word tenant w step rest)) g
 words_step tenant word.Caller step outcome old next g rest moves is goes = goes g (ap (generator_of tenant) moves ∙ is)
 words_step tenant word.Generator (steps.Post now prepared) outcome old next g rest moves is goes = absurd moves

@@ -5,10 +5,10 @@ use Rattle.std.proofs.lemmas.Bool.Decides.{nat_tests}
 use Rattle.rand_pcg.specs.Lcg.{Lcg}
 use Rattle.tail_settings.specs.Section.{SectionData}
 use Rattle.tail_settings.specs.Settings.{SettingsData}
-use Rattle.shard_machine.specs.Words.{start, Source, generator_of, or_start, IsSeeded}
+use Rattle.shard_machine.specs.Jitter.{start, TenantGenerator, generator_of, or_start, IsSeeded}
 use Rattle.tenant_shard.specs.Table.{section_at, section_of}
 use Rattle.tenant_shard.proofs.Sections.{section_of-push_other, section_of-push_same, section_of-is}
-use Rattle.shard_machine.specs.Worded.{AreSeeded}
+use Rattle.shard_machine.specs.MachineState.{AreSeeded}
 
 -- the start that a section gives
 abbrev start_of : SectionData → Lcg
@@ -18,7 +18,7 @@ or_start_is : (o at : Option SectionData) (section : SectionData) → (o ≡ Non
 or_start_is o at section (inl none) is = ap (λ x. or_start (option_map start_of x) section.seed) none
 or_start_is o at section (inr same) is = ap (λ x. or_start (option_map start_of x) section.seed) (same ∙ is)
 
-pub seeded_more : (s : SettingsData) (E : List ℕ) (t seed : ℕ) (old new : List Source) (section : SectionData) → section_at s t ≡ Some section → section.seed ≡ seed → AreSeeded s E old → IsSeeded t seed old new → AreSeeded s (E ++ t ∷ []) new
+pub seeded_more : (s : SettingsData) (E : List ℕ) (t seed : ℕ) (old new : List TenantGenerator) (section : SectionData) → section_at s t ≡ Some section → section.seed ≡ seed → AreSeeded s E old → IsSeeded t seed old new → AreSeeded s (E ++ t ∷ []) new
 seeded_more s E t seed old new section at seed_is are grows u = by (eqb t u) refl
   where
     by : (b : Bool) → eqb t u ≡ b → generator_of u new ≡ option_map start_of (section_of s (E ++ t ∷ []) u)
@@ -31,7 +31,7 @@ seeded_more s E t seed old new section at seed_is are grows u = by (eqb t u) ref
         let apart : u ≢ t = λ same. let x : eqb t u ≡ true = grind (arith, nat_tests) in absurd (cc) in
         grows.others u apart ∙ are u ∙ ap (option_map start_of) (sym (section_of-push_other s E t u (λ same. apart (sym same))))
 
-pub seeded_none : (s : SettingsData) (E : List ℕ) (t : ℕ) (words : List Source) → section_at s t ≡ None → AreSeeded s E words → AreSeeded s (E ++ t ∷ []) words
+pub seeded_none : (s : SettingsData) (E : List ℕ) (t : ℕ) (words : List TenantGenerator) → section_at s t ≡ None → AreSeeded s E words → AreSeeded s (E ++ t ∷ []) words
 seeded_none s E t words at are u = by (eqb t u) refl
   where
     none : (o : Option SectionData) → (o ≡ None) ⊎ (o ≡ section_at s t) → o ≡ None

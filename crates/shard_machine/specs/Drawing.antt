@@ -1,17 +1,18 @@
--- A step before it is done, by what its word has to do with the generators, and what is left where it isn't done.
+-- A step before it is done, by what its word has to do with the generators, and what is left where it isn't done. This
+-- project's own rule.
 use Rattle.std.specs.Prelude.{◌≡◌, List, Some, None}
-use Rattle.shard_machine.specs.Words.{Source, generator_of, IsDraw}
+use Rattle.shard_machine.specs.Jitter.{TenantGenerator, generator_of, IsDraw}
 use Rattle.tenant_shard.specs.declared.step.Step.{Step}
 use Rattle.tenant_shard.specs.declared.step.Step.TheVariants as steps
 use Rattle.tenant_shard.specs.Refusal.{ShardRefuses}
 use Rattle.shard_machine.specs.declared.step.Call.{Call}
-use Rattle.shard_machine.specs.declared.step.WordOf.{WordOf}
-use Rattle.shard_machine.specs.declared.step.WordOf.TheVariants as word
-use Rattle.shard_machine.specs.declared.step.WordedStep.{WordedStep}
-use Rattle.shard_machine.specs.Worded.{Worded, AsksFor}
+use Rattle.shard_machine.specs.declared.step.WordSource.{WordSource}
+use Rattle.shard_machine.specs.declared.step.WordSource.TheVariants as word
+use Rattle.shard_machine.specs.declared.step.LoggedStep.{LoggedStep}
+use Rattle.shard_machine.specs.MachineState.{MachineState, AsksFor}
 
 -- it has its word, and is yet to be done
-abbrev pub IsReady : WordOf → Step → List Source → List Source → Type 0
+abbrev pub IsReady : WordSource → Step → List TenantGenerator → List TenantGenerator → Type 0
 IsReady word.Caller step old new = new ≡ old
 IsReady word.Generator (steps.Answer tenant now ticket drawn answer) old new = IsDraw tenant old (Some drawn) new
 IsReady word.Nobody (steps.Answer tenant now ticket drawn answer) old new =
@@ -19,8 +20,8 @@ IsReady word.Nobody (steps.Answer tenant now ticket drawn answer) old new =
 IsReady _ _ old new = ⊥
 
 -- a call was refused memory: its step had its word, which stays drawn, and left the shard as one that is refused does
-pub record IsLost (call : Call) (old new : Worded) : Type 0 where
-  pub made : WordedStep
+pub record IsLost (call : Call) (old new : MachineState) : Type 0 where
+  pub made : LoggedStep
   pub asked : AsksFor call made
   pub shard : ShardRefuses made.step old.views new.views
   pub words : IsReady made.word made.step old.words new.words

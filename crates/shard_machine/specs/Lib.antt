@@ -1,4 +1,4 @@
-pub mod Words
-pub mod Worded
+pub mod Jitter
+pub mod MachineState
 pub mod Drawing
 pub mod Run

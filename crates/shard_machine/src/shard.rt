@@ -4,12 +4,12 @@ ghost use Rattle.std.specs.Prelude.{◌≡◌, ℕ, List, [], ◌∷◌, ◌++�
 ghost use Rattle.tail_settings.specs.Settings.{settings_view};
 ghost use Rattle.tenant_shard.specs.Lists.{ShardStands};
 ghost use Rattle.tenant_shard.specs.Table.{opened};
-ghost use Rattle.shard_machine.specs.Worded.{AreSeeded, AsksFor};
+ghost use Rattle.shard_machine.specs.MachineState.{AreSeeded, AsksFor};
 ghost use Rattle.shard_machine.specs.Drawing.{IsReady};
 
 use crate::copy::copy_of;
-use crate::step::{Call, WordOf, WordedStep};
-use crate::words::Words;
+use crate::jitter::JitterGenerators;
+use crate::step::{Call, LoggedStep, WordSource};
 use machine_hub::Machine;
 use std::alloc::{AllocError, Global};
 use std::marker::Model;
@@ -18,48 +18,48 @@ use tenant_shard::{Outcome, Shard, Step};
 
 /// A shard, and a generator of words for each of its tenants.
 #[derive(Drop)]
-pub struct WordedShard {
+pub struct ShardMachine {
     shard: Shard,
-    words: Words,
+    words: JitterGenerators,
 }
 
-impl Model for WordedShard {
-    ghost use Rattle.shard_machine.specs.Worded.{Worded, AreMembers};
+impl Model for ShardMachine {
+    ghost use Rattle.shard_machine.specs.MachineState.{MachineState, AreMembers};
 
-    ghost Value = { Worded };
+    ghost Value = { MachineState };
 
     ghost view = { λ s. record { views = s.shard; words = s.words } };
 
     ghost invariant = { λ s. AreMembers s.words s.shard };
 }
 
-impl WordedShard {
+impl ShardMachine {
     /// A shard of the tenants of the settings whose numbers stand in `members`, with no steps so far, each with a
     /// generator at the start of its seed.
     pub fn open(
         alloc: Global,
         settings: &Settings,
         members: &[u32],
-    ) -> Result<WordedShard, AllocError>
+    ) -> Result<ShardMachine, AllocError>
         ensures stands { IfOk result (λ s. ShardStands (opened (settings_view settings.now) members.now) s.views) }
         ensures words { IfOk result (λ s. AreSeeded (settings_view settings.now) members.now s.words) }
     {
         let shard = Shard::open(alloc, settings, members)?;
         let words = seeded(alloc, settings, members)?;
-        Ok(WordedShard { shard, words })
+        Ok(ShardMachine { shard, words })
     }
 }
 
-impl Machine for WordedShard {
+impl Machine for ShardMachine {
     ghost use Rattle.std.specs.Prelude.{[]};
     ghost use Rattle.tenant_shard.specs.Empty.{is_empty};
     ghost use Rattle.tenant_shard.specs.View.{kept_of};
-    ghost use Rattle.shard_machine.specs.Worded.{AsksFor, WordedDoes};
+    ghost use Rattle.shard_machine.specs.MachineState.{AsksFor, MachineDoes};
     ghost use Rattle.shard_machine.specs.Drawing.{IsLost};
 
     type Call = Call;
 
-    type Step = WordedStep;
+    type Step = LoggedStep;
 
     type Outcome = Outcome;
 
@@ -69,14 +69,14 @@ impl Machine for WordedShard {
 
     ghost asks = { AsksFor };
 
-    ghost steps = { WordedDoes };
+    ghost steps = { MachineDoes };
 
     ghost is_so = { λ s tenant. is_empty (kept_of tenant s.views) };
 
-    fn make(&mut self, _alloc: Global, call: Call) -> Result<(WordedStep, Outcome), AllocError>
+    fn make(&mut self, _alloc: Global, call: Call) -> Result<(LoggedStep, Outcome), AllocError>
         ensures asked { IfOk result (λ made. AsksFor call made.0) }
-        ensures made { IfOk result (λ made. WordedDoes self.old made.0 made.1 self.new) }
-        ensures refused { OnErr result (IsLost call self.old self.new) }
+        ensures made { IfOk result (λ made. MachineDoes self.old made.0 made.1 self.new) }
+        ensures on_refusal { OnErr result (IsLost call self.old self.new) }
     {
         let made = ready(&mut self.words, call);
         let outcome = self.shard.step(&made.step)?;
@@ -95,14 +95,14 @@ impl Machine for WordedShard {
 }
 
 /// The step that a call asks for, with the word that its tenant draws.
-fn ready(words: &mut Words, call: Call) -> WordedStep
+fn ready(words: &mut JitterGenerators, call: Call) -> LoggedStep
     ensures asked { AsksFor call result }
     ensures words { IsReady result.word result.step words.old words.new }
 {
     match call {
-        Call::Step(step) => WordedStep {
+        Call::Step(step) => LoggedStep {
             step,
-            word: WordOf::Caller,
+            word: WordSource::Caller,
         },
         Call::Answer {
             tenant,
@@ -110,7 +110,7 @@ fn ready(words: &mut Words, call: Call) -> WordedStep
             ticket,
             answer,
         } => match words.draw(tenant) {
-            Some(word) => WordedStep {
+            Some(word) => LoggedStep {
                 step: Step::Answer {
                     tenant,
                     now,
@@ -118,9 +118,9 @@ fn ready(words: &mut Words, call: Call) -> WordedStep
                     word,
                     answer,
                 },
-                word: WordOf::Generator,
+                word: WordSource::Generator,
             },
-            None => WordedStep {
+            None => LoggedStep {
                 step: Step::Answer {
                     tenant,
                     now,
@@ -128,17 +128,21 @@ fn ready(words: &mut Words, call: Call) -> WordedStep
                     word: 0,
                     answer,
                 },
-                word: WordOf::Nobody,
+                word: WordSource::Nobody,
             },
         },
     }
 }
 
 /// A generator for each tenant of the settings whose number stands in `members`.
-fn seeded(alloc: Global, settings: &Settings, members: &[u32]) -> Result<Words, AllocError>
+fn seeded(
+    alloc: Global,
+    settings: &Settings,
+    members: &[u32],
+) -> Result<JitterGenerators, AllocError>
     ensures { IfOk result (AreSeeded (settings_view settings.now) members.now) }
 {
-    let mut words = Words::new(alloc);
+    let mut words = JitterGenerators::new(alloc);
     for tenant in members {
         seed_member(settings, &mut words, *tenant)?;
     }
@@ -146,7 +150,11 @@ fn seeded(alloc: Global, settings: &Settings, members: &[u32]) -> Result<Words, 
 }
 
 /// A generator for a tenant of the settings.
-fn seed_member(settings: &Settings, words: &mut Words, tenant: u32) -> Result<(), AllocError>
+fn seed_member(
+    settings: &Settings,
+    words: &mut JitterGenerators,
+    tenant: u32,
+) -> Result<(), AllocError>
     ensures { OnOk result ((earlier : List ℕ) → AreSeeded (settings_view settings.now) earlier words.old →
         AreSeeded (settings_view settings.now) (earlier ++ tenant ∷ []) words.new) }
 {

@@ -20,7 +20,7 @@ pub enum Call {
 
 /// Where a step's word is from.
 #[derive(Clone, Copy, Debug)]
-pub enum WordOf {
+pub enum WordSource {
     /// The caller handed in the step, with its word if it has one.
     Caller,
     /// The step's tenant has drawn it.
@@ -31,7 +31,7 @@ pub enum WordOf {
 
 /// A step that was made.
 #[derive(Drop)]
-pub struct WordedStep {
+pub struct LoggedStep {
     pub step: Step,
-    pub word: WordOf,
+    pub word: WordSource,
 }

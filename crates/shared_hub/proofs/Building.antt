@@ -8,7 +8,7 @@ use Rattle.machine_hub.specs.Slot.{home_of}
 use Rattle.machine_hub.specs.Hub.{AreNew, homes_of}
 use Rattle.tenant_shard.specs.Lists.{ShardStands}
 use Rattle.tenant_shard.specs.Table.{opened, members_of}
-use Rattle.shard_machine.specs.Worded.{Worded, AreSeeded}
+use Rattle.shard_machine.specs.MachineState.{MachineState, AreSeeded}
 use Rattle.shared_hub.specs.Shards.{IsFresh, AreOpened, kept}
 use Rattle.shared_hub.specs.Logs.{LoggedShard}
 
@@ -28,7 +28,7 @@ new_push (x ∷ ss) s are empty goes = (are.0, new_push ss s are.1 empty goes)
 
 -- so many shards, in the order of their numbers
 pub record IsBuilt (keep : Bool) (table : SettingsData) (number : ℕ) (shards : List LoggedShard) : Type 0 where
-  pub each : (shard : ℕ) (home : Home Worded) → slice_get (homes_of shards) shard ≡ Some home → (home.number ≡ shard) × IsFresh table (members_of table shard) home.start
+  pub each : (shard : ℕ) (home : Home MachineState) → slice_get (homes_of shards) shard ≡ Some home → (home.number ≡ shard) × IsFresh table (members_of table shard) home.start
   pub keeps : kept (homes_of shards) ≡ replicate number keep
   pub new : AreNew shards
   pub count : length shards ≡ number
@@ -41,7 +41,7 @@ module _ (keep : Bool) (table : SettingsData) where
   pub built_none : (shards : List LoggedShard) → shards ≡ [] → IsBuilt keep table 0 shards
   built_none shards none = subst (IsBuilt keep table 0) (sym none) (record { each = λ shard home at. absurd (cc); keeps = refl; new = tt; count = refl })
 
-  pub built_next : (number : ℕ) (shards new : List LoggedShard) (s : LoggedShard) (machine : Worded) → IsBuilt keep table number shards → new ≡ shards ++ s ∷ []
+  pub built_next : (number : ℕ) (shards new : List LoggedShard) (s : LoggedShard) (machine : MachineState) → IsBuilt keep table number shards → new ≡ shards ++ s ∷ []
       → (s.number ≡ number) × (s.machine ≡ machine) × (s.entries ≡ []) × (s.keeps ≡ keep) × (s.stopped ≡ false) → IsFresh table (members_of table number) machine → IsBuilt keep table (number + 1) new
   built_next number shards new s machine built is stands fresh =
       let next : suc number ≡ number + 1 = omega arith in
@@ -50,9 +50,9 @@ module _ (keep : Bool) (table : SettingsData) where
       let own : (s.number ≡ length (homes_of shards)) × IsFresh table (members_of table (length (homes_of shards))) s.machine =
       (stands.0 ∙ sym long, subst (λ n. IsFresh table (members_of table n) s.machine) (sym long) (subst (IsFresh table (members_of table number)) (sym stands.1) fresh)) in
       let one : IsBuilt keep table (number + 1) (shards ++ s ∷ []) = record {
-        each = subst (λ (hs : List (Home Worded)). (shard : ℕ) (home : Home Worded) → slice_get hs shard ≡ Some home → (home.number ≡ shard) × IsFresh table (members_of table shard) home.start) (sym homes)
-            (each_push (λ (shard : ℕ) (home : Home Worded). (home.number ≡ shard) × IsFresh table (members_of table shard) home.start) (homes_of shards) (home_of s) built.each own);
-        keeps = ap kept homes ∙ map-append (λ (h : Home Worded). h.keeps) (homes_of shards) (home_of s ∷ []) ∙ ap (λ l. l ++ s.keeps ∷ []) built.keeps ∙ ap (λ b. replicate number keep ++ b ∷ []) stands.3
+        each = subst (λ (hs : List (Home MachineState)). (shard : ℕ) (home : Home MachineState) → slice_get hs shard ≡ Some home → (home.number ≡ shard) × IsFresh table (members_of table shard) home.start) (sym homes)
+            (each_push (λ (shard : ℕ) (home : Home MachineState). (home.number ≡ shard) × IsFresh table (members_of table shard) home.start) (homes_of shards) (home_of s) built.each own);
+        keeps = ap kept homes ∙ map-append (λ (h : Home MachineState). h.keeps) (homes_of shards) (home_of s ∷ []) ∙ ap (λ l. l ++ s.keeps ∷ []) built.keeps ∙ ap (λ b. replicate number keep ++ b ∷ []) stands.3
             ∙ replicate_last number keep ∙ ap (λ n. replicate n keep) next;
         new = new_push shards s built.new stands.2 stands.4;
         count = length-append shards (s ∷ []) ∙ ap (λ n. n + 1) built.count;
@@ -65,7 +65,7 @@ module _ (keep : Bool) (table : SettingsData) where
     each = built.each;
   }
 
-pub fresh_from : (table : SettingsData) (number : ℕ) (slice items : List ℕ) (s : Worded) → slice ≡ items → items ≡ members_of table number → ShardStands (opened table slice) s.views → AreSeeded table slice s.words → IsFresh table (members_of table number) s
+pub fresh_from : (table : SettingsData) (number : ℕ) (slice items : List ℕ) (s : MachineState) → slice ≡ items → items ≡ members_of table number → ShardStands (opened table slice) s.views → AreSeeded table slice s.words → IsFresh table (members_of table number) s
 fresh_from table number slice items s same is stands seeded = record {
   stands = subst (λ m. ShardStands (opened table m) s.views) (same ∙ is) stands;
   words = subst (λ m. AreSeeded table m s.words) (same ∙ is) seeded;

@@ -3,7 +3,7 @@ use Rattle.std.proofs.Common.{◌≡◌, ℕ, zero, suc, ◌+◌, ◌<◌, List,
 use Rattle.std.specs.Prelude.{slice_get, slice_set, option_map}
 use Rattle.tail_settings.specs.Section.{SectionData}
 use Rattle.tail_settings.specs.Settings.{SettingsData}
-use Rattle.shard_machine.specs.Words.{start}
+use Rattle.shard_machine.specs.Jitter.{start}
 use Rattle.tenant_shard.specs.Alone.{OwnStepsDecide}
 use Rattle.tenant_shard.specs.Table.{opened, members_of}
 use Rattle.tenant_shard.proofs.Wholes.{by_own_steps, stands_after, each_alone}
@@ -18,13 +18,13 @@ use Rattle.machine_hub.specs.Slot.{stored}
 use Rattle.machine_hub.specs.Seats.{seat_after, IsNoted}
 use Rattle.machine_hub.specs.Hub.{IsCallOn, AreShardRuns}
 use Rattle.shard_machine.specs.declared.step.Call.{Call}
-use Rattle.shard_machine.specs.Worded.{Worded, AsksFor, WordedDoes}
+use Rattle.shard_machine.specs.MachineState.{MachineState, AsksFor, MachineDoes}
 use Rattle.shard_machine.specs.Run.{Logged, steps_of, outcomes_of, RunsAreShardRuns, WordsAreInOrder}
 use Rattle.shared_hub.specs.Shards.{IsFresh, AreOpened}
-use Rattle.shared_hub.specs.Logs.{Seat, Seats, LoggedShard, has_none, IsLogOf, EachCallEndsARun, EachLookSeesARun, AreLogged, AreOneRun, LogsTellByOwnSteps}
+use Rattle.shared_hub.specs.Logs.{Seat, CallerState, LoggedShard, has_none, IsLogOf, EachCallEndsARun, EachLookSeesARun, AreLogged, AreOneRun, LogsTellByOwnSteps}
 use Rattle.shared_hub.proofs.Drawing.{none_drawn}
 
-log_of : RunsAreShardRuns → WordsAreInOrder → (table : SettingsData) (members : List ℕ) (first last : Worded) (entries : List Logged) → IsFresh table members first → Runs WordedDoes first entries last → IsLogOf table members entries last
+log_of : RunsAreShardRuns → WordsAreInOrder → (table : SettingsData) (members : List ℕ) (first last : MachineState) (entries : List Logged) → IsFresh table members first → Runs MachineDoes first entries last → IsLogOf table members entries last
 log_of shard_runs in_order table members first last entries fresh run =
     let chain = shard_runs first last entries run in
     let steps = steps_of entries in
@@ -41,9 +41,9 @@ log_of shard_runs in_order table members first last entries fresh run =
       nobodys = λ tenant at. none_drawn tenant first last entries run (fresh.words tenant ∙ ap (option_map (λ (s : SectionData). start s.seed)) at);
     }
 
-pub are_logged : RunsAreShardRuns → WordsAreInOrder → (table : SettingsData) (homes : List (Home Worded)) (callers : List Seats) (shards : List LoggedShard) → AreShardRuns WordedDoes homes callers shards → AreOpened table homes → AreLogged table shards
+pub are_logged : RunsAreShardRuns → WordsAreInOrder → (table : SettingsData) (homes : List (Home MachineState)) (callers : List CallerState) (shards : List LoggedShard) → AreShardRuns MachineDoes homes callers shards → AreOpened table homes → AreLogged table shards
 are_logged shard_runs in_order table homes callers shards runs opens shard s at =
-    let here = shard_run WordedDoes homes callers shards runs shard s at in
+    let here = shard_run MachineDoes homes callers shards runs shard s at in
     let run = here.2 in
     let did = run.run.2 in
     record {
@@ -54,10 +54,10 @@ are_logged shard_runs in_order table homes callers shards runs opens shard s at 
       now_is = did.now_is;
     }
 
-pub are_one_run : RunsAreShardRuns → WordsAreInOrder → (table : SettingsData) (homes : List (Home Worded)) (callers : List Seats) (shards : List LoggedShard) → AreShardRuns WordedDoes homes callers shards → AreOpened table homes → AreOneRun table callers
+pub are_one_run : RunsAreShardRuns → WordsAreInOrder → (table : SettingsData) (homes : List (Home MachineState)) (callers : List CallerState) (shards : List LoggedShard) → AreShardRuns MachineDoes homes callers shards → AreOpened table homes → AreOneRun table callers
 are_one_run shard_runs in_order table homes callers shards runs opens shard within =
     let there = found shards shard (omega (arith, runs.count, opens.count, within)) in
-    let here = shard_run WordedDoes homes callers shards runs shard there.0 there.1 in
+    let here = shard_run MachineDoes homes callers shards runs shard there.0 there.1 in
     let run = here.2 in
     let did = run.run.2 in
     record {
@@ -90,14 +90,14 @@ ends_a_run shard_runs in_order table members old new shard call outcome receipt 
     let did = one.home.2 in
     let e : Logged = entry one.step outcome in
     let is : after ≡ seat_after made.seat made.noted =
-    some_one after (seat_after made.seat made.noted) (sym at ∙ ap (λ (l : Seats). slice_get l shard) made.after ∙ set_here old shard made.seat (seat_after made.seat made.noted) made.at) in
+    some_one after (seat_after made.seat made.noted) (sym at ∙ ap (λ (l : CallerState). slice_get l shard) made.after ∙ set_here old shard made.seat (seat_after made.seat made.noted) made.at) in
     let on = on_time made.seat after was now e made.noted one.adds is same in
-    let end : WordedDoes did.middle e.step e.outcome now.machine = subst (λ m. WordedDoes m e.step e.outcome now.machine) (sym (did.now_is on)) one.made in
+    let end : MachineDoes did.middle e.step e.outcome now.machine = subst (λ m. MachineDoes m e.step e.outcome now.machine) (sym (did.now_is on)) one.made in
     record {
       step = one.step;
       asked = one.asked;
       last = now.machine;
-      log = log_of shard_runs in_order table members made.seat.home.start now.machine (was.entries ++ e ∷ []) fresh (runs_push WordedDoes made.seat.home.start was.entries e did.middle now.machine did.run end);
+      log = log_of shard_runs in_order table members made.seat.home.start now.machine (was.entries ++ e ∷ []) fresh (runs_push MachineDoes made.seat.home.start was.entries e did.middle now.machine did.run end);
     }
 
 pub sees_a_run : RunsAreShardRuns → WordsAreInOrder → EachLookSeesARun
@@ -110,7 +110,7 @@ sees_a_run shard_runs in_order table members caller shard tenant told look fresh
       last = did.middle;
       log = log_of shard_runs in_order table members look.0.home.start did.middle was.0.entries fresh did.run;
       calls = was.2;
-      empty_is = was.3 ∙ ap (λ (m : Worded). has_none m tenant) (sym here);
+      empty_is = was.3 ∙ ap (λ (m : MachineState). has_none m tenant) (sym here);
     }
 
 pub told_by_own_steps : OwnStepsDecide → LogsTellByOwnSteps

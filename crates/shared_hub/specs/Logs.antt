@@ -1,10 +1,10 @@
--- What contracts say of calls, and of the logs at the end.
+-- What contracts say of calls, and of the logs at the end. This project's own rule.
 use Rattle.std.specs.Prelude.{◌≡◌, ℕ, ◌<◌, List, [], ◌∷◌, ◌++◌, map, length, Bool, true, false, Option, Some, None, slice_get}
 use Rattle.send_retry.specs.declared.answer.Answer.{Answer}
 use Rattle.send_retry.specs.Class.{answer_view}
 use Rattle.tail_settings.specs.Section.{SectionData}
 use Rattle.tail_settings.specs.Settings.{SettingsData}
-use Rattle.shard_machine.specs.Words.{start, first_words}
+use Rattle.shard_machine.specs.Jitter.{start, first_words}
 use Rattle.tenant_shard.specs.declared.step.Step.{Step}
 use Rattle.tenant_shard.specs.declared.step.Outcome.{Outcome}
 use Rattle.tenant_shard.specs.View.{kept_of}
@@ -23,44 +23,44 @@ use Rattle.machine_hub.specs.declared.told.Told.{Told}
 use Rattle.machine_hub.specs.Hub.{IsCallOn, IsToldOn, seats_at, AreCallsOf}
 use Rattle.shard_machine.specs.declared.step.Call.{Call}
 use Rattle.shard_machine.specs.declared.step.Call.TheVariants as calls
-use Rattle.shard_machine.specs.declared.step.WordedStep.{WordedStep}
-use Rattle.shard_machine.specs.Worded.{Worded, AsksFor, WordedDoes}
+use Rattle.shard_machine.specs.declared.step.LoggedStep.{LoggedStep}
+use Rattle.shard_machine.specs.MachineState.{MachineState, AsksFor, MachineDoes}
 use Rattle.shard_machine.specs.Run.{Logged, steps_of, outcomes_of, drawn_for}
 use Rattle.shared_hub.specs.Shards.{IsFresh}
 
 -- a caller's seat at a shard
 abbrev pub Seat : Type 0
-Seat = SeatState Worded WordedStep Outcome
+Seat = SeatState MachineState LoggedStep Outcome
 
 -- a caller, by its seats at the shards
-abbrev pub Seats : Type 0
-Seats = List Seat
+abbrev pub CallerState : Type 0
+CallerState = List Seat
 
 -- a shard with its log
 abbrev pub LoggedShard : Type 0
-LoggedShard = Standing Worded WordedStep Outcome
+LoggedShard = Standing MachineState LoggedStep Outcome
 
 -- a call made this step of a shard, with this outcome and this receipt
-abbrev pub IsStepOn : Seats → Seats → ℕ → Step → Outcome → Option Receipt → Type 0
+abbrev pub IsStepOn : CallerState → CallerState → ℕ → Step → Outcome → Option Receipt → Type 0
 IsStepOn old new shard step outcome receipt =
-    IsCallOn AsksFor WordedDoes old new shard (calls.Step step) outcome receipt
+    IsCallOn AsksFor MachineDoes old new shard (calls.Step step) outcome receipt
 
 -- a call made the step of a back end's answer, for whose word its tenant's generator was asked
-abbrev pub IsAnswerOn : Seats → Seats → ℕ → ℕ → ℕ → ℕ → Answer → Outcome → Option Receipt → Type 0
+abbrev pub IsAnswerOn : CallerState → CallerState → ℕ → ℕ → ℕ → ℕ → Answer → Outcome → Option Receipt → Type 0
 IsAnswerOn old new shard tenant now ticket answer outcome receipt =
     (copy : Answer) × (answer_view copy ≡ answer_view answer)
-    × IsCallOn AsksFor WordedDoes old new shard (calls.Answer tenant now ticket copy) outcome receipt
+    × IsCallOn AsksFor MachineDoes old new shard (calls.Answer tenant now ticket copy) outcome receipt
 
 -- whether a tenant is empty in a shard
-abbrev pub has_none : Worded → ℕ → Bool
+abbrev pub has_none : MachineState → ℕ → Bool
 has_none shard tenant = is_empty (kept_of tenant shard.views)
 
 -- at one moment of a call the tenant was empty or wasn't, and its shard had been refused memory or hadn't
-abbrev pub IsLookOn : Seats → ℕ → ℕ → Told → Type 0
-IsLookOn caller shard tenant told = IsToldOn WordedDoes has_none caller shard tenant told
+abbrev pub IsLookOn : CallerState → ℕ → ℕ → Told → Type 0
+IsLookOn caller shard tenant told = IsToldOn MachineDoes has_none caller shard tenant told
 
 -- at one moment of a call this was so
-abbrev pub IsEmptyOn : Seats → ℕ → ℕ → Bool → Type 0
+abbrev pub IsEmptyOn : CallerState → ℕ → ℕ → Bool → Type 0
 IsEmptyOn caller shard tenant empty =
     (stopped : Bool) × IsLookOn caller shard tenant (record { answer = empty; stopped = stopped })
 
@@ -68,8 +68,9 @@ IsEmptyOn caller shard tenant empty =
 -- those that the members' own steps say, each member was told exactly what its pipeline alone answers to the steps that
 -- were its own, and the shard stands for these. The words that were drawn for a member are in order the first of its
 -- own generator, which starts from its own seed, and none was drawn for anyone else
-pub record IsLogOf (table : SettingsData) (members : List ℕ) (entries : List Logged) (last : Worded) : Type 0 where
-  pub first : Worded
+pub record IsLogOf (table : SettingsData) (members : List ℕ) (entries : List Logged) (last : MachineState)
+    : Type 0 where
+  pub first : MachineState
   pub fresh : IsFresh table members first
   pub runs : ShardRuns (steps_of entries) first.views (outcomes_of entries) last.views
   pub by_own_steps : Run (opened table members) (steps_of entries) (outcomes_of entries)
@@ -84,18 +85,18 @@ pub record IsLogOf (table : SettingsData) (members : List ℕ) (entries : List L
 -- a step that the call asked for, with this outcome, comes after these entries in such a run
 pub record EndsARun (table : SettingsData) (members : List ℕ) (before : List Logged) (call : Call)
     (outcome : Outcome) : Type 0 where
-  pub step : WordedStep
+  pub step : LoggedStep
   pub asked : AsksFor call step
-  pub last : Worded
+  pub last : MachineState
   pub log : IsLogOf table members (before ++ entry step outcome ∷ []) last
 
 -- whether or not a log keeps it, the step of a call that answered comes after all that the shard did in such a run, in
 -- which all earlier calls of its caller are, so what is answered follows from the own steps of that run alone. It is
 -- said of each call that its caller's seat doesn't count as one that came after memory was refused
 abbrev pub EachCallEndsARun : Type 0
-EachCallEndsARun = (table : SettingsData) (members : List ℕ) (old new : Seats) (shard : ℕ) (call : Call)
+EachCallEndsARun = (table : SettingsData) (members : List ℕ) (old new : CallerState) (shard : ℕ) (call : Call)
     (outcome : Outcome) (receipt : Option Receipt)
-    (made : IsCallOn AsksFor WordedDoes old new shard call outcome receipt) →
+    (made : IsCallOn AsksFor MachineDoes old new shard call outcome receipt) →
     IsFresh table members made.seat.home.start →
     (after : Seat) → slice_get new shard ≡ Some after → after.bare ≡ made.seat.bare →
     EndsARun table members made.made.old.entries call outcome
@@ -103,14 +104,14 @@ EachCallEndsARun = (table : SettingsData) (members : List ℕ) (old new : Seats)
 -- a tenant is empty, or isn't, where such a run ends in which all earlier calls of this seat are
 pub record SeesARun (table : SettingsData) (members : List ℕ) (seat : Seat) (tenant : ℕ) (empty : Bool) : Type 0 where
   pub entries : List Logged
-  pub last : Worded
+  pub last : MachineState
   pub log : IsLogOf table members entries last
   pub calls : HasCalls entries seat
   pub empty_is : empty ≡ has_none last tenant
 
 -- what is told of a tenant is so where such a run ends, unless it is told too that the shard was refused memory
 abbrev pub EachLookSeesARun : Type 0
-EachLookSeesARun = (table : SettingsData) (members : List ℕ) (caller : Seats) (shard tenant : ℕ) (told : Told)
+EachLookSeesARun = (table : SettingsData) (members : List ℕ) (caller : CallerState) (shard tenant : ℕ) (told : Told)
     (look : IsLookOn caller shard tenant told) → IsFresh table members look.0.home.start → told.stopped ≡ false →
     SeesARun table members look.0 tenant told.answer
 
@@ -118,7 +119,7 @@ EachLookSeesARun = (table : SettingsData) (members : List ℕ) (caller : Seats) 
 -- run leaves what the shard is now
 pub record IsLogged (table : SettingsData) (shard : ℕ) (s : LoggedShard) : Type 0 where
   pub entries : List Logged
-  pub last : Worded
+  pub last : MachineState
   pub log : IsLogOf table (members_of table shard) entries last
   pub kept : s.keeps ≡ true → entries ≡ s.entries
   pub now_is : s.stopped ≡ false → last ≡ s.machine
@@ -130,21 +131,21 @@ AreLogged table shards =
 
 -- all callers' calls at this shard are one such run, whether or not a log keeps it: each that answered before the shard
 -- was refused memory is there once, with its step and outcome
-pub record IsOneRun (table : SettingsData) (callers : List Seats) (shard : ℕ) : Type 0 where
+pub record IsOneRun (table : SettingsData) (callers : List CallerState) (shard : ℕ) : Type 0 where
   pub entries : List Logged
-  pub last : Worded
+  pub last : MachineState
   pub log : IsLogOf table (members_of table shard) entries last
   pub each : AreCallsOf entries (seats_at shard callers)
 
 -- so it is at each shard
-abbrev pub AreOneRun : SettingsData → List Seats → Type 0
+abbrev pub AreOneRun : SettingsData → List CallerState → Type 0
 AreOneRun table callers = (shard : ℕ) → shard < table.global.shards → IsOneRun table callers shard
 
 -- what a tenant is told follows from its section and its own steps alone, whichever log it is, whatever the other
 -- tenants' sections and steps, and whatever threads did
 abbrev pub LogsTellByOwnSteps : Type 0
 LogsTellByOwnSteps = (section : SectionData) (steps : List OwnStep) → (answers : List Answered)
-    × ((table : SettingsData) (members : List ℕ) (entries : List Logged) (last : Worded) →
+    × ((table : SettingsData) (members : List ℕ) (entries : List Logged) (last : MachineState) →
     IsLogOf table members entries last → (tenant : ℕ) → section_of table members tenant ≡ Some section →
     own_steps tenant (steps_of entries) (outcomes_of entries) ≡ steps →
     told_to tenant (outcomes_of entries) ≡ map (named tenant) answers)

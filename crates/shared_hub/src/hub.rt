@@ -3,7 +3,7 @@
 ghost use Rattle.std.specs.Prelude.{◌≡◌, ◌≢◌, ◌<◌, ◌%◌, ◌⊎◌, length, replicate, IfOk, IfErr, OnErr, vec_len};
 ghost use Rattle.tail_settings.specs.Settings.{SettingsData, settings_view};
 ghost use Rattle.machine_hub.specs.Hub.{slots_of, new_caller, AreCallersOf, AreShardRuns, IsRefusedOn};
-ghost use Rattle.shard_machine.specs.Worded.{WordedDoes};
+ghost use Rattle.shard_machine.specs.MachineState.{MachineDoes};
 ghost use Rattle.shared_hub.specs.Shards.{AreOpened, kept};
 ghost use Rattle.shared_hub.specs.Logs.{IsStepOn, IsAnswerOn, IsLookOn, IsEmptyOn, AreLogged, AreOneRun};
 ghost use Rattle.shared_hub.specs.declared.fault.HubFault.TheVariants as faults;
@@ -15,7 +15,7 @@ use crate::shards::shards_of;
 use crate::{Caller, HubKeeper, ShardLog};
 use machine_hub::{Hub, Receipt, Told};
 use send_retry::Answer;
-use shard_machine::{Call, WordedShard, runs_are_shard_runs, words_are_in_order};
+use shard_machine::{Call, ShardMachine, runs_are_shard_runs, words_are_in_order};
 use std::alloc::{AllocError, Global};
 use std::marker::Model;
 use std::sync::Wait;
@@ -26,7 +26,7 @@ use tenant_shard::{Outcome, Step};
 /// number.
 #[derive(Drop)]
 pub struct SharedHub {
-    hub: Hub<WordedShard, OptionalLog>,
+    hub: Hub<ShardMachine, OptionalLog>,
 }
 
 impl Model for SharedHub {
@@ -68,7 +68,7 @@ impl SharedHub {
     /// How many shards there are.
     pub fn shards(&self) -> usize
         ensures count { result ≡ length self.now }
-        ensures some { 0 < result }
+        ensures not_empty { 0 < result }
     {
         self.hub.shards()
     }
@@ -84,10 +84,10 @@ impl SharedHub {
         step: Step,
     ) -> Result<(Outcome, Option<Receipt>), HubFault>
         requires shard { shard < length self.now }
-        requires mine { slots_of me.old ≡ self.now }
-        ensures mine { slots_of me.new ≡ self.now }
+        requires same_hub { slots_of me.old ≡ self.now }
+        ensures same_hub { slots_of me.new ≡ self.now }
         ensures call { IfOk result (λ r. IsStepOn me.old me.new shard step r.0 r.1) }
-        ensures refused { OnErr result (IsRefusedOn me.old me.new shard) }
+        ensures on_refusal { OnErr result (IsRefusedOn me.old me.new shard) }
         ensures fault { IfErr result (λ fault. fault ≡ faults.OutOfMemory) }
     {
         let made = self.hub.step(rt, alloc, me, shard, Call::Step(step))?;
@@ -107,11 +107,11 @@ impl SharedHub {
         ticket: u64,
         answer: &Answer,
     ) -> Result<(Outcome, Option<Receipt>), HubFault>
-        requires mine { slots_of me.old ≡ self.now }
-        ensures mine { slots_of me.new ≡ self.now }
+        requires same_hub { slots_of me.old ≡ self.now }
+        ensures same_hub { slots_of me.new ≡ self.now }
         ensures call { IfOk result (λ r.
             IsAnswerOn me.old me.new (tenant % length self.now) tenant now ticket answer.now r.0 r.1) }
-        ensures refused { OnErr result ((me.new ≡ me.old)
+        ensures on_refusal { OnErr result ((me.new ≡ me.old)
             ⊎ IsRefusedOn me.old me.new (tenant % length self.now)) }
         ensures fault { IfErr result (λ fault. fault ≡ faults.OutOfMemory) }
     {
@@ -130,7 +130,7 @@ impl SharedHub {
     /// Whether the tenant is a member that holds no spans: none waits for its trace's decision, for a batch or in the
     /// queue, and no batch is on its way. It makes no step.
     pub fn empty<R: Wait>(&self, rt: &R, me: &mut Caller, tenant: u32) -> bool
-        requires mine { slots_of me.old ≡ self.now }
+        requires same_hub { slots_of me.old ≡ self.now }
         ensures empty { IsEmptyOn me.old (tenant % length self.now) tenant result }
         ensures same { me.new ≡ me.old }
     {
@@ -141,7 +141,7 @@ impl SharedHub {
     /// The same, with whether the tenant's shard was refused memory before: if not, it is so where a run of the shard
     /// ends.
     pub fn look<R: Wait>(&self, rt: &R, me: &mut Caller, tenant: u32) -> Told
-        requires mine { slots_of me.old ≡ self.now }
+        requires same_hub { slots_of me.old ≡ self.now }
         ensures look { IsLookOn me.old (tenant % length self.now) tenant result }
         ensures same { me.new ≡ me.old }
     {
@@ -161,7 +161,7 @@ impl SharedHub {
         requires callers { AreCallersOf self callers.items }
         ensures all { IfOk result (λ shards. vec_len callers ≡ keeper.callers) }
         ensures calls { IfOk result (λ shards.
-            AreShardRuns WordedDoes keeper.homes callers.items shards.items) }
+            AreShardRuns MachineDoes keeper.homes callers.items shards.items) }
         ensures logs { IfOk result (λ shards. (table : SettingsData) →
             AreOpened table keeper.homes → AreLogged table shards.items) }
         ensures one_run { IfOk result (λ shards. (table : SettingsData) →
@@ -183,7 +183,7 @@ impl SharedHub {
 
     /// In which shard the tenant is.
     fn shard_of(&self, tenant: u32) -> usize
-        ensures is { result ≡ tenant % length self.now }
+        ensures shard { result ≡ tenant % length self.now }
         ensures within { result < length self.now }
     {
         tenant as usize % self.hub.shards()

@@ -22,20 +22,20 @@ pub use fault::{CallersMissing, HubFault};
 pub use hub::SharedHub;
 pub use log::OptionalLog;
 pub use machine_hub::{Receipt, Told};
-pub use shard_machine::{Call, WordOf, WordedShard, WordedStep};
+pub use shard_machine::{Call, LoggedStep, ShardMachine, WordSource};
 use tenant_shard::Outcome;
 
 /// A step that was made, and what it gave.
-pub type Entry = machine_hub::Entry<WordedStep, Outcome>;
+pub type Entry = machine_hub::Entry<LoggedStep, Outcome>;
 
 /// Who calls a hub, one for each thread.
-pub type Caller = machine_hub::Caller<WordedShard, OptionalLog>;
+pub type Caller = machine_hub::Caller<ShardMachine, OptionalLog>;
 
 /// Who opened a hub, and can close it.
-pub type HubKeeper = machine_hub::HubKeeper<WordedShard, OptionalLog>;
+pub type HubKeeper = machine_hub::HubKeeper<ShardMachine, OptionalLog>;
 
 /// A shard with its log.
-pub type ShardLog = machine_hub::LoggedMachine<WordedShard, OptionalLog>;
+pub type ShardLog = machine_hub::LoggedMachine<ShardMachine, OptionalLog>;
 
 /// What a call answers, log or not, is the last outcome of a run of a shard of its tenants: a law over calls.
 pub fn each_call_ends_a_run()

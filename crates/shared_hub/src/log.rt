@@ -5,7 +5,7 @@ ghost use Rattle.std.specs.Prelude.{vec_len, vec_capacity};
 ghost use Rattle.std.specs.Arc.{arc_value};
 
 use machine_hub::{Entry, StepLog};
-use shard_machine::{WordedShard, WordedStep};
+use shard_machine::{LoggedStep, ShardMachine};
 use std::alloc::{AllocError, Global};
 use std::sync::Arc;
 use tenant_shard::Outcome;
@@ -15,7 +15,7 @@ use tenant_shard::Outcome;
 pub struct OptionalLog {
     pub keeps: bool,
     /// Empty where it doesn't keep.
-    pub kept: Vec<Arc<Entry<WordedStep, Outcome>, Global>>,
+    pub kept: Vec<Arc<Entry<LoggedStep, Outcome>, Global>>,
 }
 
 impl OptionalLog {
@@ -30,7 +30,7 @@ impl OptionalLog {
     }
 }
 
-impl StepLog<WordedShard> for OptionalLog {
+impl StepLog<ShardMachine> for OptionalLog {
     ghost use Rattle.std.specs.Prelude.{map};
     ghost use Rattle.std.specs.Arc.{arc_value};
 
@@ -57,15 +57,15 @@ impl StepLog<WordedShard> for OptionalLog {
     fn keep(
         &mut self,
         alloc: Global,
-        entry: Entry<WordedStep, Outcome>,
-    ) -> Result<Arc<Entry<WordedStep, Outcome>, Global>, AllocError>
+        entry: Entry<LoggedStep, Outcome>,
+    ) -> Result<Arc<Entry<LoggedStep, Outcome>, Global>, AllocError>
         ensures same { self.new.keeps ≡ self.old.keeps }
         ensures kept { IfOk result (λ kept. (arc_value kept ≡ entry)
             × ((self.old.keeps ≡ true) →
             map arc_value self.new.kept.items ≡ map arc_value self.old.kept.items ++ entry ∷ [])) }
         ensures nothing { (self.old.keeps ≡ false) →
             map arc_value self.new.kept.items ≡ map arc_value self.old.kept.items }
-        ensures refused { OnErr result (map arc_value self.new.kept.items ≡ map arc_value self.old.kept.items) }
+        ensures on_refusal { OnErr result (map arc_value self.new.kept.items ≡ map arc_value self.old.kept.items) }
     {
         let theirs = Arc::new(alloc, entry)?;
         if self.keeps {

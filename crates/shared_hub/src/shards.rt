@@ -8,7 +8,7 @@ ghost use Rattle.shared_hub.specs.Shards.{AreOpened, kept};
 use crate::ShardLog;
 use crate::log::OptionalLog;
 use machine_hub::LoggedMachine;
-use shard_machine::WordedShard;
+use shard_machine::ShardMachine;
 use std::alloc::{AllocError, Global};
 use tail_settings::Settings;
 use tenant_shard::members_of;
@@ -28,7 +28,7 @@ pub(crate) fn shards_of(
     let mut shards = Vec::new(alloc);
     for number in 0..settings.global.shards {
         let members = members_of(alloc, settings, number)?;
-        let shard = WordedShard::open(alloc, settings, members.as_slice())?;
+        let shard = ShardMachine::open(alloc, settings, members.as_slice())?;
         let log = OptionalLog::new(alloc, keeps);
         let machine = LoggedMachine::new(shard, log, number);
         shards.push(machine)?;

@@ -33,7 +33,7 @@ fn call<R: Wait>(
     returned: &AtomicU64,
 ) -> u64
     requires shard { shard < length hub.now }
-    requires mine { slots_of caller ≡ hub.now }
+    requires same_hub { slots_of caller ≡ hub.now }
 {
     let _ = hub.step(rt, alloc, &mut caller, shard, 1);
     returned.fetch_add(1, Ordering::SeqCst)

@@ -62,7 +62,7 @@ impl<M: Machine> StepLog<M> for HoldingLog {
         ensures same { false ≡ false }
         ensures kept { IfOk result (λ kept. (arc_value kept ≡ entry)
             × ((false ≡ true) → no_entries M.Step M.Outcome ≡ no_entries M.Step M.Outcome ++ entry ∷ [])) }
-        ensures refused { OnErr result (no_entries M.Step M.Outcome ≡ no_entries M.Step M.Outcome) }
+        ensures on_refusal { OnErr result (no_entries M.Step M.Outcome ≡ no_entries M.Step M.Outcome) }
     {
         Ok(Arc::new(alloc, entry)?)
     }

@@ -33,7 +33,7 @@ fn three_calls<R: Wait>(
     mut caller: Caller<Counter, OptionalLog<Counter>>,
 ) -> Took
     requires shard { 0 < length hub.now }
-    requires mine { slots_of caller ≡ hub.now }
+    requires same_hub { slots_of caller ≡ hub.now }
     ensures { slots_of result.caller ≡ hub.now }
 {
     let mut positions = [99u64; 3];

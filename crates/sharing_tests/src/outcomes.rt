@@ -1,7 +1,7 @@
 //! Outcomes and entries beside the lines of a story.
 
 use crate::story::{Line, cut};
-use shared_hub::{Entry, WordOf};
+use shared_hub::{Entry, WordSource};
 use std::alloc::Global;
 use tenant_shard::{Outcome, Step};
 
@@ -65,11 +65,11 @@ fn columns_of(step: &Step) -> (&'static str, u32, u64, u64, u32) {
 }
 
 /// Where a word is from.
-fn source_of(word: WordOf) -> &'static str {
+fn source_of(word: WordSource) -> &'static str {
     match word {
-        WordOf::Caller => "caller",
-        WordOf::Generator => "drawn",
-        WordOf::Nobody => "nobody",
+        WordSource::Caller => "caller",
+        WordSource::Generator => "drawn",
+        WordSource::Nobody => "nobody",
     }
 }
 

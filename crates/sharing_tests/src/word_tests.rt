@@ -1,12 +1,12 @@
 //! Two tenants that draw in turn.
 
-use shard_machine::Words;
+use shard_machine::JitterGenerators;
 use std::test::Fail;
 
 /// Each gets the words of its own seed, whatever the other draws, and a second seed counts for nothing.
 #[test]
 fn each_draws_its_own_words(rt: HostRuntime) -> Result<(), Fail> {
-    let mut words = Words::new(rt.alloc());
+    let mut words = JitterGenerators::new(rt.alloc());
     words.seed(3, 0)?;
     words.seed(5, 42)?;
     words.seed(3, 1)?;

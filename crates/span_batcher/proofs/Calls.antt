@@ -2,7 +2,7 @@
 use Rattle.std.proofs.Common.{◌≡◌, ℕ, ◌+◌, ◌<◌, ◌≤◌, List, [], ◌∷◌, ◌++◌, length, refl, sym, subst, ap, ◌∙◌, arith, true, false, leb, Option, Some, None}
 use Rattle.std.specs.Prelude.{unwrap_or}
 use Rattle.std.proofs.lemmas.Bool.Decides.{nat_tests}
-use Rattle.span_batcher.specs.Batches.{Rules, IsSound, Batch}
+use Rattle.span_batcher.specs.Batches.{Rules, AreValidRules, Batch}
 use Rattle.span_batcher.specs.State.{State, next_due, IsAfter, Adds, Fires, Drains, Begins, state, state_of}
 use Rattle.span_batcher.specs.Machine.{threshold, cuts, uncut, start_in, added, fired, drained}
 use Rattle.span_batcher.specs.Batches.{rest_in}
@@ -14,7 +14,7 @@ unfolding state state_of rest_in
 begins X r = λ e. refl
 
 module _ {X : Type 0} where
-  short : (r : Rules) (start : Option ℕ) (pending : List X) (m : ℕ) (s : X) (spans : List X) (old : State X) → record { rules = r; start = start; spans = pending } ≡ old → IsSound r → IsAfter (next_due old) m → length (pending ++ s ∷ spans) < threshold r →
+  short : (r : Rules) (start : Option ℕ) (pending : List X) (m : ℕ) (s : X) (spans : List X) (old : State X) → record { rules = r; start = start; spans = pending } ≡ old → AreValidRules r → IsAfter (next_due old) m → length (pending ++ s ∷ spans) < threshold r →
       Adds m (s ∷ spans) old [] (record { rules = r; start = Some (unwrap_or start m); spans = pending ++ s ∷ spans })
   unfolding added
   short r start pending m s spans old is sound after lt =
@@ -28,7 +28,7 @@ module _ {X : Type 0} where
       (adds m s spans (record { rules = r; start = start; spans = pending }) sound (subst (λ (o : State X). IsAfter (next_due o) m) (sym is) after))))
 
 module _ {X : Type 0} where
-  far : (r : Rules) (start : Option ℕ) (pending : List X) (m : ℕ) (s : X) (spans : List X) (old : State X) → record { rules = r; start = start; spans = pending } ≡ old → IsSound r → IsAfter (next_due old) m → threshold r ≤ length (pending ++ s ∷ spans) →
+  far : (r : Rules) (start : Option ℕ) (pending : List X) (m : ℕ) (s : X) (spans : List X) (old : State X) → record { rules = r; start = start; spans = pending } ≡ old → AreValidRules r → IsAfter (next_due old) m → threshold r ≤ length (pending ++ s ∷ spans) →
       Adds m (s ∷ spans) old (cuts r m (pending ++ s ∷ spans)) (record { rules = r; start = start_in m (uncut r (pending ++ s ∷ spans)); spans = uncut r (pending ++ s ∷ spans) })
   unfolding added
   far r start pending m s spans old is sound after le =
@@ -41,20 +41,20 @@ module _ {X : Type 0} where
 
 module _ {X : Type 0} where
   -- an add that cuts nothing, and one that cuts
-  pub adds_short : (r : Rules) (start : Option ℕ) (pending : List X) (m : ℕ) (spans : List X) (old : State X) (answered : List (Batch X)) (all : List X) → record { rules = r; start = start; spans = pending } ≡ old → IsSound r → IsAfter (next_due old) m → 0 < length spans → length (pending ++ spans) < threshold r →
+  pub adds_short : (r : Rules) (start : Option ℕ) (pending : List X) (m : ℕ) (spans : List X) (old : State X) (answered : List (Batch X)) (all : List X) → record { rules = r; start = start; spans = pending } ≡ old → AreValidRules r → IsAfter (next_due old) m → 0 < length spans → length (pending ++ spans) < threshold r →
       answered ≡ [] → all ≡ pending ++ spans → Adds m spans old answered (record { rules = r; start = Some (unwrap_or start m); spans = all })
   adds_short r start pending m [] old answered all is sound after some lt e e' = absurd (omega arith)
   adds_short r start pending m (s ∷ spans) old answered all is sound after some lt e e' = rw (e, e') (short r start pending m s spans old is sound after lt)
 
 module _ {X : Type 0} where
-  pub adds_far : (r : Rules) (start : Option ℕ) (pending : List X) (m : ℕ) (spans : List X) (old : State X) (answered : List (Batch X)) (all rest : List X) (start' : Option ℕ) → record { rules = r; start = start; spans = pending } ≡ old → IsSound r → IsAfter (next_due old) m → 0 < length spans → threshold r ≤ length (pending ++ spans) →
+  pub adds_far : (r : Rules) (start : Option ℕ) (pending : List X) (m : ℕ) (spans : List X) (old : State X) (answered : List (Batch X)) (all rest : List X) (start' : Option ℕ) → record { rules = r; start = start; spans = pending } ≡ old → AreValidRules r → IsAfter (next_due old) m → 0 < length spans → threshold r ≤ length (pending ++ spans) →
       all ≡ pending ++ spans → answered ≡ cuts r m all → rest ≡ uncut r all → start' ≡ start_in m rest → Adds m spans old answered (record { rules = r; start = start'; spans = rest })
   adds_far r start pending m [] old answered all rest start' is sound after some le e e1 e2 e3 = absurd (omega arith)
   adds_far r start pending m (s ∷ spans) old answered all rest start' is sound after some le e e1 e2 e3 = rw (e3, e1, e2, e) (far r start pending m s spans old is sound after le)
 
 module _ {X : Type 0} where
   -- a plan that cuts nothing, and one that cuts, as what the batcher keeps once it is taken
-  pub plans_short : (r : Rules) (start : Option ℕ) (pending : List X) (m : ℕ) (spans : List X) (old : State X) (answered : List (Batch X)) (all : List X) (start' : ℕ) → record { rules = r; start = start; spans = pending } ≡ old → IsSound r → IsAfter (next_due old) m → 0 < length spans →
+  pub plans_short : (r : Rules) (start : Option ℕ) (pending : List X) (m : ℕ) (spans : List X) (old : State X) (answered : List (Batch X)) (all : List X) (start' : ℕ) → record { rules = r; start = start; spans = pending } ≡ old → AreValidRules r → IsAfter (next_due old) m → 0 < length spans →
       all ≡ pending ++ spans → length all < threshold r → answered ≡ [] → start' ≡ unwrap_or start m → Adds m spans old answered (record { rules = old.rules; start = Some start'; spans = all })
   plans_short r start pending m spans old answered all start' is sound after some e lt none e' =
       let few : length (pending ++ spans) < threshold r = subst (λ (ss : List X). length ss < threshold r) e lt in
@@ -62,7 +62,7 @@ module _ {X : Type 0} where
       rw e' (subst (λ (q : Rules). Adds m spans old answered (record { rules = q; start = Some (unwrap_or start m); spans = all })) rules (adds_short r start pending m spans old answered all is sound after some few none e))
 
 module _ {X : Type 0} where
-  pub plans_far : (r : Rules) (start : Option ℕ) (pending : List X) (m : ℕ) (spans : List X) (old : State X) (answered : List (Batch X)) (all rest : List X) (start' : Option ℕ) → record { rules = r; start = start; spans = pending } ≡ old → IsSound r → IsAfter (next_due old) m → 0 < length spans →
+  pub plans_far : (r : Rules) (start : Option ℕ) (pending : List X) (m : ℕ) (spans : List X) (old : State X) (answered : List (Batch X)) (all rest : List X) (start' : Option ℕ) → record { rules = r; start = start; spans = pending } ≡ old → AreValidRules r → IsAfter (next_due old) m → 0 < length spans →
       all ≡ pending ++ spans → threshold r ≤ length all → answered ≡ cuts r m all → rest ≡ uncut r all → start' ≡ start_in m rest → Adds m spans old answered (record { rules = old.rules; start = start'; spans = rest })
   plans_far r start pending m spans old answered all rest start' is sound after some e le e1 e2 e3 =
       let enough : threshold r ≤ length (pending ++ spans) = subst (λ (ss : List X). threshold r ≤ length ss) e le in
@@ -70,7 +70,7 @@ module _ {X : Type 0} where
       subst (λ (q : Rules). Adds m spans old answered (record { rules = q; start = start'; spans = rest })) rules (adds_far r start pending m spans old answered all rest start' is sound after some enough e e1 e2 e3)
 
 module _ {X : Type 0} where
-  pub fires_by : (r : Rules) (start : ℕ) (pending : List X) (old : State X) (batch : Batch X) (left : List X) → record { rules = r; start = Some start; spans = pending } ≡ old → IsSound r → batch ≡ record { moment = start + r.timeout; spans = pending } → left ≡ [] →
+  pub fires_by : (r : Rules) (start : ℕ) (pending : List X) (old : State X) (batch : Batch X) (left : List X) → record { rules = r; start = Some start; spans = pending } ≡ old → AreValidRules r → batch ≡ record { moment = start + r.timeout; spans = pending } → left ≡ [] →
       (due : ℕ) → next_due old ≡ Some due → Fires due old batch (record { rules = r; start = None; spans = left })
   fires_by r start pending old batch left is sound e e' due at_due =
       let same : Path (Option ℕ) (Some (start + r.timeout)) (Some due) = ap next_due is ∙ at_due in
@@ -80,20 +80,20 @@ module _ {X : Type 0} where
       (fires due (record { rules = r; start = Some start; spans = pending }) sound (ap Some now)))
 
 module _ {X : Type 0} where
-  pub drains_by : (r : Rules) (start : Option ℕ) (pending : List X) (x : ℕ) (old : State X) (answered : Option (Batch X)) (left : List X) → record { rules = r; start = start; spans = pending } ≡ old → IsSound r → IsAfter (next_due old) x → answered ≡ drained x pending → left ≡ [] →
+  pub drains_by : (r : Rules) (start : Option ℕ) (pending : List X) (x : ℕ) (old : State X) (answered : Option (Batch X)) (left : List X) → record { rules = r; start = start; spans = pending } ≡ old → AreValidRules r → IsAfter (next_due old) x → answered ≡ drained x pending → left ≡ [] →
       Drains x old answered (record { rules = r; start = None; spans = left })
   drains_by r start pending x old answered left is sound after e e' =
       rw (e, e') (subst (λ (o : State X). Drains x o (drained x pending) (record { rules = r; start = None; spans = [] })) is
       (drains x (record { rules = r; start = start; spans = pending }) sound (subst (λ (o : State X). IsAfter (next_due o) x) (sym is) after)))
 
 module _ {X : Type 0} where
-  pub drains_none : (r : Rules) (start : Option ℕ) (pending : List X) (x : ℕ) (old : State X) → record { rules = r; start = start; spans = pending } ≡ old → IsSound r → IsAfter (next_due old) x → length pending ≡ 0 →
+  pub drains_none : (r : Rules) (start : Option ℕ) (pending : List X) (x : ℕ) (old : State X) → record { rules = r; start = start; spans = pending } ≡ old → AreValidRules r → IsAfter (next_due old) x → length pending ≡ 0 →
       Drains x old None (record { rules = r; start = None; spans = pending })
   drains_none r start [] x old is sound after none = drains_by r start [] x old None [] is sound after refl refl
   drains_none r start (s ∷ pending) x old is sound after none = absurd (omega arith)
 
 module _ {X : Type 0} where
-  pub drains_some : (r : Rules) (start : Option ℕ) (pending : List X) (x : ℕ) (old : State X) (batch : Batch X) (left : List X) → record { rules = r; start = start; spans = pending } ≡ old → IsSound r → IsAfter (next_due old) x → 0 < length pending → batch ≡ record { moment = x; spans = pending } → left ≡ [] →
+  pub drains_some : (r : Rules) (start : Option ℕ) (pending : List X) (x : ℕ) (old : State X) (batch : Batch X) (left : List X) → record { rules = r; start = start; spans = pending } ≡ old → AreValidRules r → IsAfter (next_due old) x → 0 < length pending → batch ≡ record { moment = x; spans = pending } → left ≡ [] →
       Drains x old (Some batch) (record { rules = r; start = None; spans = left })
   drains_some r start [] x old batch left is sound after some e e' = absurd (omega arith)
   drains_some r start (s ∷ pending) x old batch left is sound after some e e' = drains_by r start (s ∷ pending) x old (Some batch) left is sound after (ap Some e) e'
@@ -102,7 +102,7 @@ module _ {X : Type 0} where
 
 module _ {X : Type 0} where
   -- a plan that cuts nothing, and one that cuts
-  pub plan_short : (r : Rules) (start : Option ℕ) (pending : List X) (m : ℕ) (spans : List X) (old : State X) (answered : List (Batch X)) (all : List X) (start' : ℕ) → record { rules = r; start = start; spans = pending } ≡ old → IsSound r →
+  pub plan_short : (r : Rules) (start : Option ℕ) (pending : List X) (m : ℕ) (spans : List X) (old : State X) (answered : List (Batch X)) (all : List X) (start' : ℕ) → record { rules = r; start = start; spans = pending } ≡ old → AreValidRules r →
       all ≡ pending ++ spans → length all < threshold r → answered ≡ [] → start' ≡ unwrap_or start m →
       (answered ≡ cuts old.rules m (old.spans ++ spans)) × (record { rules = old.rules; start = Some start'; spans = all } ≡ added m spans old)
   unfolding added

@@ -18,8 +18,8 @@ pub record Rules : Type 0 where
   pub most : ℕ
 
 -- the settings' ranges: a batch has a span, and one of the size that fills it isn't too large
-abbrev pub IsSound : Rules → Type 0
-IsSound r = (0 < r.size) × (0 < r.most → r.size ≤ r.most)
+abbrev pub AreValidRules : Rules → Type 0
+AreValidRules r = (0 < r.size) × (0 < r.most → r.size ≤ r.most)
 
 -- spans that came together, and the moment in milliseconds at which they did
 pub record Group (X : Type 0) : Type 0 where

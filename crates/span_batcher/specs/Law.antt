@@ -1,4 +1,4 @@
--- The law of the batches: what comes later only adds.
+-- The law of the batches: what comes later only adds (Batches, after the Collector's batchprocessor).
 use Rattle.std.specs.Prelude.{◌≡◌, ℕ, ◌≤◌, true, List, [], ◌∷◌, ◌++◌, Option, Some, None}
 use Rattle.span_batcher.specs.Batches.{Rules, Place, batches_in, rest_in}
 
@@ -13,11 +13,11 @@ AllUpTo m [] = Unit
 AllUpTo m (p ∷ rest) = (p.moment ≤ m) × AllUpTo m rest
 
 -- time and groups go on: until a drain anything may come, and after it nothing
-abbrev pub GoesOn : {X : Type 0} → ℕ → Option ℕ → ℕ → Option ℕ → List (Place X) → Type 0
-GoesOn e None e' None more = (e ≤ e') × AllFrom e more
-GoesOn e None e' (Some x) more = (e ≤ e') × (e ≤ x) × AllFrom e more
-GoesOn e (Some x) e' None more = ⊥
-GoesOn e (Some x) e' (Some y) more = (e ≤ e') × (x ≤ e) × (x ≡ y) × (more ≡ [])
+abbrev pub TimerMovesOn : {X : Type 0} → ℕ → Option ℕ → ℕ → Option ℕ → List (Place X) → Type 0
+TimerMovesOn e None e' None more = (e ≤ e') × AllFrom e more
+TimerMovesOn e None e' (Some x) more = (e ≤ e') × (e ≤ x) × AllFrom e more
+TimerMovesOn e (Some x) e' None more = ⊥
+TimerMovesOn e (Some x) e' (Some y) more = (e ≤ e') × (x ≤ e) × (x ≡ y) × (more ≡ [])
 
 -- the last span is the last of its group
 abbrev pub IsWhole : {X : Type 0} → List (Place X) → Type 0
@@ -28,6 +28,6 @@ IsWhole (p ∷ q ∷ rest) = IsWhole (q ∷ rest)
 -- what comes later only adds batches: those of what was left with what came
 abbrev pub Continues : Type 0 → Type 0
 Continues X = (r : Rules) (e e' : ℕ) (x x' : Option ℕ) (old more : List (Place X)) → IsWhole old →
-    GoesOn e x e' x' more →
+    TimerMovesOn e x e' x' more →
     (batches_in r e' x' (old ++ more) ≡ batches_in r e x old ++ batches_in r e' x' (rest_in r e x old ++ more))
     × (rest_in r e' x' (old ++ more) ≡ rest_in r e' x' (rest_in r e x old ++ more))

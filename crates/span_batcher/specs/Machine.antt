@@ -1,4 +1,4 @@
--- What the calls do to the pending spans, step by step.
+-- What the calls do to the pending spans, step by step (Batches, after the Collector's batchprocessor).
 use Rattle.std.specs.Prelude.{ℕ, zero, suc, List, [], ◌∷◌, ◌++◌, length, take, drop, Option, Some, None, if◌then◌else◌, ◌==◌, nat_le, unwrap_or, ◌<◌, ◌≤◌, ◌^◌}
 use Rattle.span_batcher.specs.Batches.{Rules, Batch, at_most}
 use Rattle.span_batcher.specs.State.{State}

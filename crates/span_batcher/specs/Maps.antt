@@ -1,4 +1,4 @@
--- Batches of keys, and those of the spans that the keys stand for.
+-- Batches of keys, and those of the spans that the keys stand for. This project's own rule.
 use Rattle.std.specs.Prelude.{List, [], ◌∷◌, ◌++◌, map}
 use Rattle.span_batcher.specs.Batches.{Batch}
 

@@ -1,6 +1,7 @@
--- What a batcher keeps, what it stands for, and what its calls make of it.
+-- What a batcher keeps, what it stands for, and what its calls make of it (Batches, after the Collector's
+-- batchprocessor).
 use Rattle.std.specs.Prelude.{◌≡◌, ℕ, ◌+◌, ◌<◌, ◌≤◌, List, [], ◌∷◌, ◌++◌, map, Option, Some, None, option_to_list}
-use Rattle.span_batcher.specs.Batches.{Rules, IsSound, Group, Batch, Place, span_of, batches, left}
+use Rattle.span_batcher.specs.Batches.{Rules, AreValidRules, Group, Batch, Place, span_of, batches, left}
 
 -- the pending spans, and the moment in milliseconds at which their timer started, where there are any
 pub record State (X : Type 0) : Type 0 where
@@ -71,7 +72,7 @@ Drains {X} moment old answered new =
 
 -- a law of time alone: before the timer runs out nothing more forms
 abbrev pub WaitsOn : Type 0 → Type 0
-WaitsOn X = (rules : Rules) (e e' : ℕ) (groups : List (Group X)) → IsSound rules → IsUpTo e groups → e ≤ e' →
+WaitsOn X = (rules : Rules) (e e' : ℕ) (groups : List (Group X)) → AreValidRules rules → IsUpTo e groups → e ≤ e' →
     IsAfter (next_due (state rules e None groups)) e' →
     (batches rules e' None groups ≡ batches rules e None groups)
     × (state rules e' None groups ≡ state rules e None groups)

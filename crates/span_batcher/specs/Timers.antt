@@ -1,6 +1,7 @@
--- Groups come one after the other as time goes on: at one moment the timer runs out first, and then a group comes.
+-- Groups come one after the other as time goes on: at one moment the timer runs out first, and then a group comes
+-- (`timeout` of the Collector's batchprocessor; the order is this project's own rule).
 use Rattle.std.specs.Prelude.{◌≡◌, ℕ, ◌<◌, ◌≤◌, Bool, false, List, [], ◌∷◌, ◌++◌, length, Option, Some, None, if◌then◌else◌, nat_le, unwrap_or}
-use Rattle.span_batcher.specs.Batches.{Rules, IsSound, Group, Batch, batches}
+use Rattle.span_batcher.specs.Batches.{Rules, AreValidRules, Group, Batch, batches}
 use Rattle.span_batcher.specs.State.{State, state, next_due, IsUpTo}
 use Rattle.span_batcher.specs.Machine.{cuts, added, fired}
 
@@ -43,13 +44,13 @@ last_moment e (g ∷ gs) = last_moment g.moment gs
 
 -- time alone: batches and rest at a later moment, from those at an earlier one
 abbrev pub Passes : Type 0 → Type 0
-Passes X = (r : Rules) (e m : ℕ) (groups : List (Group X)) → IsSound r → IsUpTo e groups → e ≤ m →
+Passes X = (r : Rules) (e m : ℕ) (groups : List (Group X)) → AreValidRules r → IsUpTo e groups → e ≤ m →
     (batches r m None groups ≡ batches r e None groups ++ passed m (state r e None groups))
     × (state r m None groups ≡ after m (state r e None groups))
 
 -- groups that come in order: batches and rest with them, from those without them
 abbrev pub AllCome : Type 0 → Type 0
-AllCome X = (r : Rules) (e : ℕ) (groups more : List (Group X)) → IsSound r → IsUpTo e groups → InOrder e more →
+AllCome X = (r : Rules) (e : ℕ) (groups more : List (Group X)) → AreValidRules r → IsUpTo e groups → InOrder e more →
     (batches r (last_moment e more) None (groups ++ more)
     ≡ batches r e None groups ++ come_batches more (state r e None groups))
     × (state r (last_moment e more) None (groups ++ more) ≡ come more (state r e None groups))

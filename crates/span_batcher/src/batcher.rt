@@ -1,7 +1,7 @@
 //! The pending spans of one tenant.
 
 ghost use Rattle.std.specs.Prelude.{◌≡◌, ℕ, ◌+◌, ◌^◌, ◌≤◌, ◌<◌, List, [], ◌∷◌, ◌++◌, length, IfOk, Option, Some, None, ◌≢◌};
-ghost use Rattle.span_batcher.specs.Batches.{IsSound, at_most};
+ghost use Rattle.span_batcher.specs.Batches.{AreValidRules, at_most};
 ghost use Rattle.span_batcher.specs.State.{State, state, next_due, IsAfter, Adds, Fires, Drains, Begins};
 ghost use Rattle.span_batcher.specs.Machine.{rules_of, threshold, start_in, cuts, uncut, added, fired, drained, taken};
 
@@ -70,7 +70,7 @@ fn cut_all(
     moment: u64,
     all: &[usize],
 ) -> Result<(Vec<Batch>, Vec<usize>), AllocError>
-    requires sound { IsSound (rules_of timeout size most) }
+    requires valid_rules { AreValidRules (rules_of timeout size most) }
     ensures batches { IfOk result (λ cut. cut.0.items ≡ cuts (rules_of timeout size most) moment all.now) }
     ensures rest { IfOk result (λ cut. cut.1.items ≡ uncut (rules_of timeout size most) all.now) }
 {
@@ -92,7 +92,7 @@ impl SpanBatcher {
     /// No spans are pending. The timeout is in milliseconds, of which 0 is no wait; `size` spans fill a batch, and
     /// `most` is the greatest number of spans in one, of which 0 is no limit.
     pub fn new(alloc: Global, timeout: u64, size: usize, most: usize) -> Self
-        requires sound { IsSound (rules_of timeout size most) }
+        requires valid_rules { AreValidRules (rules_of timeout size most) }
         requires timer { timeout ≤ 2 ^ 32 }
         ensures begins { Begins (rules_of timeout size most) result }
         ensures none { result ≡ record { rules = rules_of timeout size most; start = None; spans = [] } }
@@ -127,7 +127,7 @@ impl SpanBatcher {
     /// What a group of spans makes of the pending ones at a moment in milliseconds, before the timer runs out. Nothing
     /// changes yet, and `take` makes it so.
     pub fn plan(&self, moment: u64, spans: &[usize]) -> Result<Planned, AllocError>
-        requires some { 0 < length spans.now }
+        requires not_empty { 0 < length spans.now }
         requires moment { moment ≤ 2 ^ 62 }
         requires timer { IsAfter (next_due self.now) moment }
         ensures adds { IfOk result (λ planned.

@@ -211,7 +211,7 @@ impl Level for ResourceLevel {
 /// How many spans the first run has.
 fn leading<L: Level>(texts: &TextPool, spans: &[&StoredSpan]) -> usize
     requires { 0 < length spans.now }
-    ensures some { 0 < result }
+    ensures not_empty { 0 < result }
     ensures within { result ≤ length spans.now }
     ensures first { runs L.same (spans_in texts.now spans.now) ≡ take result (spans_in texts.now spans.now)
         ∷ runs L.same (drop result (spans_in texts.now spans.now)) }

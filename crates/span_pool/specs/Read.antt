@@ -1,4 +1,4 @@
--- Spans and resources as a reader makes them, with texts of a length that can be spelled.
+-- Spans and resources as a reader makes them, with texts of a length that can be spelled (the proto3 encoding).
 use Rattle.std.specs.Prelude.{ℕ}
 use Rattle.otlp_trace.specs.Data.{ResourceData, SpanData}
 use Rattle.otlp_trace.specs.Text.{resource_text, span_text}

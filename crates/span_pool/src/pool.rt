@@ -55,13 +55,13 @@ impl<S: Owned> SpanPool<S> {
     /// span.
     pub fn put(&mut self, span: S) -> Result<usize, AllocFailed<S>>
         ensures vacant { IfOk result (λ key. (tenant : ℕ) → part S.owner tenant self.old key ≡ None) }
-        ensures own { IfOk result (λ key. part S.owner (S.owner span) self.new ≡
+        ensures own_part { IfOk result (λ key. part S.owner (S.owner span) self.new ≡
             with_span key (Some span) (part S.owner (S.owner span) self.old)) }
 
         // Other tenants' parts stay as they were, and where memory is refused the owner's too.
-        ensures others { (other : ℕ) → other ≢ S.owner span
+        ensures others_unchanged { (other : ℕ) → other ≢ S.owner span
             → part S.owner other self.new ≡ part S.owner other self.old }
-        ensures refused { OnErr result (part S.owner (S.owner span) self.new
+        ensures on_refusal { OnErr result (part S.owner (S.owner span) self.new
             ≡ part S.owner (S.owner span) self.old) }
         ensures back { IfErr result (λ failed. failed.value ≡ span) }
     {
@@ -88,9 +88,11 @@ impl<S: Owned> SpanPool<S> {
     /// Takes out a span that the tenant owns. Where it owns none at the key, nothing changes. It takes no memory.
     pub fn take(&mut self, tenant: u32, key: usize) -> Result<S, NotYours>
         ensures yours { IfOk result (λ span. part S.owner tenant self.old key ≡ Some span) }
-        ensures own { OnOk result (part S.owner tenant self.new ≡ with_span key None (part S.owner tenant self.old)) }
-        ensures others { (other : ℕ) → other ≢ tenant → part S.owner other self.new ≡ part S.owner other self.old }
-        ensures refused { OnErr result (part S.owner tenant self.old key ≡ None) }
+        ensures own_part { OnOk result (part S.owner tenant self.new
+            ≡ with_span key None (part S.owner tenant self.old)) }
+        ensures others_unchanged { (other : ℕ) → other ≢ tenant
+            → part S.owner other self.new ≡ part S.owner other self.old }
+        ensures on_error { OnErr result (part S.owner tenant self.old key ≡ None) }
         ensures unchanged { OnErr result (self.new ≡ self.old) }
     {
         match self.spans.get(key) {
@@ -102,8 +104,9 @@ impl<S: Owned> SpanPool<S> {
     /// Takes back a span of the tenant's that was put under this key. Where it owns none there, nothing changes. It
     /// takes no memory.
     pub fn undo_put(&mut self, tenant: u32, key: usize)
-        ensures own { part S.owner tenant self.new ≡ with_span key None (part S.owner tenant self.old) }
-        ensures others { (other : ℕ) → other ≢ tenant → part S.owner other self.new ≡ part S.owner other self.old }
+        ensures own_part { part S.owner tenant self.new ≡ with_span key None (part S.owner tenant self.old) }
+        ensures others_unchanged { (other : ℕ) → other ≢ tenant
+            → part S.owner other self.new ≡ part S.owner other self.old }
     {
         let _ = self.take(tenant, key);
     }

@@ -1,5 +1,6 @@
 -- Canonical text that a view reads exactly: of a span and a resource whose numbers fit, whose strings are UTF-8, and
--- which have kept nothing but fields that can be skipped.
+-- which have kept nothing but fields that can be skipped. Canonical text is that of `otlp_trace`'s Text, in the proto3
+-- encoding.
 use Rattle.std.specs.Prelude.{◌≡◌, ◌≢◌, ◌<◌, ◌^◌, ℕ, List, [], length, FitsSigned, Option, Some, None, IfSome}
 use Rattle.std.specs.Int.{w32, w64}
 use Rattle.std.specs.List.{AllByRecursion}

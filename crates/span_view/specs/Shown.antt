@@ -1,4 +1,4 @@
--- What a borrowed attribute stands for, without where it lies in memory.
+-- What a borrowed attribute stands for, without where it lies in memory. This project's own rule.
 use Rattle.std.specs.Prelude.{List, ℕ}
 use Rattle.std.specs.Borrow.{Bor}
 use Rattle.span_view.specs.Facts.{ValueFact, unset, string, boolean, int, double, array, kvlist, bytes, AttributeFact}

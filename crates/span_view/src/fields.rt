@@ -39,7 +39,7 @@ fn has(field: &Field<'_>, number: u32, kind: WireType) -> bool
 /// What the first field of this number and wire type holds, and the text behind it.
 #[inline(always)]
 pub fn find(text: &[u8], number: u32, kind: WireType) -> Option<(Value<'_>, &[u8])>
-    ensures held { held number kind (fields_of text.now) ≡ found_held number kind result }
+    ensures values_found { held number kind (fields_of text.now) ≡ found_held number kind result }
     ensures kind { IfSome result (λ found. is_kind kind (datum found.0) ≡ true) }
     ensures shorter { IfSome result (λ found. length found.1.now < length text.now) }
 {

@@ -80,7 +80,7 @@ fn come(
     let (tenant, number) = place(load, trace);
     let stored = stored(rt, tenant, body, span % SPANS_OF_A_TRACE)?;
     let key = load.pool.put(stored)?;
-    if let Some(seat) = load.table.seat(tenant, trace_id(trace)) {
+    if let Some(seat) = load.table.latest_row(tenant, trace_id(trace)) {
         let note = match load.table.row(tenant, seat) {
             Some(row) => row.note.max(span),
             None => span,

@@ -7,7 +7,7 @@ use bytes::Bytes;
 use span_pool::{StoredSpan, TextKeys};
 use std::alloc::AllocError;
 use tenant_stores::{Joining, Opening, Stores};
-use text_pool::Text;
+use text_pool::SharedBytes;
 
 pub const TRACE: [u8; 16] = [0x11; 16];
 
@@ -26,8 +26,8 @@ pub const B: &[u8] = b"\x2a\x01b";
 
 pub const C: &[u8] = b"\x2a\x01c";
 
-fn text(bytes: &'static [u8]) -> Text {
-    Text::of(Bytes::from_static(bytes))
+fn text(bytes: &'static [u8]) -> SharedBytes {
+    SharedBytes::of(Bytes::from_static(bytes))
 }
 
 /// The keys of a resource and a scope, with a use of each, or none.
@@ -180,10 +180,13 @@ pub fn texts(stores: &Stores<u64>, tenant: u32) -> Numbers {
 
 /// The rows of the two traces.
 pub fn seats(stores: &Stores<u64>, tenant: u32) -> [Option<u64>; 2] {
-    [stores.seat(tenant, TRACE), stores.seat(tenant, OTHER)]
+    [
+        stores.latest_row(tenant, TRACE),
+        stores.latest_row(tenant, OTHER),
+    ]
 }
 
-/// What the tenant has: spans, texts, three rows, and the seats of two traces.
+/// What the tenant has: spans, texts, three rows, and the latest rows of two traces.
 pub fn told(
     stores: &Stores<u64>,
     tenant: u32,

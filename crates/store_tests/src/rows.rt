@@ -68,8 +68,8 @@ fn noted(table: &TraceRows<usize>, tenant: u32, number: u64) -> Numbers {
 }
 
 fn seats(table: &TraceRows<usize>, tenant: u32) -> Numbers {
-    let first = row_number(table.seat(tenant, TRACE));
-    two(first, row_number(table.seat(tenant, OTHER)))
+    let first = row_number(table.latest_row(tenant, TRACE));
+    two(first, row_number(table.latest_row(tenant, OTHER)))
 }
 
 /// Takes back the opening of a row.
@@ -141,7 +141,7 @@ fn given(
     }
 }
 
-/// What there is of a tenant: how many keys its three rows have and what is noted of them, and two seats.
+/// What there is of a tenant: how many keys its three rows have and what is noted of them, and two latest rows.
 fn told(table: &TraceRows<usize>, tenant: u32) -> ([Option<(usize, usize)>; 3], Numbers) {
     let row = |number: u64| match table.row(tenant, number) {
         Some(row) => Some((row.keys.as_slice().len(), row.note)),

@@ -7,7 +7,7 @@ use crate::story::{Numbers, Step, one, row_number, step_of, two};
 use std::alloc::{AllocError, Global};
 use std::process::Abort;
 use std::test::Fail;
-use tenant_stores::{Placed, Stores};
+use tenant_stores::{Stores, UndoEntry};
 
 /// The span of this number.
 fn name_of(number: usize) -> &'static [u8] {
@@ -218,36 +218,39 @@ fn stories_of_two_tenants(rt: HostRuntime) -> Result<(), Fail> {
 }
 
 /// A span joins the first row, and the journal tells so.
-fn joins(stores: &mut Stores<u64>, journal: &mut Vec<Placed<u64>>) -> Result<(), AllocError> {
+fn joins(stores: &mut Stores<u64>, journal: &mut Vec<UndoEntry<u64>>) -> Result<(), AllocError> {
     let joining = join(stores, 7, 1, B, 2)?;
-    journal.push(Placed::Joined(1, joining.key, joining.former))?;
+    journal.push(UndoEntry::Joined(1, joining.key, joining.former))?;
     Ok(())
 }
 
 /// A span opens a row, and the journal tells so.
 fn opens(
     stores: &mut Stores<u64>,
-    journal: &mut Vec<Placed<u64>>,
+    journal: &mut Vec<UndoEntry<u64>>,
     number: u64,
     trace: [u8; 16],
 ) -> Result<(), AllocError> {
     if let Some(opening) = open(stores, 7, number, trace, B)? {
-        journal.push(Placed::Opened(number, opening.key, trace, opening.earlier))?;
+        journal.push(UndoEntry::Opened(number, opening.key, trace, opening.earlier))?;
     }
     Ok(())
 }
 
 /// A late span comes, and the journal tells so.
-fn comes_late(stores: &mut Stores<u64>, journal: &mut Vec<Placed<u64>>) -> Result<(), AllocError> {
-    journal.push(Placed::Late(late(stores, 7, keys_from(0), C)?))?;
+fn comes_late(
+    stores: &mut Stores<u64>,
+    journal: &mut Vec<UndoEntry<u64>>,
+) -> Result<(), AllocError> {
+    journal.push(UndoEntry::Late(late(stores, 7, keys_from(0), C)?))?;
     Ok(())
 }
 
 /// Spans of each kind come.
-fn post(stores: &mut Stores<u64>, journal: &mut Vec<Placed<u64>>) -> Result<(), AllocError> {
+fn post(stores: &mut Stores<u64>, journal: &mut Vec<UndoEntry<u64>>) -> Result<(), AllocError> {
     joins(stores, journal)?;
     opens(stores, journal, 2, OTHER)?;
-    journal.push(Placed::Left)?;
+    journal.push(UndoEntry::Left)?;
     opens(stores, journal, 3, TRACE)?;
     comes_late(stores, journal)
 }
@@ -267,7 +270,7 @@ fn what_a_post_did_is_taken_back(rt: HostRuntime) -> Result<(), Fail> {
     let before = (told(&stores, 7), told(&stores, 8));
     let mut journal = Vec::new(rt.alloc());
     post(&mut stores, &mut journal)?;
-    assert!(rt; spans(&stores, 7) == [1, 0, 2, 2, 2, 3] && stores.seat(7, TRACE) == Some(3));
+    assert!(rt; spans(&stores, 7) == [1, 0, 2, 2, 2, 3] && stores.latest_row(7, TRACE) == Some(3));
     assert!(rt; told(&stores, 7) != before.0 && told(&stores, 8) == before.1);
     stores.take_all_back(7, &mut journal);
     assert!(rt; journal.is_empty() && told(&stores, 7) == before.0 && told(&stores, 8) == before.1);

@@ -5,7 +5,7 @@ use bytes::Bytes;
 use std::alloc::AllocError;
 use std::process::Abort;
 use std::test::Fail;
-use text_pool::{Text, TextPool};
+use text_pool::{SharedBytes, TextPool};
 
 const FIRST: &[u8] = b"a resource";
 
@@ -20,8 +20,8 @@ const DIGEST_OF_ABC: [u8; 32] = [
     0xb0, 0x03, 0x61, 0xa3, 0x96, 0x17, 0x7a, 0x9c, 0xb4, 0x10, 0xff, 0x61, 0xf2, 0x00, 0x15, 0xad,
 ];
 
-fn text(bytes: &'static [u8]) -> Text {
-    Text::of(Bytes::from_static(bytes))
+fn text(bytes: &'static [u8]) -> SharedBytes {
+    SharedBytes::of(Bytes::from_static(bytes))
 }
 
 #[test]
@@ -31,19 +31,19 @@ fn texts_are_the_same_by_their_bytes(rt: HostRuntime) {
 }
 
 /// Whether a text is shared with its bytes and its digest.
-fn is_shared(first: &Text, bytes: &[u8], digest: [u8; 32]) -> Result<bool, AllocError> {
+fn is_shared(first: &SharedBytes, bytes: &[u8], digest: [u8; 32]) -> Result<bool, AllocError> {
     let shared = first.shared()?;
     Ok(shared.bytes().as_slice() == bytes && shared.digest() == digest)
 }
 
 #[test]
 fn a_text_is_shared_with_its_digest(rt: HostRuntime) -> Result<(), Fail> {
-    let first = Text::of(Bytes::copy_from_slice(rt.alloc(), b"abc")?);
+    let first = SharedBytes::of(Bytes::copy_from_slice(rt.alloc(), b"abc")?);
     assert!(rt; is_shared(&first, b"abc", DIGEST_OF_ABC)?);
     Ok(())
 }
 
-fn text_of(number: usize) -> Text {
+fn text_of(number: usize) -> SharedBytes {
     match number {
         1 => text(FIRST),
         2 => text(SECOND),

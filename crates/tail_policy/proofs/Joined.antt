@@ -11,7 +11,7 @@ use Rattle.tail_settings.specs.Policy.{always_sample, latency, status_code, stri
 use Rattle.span_view.specs.Facts.{AttributeFact, SpanFacts, ValueFact}
 use Rattle.tail_policy.specs.Note.{leaves_in, with_bit, bits_below, bits_of, status, attribute, fact_meets, attributes_meet, span_meets}
 use Rattle.tail_policy.specs.Parts.{none_any}
-use Rattle.tail_policy.specs.Words.{bits_below-append, bits_least, bits_most, leaves_in-append, leaves_in-count, or_none, or_assoc, or_bits, same_bits, no_bits}
+use Rattle.tail_policy.specs.NoteBits.{bits_below-append, bits_least, bits_most, leaves_in-append, leaves_in-count, or_none, or_assoc, or_bits, same_bits, no_bits}
 
 module _ (f : LeafData → Bool) where
   pub last_leaf : (left before : List LeafPolicy) (l : LeafPolicy) (n : ℕ) → left ≡ before ++ l ∷ []

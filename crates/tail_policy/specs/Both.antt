@@ -1,4 +1,4 @@
--- The notes of two policies, kept side by side.
+-- The notes of two policies, kept side by side. This project's own rule.
 use Rattle.std.proofs.Common.{◌≡◌, ◌∙◌, Bool, List, [], ◌∷◌, map, refl, ap}
 use Rattle.std.specs.Prelude.{fold}
 use Rattle.tail_policy.specs.declared.both.BothNotes.{BothNotes}

@@ -1,4 +1,4 @@
--- The earliest start and the latest end, span by span.
+-- The earliest start and the latest end, span by span (the policy `latency` of the Collector's tailsamplingprocessor).
 use Rattle.std.proofs.Common.{◌≡◌, ℕ, min, max, List, [], ◌∷◌, refl, ap, ◌∙◌, arith}
 use Rattle.span_view.specs.Facts.{SpanFacts}
 use Rattle.tail_policy.specs.Meaning.{earliest_start, latest_end}

@@ -1,4 +1,5 @@
--- Joined notes give what the policies mean.
+-- Joined notes give what the policies mean. What they mean is Meaning, after the Collector's tailsamplingprocessor;
+-- notes are this project's own.
 use Rattle.std.proofs.Common.{◌≡◌, ◌∙◌, ◌*◌, ◌+◌, ◌/◌, ◌%◌, ◌^◌, ℕ, suc, Bool, true, false, ◌&&◌, ◌||◌, List, [], ◌∷◌, map, length, min, max, refl, sym, ap, arith}
 use Rattle.std.specs.Prelude.{bit_or, nat_eq, fold}
 use Rattle.std.specs.List.{list_any, list_all}
@@ -10,7 +11,7 @@ use Rattle.tail_policy.specs.declared.note.TraceNote.{TraceNote}
 use Rattle.tail_policy.specs.Meaning.{earliest_start, latest_end, leaf_samples, policy_samples, keeps}
 use Rattle.tail_policy.specs.Note.{leaves_in, with_bit, bits_below, bits_of, span_meets, note_of, joined, leaf_verdict, is_set, all_verdict, any_verdict, verdict_of}
 use Rattle.tail_policy.specs.Ends.{least, greatest, least-starts, greatest-ends}
-use Rattle.tail_policy.specs.Words.{or_none, or_assoc, or_bits, no_bits, bits_below-append}
+use Rattle.tail_policy.specs.NoteBits.{or_none, or_assoc, or_bits, no_bits, bits_below-append}
 
 -- ---- joining
 

@@ -1,8 +1,8 @@
 pub mod Meaning
-pub mod Wanted
+pub mod AttributeTest
 pub mod Note
 pub mod Ends
-pub mod Words
+pub mod NoteBits
 pub mod Laws
 pub mod Apart
 pub mod Parts

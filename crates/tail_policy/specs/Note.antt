@@ -1,5 +1,6 @@
 -- What is kept of a trace's spans so that its policies decide without them: of one size, however many there are. A note
 -- has one bit for each policy that holds no other, the first policy's lowest, the earliest start and the latest end.
+-- This project's own rule.
 use Rattle.std.specs.Prelude.{ℕ, ℤ, ◌+◌, ◌-◌, ◌*◌, ◌/◌, ◌%◌, ◌^◌, Bool, true, false, ◌&&◌, ◌||◌, List, [], ◌∷◌, ◌++◌, length, min, max, nat_le, nat_eq, bit_or}
 use Rattle.std.specs.List.{list_any}
 use Rattle.std.specs.Ordering.{int_eq}

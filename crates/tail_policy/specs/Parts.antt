@@ -1,4 +1,5 @@
 -- The note of a span with its resource, made of what the span tells by itself and of what the resource tells by itself.
+-- This project's own rule.
 use Rattle.std.proofs.Common.{◌≡◌, ◌∙◌, false, ◌||◌, List, [], ◌∷◌, refl, sym, ap}
 use Rattle.std.proofs.Math.Bool.{or-false}
 use Rattle.std.proofs.lemmas.List.Folds.{list_any-append}
@@ -12,7 +13,7 @@ use Rattle.tail_policy.specs.declared.note.TraceNote.{TraceNote}
 use Rattle.tail_policy.specs.Apart.{with_attributes}
 use Rattle.tail_policy.specs.Meaning.{has_status}
 use Rattle.tail_policy.specs.Note.{leaves_in, bits_of, attributes_meet, span_meets, note_of}
-use Rattle.tail_policy.specs.Words.{or_bits, same_bits}
+use Rattle.tail_policy.specs.NoteBits.{or_bits, same_bits}
 
 -- what a resource tells by its attributes: one bit a policy that holds no other, whether one of them meets it
 unfoldable pub resource_bits_of : List PolicyData → List AttributeFact → ResourceBits

@@ -4,13 +4,13 @@ ghost use Rattle.std.specs.Prelude.{◌≡◌, map, string_bytes};
 ghost use Rattle.std.specs.List.{list_any};
 ghost use Rattle.span_view.specs.Shown.{value_shown};
 ghost use Rattle.tail_policy.specs.Meaning.{is_one_of, is_within, has_attribute};
-ghost use Rattle.tail_policy.specs.Wanted.{is_wanted};
+ghost use Rattle.tail_policy.specs.AttributeTest.{is_wanted};
 
 use span_view::{SpanRef, ValueRef};
 
 /// What an attribute's value has to be.
 #[derive(Clone, Copy)]
-pub enum Wanted<'a> {
+pub enum AttributeTest<'a> {
     /// One of these texts, byte for byte.
     OneOf(&'a [String]),
     /// A whole number from the first to the second, both included.
@@ -38,17 +38,17 @@ fn is_within(low: i64, high: i64, value: ValueRef<'_>) -> bool
 }
 
 /// Whether a value is such a one.
-pub fn is_wanted(wanted: Wanted<'_>, value: ValueRef<'_>) -> bool
+pub fn is_wanted(wanted: AttributeTest<'_>, value: ValueRef<'_>) -> bool
     ensures { result ≡ is_wanted wanted.entry (value_shown value.entry) }
 {
     match wanted {
-        Wanted::OneOf(texts) => is_one_of(texts, value),
-        Wanted::Within(low, high) => is_within(low, high, value),
+        AttributeTest::OneOf(texts) => is_one_of(texts, value),
+        AttributeTest::Within(low, high) => is_within(low, high, value),
     }
 }
 
 /// Whether an attribute of this key has such a value.
-fn has_attribute(key: &str, wanted: Wanted<'_>, span: &SpanRef<'_>) -> bool
+fn has_attribute(key: &str, wanted: AttributeTest<'_>, span: &SpanRef<'_>) -> bool
     ensures { result ≡ has_attribute key.now (is_wanted wanted.entry) span.now }
 {
     span.attributes()
@@ -56,7 +56,7 @@ fn has_attribute(key: &str, wanted: Wanted<'_>, span: &SpanRef<'_>) -> bool
 }
 
 /// Whether one of the spans, or its resource, has an attribute of this key with such a value.
-pub fn any_has_attribute(key: &str, wanted: Wanted<'_>, spans: &[SpanRef<'_>]) -> bool
+pub fn any_has_attribute(key: &str, wanted: AttributeTest<'_>, spans: &[SpanRef<'_>]) -> bool
     ensures { result ≡ list_any (has_attribute key.now (is_wanted wanted.entry)) spans.now }
 {
     spans.iter().any(|span| has_attribute(key, wanted, span))

@@ -4,9 +4,9 @@ ghost use Rattle.std.specs.Prelude.{◌≡◌, ◌≤◌, ◌<◌, ◌^◌, ◌*
 ghost use Rattle.tail_settings.specs.Policy.{leaf_view, policy_view, leaves_of};
 ghost use Rattle.tail_policy.specs.Note.{leaves_in, with_bit, bits_below, bits_of, attribute, fact_meets};
 ghost use Rattle.tail_policy.specs.Marks.{IsReady};
-ghost use Rattle.tail_policy.specs.Wanted.{fact_view};
+ghost use Rattle.tail_policy.specs.AttributeTest.{fact_view};
 
-use crate::attribute::{Wanted, is_wanted};
+use crate::attribute::{AttributeTest, is_wanted};
 use crate::marks::mark;
 use crate::status::is_listed;
 use span_view::{AttributeRef, ValueRef};
@@ -30,7 +30,7 @@ fn meets(fact: Fact<'_>, leaf: &LeafPolicy) -> bool
             is_listed(status_codes, status)
         }
         (Fact::Attribute(name, value), LeafPolicy::StringAttribute { key, values }) => {
-            name == key.as_str() && is_wanted(Wanted::OneOf(values), value)
+            name == key.as_str() && is_wanted(AttributeTest::OneOf(values), value)
         }
         (
             Fact::Attribute(name, value),
@@ -39,7 +39,8 @@ fn meets(fact: Fact<'_>, leaf: &LeafPolicy) -> bool
                 min_value,
                 max_value,
             },
-        ) => name == key.as_str() && is_wanted(Wanted::Within(*min_value, *max_value), value),
+        ) => name == key.as_str()
+            && is_wanted(AttributeTest::Within(*min_value, *max_value), value),
         _ => false,
     }
 }
@@ -68,7 +69,7 @@ fn leaf_bits(leaves: &[LeafPolicy], fact: Fact<'_>, above: u64) -> u64
 
 /// One bit a policy that holds no other, whether the fact meets it.
 pub fn fact_bits(policies: &[PolicySpec], fact: Fact<'_>) -> u64
-    requires few { leaves_of (map policy_view policies.now) ≤ 64 }
+    requires leaves_bounded { leaves_of (map policy_view policies.now) ≤ 64 }
     ensures { result ≡ bits_of (fact_meets (fact_view fact.entry)) (leaves_in (map policy_view policies.now)) }
 {
     let mut bits = 0;

@@ -44,7 +44,7 @@ pub use tenant::TenantPolicies;
 /// codes or texts that one of them has, times the size of the texts of the spans and their resources.
 #[tactic(auto, unfolding(crate::specs::Meaning::keeps))]
 pub fn keeps(policies: &[PolicySpec], spans: &[SpanRef<'_>]) -> bool
-    requires some { 0 < length spans.now }
+    requires not_empty { 0 < length spans.now }
     ensures { result ≡ keeps (map policy_view policies.now) spans.now }
 {
     policies.iter().any(|policy| policy_samples(policy, spans))

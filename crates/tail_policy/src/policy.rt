@@ -4,7 +4,7 @@ ghost use Rattle.std.specs.Prelude.{◌≡◌};
 ghost use Rattle.tail_settings.specs.Policy.{leaf_view, policy_view};
 ghost use Rattle.tail_policy.specs.Meaning.{leaf_samples, policy_samples};
 
-use crate::attribute::{Wanted, any_has_attribute};
+use crate::attribute::{AttributeTest, any_has_attribute};
 use crate::status::any_has_status;
 use crate::time::duration;
 use span_view::SpanRef;
@@ -19,13 +19,13 @@ fn leaf_samples(leaf: &LeafPolicy, spans: &[SpanRef<'_>]) -> bool
         LeafPolicy::Latency { threshold_ms } => *threshold_ms <= duration(spans),
         LeafPolicy::StatusCode { status_codes } => any_has_status(status_codes, spans),
         LeafPolicy::StringAttribute { key, values } => {
-            any_has_attribute(key, Wanted::OneOf(values), spans)
+            any_has_attribute(key, AttributeTest::OneOf(values), spans)
         }
         LeafPolicy::NumericAttribute {
             key,
             min_value,
             max_value,
-        } => any_has_attribute(key, Wanted::Within(*min_value, *max_value), spans),
+        } => any_has_attribute(key, AttributeTest::Within(*min_value, *max_value), spans),
     }
 }
 

@@ -14,7 +14,7 @@ use tail_settings::PolicySpec;
 
 /// What fields tell policies together.
 #[derive(Clone, Copy)]
-pub struct Told {
+pub struct SpanFacts {
     /// One bit a policy that holds no other, the first one's lowest: whether an attribute meets it.
     pub met: u64,
     /// Nanoseconds since 1970.
@@ -26,7 +26,7 @@ pub struct Told {
 }
 
 /// What these fields tell policies, in one walk.
-pub fn tally(policies: &[PolicySpec], marks: &[bool], fields: SpanFields<'_>) -> Told
+pub fn tally(policies: &[PolicySpec], marks: &[bool], fields: SpanFields<'_>) -> SpanFacts
     requires ready { IsReady (map policy_view policies.now) marks.now }
     ensures { result ≡ tally_of (map policy_view policies.now) fields.entry }
 {
@@ -42,7 +42,7 @@ pub fn tally(policies: &[PolicySpec], marks: &[bool], fields: SpanFields<'_>) ->
             SpanField::Attribute(pair) => met |= attribute_bits(policies, marks, &pair),
         }
     }
-    Told {
+    SpanFacts {
         met,
         start: start.unwrap_or(0),
         end: end.unwrap_or(0),
@@ -57,6 +57,6 @@ pub fn resource_bits(policies: &[PolicySpec], marks: &[bool], resource: &[u8]) -
     ensures { result
         ≡ bits_of (attributes_meet (facts_of [] resource.now).attributes) (leaves_in (map policy_view policies.now)) }
 {
-    let Told { met, .. } = tally(policies, marks, SpanRef::of(&[], resource).fields());
+    let SpanFacts { met, .. } = tally(policies, marks, SpanRef::of(&[], resource).fields());
     met
 }

@@ -7,7 +7,7 @@ use crate::bits::{Fact, fact_bits};
 use crate::marks::{COUNT, mark_policies};
 use crate::note::{ResourceBits, TraceNote};
 use crate::noting::{Policy, PolicyByParts};
-use crate::tally::{Told, resource_bits, tally};
+use crate::tally::{SpanFacts, resource_bits, tally};
 use span_view::SpanRef;
 use std::alloc::AllocError;
 use std::marker::Model;
@@ -37,7 +37,7 @@ impl<'a> TenantPolicies<'a> {
     /// These policies, which are at most 64, counting those that an `and` holds and not the `and` itself. A tenant's
     /// section has no more.
     pub fn of(policies: &'a [PolicySpec]) -> TenantPolicies<'a>
-        requires few { leaves_of (map policy_view policies.now) ≤ 64 }
+        requires leaves_bounded { leaves_of (map policy_view policies.now) ≤ 64 }
         ensures { result ≡ map policy_view policies.now }
     {
         let mut marks = [false; COUNT];
@@ -67,7 +67,7 @@ impl<'a> Policy for TenantPolicies<'a> {
 
     /// It takes no memory and is never refused.
     fn note(&self, span: &SpanRef<'_>) -> Result<TraceNote, AllocError> {
-        let Told {
+        let SpanFacts {
             met,
             start,
             end,

@@ -19,7 +19,7 @@ use Rattle.tail_settings.specs.RetryOnFailure.{RetryData, retry_of}
 use Rattle.tail_settings.specs.Section.{SectionData, section_of}
 use Rattle.tail_settings.specs.SendingQueue.{SendingQueueData, sending_queue_of}
 use Rattle.tail_settings.specs.Settings.{TenantData, SettingsData, new_name, name_of, tenant_of, tenants_of, spans_of, few_spans, settings_of_table, settings_from, settings_of}
-use Rattle.tail_settings.specs.Sound.{IsSoundGlobal, IsSoundLeaf, IsSoundPolicy, IsSoundTailSampling, IsSoundBatch, IsSoundSendingQueue, IsSoundRetry, IsSoundSection, AreSoundTenants, IsSound}
+use Rattle.tail_settings.specs.Valid.{IsValidGlobal, IsValidLeaf, IsValidPolicy, IsValidTailSampling, IsValidBatch, IsValidSendingQueue, IsValidRetry, IsValidSection, AreSoundTenants, AreValidSettings}
 use Rattle.tail_settings.specs.TailSampling.{TailSamplingData, tail_sampling_of}
 use Rattle.tail_settings.specs.Texts.{is_name, is_address, is_header, is_attribute_key, address_at, header_at, attribute_key_at}
 
@@ -131,14 +131,14 @@ some_texts_at-some key table ts h =
     let found = bound (texts_at key table) _ ts h in
     not_empty-length (out_of_range key) found.0 ts found.2
 
-latency_of-sound : (table : Members) (l : LeafData) → latency_of table ≡ Ok l → IsSoundLeaf l
+latency_of-sound : (table : Members) (l : LeafData) → latency_of table ≡ Ok l → IsValidLeaf l
 latency_of-sound table l h =
     let threshold = bound (required_number_at (codes "threshold_ms") 0 (2 ^ 40) table) _ l h in
     let range = required_number_at-from (codes "threshold_ms") 0 (2 ^ 40) table threshold.0 threshold.1 in
     let same : latency threshold.0 ≡ l = cc in
-    subst IsSoundLeaf same range.1
+    subst IsValidLeaf same range.1
 
-status_code_of-sound : (table : Members) (l : LeafData) → status_code_of table ≡ Ok l → IsSoundLeaf l
+status_code_of-sound : (table : Members) (l : LeafData) → status_code_of table ≡ Ok l → IsValidLeaf l
 unfolding status_code_of
 status_code_of-sound table l h =
     let names = bound (some_texts_at (codes "status_codes") table) _ l h in
@@ -146,7 +146,7 @@ status_code_of-sound table l h =
     let some = some_texts_at-some (codes "status_codes") table names.0 names.1 in
     let long = each-length (λ _. status_of) [] names.0 statuses.0 statuses.1 in
     let same : status_code statuses.0 ≡ l = cc in
-    subst IsSoundLeaf same (omega arith)
+    subst IsValidLeaf same (omega arith)
 
 values_of-few : (table : Members) (values : List (List ℕ)) → values_of table ≡ Ok values → IsFrom 1 64 (length values)
 unfolding values_of
@@ -157,68 +157,68 @@ values_of-few table values h =
     let few : length found.0 ≤ 64 = leb-true (length found.0) 64 limit.0 in
     subst (λ v. IsFrom 1 64 (length v)) limit.1 (omega arith, few)
 
-string_attribute_of-sound : (table : Members) (l : LeafData) → string_attribute_of table ≡ Ok l → IsSoundLeaf l
+string_attribute_of-sound : (table : Members) (l : LeafData) → string_attribute_of table ≡ Ok l → IsValidLeaf l
 unfolding string_attribute_of
 string_attribute_of-sound table l h =
     let key = bound (attribute_key_at (codes "key") table) _ l h in
     let values = bound (values_of table) _ l key.2 in
     let same : string_attribute key.0 values.0 ≡ l = cc in
-    subst IsSoundLeaf same (attribute_key_at-is (codes "key") table key.0 key.1, values_of-few table values.0 values.1)
+    subst IsValidLeaf same (attribute_key_at-is (codes "key") table key.0 key.1, values_of-few table values.0 values.1)
 
-numeric_attribute_of-sound : (table : Members) (l : LeafData) → numeric_attribute_of table ≡ Ok l → IsSoundLeaf l
+numeric_attribute_of-sound : (table : Members) (l : LeafData) → numeric_attribute_of table ≡ Ok l → IsValidLeaf l
 unfolding numeric_attribute_of
 numeric_attribute_of-sound table l h =
     let key = bound (attribute_key_at (codes "key") table) _ l h in
     let low = bound (integer_at (codes "min_value") table) _ l key.2 in
     let high = bound (integer_at (codes "max_value") table) _ l low.2 in
     let same : numeric_attribute key.0 low.0 high.0 ≡ l = cc in
-    subst IsSoundLeaf same (attribute_key_at-is (codes "key") table key.0 key.1)
+    subst IsValidLeaf same (attribute_key_at-is (codes "key") table key.0 key.1)
 
 -- a choice that was made
 either : {A : Type 0} (b : Bool) (r s : Result A FaultData) (y : A) (P : A → Type 0) → (r ≡ Ok y → P y) → (s ≡ Ok y → P y) → (if b then r else s) ≡ Ok y → P y
 either true r s y P f g h = f h
 either false r s y P f g h = g h
 
-leaf_of_type-sound : (type : List ℕ) (table : Members) (l : LeafData) → leaf_of_type type table ≡ Ok l → IsSoundLeaf l
+leaf_of_type-sound : (type : List ℕ) (table : Members) (l : LeafData) → leaf_of_type type table ≡ Ok l → IsValidLeaf l
 unfolding leaf_of_type
 leaf_of_type-sound type table l =
-    either (bytes_eq type (codes "always_sample")) _ _ l IsSoundLeaf (λ h. let same : always_sample ≡ l = cc in subst IsSoundLeaf same tt)
-    (either (bytes_eq type (codes "latency")) _ _ l IsSoundLeaf (latency_of-sound table l)
-    (either (bytes_eq type (codes "status_code")) _ _ l IsSoundLeaf (status_code_of-sound table l)
-    (either (bytes_eq type (codes "string_attribute")) _ _ l IsSoundLeaf (string_attribute_of-sound table l)
-    (either (bytes_eq type (codes "numeric_attribute")) _ _ l IsSoundLeaf (numeric_attribute_of-sound table l)
+    either (bytes_eq type (codes "always_sample")) _ _ l IsValidLeaf (λ h. let same : always_sample ≡ l = cc in subst IsValidLeaf same tt)
+    (either (bytes_eq type (codes "latency")) _ _ l IsValidLeaf (latency_of-sound table l)
+    (either (bytes_eq type (codes "status_code")) _ _ l IsValidLeaf (status_code_of-sound table l)
+    (either (bytes_eq type (codes "string_attribute")) _ _ l IsValidLeaf (string_attribute_of-sound table l)
+    (either (bytes_eq type (codes "numeric_attribute")) _ _ l IsValidLeaf (numeric_attribute_of-sound table l)
     (λ h. absurd (let no : ⊥ = cc in no))))))
 
-leaf_of-sound : (table : Members) (l : LeafData) → leaf_of table ≡ Ok l → IsSoundLeaf l
+leaf_of-sound : (table : Members) (l : LeafData) → leaf_of table ≡ Ok l → IsValidLeaf l
 unfolding leaf_of
 leaf_of-sound table l h =
     let type = bound (text_at (codes "type") table) _ l h in
     leaf_of_type-sound type.0 table l type.2
 
-and_of-sound : (table : Members) (p : PolicyData) → and_of table ≡ Ok p → IsSoundPolicy p
+and_of-sound : (table : Members) (p : PolicyData) → and_of table ≡ Ok p → IsValidPolicy p
 unfolding and_of
 and_of-sound table p h =
     let tables = bound (some_tables_at (codes "and_sub_policy") table) _ p h in
     let ls = bound (each (λ _. leaf_of) [] tables.0) _ p tables.2 in
     let some = some_tables_at-some (codes "and_sub_policy") table tables.0 tables.1 in
     let long = each-length (λ _. leaf_of) [] tables.0 ls.0 ls.1 in
-    let sound = each-keeps (λ _. leaf_of) (All IsSoundLeaf) (λ before t l all r. All-push IsSoundLeaf before l all (leaf_of-sound t l r)) [] tables.0 ls.0 (All-nil IsSoundLeaf) ls.1 in
+    let sound = each-keeps (λ _. leaf_of) (All IsValidLeaf) (λ before t l all r. All-push IsValidLeaf before l all (leaf_of-sound t l r)) [] tables.0 ls.0 (All-nil IsValidLeaf) ls.1 in
     let same : and ls.0 ≡ p = cc in
     let more : 0 < length ls.0 = omega arith in
-    subst IsSoundPolicy same (more, sound)
+    subst IsValidPolicy same (more, sound)
 
-policy_of-sound : (table : Members) (p : PolicyData) → policy_of table ≡ Ok p → IsSoundPolicy p
+policy_of-sound : (table : Members) (p : PolicyData) → policy_of table ≡ Ok p → IsValidPolicy p
 unfolding policy_of
 policy_of-sound table p h =
     let type = bound (text_at (codes "type") table) _ p h in
-    either (bytes_eq type.0 (codes "and")) _ _ p IsSoundPolicy (and_of-sound table p)
+    either (bytes_eq type.0 (codes "and")) _ _ p IsValidPolicy (and_of-sound table p)
     (λ k.
     let l = bound (leaf_of_type type.0 table) _ p k in
     let same : leaf l.0 ≡ p = cc in
-    subst IsSoundPolicy same (leaf_of_type-sound type.0 table l.0 l.1))
+    subst IsValidPolicy same (leaf_of_type-sound type.0 table l.0 l.1))
     type.2
 
-policies_of-sound : (sampling : Members) (ps : List PolicyData) → policies_of sampling ≡ Ok ps → (0 < length ps) × (leaves_of ps ≤ 64) × All IsSoundPolicy ps
+policies_of-sound : (sampling : Members) (ps : List PolicyData) → policies_of sampling ≡ Ok ps → (0 < length ps) × (leaves_of ps ≤ 64) × All IsValidPolicy ps
 unfolding policies_of
 policies_of-sound sampling ps h =
     let tables = bound (some_tables_at (codes "policy") sampling) _ ps h in
@@ -226,11 +226,11 @@ policies_of-sound sampling ps h =
     let limit = chosen (nat_le (leaves_of found.0) 64) found.0 ps too_many found.2 in
     let some = some_tables_at-some (codes "policy") sampling tables.0 tables.1 in
     let long = each-length (λ _. policy_of) [] tables.0 found.0 found.1 in
-    let sound = each-keeps (λ _. policy_of) (All IsSoundPolicy) (λ before t p all r. All-push IsSoundPolicy before p all (policy_of-sound t p r)) [] tables.0 found.0 (All-nil IsSoundPolicy) found.1 in
+    let sound = each-keeps (λ _. policy_of) (All IsValidPolicy) (λ before t p all r. All-push IsValidPolicy before p all (policy_of-sound t p r)) [] tables.0 found.0 (All-nil IsValidPolicy) found.1 in
     let more : 0 < length found.0 = omega arith in
-    subst (λ l. (0 < length l) × (leaves_of l ≤ 64) × All IsSoundPolicy l) limit.1 (more, leb-true (leaves_of found.0) 64 limit.0, sound)
+    subst (λ l. (0 < length l) × (leaves_of l ≤ 64) × All IsValidPolicy l) limit.1 (more, leb-true (leaves_of found.0) 64 limit.0, sound)
 
-tail_sampling_of-sound : (tenant : Members) (s : TailSamplingData) → tail_sampling_of tenant ≡ Ok s → IsSoundTailSampling s
+tail_sampling_of-sound : (tenant : Members) (s : TailSamplingData) → tail_sampling_of tenant ≡ Ok s → IsValidTailSampling s
 unfolding tail_sampling_of
 tail_sampling_of-sound tenant s h =
     let sampling = bound (table_at (codes "tail_sampling") tenant) _ s h in
@@ -243,7 +243,7 @@ tail_sampling_of-sound tenant s h =
     let sound = policies_of-sound sampling.0 ps.0 ps.1 in
     let read : TailSamplingData = record { decision_wait = wait.0; num_traces = traces.0; sampled_cache_size = sampled.0; non_sampled_cache_size = others.0; policies = ps.0 } in
     let same = ok_is read s ps.2 in
-    subst IsSoundTailSampling same (record {
+    subst IsValidTailSampling same (record {
       decision_wait = number_at-from (codes "decision_wait_ms") 1 86400000 30000 sampling.0 wait.0 (omega arith, omega arith) wait.1;
       num_traces = number_at-from (codes "num_traces") 1 1000000 50000 sampling.0 traces.0 (omega arith, omega arith) traces.1;
       sampled_cache_size = (number_at-from (codes "sampled_cache_size") 0 1000000 0 cache.0 sampled.0 (omega arith, omega arith) sampled.1).1;
@@ -256,7 +256,7 @@ tail_sampling_of-sound tenant s h =
 max_size-is : (size max_size : ℕ) → is_max_size size max_size ≡ true → 0 < max_size → size ≤ max_size
 max_size-is size max_size h some = grind (arith, nat_tests)
 
-batch_of-sound : (tenant : Members) (b : BatchData) → batch_of tenant ≡ Ok b → IsSoundBatch b
+batch_of-sound : (tenant : Members) (b : BatchData) → batch_of tenant ≡ Ok b → IsValidBatch b
 unfolding batch_of
 batch_of-sound tenant b h =
     let batch = bound (table_at (codes "batch") tenant) _ b h in
@@ -267,14 +267,14 @@ batch_of-sound tenant b h =
     let limit = chosen (is_max_size size.0 found.0) found.0 max_size.0 (out_of_range (codes "send_batch_max_size")) max_size.1 in
     let read : BatchData = record { send_batch_size = size.0; timeout = timeout.0; send_batch_max_size = max_size.0 } in
     let same = ok_is read b max_size.2 in
-    subst IsSoundBatch same (record {
+    subst IsValidBatch same (record {
       send_batch_size = number_at-from (codes "send_batch_size") 1 1000000 8192 batch.0 size.0 (omega arith, omega arith) size.1;
       timeout = (number_at-from (codes "timeout_ms") 0 86400000 200 batch.0 timeout.0 (omega arith, omega arith) timeout.1).1;
       send_batch_max_size = subst (λ n. n ≤ 1000000) limit.1 (number_at-from (codes "send_batch_max_size") 0 1000000 0 batch.0 found.0 (omega arith, omega arith) found.1).1;
       none_or_more = max_size-is size.0 max_size.0 (allowed-test (codes "send_batch_max_size") (is_max_size size.0) found.0 max_size.0 max_size.1);
     })
 
-sending_queue_of-sound : (tenant : Members) (q : SendingQueueData) → sending_queue_of tenant ≡ Ok q → IsSoundSendingQueue q
+sending_queue_of-sound : (tenant : Members) (q : SendingQueueData) → sending_queue_of tenant ≡ Ok q → IsValidSendingQueue q
 unfolding sending_queue_of
 sending_queue_of-sound tenant q h =
     let queue = bound (table_at (codes "sending_queue") tenant) _ q h in
@@ -282,12 +282,12 @@ sending_queue_of-sound tenant q h =
     let consumers = bound (number_at (codes "num_consumers") 1 1000 10 queue.0) _ q size.2 in
     let read : SendingQueueData = record { queue_size = size.0; num_consumers = consumers.0 } in
     let same = ok_is read q consumers.2 in
-    subst IsSoundSendingQueue same (record {
+    subst IsValidSendingQueue same (record {
       queue_size = number_at-from (codes "queue_size") 1 100000 1000 queue.0 size.0 (omega arith, omega arith) size.1;
       num_consumers = number_at-from (codes "num_consumers") 1 1000 10 queue.0 consumers.0 (omega arith, omega arith) consumers.1;
     })
 
-retry_of-sound : (tenant : Members) (r : RetryData) → retry_of tenant ≡ Ok r → IsSoundRetry r
+retry_of-sound : (tenant : Members) (r : RetryData) → retry_of tenant ≡ Ok r → IsValidRetry r
 unfolding retry_of
 retry_of-sound tenant r h =
     let retry = bound (table_at (codes "retry_on_failure") tenant) _ r h in
@@ -298,7 +298,7 @@ retry_of-sound tenant r h =
     let factor = bound (number_at (codes "randomization_factor") 0 1000 500 retry.0) _ r multiplier.2 in
     let read : RetryData = record { initial_interval = initial.0; max_interval = longest.0; max_elapsed_time = elapsed.0; multiplier = multiplier.0; randomization_factor = factor.0 } in
     let same = ok_is read r factor.2 in
-    subst IsSoundRetry same (record {
+    subst IsValidRetry same (record {
       initial_interval = number_at-from (codes "initial_interval_ms") 1 86400000 5000 retry.0 initial.0 (omega arith, omega arith) initial.1;
       max_interval = number_at-from (codes "max_interval_ms") 1 86400000 30000 retry.0 longest.0 (omega arith, omega arith) longest.1;
       max_elapsed_time = (number_at-from (codes "max_elapsed_time_ms") 0 (2 ^ 40) 300000 retry.0 elapsed.0 (omega arith, omega arith) elapsed.1).1;
@@ -306,7 +306,7 @@ retry_of-sound tenant r h =
       randomization_factor = (number_at-from (codes "randomization_factor") 0 1000 500 retry.0 factor.0 (omega arith, omega arith) factor.1).1;
     })
 
-section_of-sound : (tenant : Members) (s : SectionData) → section_of tenant ≡ Ok s → IsSoundSection s
+section_of-sound : (tenant : Members) (s : SectionData) → section_of tenant ≡ Ok s → IsValidSection s
 unfolding section_of
 section_of-sound tenant s h =
     let endpoint = bound (address_at (codes "endpoint") (codes "127.0.0.1:4319") tenant) _ s h in
@@ -318,7 +318,7 @@ section_of-sound tenant s h =
     let retry = bound (retry_of tenant) _ s queue.2 in
     let read : SectionData = record { endpoint = endpoint.0; max_spans = spans.0; seed = seed.0; tail_sampling = sampling.0; batch = batch.0; sending_queue = queue.0; retry_on_failure = retry.0 } in
     let same = ok_is read s retry.2 in
-    subst IsSoundSection same (record {
+    subst IsValidSection same (record {
       endpoint = address_at-is (codes "endpoint") (codes "127.0.0.1:4319") tenant endpoint.0 endpoint.1;
       max_spans = number_at-from (codes "max_spans") 1 (2 ^ 31) 100000 tenant spans.0 (omega arith, omega arith) spans.1;
       seed = (number_at-from (codes "seed") 0 (2 ^ 62) 0 tenant seed.0 (omega arith, omega arith) seed.1).1;
@@ -357,7 +357,7 @@ tenant_of-sound before table t sound h =
     subst (λ x. AreSoundTenants (before ++ x ∷ [])) same (record {
       names = All-push (λ u. IsTrue (is_name u.name)) before read sound.names parts.0;
       distinct = all_pairs_push (λ u v. u.name ≢ v.name) before read sound.distinct (list_any-apart name.0 before parts.1);
-      sections = All-push (λ u. IsSoundSection u.section) before read sound.sections (section_of-sound table section.0 section.1);
+      sections = All-push (λ u. IsValidSection u.section) before read sound.sections (section_of-sound table section.0 section.1);
     })
 
 no_tenants-sound : AreSoundTenants []
@@ -380,7 +380,7 @@ tenants_of-sound document tenants h =
     let as_many = ap length limit.1 in
     (omega arith, omega arith, each-keeps tenant_of AreSoundTenants tenant_of-sound [] few.0 tenants no_tenants-sound few.2)
 
-global_of-sound : (document : Members) (g : GlobalData) → global_of document ≡ Ok g → IsSoundGlobal g
+global_of-sound : (document : Members) (g : GlobalData) → global_of document ≡ Ok g → IsValidGlobal g
 unfolding global_of
 global_of-sound document g h =
     let global = bound (table_at (codes "global") document) _ g h in
@@ -393,7 +393,7 @@ global_of-sound document g h =
     let header = bound (header_at (codes "tenant_header") (codes "x-scope-orgid") global.0) _ g listen.2 in
     let read : GlobalData = record { shards = shards.0; parts = parts.0; receivers = receivers.0; senders = senders.0; lane_size = lane.0; listen = listen.0; tenant_header = header.0 } in
     let same = ok_is read g header.2 in
-    subst IsSoundGlobal same (record {
+    subst IsValidGlobal same (record {
       shards = number_at-from (codes "shards") 1 64 1 global.0 shards.0 (omega arith, omega arith) shards.1;
       parts = number_at-from (codes "parts") 1 16 2 global.0 parts.0 (omega arith, omega arith) parts.1;
       receivers = number_at-from (codes "receivers") 1 64 4 global.0 receivers.0 (omega arith, omega arith) receivers.1;
@@ -403,7 +403,7 @@ global_of-sound document g h =
       tenant_header = header_at-is (codes "tenant_header") (codes "x-scope-orgid") global.0 header.0 header.1;
     })
 
-settings_of_table-sound : (document : Members) (s : SettingsData) → settings_of_table document ≡ Ok s → IsSound s
+settings_of_table-sound : (document : Members) (s : SettingsData) → settings_of_table document ≡ Ok s → AreValidSettings s
 unfolding settings_of_table
 settings_of_table-sound document s h =
     let global = bound (global_of document) _ s h in
@@ -414,14 +414,14 @@ settings_of_table-sound document s h =
     let same : read ≡ s = cc in
     let parts = tenants_of-sound document found.0 found.1 in
     let few : spans_of found.0 ≤ 2 ^ 31 = leb-true (spans_of found.0) (2 ^ 31) limit.0 in
-    subst IsSound same
-    (subst (λ ts. IsSound (record { global = global.0; tenants = ts })) limit.1
+    subst AreValidSettings same
+    (subst (λ ts. AreValidSettings (record { global = global.0; tenants = ts })) limit.1
     (record { global = global_of-sound document global.0 global.1; some_tenant = parts.0; few_tenants = parts.1; few_spans = few; tenants = parts.2 }))
 
-settings_from-sound : (o : Option Members) (s : SettingsData) → settings_from o ≡ Ok s → IsSound s
+settings_from-sound : (o : Option Members) (s : SettingsData) → settings_from o ≡ Ok s → AreValidSettings s
 settings_from-sound None s h = absurd (let no : ⊥ = cc in no)
 settings_from-sound (Some document) s h = settings_of_table-sound document s h
 
-pub settings_of-sound : (text : List ℕ) (s : SettingsData) → settings_of text ≡ Ok s → IsSound s
+pub settings_of-sound : (text : List ℕ) (s : SettingsData) → settings_of text ≡ Ok s → AreValidSettings s
 unfolding settings_of
 settings_of-sound text s h = settings_from-sound (parse_document text) s h

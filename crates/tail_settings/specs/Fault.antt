@@ -1,4 +1,4 @@
--- What a settings document is refused for, with the key or the name that the fault is about.
+-- What a settings document is refused for, with the key or the name that the fault is about. This project's own rule.
 use Rattle.std.specs.Prelude.{◌≡◌, ℕ, List, string_bytes, Option, Some, None, Result, Ok, Err, IfSome, IsSome}
 use Rattle.tail_settings.specs.declared.fault.SettingsFault.{SettingsFault}
 use Rattle.tail_settings.specs.declared.fault.SettingsFault.TheVariants as faults

@@ -8,6 +8,6 @@ pub mod RetryOnFailure
 pub mod Section
 pub mod SendingQueue
 pub mod Settings
-pub mod Sound
+pub mod Valid
 pub mod TailSampling
 pub mod Texts

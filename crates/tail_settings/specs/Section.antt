@@ -1,4 +1,6 @@
 -- One tenant's settings, and how they are read from its table: keys in this order, the first fault being the answer.
+-- The tables are those of the Collector's tailsamplingprocessor, batchprocessor and exporterhelper (their READMEs); the
+-- order is this project's own rule.
 use Rattle.std.specs.Prelude.{codes, ℕ, ◌^◌, List, Result, Ok, string_bytes}
 use Rattle.toml.specs.Data.{Members}
 use Rattle.tail_settings.specs.declared.section.Section.{Section}

@@ -1,4 +1,5 @@
--- All settings, and what a TOML document means as settings: keys in this order, the first fault being the answer.
+-- All settings, and what a TOML document means as settings: keys in this order, the first fault being the answer. The
+-- document is TOML 1.1's (toml.io); its keys and their order are this project's own rule.
 use Rattle.std.specs.Prelude.{codes, ℕ, ◌^◌, List, [], ◌∷◌, ◌++◌, map, sum_by, Option, Some, None, Result, Ok, Err, nat_le, string_bytes, String, if◌then◌else◌}
 use Rattle.std.specs.List.{list_any}
 use Rattle.std.specs.Str.{bytes_eq}

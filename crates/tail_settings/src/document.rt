@@ -8,7 +8,7 @@ ghost use Rattle.tail_settings.specs.Fault.{Tells, fault_view, not_toml};
 ghost use Rattle.tail_settings.specs.Keys.{keys_of};
 ghost use Rattle.tail_settings.specs.Section.{section_view, section_of};
 ghost use Rattle.tail_settings.specs.Settings.{name_of, with_tenant, tenants_of, tenant_view, spans_of, settings_view, settings_of};
-ghost use Rattle.tail_settings.specs.Sound.{IsSound};
+ghost use Rattle.tail_settings.specs.Valid.{AreValidSettings};
 
 use crate::fault::SettingsFault;
 use crate::global::GlobalSettings;
@@ -68,8 +68,8 @@ fn add_tenant(
 #[tactic(auto, using(crate::proofs::Told::tells_more), unfolding(crate::specs::Settings::tenants_of))]
 fn tenants(alloc: Global, document: &Table) -> Result<IndexMap<String, Section>, SettingsFault>
     ensures meaning { Tells (λ m. map tenant_view m.entries) result (tenants_of (table_view document.now)) }
-    ensures some { IfOk result (λ m. 0 < index_map_len m) }
-    ensures few { IfOk result (λ m. index_map_len m ≤ 1000) }
+    ensures not_empty { IfOk result (λ m. 0 < index_map_len m) }
+    ensures at_most_1000 { IfOk result (λ m. index_map_len m ≤ 1000) }
 {
     let tables = keys::tables(Some(document), "tenant")?;
     if tables.is_empty() {
@@ -101,11 +101,11 @@ fn spans(tenants: &IndexMap<String, Section>) -> u64
 #[tactic(auto, using(crate::proofs::Told::tells_more), unfolding(crate::proofs::Told::documents))]
 pub fn load(alloc: Global, text: &str) -> Result<Settings, SettingsFault>
     // The document's settings exactly, or its first fault exactly; refused memory says nothing of it.
-    ensures ok { IfOk result (λ s. settings_of text.now ≡ Ok (settings_view s)) }
+    ensures on_success { IfOk result (λ s. settings_of text.now ≡ Ok (settings_view s)) }
     ensures fault { IfErr result (λ e. IfSome (fault_view e) (λ f. settings_of text.now ≡ Err f)) }
 
     // The ranges and counts of the document's keys, and names that differ.
-    ensures sound { IfOk result (λ s. IsSound (settings_view s)) }
+    ensures valid { IfOk result (λ s. AreValidSettings (settings_view s)) }
 
     // Fault 10 is that of the texts that are no TOML document, and of no others.
     ensures not_toml { (settings_of text.now ≡ Err not_toml) ↔ (parse_document text.now ≡ None) }

@@ -197,7 +197,7 @@ pub fn some_tables<'a>(
     key: &'static str,
 ) -> Result<&'a [Value], SettingsFault>
     ensures meaning { Tells (λ v. tables_in (items_view v.now)) result (some_tables_at key.now (keys_of table.entry)) }
-    ensures some { IfOk result (λ v. 0 < length v.now) }
+    ensures not_empty { IfOk result (λ v. 0 < length v.now) }
     ensures no_memory { IfErr result IsOfDocument }
 {
     let values = tables(table, key)?;
@@ -214,7 +214,7 @@ pub fn some_texts<'a>(
     key: &'static str,
 ) -> Result<&'a [Value], SettingsFault>
     ensures meaning { Tells (λ v. texts_in (items_view v.now)) result (some_texts_at key.now (keys_of table.entry)) }
-    ensures some { IfOk result (λ v. 0 < length v.now) }
+    ensures not_empty { IfOk result (λ v. 0 < length v.now) }
     ensures no_memory { IfErr result IsOfDocument }
 {
     let values = texts(table, key)?;

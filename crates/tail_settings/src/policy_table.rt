@@ -220,8 +220,8 @@ pub fn policies(
     sampling: Option<&Table>,
 ) -> Result<ArcSlice<PolicySpec>, SettingsFault>
     ensures meaning { Tells (λ v. map policy_view (arc_slice_items v)) result (policies_of (keys_of sampling.entry)) }
-    ensures some { IfOk result (λ v. 0 < length (arc_slice_items v)) }
-    ensures few { IfOk result (λ v. leaves_of (map policy_view (arc_slice_items v)) ≤ 64) }
+    ensures not_empty { IfOk result (λ v. 0 < length (arc_slice_items v)) }
+    ensures leaves_bounded { IfOk result (λ v. leaves_of (map policy_view (arc_slice_items v)) ≤ 64) }
 {
     let tables = keys::some_tables(sampling, "policy")?;
     let policies = each_policy(alloc, tables)?;

@@ -28,8 +28,8 @@ impl Settings {
     /// How many tenants there are, 1 to 1,000.
     pub fn tenants_len(&self) -> u32
         ensures len { result ≡ length (settings_view self.now).tenants }
-        ensures some { 1 ≤ result }
-        ensures few { result ≤ 1000 }
+        ensures at_least_one { 1 ≤ result }
+        ensures at_most_1000 { result ≤ 1000 }
     {
         self.tenants.len() as u32
     }

@@ -3,19 +3,19 @@ use Rattle.std.proofs.Common.{◌≡◌, ◌≢◌, ◌∙◌, ℕ, [], refl, ap
 use Rattle.tail_policy.specs.declared.note.TraceNote.{TraceNote}
 use Rattle.tenant_stores.specs.Part.{Part, part}
 use Rattle.tenant_stores.specs.declared.stores.Stores.{Stores}
-use Rattle.tenant_rules.specs.declared.told.Told.{Told}
+use Rattle.tenant_rules.specs.declared.reply.StepReply.{StepReply}
 use Rattle.tenant_rules.specs.Machine.{acts, drain, effective, next, told, told_at}
 use Rattle.tenant_rules.specs.Own.{Own}
 use Rattle.tenant_rules.specs.State.{State}
 use Rattle.tenant_rules.specs.Timers.{advanced, enough, ran}
 use Rattle.tenant_pipeline.specs.declared.pipeline.Pipeline.{Pipeline}
 use Rattle.tenant_pipeline.specs.Acts.{ActsAt, at}
-use Rattle.tenant_pipeline.specs.Held.{IsHeldAt, IsHeldBy}
+use Rattle.tenant_pipeline.specs.Invariant.{PipelineInvariantAt, PipelineInvariantBy}
 use Rattle.tenant_pipeline.specs.StateIn.{part_in, state_in}
 use Rattle.tenant_pipeline.proofs.Stepping.{Done}
 
 -- the clock is set to the moment up to which timers ran
-held_now : (moment : ℕ) (own : Pipeline) (q : Part TraceNote) → IsHeldAt moment [] [] own q → IsHeldBy (record own { clock = moment }) q
+held_now : (moment : ℕ) (own : Pipeline) (q : Part TraceNote) → PipelineInvariantAt moment [] [] own q → PipelineInvariantBy (record own { clock = moment }) q
 held_now moment own q held = record {
   sound = held.sound;
   first_is = held.first_is;
@@ -53,16 +53,16 @@ pub record Acted (step : Own) (moment : ℕ) (s : State) (mid : Pipeline) (befor
   pub at : moment ≡ effective step s
   pub ok : state_in mid before ≡ ran (enough s) moment s
   pub change : ActsAt moment (acts moment step) (state_in mid before) (state_in new after)
-  pub holds : IsHeldAt moment [] [] new (part_in new after)
+  pub holds : PipelineInvariantAt moment [] [] new (part_in new after)
 
-pub acted_done : (step : Own) (moment : ℕ) (s : State) (said : Told) (mid : Pipeline) (before : Stores TraceNote) (new : Pipeline) (after : Stores TraceNote) →
+pub acted_done : (step : Own) (moment : ℕ) (s : State) (said : StepReply) (mid : Pipeline) (before : Stores TraceNote) (new : Pipeline) (after : Stores TraceNote) →
     Acted step moment s mid before new after → said ≡ told_at moment step (at moment (state_in mid before)) →
     Done step s said (record new { clock = moment }) after
 unfolding next told
 acted_done step moment s said mid before new after acted said_is =
     let timers : at moment (state_in mid before) ≡ advanced moment s = ap (at moment) acted.ok in
     record {
-      goes_on = record {
+      from_state = record {
         said_is = said_is ∙ (ap (told_at moment step) timers ∙ ap (λ (m : ℕ). told_at m step (advanced m s)) acted.at);
         new_is = acted.change ∙ (ap (acts moment step) timers ∙ ap (λ (m : ℕ). acts m step (advanced m s)) acted.at);
       };
@@ -72,9 +72,9 @@ acted_done step moment s said mid before new after acted said_is =
 -- what a drain makes of a tenant whose timers ran, be it the first or not
 pub record Drains (moment : ℕ) (mid : Pipeline) (before : Stores TraceNote) (new : Pipeline) (after : Stores TraceNote) : Type 0 where
   pub change : ActsAt moment (drain moment) (state_in mid before) (state_in new after)
-  pub holds : IsHeldAt moment [] [] new (part_in new after)
+  pub holds : PipelineInvariantAt moment [] [] new (part_in new after)
   pub others : (other : ℕ) → other ≢ mid.tenant → part other after ≡ part other before
 
 -- a second one changes nothing
-pub rests : (moment : ℕ) (mid : Pipeline) (stores : Stores TraceNote) → mid.drained ≡ true → IsHeldAt moment [] [] mid (part_in mid stores) → Drains moment mid stores mid stores
+pub rests : (moment : ℕ) (mid : Pipeline) (stores : Stores TraceNote) → mid.drained ≡ true → PipelineInvariantAt moment [] [] mid (part_in mid stores) → Drains moment mid stores mid stores
 rests moment mid stores drained held = record { change = rw drained refl; holds = held; others = λ other ne. refl }

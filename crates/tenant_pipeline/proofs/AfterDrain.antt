@@ -1,13 +1,13 @@
 -- After a drain a tenant has no spans but those of batches on their way.
 use Rattle.std.proofs.Common.{◌≡◌, ℕ, List, [], ◌∷◌, length, refl, ap, Option, Some, None}
 use Rattle.tail_settings.specs.Section.{SectionData}
-use Rattle.span_batcher.specs.Batches.{Rules, IsSound, Place}
+use Rattle.span_batcher.specs.Batches.{Rules, AreValidRules, Place}
 use Rattle.span_batcher.specs.State as batcher
 use Rattle.span_batcher.specs.State.{next_due, state_of}
 use Rattle.tenant_rules.specs.Arrivals.{Arrival}
 use Rattle.tenant_rules.specs.Own.{clock, drained}
 use Rattle.tenant_rules.specs.Rows.{Taken}
-use Rattle.tenant_rules.specs.Seating.{opened, seated}
+use Rattle.tenant_rules.specs.Placement.{opened, spans_in_rows}
 use Rattle.tenant_rules.specs.Batching.{rules_of, pending, waiting_rows, spans_in}
 use Rattle.tenant_rules.specs.Intake.{intake}
 use Rattle.tenant_rules.specs.State.{ledger_at, state}
@@ -25,10 +25,10 @@ none_pending : (w : SectionData) (x e : ℕ) (A : List Taken) → next_due (pend
 unfolding pending batcher.state
 none_pending w x e A none = untimed (rules_of w) _ none
 
-module _ (w : SectionData) (sound : IsSound (rules_of w)) (e : ℕ) (A : List Taken) where
+module _ (w : SectionData) (sound : AreValidRules (rules_of w)) (e : ℕ) (A : List Taken) where
   none_waits : (o : Option ℕ) (x : ℕ) → o ≡ Some x → DrainedBy o e A → waiting_rows w e o A ≡ []
   none_waits None x is by = absurd (cc)
-  none_waits (Some y) x is by = waits_none w y e (length (opened w A)) (seated w A) (opened w A) by.0
+  none_waits (Some y) x is by = waits_none w y e (length (opened w A)) (spans_in_rows w A) (opened w A) by.0
 
   none_left : (o : Option ℕ) (x : ℕ) → o ≡ Some x → DrainedBy o e A → (pending w e o A).spans ≡ []
   none_left None x is by = absurd (cc)

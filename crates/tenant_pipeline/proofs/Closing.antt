@@ -13,7 +13,7 @@ use Rattle.tail_settings.specs.Policy.{PolicyData}
 use Rattle.tenant_stores.specs.declared.stores.Stores.{Stores}
 use Rattle.tenant_stores.specs.Part.{Part, part}
 use Rattle.tenant_stores.specs.Counts.{Counts, count, waiting_numbers}
-use Rattle.tenant_stores.specs.Sound.{IsSound}
+use Rattle.tenant_stores.specs.Invariant.{StoreInvariant}
 use Rattle.tenant_stores.specs.Shows.{AreAmong}
 use Rattle.tenant_stores.specs.View.{WaitingRow, View, view}
 use Rattle.tenant_stores.proofs.Lists.{count-append}
@@ -29,7 +29,7 @@ use Rattle.tenant_rules.proofs.Sums.{Kept, fixed_of, kept_of, counted_of, drain_
 use Rattle.tenant_pipeline.specs.declared.pipeline.Pipeline.{Pipeline}
 use Rattle.tenant_pipeline.specs.Acts.{at, ActsAt}
 use Rattle.tenant_pipeline.specs.Drains.{SendsAll, all_settled, sampled_keys, closed_state}
-use Rattle.tenant_pipeline.specs.Held.{IsNoted, IsHeldAt}
+use Rattle.tenant_pipeline.specs.Invariant.{IsNoted, PipelineInvariantAt}
 use Rattle.tenant_pipeline.specs.StateIn.{arrivals_of, counts_in, policies_of, settled_of, waiting_of, part_in, state_by, view_in, state_of}
 use Rattle.tenant_pipeline.proofs.Timing.{verdict_is}
 
@@ -118,15 +118,15 @@ at_counted moment s c = record {
 -- the state, what holds
 pub record Closed (moment : ℕ) (own new : Pipeline) (p q : Part TraceNote) : Type 0 where
   pub state : ActsAt moment (drain moment) (state_of own p) (state_of new q)
-  pub held : IsHeldAt moment [] [] new q
+  pub held : PipelineInvariantAt moment [] [] new q
 
-module _ (own mid : Pipeline) (p q : Part TraceNote) (moment : ℕ) (held : IsHeldAt moment [] [] own p) (first : own.drained ≡ false) (sends : SendsAll moment p own mid)
+module _ (own mid : Pipeline) (p q : Part TraceNote) (moment : ℕ) (held : PipelineInvariantAt moment [] [] own p) (first : own.drained ≡ false) (sends : SendsAll moment p own mid)
     (shows : view (record (counts_in own) { decided = own.rows.opened }) [] q ≡ record {
       settled = (view_in own p).settled ++ all_settled (policies_of own) (view_in own p).waiting;
       waiting = [];
       pending = [];
     })
-    (sound : IsSound (record (counts_in own) { decided = own.rows.opened }) [] [] q) where
+    (sound : StoreInvariant (record (counts_in own) { decided = own.rows.opened }) [] [] q) where
   abbrev s : State
   s = state_of own p
 
@@ -223,20 +223,20 @@ module _ (own mid : Pipeline) (p q : Part TraceNote) (moment : ℕ) (held : IsHe
 
 -- the rows have their verdicts in the stores, and all spans that were sent leave them
 module _ (own mid end : Pipeline) (b : batcher.State ℕ) (stores decided last : Stores TraceNote) (gone : List ℕ) (moment : ℕ)
-    (held : IsHeldAt moment [] [] own (part_in own stores)) (first : own.drained ≡ false) (sends : SendsAll moment (part_in own stores) own mid) (b_is : b ≡ fired mid.batcher)
+    (held : PipelineInvariantAt moment [] [] own (part_in own stores)) (first : own.drained ≡ false) (sends : SendsAll moment (part_in own stores) own mid) (b_is : b ≡ fired mid.batcher)
     (end_is : end ≡ record mid { batcher = b; rows = record mid.rows { decided = mid.rows.opened } })
     (keys : (key : ℕ) → count key gone ≡ count key own.batcher.spans + count key (sampled_keys (policies_of own) (part_in own stores).rows (waiting_numbers (counts_in own))))
-    (settles : (pending : List ℕ) → IsSound (counts_in mid) pending [] (part_in mid stores)
-    → IsSound (counts_in end) (pending ++ sampled_keys (policies_of mid) (part_in mid stores).rows (waiting_numbers (counts_in mid))) [] (part_in end decided))
+    (settles : (pending : List ℕ) → StoreInvariant (counts_in mid) pending [] (part_in mid stores)
+    → StoreInvariant (counts_in end) (pending ++ sampled_keys (policies_of mid) (part_in mid stores).rows (waiting_numbers (counts_in mid))) [] (part_in end decided))
     (shows : view (counts_in end) [] (part_in end decided) ≡ record {
       settled = (view (counts_in mid) [] (part_in mid stores)).settled ++ all_settled (policies_of mid) (view (counts_in mid) [] (part_in mid stores)).waiting;
       waiting = [];
       pending = [];
     })
     (leaves : (n : Counts) (pending left held : List ℕ) → ((key : ℕ) → count key gone + count key left ≡ count key pending)
-    → IsSound n pending held (part end.tenant decided) → IsSound n left held (part end.tenant last))
+    → StoreInvariant n pending held (part end.tenant decided) → StoreInvariant n left held (part end.tenant last))
     (leaves_shown : (n : Counts) (pending left held shown : List ℕ) → ((key : ℕ) → count key gone + count key left ≡ count key pending)
-    → IsSound n pending held (part end.tenant decided) → AreAmong shown left → view n shown (part end.tenant last) ≡ view n shown (part end.tenant decided)) where
+    → StoreInvariant n pending held (part end.tenant decided) → AreAmong shown left → view n shown (part end.tenant last) ≡ view n shown (part end.tenant decided)) where
   abbrev p : Part TraceNote
   p = part_in own stores
 
@@ -266,12 +266,12 @@ module _ (own mid end : Pipeline) (b : batcher.State ℕ) (stores decided last :
       let both = count-append key own.batcher.spans (sampled_keys (policies_of own) p.rows (waiting_numbers (counts_in own))) in
       omega (arith, is, both)
 
-  decided_sound : IsSound counts whole [] (part own.tenant decided)
+  decided_sound : StoreInvariant counts whole [] (part own.tenant decided)
   decided_sound =
-      let settles' : IsSound (counts_in own) own.batcher.spans [] p → IsSound (counts_in end) whole [] (part_in end decided) =
-      subst (λ (x : Pipeline). IsSound (counts_in x) own.batcher.spans [] (part_in x stores)
-      → IsSound (counts_in end) (own.batcher.spans ++ sampled_keys (policies_of x) (part_in x stores).rows (waiting_numbers (counts_in x))) [] (part_in end decided)) sends.same (settles own.batcher.spans) in
-      subst (λ (x : Pipeline). IsSound (counts_in x) whole [] (part_in x decided)) ended_is (settles' held.sound)
+      let settles' : StoreInvariant (counts_in own) own.batcher.spans [] p → StoreInvariant (counts_in end) whole [] (part_in end decided) =
+      subst (λ (x : Pipeline). StoreInvariant (counts_in x) own.batcher.spans [] (part_in x stores)
+      → StoreInvariant (counts_in end) (own.batcher.spans ++ sampled_keys (policies_of x) (part_in x stores).rows (waiting_numbers (counts_in x))) [] (part_in end decided)) sends.same (settles own.batcher.spans) in
+      subst (λ (x : Pipeline). StoreInvariant (counts_in x) whole [] (part_in x decided)) ended_is (settles' held.sound)
 
   decided_shows : view counts [] (part own.tenant decided) ≡ record {
     settled = (view_in own p).settled ++ all_settled (policies_of own) (view_in own p).waiting;
@@ -297,10 +297,10 @@ module _ (own mid end : Pipeline) (b : batcher.State ℕ) (stores decided last :
   pub ends : Closed moment own (record end { drained = true }) p (part_in end last)
   ends =
       let tenant : end.tenant ≡ own.tenant = ap (λ (x : Pipeline). x.tenant) ended_is in
-      let left : IsSound counts [] [] (part own.tenant last) =
-      subst (λ (t : ℕ). IsSound counts whole [] (part t decided) → IsSound counts [] [] (part t last)) tenant (leaves counts whole [] [] all_gone) decided_sound in
+      let left : StoreInvariant counts [] [] (part own.tenant last) =
+      subst (λ (t : ℕ). StoreInvariant counts whole [] (part t decided) → StoreInvariant counts [] [] (part t last)) tenant (leaves counts whole [] [] all_gone) decided_sound in
       let same : view counts [] (part own.tenant last) ≡ view counts [] (part own.tenant decided) =
-      subst (λ (t : ℕ). IsSound counts whole [] (part t decided) → view counts [] (part t last) ≡ view counts [] (part t decided)) tenant
+      subst (λ (t : ℕ). StoreInvariant counts whole [] (part t decided) → view counts [] (part t last) ≡ view counts [] (part t decided)) tenant
       (λ sound. leaves_shown counts whole [] [] [] all_gone sound (λ key. omega arith)) decided_sound in
       let closed = closed_by own mid p (part own.tenant last) moment held first sends (same ∙ decided_shows) left in
       subst (λ (x : Pipeline). Closed moment own (record x { drained = true }) p (part_in x last)) (sym ended_is) closed

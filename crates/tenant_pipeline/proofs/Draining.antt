@@ -21,7 +21,7 @@ use Rattle.trace_rows.specs.declared.table.Row.{Row}
 use Rattle.trace_rows.specs.Part.{keys_of}
 use Rattle.tenant_stores.specs.Part.{Part}
 use Rattle.tenant_stores.specs.Counts.{count, range}
-use Rattle.tenant_stores.specs.Sound.{named_keys}
+use Rattle.tenant_stores.specs.Invariant.{named_keys}
 use Rattle.tenant_stores.specs.View.{WaitingRow, as_waiting, waiting_rows, spans_at, shown}
 use Rattle.tenant_stores.specs.Shows.{row_shown}
 use Rattle.tenant_stores.proofs.Keys.{keys_are_shown}
@@ -38,7 +38,7 @@ use Rattle.tenant_pipeline.specs.declared.pipeline.Pipeline.{Pipeline}
 use Rattle.tenant_pipeline.specs.declared.undo.Undo.{Undo}
 use Rattle.tenant_pipeline.specs.Acts.{at}
 use Rattle.tenant_pipeline.specs.Drains.{SendsRow, SendsRest, SendsAll}
-use Rattle.tenant_pipeline.specs.Held.{IsNoted, IsHeldAt}
+use Rattle.tenant_pipeline.specs.Invariant.{IsNoted, PipelineInvariantAt}
 use Rattle.tenant_pipeline.specs.StateIn.{arrivals_of, counts_in, policies_of, waiting_of, state_of}
 use Rattle.tenant_pipeline.specs.Outbox.{arrivals_at, pending_at, undone, AreThere, HasRoom, Groups, Sends, Took}
 use Rattle.tenant_pipeline.specs.Undo.{before, TakesBack}
@@ -212,7 +212,7 @@ sampled_kept f moment row s false k = omega arith
 settled_kept : (f : Fixed) (moment : ℕ) (row : WaitingData) (rows : List WaitingData) (s : State) (b : Bool) → s.waiting ≡ row ∷ rows → Kept f 0 0 s → Kept f (length row.spans) 0 (settle moment row rows b s)
 settled_kept f moment row rows s b is k = let size : spans_in s.waiting ≡ length row.spans + spans_in rows = ap spans_in is in omega (arith, size)
 
-module _ (own : Pipeline) (p : Part TraceNote) (moment : ℕ) (held : IsHeldAt moment [] [] own p) where
+module _ (own : Pipeline) (p : Part TraceNote) (moment : ℕ) (held : PipelineInvariantAt moment [] [] own p) where
   abbrev s0 : State
   s0 = state_of own p
 

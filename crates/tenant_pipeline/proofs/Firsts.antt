@@ -8,7 +8,7 @@ use Rattle.trace_rows.specs.declared.table.Row.{Row}
 use Rattle.trace_rows.specs.Part.{keys_of}
 use Rattle.tenant_stores.specs.Part.{Part}
 use Rattle.tenant_stores.specs.Counts.{count}
-use Rattle.tenant_stores.specs.Sound.{named_keys}
+use Rattle.tenant_stores.specs.Invariant.{named_keys}
 use Rattle.tenant_stores.specs.Shows.{row_shown}
 use Rattle.tenant_stores.specs.View.{WaitingRow}
 use Rattle.tenant_stores.proofs.Keys.{keys_are_shown}
@@ -19,7 +19,7 @@ use Rattle.tenant_rules.specs.Fate.{WaitingData}
 use Rattle.tenant_rules.specs.Timers.{first_due, is_batch}
 use Rattle.tenant_pipeline.specs.declared.pipeline.Pipeline.{Pipeline}
 use Rattle.tenant_pipeline.specs.StateIn.{counts_in, policies_of, waiting_of, view_in, state_of}
-use Rattle.tenant_pipeline.specs.Held.{IsNoted, IsHeldBy}
+use Rattle.tenant_pipeline.specs.Invariant.{IsNoted, PipelineInvariantBy}
 use Rattle.tenant_pipeline.specs.Outbox.{arrivals_at, AreThere, HasRoom}
 use Rattle.tenant_pipeline.proofs.Spans.{arrival_or, there_is, there-front, there-back}
 use Rattle.tenant_pipeline.proofs.Timing.{noted_some, after_first}
@@ -37,7 +37,7 @@ pub record FirstRow (own : Pipeline) (p : Part TraceNote) (row : Row TraceNote) 
   pub pending : own.ledger.places.pending ≡ length own.batcher.spans
   pub room : HasRoom own
 
-module _ (own : Pipeline) (p : Part TraceNote) (held : IsHeldBy own p) (row : Row TraceNote) (some : own.rows.decided < own.rows.opened) (is : Some row ≡ p.rows (own.rows.decided + 1)) where
+module _ (own : Pipeline) (p : Part TraceNote) (held : PipelineInvariantBy own p) (row : Row TraceNote) (some : own.rows.decided < own.rows.opened) (is : Some row ≡ p.rows (own.rows.decided + 1)) where
   -- keys of pending spans and of the row have their spans
   all_there : AreThere p (own.batcher.spans ++ row.keys)
   all_there = λ key named none.

@@ -6,7 +6,7 @@ use Rattle.drop_ledger.specs.declared.places.Place.TheVariants.{Undecided, Pendi
 use Rattle.send_queue.specs.Sender.{BatchData}
 use Rattle.tail_settings.specs.SendingQueue.{SendingQueueData}
 use Rattle.tail_settings.specs.declared.section.Section.{Section}
-use Rattle.span_batcher.specs.Batches.{IsSound}
+use Rattle.span_batcher.specs.Batches.{AreValidRules}
 use Rattle.span_batcher.specs.State as batcher
 use Rattle.span_batcher.specs.State.{next_due, IsAfter}
 use Rattle.span_batcher.specs.Machine.{PlannedData, cuts, uncut, added}
@@ -73,7 +73,7 @@ module _ (own mid : Pipeline) (p : Part TraceNote) (moment : ℕ) (keys : List �
       let queue = took.room (omega (arith, was, fits)) in
       record { size = omega (arith, size, setting, was); fits = omega (arith, queue, size, was) }
 
-  pub groups_by : IsSound own.batcher.rules → 0 < length keys → IsAfter (next_due own.batcher) moment → own.ledger.places.pending ≡ length own.batcher.spans → HasRoom own →
+  pub groups_by : AreValidRules own.batcher.rules → 0 < length keys → IsAfter (next_due own.batcher) moment → own.ledger.places.pending ≡ length own.batcher.spans → HasRoom own →
       Groups moment keys p own new
   groups_by sound some after counted room = record {
     rules = rules_of_group;

@@ -3,7 +3,7 @@ use Rattle.std.proofs.Common.{◌≡◌, ◌<◌, ◌≤◌, ◌+◌, ◌++◌, 
 use Rattle.std.specs.Prelude.{unwrap_or}
 use Rattle.std.proofs.lemmas.Bool.Decides.{nat_tests}
 use Rattle.std.proofs.lemmas.List.{length-map}
-use Rattle.span_batcher.specs.Batches.{Rules, IsSound, Batch, at_most}
+use Rattle.span_batcher.specs.Batches.{Rules, AreValidRules, Batch, at_most}
 use Rattle.span_batcher.specs.State as batcher
 use Rattle.span_batcher.specs.State.{next_due, due_after, IsAfter}
 use Rattle.span_batcher.specs.Machine.{threshold, some_uncut, cuts, uncut, start_in, start_with, added}
@@ -74,7 +74,7 @@ added_spans m xs b = refl
 
 -- ---- the timer
 
-threshold_some : (r : Rules) → IsSound r → 0 < threshold r
+threshold_some : (r : Rules) → AreValidRules r → 0 < threshold r
 threshold_some r sound = by_test (eqb r.timeout 0)
   where
     by_test : (b : Bool) → 0 < cond b 1 r.size
@@ -97,7 +97,7 @@ at_most_some most count some = by_test (eqb most 0) refl
     by_test false t = let other : 0 < most = grind (arith, nat_tests, t) in omega (arith, some, other)
 
 module _ {X : Type 0} where
-  some_uncut_short : (n : ℕ) (r : Rules) (xs : List X) → IsSound r → length xs ≤ n → length (some_uncut n r xs) < threshold r
+  some_uncut_short : (n : ℕ) (r : Rules) (xs : List X) → AreValidRules r → length xs ≤ n → length (some_uncut n r xs) < threshold r
   some_uncut_short zero r xs sound few = let some = threshold_some r sound in omega (arith, few, some)
   some_uncut_short (suc n) r xs sound few = by_test (leb (threshold r) (length xs)) refl (λ c le. some_uncut_short n r (drop c xs) sound le)
     where
@@ -112,7 +112,7 @@ module _ {X : Type 0} where
       by_test false t ih = grind (arith, nat_tests, t)
 
   -- fewer are left than fill a batch
-  pub uncut_short : (r : Rules) (xs : List X) → IsSound r → length (uncut r xs) < threshold r
+  pub uncut_short : (r : Rules) (xs : List X) → AreValidRules r → length (uncut r xs) < threshold r
   unfolding uncut
   uncut_short r xs sound = some_uncut_short (length xs) r xs sound (omega arith)
 
@@ -126,7 +126,7 @@ module _ {X : Type 0} where
   rest_after r m (x ∷ xs) few = let some = timer_some r (length (x ∷ xs)) (omega arith) few in omega (arith, some)
 
   -- a group leaves no timer that is due
-  pub added_after : (m : ℕ) (xs : List X) (b : batcher.State X) → IsSound b.rules → 0 < length xs → IsAfter (next_due b) m → IsAfter (next_due (added m xs b)) m
+  pub added_after : (m : ℕ) (xs : List X) (b : batcher.State X) → AreValidRules b.rules → 0 < length xs → IsAfter (next_due b) m → IsAfter (next_due (added m xs b)) m
   unfolding added
   added_after m xs b sound some after = by_test (leb (threshold b.rules) (length (b.spans ++ xs))) refl
     where

@@ -5,7 +5,7 @@ use Rattle.std.proofs.lemmas.List.{length-append, take-append-le}
 use Rattle.decision_cache.specs.Caches.{BothData, CachesData, noted_in, shown}
 use Rattle.drop_ledger.specs.declared.places.Place.TheVariants.{Undecided}
 use Rattle.tail_policy.specs.declared.note.TraceNote.{TraceNote}
-use Rattle.tenant_stores.specs.declared.placed.Placed.{Placed}
+use Rattle.tenant_stores.specs.declared.undo.UndoEntry.{UndoEntry}
 use Rattle.tenant_stores.specs.Part.{Part}
 use Rattle.tenant_stores.specs.Trail.{Trail}
 use Rattle.tenant_rules.specs.Arrivals.{Arrival}
@@ -18,7 +18,7 @@ use Rattle.tenant_pipeline.specs.declared.journal.Journal.{Journal}
 use Rattle.tenant_pipeline.specs.declared.pipeline.Pipeline.{Pipeline}
 use Rattle.tenant_pipeline.specs.declared.undo.Undo.{Undo}
 use Rattle.tenant_pipeline.specs.StateIn.{state_of}
-use Rattle.tenant_pipeline.specs.Held.{IsHeldAt}
+use Rattle.tenant_pipeline.specs.Invariant.{PipelineInvariantAt}
 use Rattle.tenant_pipeline.specs.Posts.{Came, IsPosting, IsSameTenant, IsWritten}
 use Rattle.tenant_pipeline.specs.Undo.{TakesBack, hits_undone}
 
@@ -27,7 +27,7 @@ module _ (own : Pipeline) (p : Part TraceNote) (caches : CachesData) where
   abbrev pub cached_own : Pipeline
   cached_own = record own { caches = caches }
 
-  cached_held : (reached : ℕ) (gone held : List ℕ) → IsWithinLimits (state_of cached_own p) → IsHeldAt reached gone held own p → IsHeldAt reached gone held cached_own p
+  cached_held : (reached : ℕ) (gone held : List ℕ) → IsWithinLimits (state_of cached_own p) → PipelineInvariantAt reached gone held own p → PipelineInvariantAt reached gone held cached_own p
   cached_held reached gone held within h =
       let c = h.counted in
       record {
@@ -57,7 +57,7 @@ module _ (own : Pipeline) (p : Part TraceNote) (caches : CachesData) where
     pub shown_is : state_of cached_own p ≡ state_of own p
     shown_is = ap (λ (k : BothData). let t : State = record (state_of own p) { caches = k } in t) same
 
-    pub shown_held : (reached : ℕ) (gone held : List ℕ) → IsHeldAt reached gone held own p → IsHeldAt reached gone held cached_own p
+    pub shown_held : (reached : ℕ) (gone held : List ℕ) → PipelineInvariantAt reached gone held own p → PipelineInvariantAt reached gone held cached_own p
     shown_held reached gone held h = cached_held reached gone held (subst (λ (s : State). IsWithinLimits s) (sym shown_is) h.within) h
 
   -- with an event more
@@ -65,7 +65,7 @@ module _ (own : Pipeline) (p : Part TraceNote) (caches : CachesData) where
     pub noted_is : state_of cached_own p ≡ remembered sampled trace (state_of own p)
     noted_is = ap (λ (k : BothData). let t : State = record (state_of own p) { caches = k } in t) noted
 
-    noted_held : (reached : ℕ) (gone held : List ℕ) → IsHeldAt reached gone held own p → IsHeldAt reached gone held cached_own p
+    noted_held : (reached : ℕ) (gone held : List ℕ) → PipelineInvariantAt reached gone held own p → PipelineInvariantAt reached gone held cached_own p
     noted_held reached gone held h =
         cached_held reached gone held (subst (λ (s : State). IsWithinLimits s) (sym noted_is) (remembered_stay_within sampled trace (state_of own p) h.within)) h
 
@@ -144,7 +144,7 @@ none_written journal own p none back hits =
     let all : take journal.hits own.caches.hits ≡ own.caches.hits = ap (λ (n : ℕ). take n own.caches.hits) hits ∙ take-length own.caches.hits in
     let same : hits_undone journal.hits own ≡ own = ap (λ (hs : List (List ℕ × Bool)). let y : Pipeline = record own { caches = record (own.caches) { hits = hs } } in y) all in
     record {
-      trail = subst (λ (placed : List (Placed TraceNote)). Trail p placed p) (sym none) refl;
+      trail = subst (λ (placed : List (UndoEntry TraceNote)). Trail p placed p) (sym none) refl;
       undo = subst (λ (o : Pipeline). TakesBack journal.undo own o) (sym same) back;
       hits = omega (arith, hits);
     }

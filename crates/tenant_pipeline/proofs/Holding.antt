@@ -12,7 +12,7 @@ use Rattle.tail_policy.specs.declared.note.TraceNote.{TraceNote}
 use Rattle.tail_settings.specs.Section.{section_view}
 use Rattle.tail_settings.specs.declared.section.Section.{Section}
 use Rattle.tenant_stores.specs.Part.{Part}
-use Rattle.tenant_stores.specs.Sound.{IsSound}
+use Rattle.tenant_stores.specs.Invariant.{StoreInvariant}
 use Rattle.tenant_stores.specs.Counts.{one_decided}
 use Rattle.tenant_stores.specs.View.{WaitingRow, View, view}
 use Rattle.tenant_rules.specs.Batching.{rules_of}
@@ -24,11 +24,11 @@ use Rattle.tenant_rules.specs.Timers.{flushed, decide, first_due, next_timer, is
 use Rattle.tenant_pipeline.specs.declared.pipeline.Pipeline.{Pipeline}
 use Rattle.tenant_pipeline.specs.declared.pipeline.RowCounts.{RowCounts}
 use Rattle.tenant_pipeline.specs.StateIn.{waiting_of, counts_in, policies_of, state_of, view_in}
-use Rattle.tenant_pipeline.specs.Held.{IsNoted, IsFrom, IsHeldAt, IsHeldBy}
+use Rattle.tenant_pipeline.specs.Invariant.{IsNoted, IsFrom, PipelineInvariantAt, PipelineInvariantBy}
 use Rattle.tenant_pipeline.proofs.Timing.{after_one, due_by-later, order_from, order_later, timer_later, from_after}
 
 -- all timers before a moment have run
-pub held_later : (own : Pipeline) (p : Part TraceNote) (moment : ℕ) → IsHeldBy own p → own.clock ≤ moment → moment ≤ 2 ^ 62 → is_due (next_timer (state_of own p)) moment ≡ false → IsHeldAt moment [] [] own p
+pub held_later : (own : Pipeline) (p : Part TraceNote) (moment : ℕ) → PipelineInvariantBy own p → own.clock ≤ moment → moment ≤ 2 ^ 62 → is_due (next_timer (state_of own p)) moment ≡ false → PipelineInvariantAt moment [] [] own p
 held_later own p moment held later fits quiet =
     let wait = own.section.tail_sampling.decision_wait in
     record {
@@ -56,14 +56,14 @@ decision_due : (timer : Option ℕ) (due : ℕ) → is_batch timer (Some due) �
 decision_due None due first = grind (arith, nat_tests)
 decision_due (Some batch) due first = grind (arith, nat_tests, first)
 
-module _ (own : Pipeline) (p q : Part TraceNote) (held : IsHeldBy own p) where
+module _ (own : Pipeline) (p q : Part TraceNote) (held : PipelineInvariantBy own p) where
   abbrev s : State
   s = state_of own p
 
   pub flush_held : (due : ℕ) (sender : SenderData) (ledger : LedgerData) → next_due own.batcher ≡ Some due → due ≤ 2 ^ 62 → is_batch (next_due own.batcher) (first_due s.waiting) ≡ true →
-      view (counts_in own) [] q ≡ view (counts_in own) [] p → IsSound (counts_in own) [] [] q →
+      view (counts_in own) [] q ≡ view (counts_in own) [] p → StoreInvariant (counts_in own) [] [] q →
       state_of (record own { batcher = fired own.batcher; sender = sender; ledger = ledger; clock = due }) q ≡ flushed (Some due) s →
-      IsHeldBy (record own { batcher = fired own.batcher; sender = sender; ledger = ledger; clock = due }) q
+      PipelineInvariantBy (record own { batcher = fired own.batcher; sender = sender; ledger = ledger; clock = due }) q
   flush_held due sender ledger due_is fits first shows sound is =
       let new : Pipeline = record own { batcher = fired own.batcher; sender = sender; ledger = ledger; clock = due } in
       let wait = own.section.tail_sampling.decision_wait in
@@ -92,8 +92,8 @@ module _ (own : Pipeline) (p q : Part TraceNote) (held : IsHeldBy own p) where
   pub decide_held : (new : Pipeline) (w : WaitingRow TraceNote) (rest : List (WaitingRow TraceNote)) → (view_in own p).waiting ≡ w ∷ rest →
       is_batch (next_due own.batcher) (first_due s.waiting) ≡ false → w.due ≤ 2 ^ 62 →
       new.section ≡ own.section → new.rows ≡ record own.rows { decided = own.rows.decided + 1 } → new.clock ≡ w.due → new.batcher.rules ≡ own.batcher.rules → IsFrom w.due (next_due new.batcher) →
-      (view_in new q).waiting ≡ rest → IsSound (one_decided (counts_in own)) new.batcher.spans [] q →
-      state_of new q ≡ decide s.waiting s → IsHeldBy new q
+      (view_in new q).waiting ≡ rest → StoreInvariant (one_decided (counts_in own)) new.batcher.spans [] q →
+      state_of new q ≡ decide s.waiting s → PipelineInvariantBy new q
   decide_held new w rest waiting first fits section rows clock rules timer left sound is =
       let wait = own.section.tail_sampling.decision_wait in
       let rows_are : s.waiting ≡ waiting_of w ∷ map waiting_of rest = ap (λ (ws : List (WaitingRow TraceNote)). map waiting_of ws) waiting in
@@ -110,7 +110,7 @@ module _ (own : Pipeline) (p q : Part TraceNote) (held : IsHeldBy own p) where
       let most_is : new.section.tail_sampling.num_traces ≡ own.section.tail_sampling.num_traces = ap (λ (x : Section). x.tail_sampling.num_traces) section in
       let bounds : new.clock + new.section.tail_sampling.decision_wait ≡ w.due + wait = omega (arith, clock, wait_is) in
       record {
-        sound = subst (λ (r : RowCounts). IsSound (record { swept = r.swept; first = r.first; decided = r.decided; opened = r.opened }) new.batcher.spans [] q) (sym rows) sound;
+        sound = subst (λ (r : RowCounts). StoreInvariant (record { swept = r.swept; first = r.first; decided = r.decided; opened = r.opened }) new.batcher.spans [] q) (sym rows) sound;
         first_is = let f : new.rows.first ≡ own.rows.first = ap (λ (r : RowCounts). r.first) rows in let o : new.rows.opened ≡ own.rows.opened = ap (λ (r : RowCounts). r.opened) rows in let h = held.first_is in omega (arith, f, o, h, most_is);
         noted = subst (λ (x : Section). AllByRecursion (IsNoted (section_view x).tail_sampling.policies) (view_in new q).waiting) (sym section) (subst (λ (ws : List (WaitingRow TraceNote)). AllByRecursion (IsNoted (policies_of own)) ws) (sym left) noted.1);
         rules_are = rules ∙ (held.rules_are ∙ sym (ap (λ (x : Section). rules_of (section_view x)) section));

@@ -3,7 +3,7 @@ use Rattle.std.proofs.Common.{◌≡◌, ◌<◌, ◌≤◌, ◌+◌, ◌++◌, 
 use Rattle.std.specs.List.{AllByRecursion}
 use Rattle.drop_ledger.specs.Ledger.{counted, most_counted, taken}
 use Rattle.span_pool.specs.Stored.{StoredData, SpanTexts, origin_at, texts_of}
-use Rattle.text_pool.specs.declared.pool.Kept.{Kept}
+use Rattle.text_pool.specs.declared.pool.CountedText.{CountedText}
 use Rattle.span_pool.specs.declared.keys.TextKeys.{TextKeys}
 use Rattle.tail_policy.specs.declared.note.TraceNote.{TraceNote}
 use Rattle.tail_policy.specs.Note.{note_of}
@@ -13,7 +13,7 @@ use Rattle.tenant_stores.specs.Changes.{Joins}
 use Rattle.tenant_stores.specs.Counts.{Counts}
 use Rattle.tenant_stores.specs.Part.{Part}
 use Rattle.tenant_stores.specs.Shows.{AreAmong, ShowsWaiting, row_in, row_shown, joined_rows, with_joined}
-use Rattle.tenant_stores.specs.Sound.{IsSound}
+use Rattle.tenant_stores.specs.Invariant.{StoreInvariant}
 use Rattle.tenant_stores.specs.View.{View, text_at, text_keys, view}
 use Rattle.tenant_stores.proofs.Seats.{seat_shows}
 use Rattle.tenant_rules.specs.Arrivals.{Arrival, trace_of}
@@ -26,18 +26,18 @@ use Rattle.tenant_pipeline.specs.declared.journal.Journal.{Journal}
 use Rattle.otlp_prepare.specs.declared.noted.NotedSpan.{NotedSpan}
 use Rattle.tenant_pipeline.specs.declared.undo.Undo.{Undo}
 use Rattle.tenant_pipeline.specs.StateIn.{arrival_of, waiting_of, counts_in, policies_of, state_by, state_of, view_in}
-use Rattle.tenant_pipeline.specs.Held.{IsNoted, IsHeldAt}
+use Rattle.tenant_pipeline.specs.Invariant.{IsNoted, PipelineInvariantAt}
 use Rattle.tenant_pipeline.specs.Posts.{arrival_at, Came, IsComing, IsPosting}
 use Rattle.tenant_pipeline.proofs.Counting.{HasOne, fits_same, joined_order, joined_due_by, joins_fit}
 use Rattle.tenant_pipeline.proofs.Placing.{IsReady, among_pending}
-use Rattle.tenant_pipeline.proofs.Seating.{has_row_is, joined_is, joined_noted}
+use Rattle.tenant_pipeline.proofs.TraceStates.{has_row_is, joined_is, joined_noted}
 
 module _ (own : Pipeline) (p mid q : Part TraceNote) (moment : ℕ) (journal : Journal) (keys : TextKeys) (span : NotedSpan) (held : List ℕ) (coming : IsComing moment journal keys span held own p)
     (kept_span : StoredData) (ready : IsReady own p mid journal keys span.text kept_span) (number key : ℕ) (note : TraceNote) (row : Row TraceNote)
-    (seat : p.seats span.trace ≡ Some number) (above : own.rows.decided < number) (there : p.rows number ≡ Some row) (note_is : note ≡ notes.joined row.note span.note)
+    (its_state : p.latest_rows span.trace ≡ Some number) (above : own.rows.decided < number) (there : p.rows number ≡ Some row) (note_is : note ≡ notes.joined row.note span.note)
     (change : Joins number key kept_span note mid q)
-    (sound_q : (n : Counts) (pending others : List ℕ) → n.decided < number → number ≤ n.opened → IsSound n pending (text_keys kept_span.keys ++ others) mid → IsSound n pending others q)
-    (shows_q : (n : Counts) (pending others shown trace : List ℕ) → IsSound n pending others mid → AreAmong shown pending → mid.seats trace ≡ Some number → n.decided < number →
+    (sound_q : (n : Counts) (pending others : List ℕ) → n.decided < number → number ≤ n.opened → StoreInvariant n pending (text_keys kept_span.keys ++ others) mid → StoreInvariant n pending others q)
+    (shows_q : (n : Counts) (pending others shown trace : List ℕ) → StoreInvariant n pending others mid → AreAmong shown pending → mid.latest_rows trace ≡ Some number → n.decided < number →
     view n shown q ≡ with_joined trace (texts_of (text_at mid.texts) kept_span) note (view n shown mid))
     (fits : counted own.ledger + 1 ≤ most_counted) (budget : own.ledger.places.undecided + own.ledger.places.pending < own.section.max_spans) where
   abbrev new : Pipeline
@@ -59,13 +59,13 @@ module _ (own : Pipeline) (p mid q : Part TraceNote) (moment : ℕ) (journal : J
   pend = journal.undo.gone.items ++ own.batcher.spans
 
   seated : ShowsWaiting (counts_in own) span.trace number p
-  seated = (seat_shows (counts_in own) pend held p span.trace coming.posting.holds.sound).waits number seat above
+  seated = (seat_shows (counts_in own) pend held p span.trace coming.posting.holds.sound).waits number its_state above
 
   shown_q : view (counts_in own) own.batcher.spans q ≡ with_joined span.trace st note v
   shown_q =
       let holds = ready.holds in
       let sound = ready.sound held coming.posting.holds.sound in
-      let seat' : mid.seats span.trace ≡ Some number = ap (λ (f : List ℕ → Option ℕ). f span.trace) holds.seats ∙ seat in
+      let seat' : mid.latest_rows span.trace ≡ Some number = ap (λ (f : List ℕ → Option ℕ). f span.trace) holds.latest_rows ∙ its_state in
       shows_q (counts_in own) pend (text_keys kept_span.keys ++ held) own.batcher.spans span.trace sound (among_pending own journal) seat' above
       ∙ ap (with_joined span.trace st note) ready.shown
 
@@ -99,7 +99,7 @@ module _ (own : Pipeline) (p mid q : Part TraceNote) (moment : ℕ) (journal : J
       let sound = ready.sound other h.sound in
       let one : HasOne s = record { budget = budget; few = fits } in
       let all = fits_same (joins x (counted_in s)) (state_of new q) state_is (joins_fit x s has one (record { counted = h.counted; within = h.within })) in
-      let holds : IsHeldAt moment journal.undo.gone.items other new q = record {
+      let holds : PipelineInvariantAt moment journal.undo.gone.items other new q = record {
         sound = sound_q (counts_in own) pend other above seated.opened sound;
         first_is = h.first_is;
         noted = subst (λ (w : View TraceNote). AllByRecursion (IsNoted (policies_of own)) w.waiting) (sym shown_q) (joined_noted (policies_of own) span.trace st note (row_shown p row) noted_by v.waiting found h.noted);
@@ -114,7 +114,7 @@ module _ (own : Pipeline) (p mid q : Part TraceNote) (moment : ℕ) (journal : J
         reached_fits = h.reached_fits;
       } in
       record {
-        holds = subst (λ (u : Undo). IsHeldAt moment u.gone.items other new q) (sym undo_is) holds;
+        holds = subst (λ (u : Undo). PipelineInvariantAt moment u.gone.items other new q) (sym undo_is) holds;
         quiet = posting.quiet;
         offers = let same = ap (λ (u : Undo). u.offers) undo_is in let few = posting.offers in omega (arith, same, few);
       }
@@ -123,6 +123,6 @@ module _ (own : Pipeline) (p mid q : Part TraceNote) (moment : ℕ) (journal : J
   join_came journal' undo_is = record {
     rules = state_is;
     posting = held_then journal' undo_is;
-    texts = λ other posting ks among. ap (λ (f : ℕ → Option Kept). origin_at (text_at f) ks) change.texts ∙ ready.origin other posting.holds.sound ks among;
+    texts = λ other posting ks among. ap (λ (f : ℕ → Option CountedText). origin_at (text_at f) ks) change.texts ∙ ready.origin other posting.holds.sound ks among;
     counted_by = omega arith;
   }

@@ -9,13 +9,13 @@ use Rattle.span_batcher.specs.State.{next_due}
 use Rattle.span_pool.specs.Stored.{StoredData, SpanTexts, origin_at, texts_of}
 use Rattle.span_pool.specs.Pool.{with_span}
 use Rattle.span_pool.specs.declared.keys.TextKeys.{TextKeys}
-use Rattle.text_pool.specs.declared.pool.Kept.{Kept}
+use Rattle.text_pool.specs.declared.pool.CountedText.{CountedText}
 use Rattle.tail_policy.specs.declared.note.TraceNote.{TraceNote}
 use Rattle.tenant_stores.specs.Changes.{Waits}
 use Rattle.tenant_stores.specs.Counts.{Counts, count, in_table}
 use Rattle.tenant_stores.specs.Part.{Part}
 use Rattle.tenant_stores.specs.Shows.{AreAmong, with_late}
-use Rattle.tenant_stores.specs.Sound.{IsSound, one}
+use Rattle.tenant_stores.specs.Invariant.{StoreInvariant, one}
 use Rattle.tenant_stores.specs.View.{WaitingRow, View, keys_in, spans_at, text_at, text_keys, view}
 use Rattle.tenant_stores.proofs.Keys.{keys_are_shown}
 use Rattle.tenant_stores.proofs.Lists.{count-append}
@@ -29,7 +29,7 @@ use Rattle.tenant_pipeline.specs.declared.pipeline.Pipeline.{Pipeline}
 use Rattle.tenant_pipeline.specs.declared.journal.Journal.{Journal}
 use Rattle.tenant_pipeline.specs.declared.undo.Undo.{Undo}
 use Rattle.tenant_pipeline.specs.StateIn.{arrivals_of, settled_of, waiting_of, counts_in, policies_of, pending_with, state_of, view_in}
-use Rattle.tenant_pipeline.specs.Held.{IsNoted, IsHeldAt}
+use Rattle.tenant_pipeline.specs.Invariant.{IsNoted, PipelineInvariantAt}
 use Rattle.tenant_pipeline.specs.Outbox.{arrivals_at, AreThere, Groups, pending_at, undone}
 use Rattle.tenant_pipeline.specs.Posts.{arrival_at, Came, IsPosting}
 use Rattle.tenant_pipeline.specs.Undo.{before, TakesBack}
@@ -45,8 +45,8 @@ use Rattle.tenant_pipeline.proofs.Timing.{from_after}
 -- it lies in the stores, and nothing has left yet
 module _ (own : Pipeline) (p mid q : Part TraceNote) (moment : ℕ) (journal : Journal) (keys : TextKeys) (text held : List ℕ) (posting : IsPosting moment journal held own p)
     (span : StoredData) (ready : IsReady own p mid journal keys text span) (key : ℕ) (change : Waits key span mid q)
-    (sound_q : (n : Counts) (pending others : List ℕ) → IsSound n pending (text_keys span.keys ++ others) mid → IsSound n (pending ++ key ∷ []) others q)
-    (shows_q : (n : Counts) (pending others shown : List ℕ) → IsSound n pending others mid → AreAmong shown pending →
+    (sound_q : (n : Counts) (pending others : List ℕ) → StoreInvariant n pending (text_keys span.keys ++ others) mid → StoreInvariant n (pending ++ key ∷ []) others q)
+    (shows_q : (n : Counts) (pending others shown : List ℕ) → StoreInvariant n pending others mid → AreAmong shown pending →
     view n (shown ++ key ∷ []) q ≡ with_late (texts_of (text_at mid.texts) span) (view n shown mid))
     (fits : counted own.ledger + 1 ≤ most_counted) (budget : own.ledger.places.undecided + own.ledger.places.pending < own.section.max_spans) where
   abbrev n : Counts
@@ -71,10 +71,10 @@ module _ (own : Pipeline) (p mid q : Part TraceNote) (moment : ℕ) (journal : J
   abbrev pub counted_own : Pipeline
   counted_own = record own { ledger = taken 1 own.ledger }
 
-  sound_mid : IsSound n pend (text_keys span.keys ++ held) mid
+  sound_mid : StoreInvariant n pend (text_keys span.keys ++ held) mid
   sound_mid = ready.sound held posting.holds.sound
 
-  sound_late : IsSound n (pend ++ key ∷ []) held q
+  sound_late : StoreInvariant n (pend ++ key ∷ []) held q
   sound_late = sound_q n pend held sound_mid
 
   -- spans that wait and the late one have their spans
@@ -99,7 +99,7 @@ module _ (own : Pipeline) (p mid q : Part TraceNote) (moment : ℕ) (journal : J
   same_spans : spans_at q.spans q.texts own.batcher.spans ≡ spans_at p.spans p.texts own.batcher.spans
   same_spans =
       ap (λ (f : ℕ → Option StoredData). spans_at f q.texts own.batcher.spans) change.spans
-      ∙ (ap (λ (f : ℕ → Option Kept). spans_at (with_span key (Some span) mid.spans) f own.batcher.spans) change.texts
+      ∙ (ap (λ (f : ℕ → Option CountedText). spans_at (with_span key (Some span) mid.spans) f own.batcher.spans) change.texts
       ∙ (spans-alike mid.spans mid.texts (with_span key (Some span) mid.spans) mid.texts own.batcher.spans (alike-put key (Some span) mid.spans mid.texts own.batcher.spans none_waits)
       ∙ ap (λ (v : View TraceNote). v.pending) ready.shown))
 
@@ -148,7 +148,7 @@ module _ (own : Pipeline) (p mid q : Part TraceNote) (moment : ℕ) (journal : J
     kept_then : KeptCounts (more_of 1 (fixed_of s)) 0 0 (state_of new_own q)
     kept_then = subst (λ (t : State). KeptCounts (more_of 1 (fixed_of s)) 0 0 t) (sym state_is) (late_kept moment x s one_more (record { counted = posting.holds.counted; within = posting.holds.within }))
 
-    held_then : (other : List ℕ) → IsPosting moment journal other own p → IsHeldAt moment journal'.undo.gone.items other new_own q
+    held_then : (other : List ℕ) → IsPosting moment journal other own p → PipelineInvariantAt moment journal'.undo.gone.items other new_own q
     held_then other again =
         let h = again.holds in
         let wait = own.section.tail_sampling.decision_wait in
@@ -182,7 +182,7 @@ module _ (own : Pipeline) (p mid q : Part TraceNote) (moment : ℕ) (journal : J
         let start : Pipeline = record own { rows = u.rows; ledger = ledger_of u.counters; batcher = before u.former own.batcher; sender = undone u.offers own.sender } in
         let taken_back = back start (record { rows = refl; ledger = refl; batcher = refl; sender = refl; offers = again.offers; same = refl }) in
         record {
-          holds = subst (λ (o : Pipeline). IsHeldAt moment journal'.undo.gone.items other o q) (sym groups.same) (held_then other again);
+          holds = subst (λ (o : Pipeline). PipelineInvariantAt moment journal'.undo.gone.items other o q) (sym groups.same) (held_then other again);
           quiet = groups.timer;
           offers = taken_back.offers;
         }
@@ -191,7 +191,7 @@ module _ (own : Pipeline) (p mid q : Part TraceNote) (moment : ℕ) (journal : J
     late_came = record {
       rules = subst (λ (o : Pipeline). state_of o q ≡ grouped Undecided moment (x ∷ []) (counted_in s)) (sym groups.same) state_is;
       posting = posting_then;
-      texts = λ other again ks among. ap (λ (f : ℕ → Option Kept). origin_at (text_at f) ks) change.texts ∙ ready.origin other again.holds.sound ks among;
+      texts = λ other again ks among. ap (λ (f : ℕ → Option CountedText). origin_at (text_at f) ks) change.texts ∙ ready.origin other again.holds.sound ks among;
       counted_by = let k = kept_then in omega arith;
     }
 
@@ -210,7 +210,7 @@ module _ (own : Pipeline) (p : Part TraceNote) (moment : ℕ) (fits : counted ow
         posting = λ other posting.
             let h = posting.holds in
             let all = lost_fits s (record { budget = budget; few = fits }) (record { counted = h.counted; within = h.within }) in
-            let holds : IsHeldAt moment journal.undo.gone.items other lost_own p = record {
+            let holds : PipelineInvariantAt moment journal.undo.gone.items other lost_own p = record {
               sound = h.sound;
               first_is = h.first_is;
               noted = h.noted;
@@ -225,7 +225,7 @@ module _ (own : Pipeline) (p : Part TraceNote) (moment : ℕ) (fits : counted ow
               reached_fits = h.reached_fits;
             } in
             let moved_posting : IsPosting moment journal' other lost_own p = record {
-              holds = subst (λ (u : Undo). IsHeldAt moment u.gone.items other lost_own p) (sym undo_is) holds;
+              holds = subst (λ (u : Undo). PipelineInvariantAt moment u.gone.items other lost_own p) (sym undo_is) holds;
               quiet = posting.quiet;
               offers = let same = ap (λ (u : Undo). u.offers) undo_is in let few = posting.offers in omega (arith, same, few);
             } in
@@ -241,7 +241,7 @@ none_came own p moment journal journal' undo_is = record {
   rules = refl;
   posting = λ other posting.
       let moved_posting : IsPosting moment journal' other own p = record {
-        holds = subst (λ (u : Undo). IsHeldAt moment u.gone.items other own p) (sym undo_is) posting.holds;
+        holds = subst (λ (u : Undo). PipelineInvariantAt moment u.gone.items other own p) (sym undo_is) posting.holds;
         quiet = posting.quiet;
         offers = let same = ap (λ (u : Undo). u.offers) undo_is in let few = posting.offers in omega (arith, same, few);
       } in

@@ -18,7 +18,7 @@ pub mod Acting
 pub mod Beginning
 pub mod Replies
 pub mod Counting
-pub mod Seating
+pub mod TraceStates
 pub mod Placing
 pub mod Joins
 pub mod Opens

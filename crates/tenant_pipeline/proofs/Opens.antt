@@ -8,7 +8,7 @@ use Rattle.drop_ledger.specs.Ledger.{LedgerData, counted, most_counted, moved, t
 use Rattle.drop_ledger.specs.declared.places.Place.TheVariants.{Undecided, TooEarly}
 use Rattle.span_pool.specs.Stored.{StoredData, SpanTexts, origin_at, texts_of}
 use Rattle.span_pool.specs.declared.keys.TextKeys.{TextKeys}
-use Rattle.text_pool.specs.declared.pool.Kept.{Kept}
+use Rattle.text_pool.specs.declared.pool.CountedText.{CountedText}
 use Rattle.tail_policy.specs.declared.note.TraceNote.{TraceNote}
 use Rattle.tail_policy.specs.Note.{note_of}
 use Rattle.tail_settings.specs.Policy.{PolicyData}
@@ -18,7 +18,7 @@ use Rattle.tenant_stores.specs.Changes.{Opens}
 use Rattle.tenant_stores.specs.Counts.{Counts, one_opened, room_made}
 use Rattle.tenant_stores.specs.Part.{Part}
 use Rattle.tenant_stores.specs.Shows.{AreAmong, RoomShows, but_first, evicted_by, row_shown, settled_in, span_at, waiting_in, with_opened, with_room}
-use Rattle.tenant_stores.specs.Sound.{IsSound, named_keys}
+use Rattle.tenant_stores.specs.Invariant.{StoreInvariant, named_keys}
 use Rattle.tenant_stores.specs.View.{SettledRow, WaitingRow, View, text_at, text_keys, view}
 use Rattle.tenant_stores.proofs.Keys.{keys_are_shown}
 use Rattle.tenant_stores.proofs.Rooms.{first_is_shown, lengths_are, room_is_made}
@@ -34,7 +34,7 @@ use Rattle.tenant_pipeline.specs.declared.journal.Journal.{Journal}
 use Rattle.otlp_prepare.specs.declared.noted.NotedSpan.{NotedSpan}
 use Rattle.tenant_pipeline.specs.declared.undo.Undo.{Undo}
 use Rattle.tenant_pipeline.specs.StateIn.{arrival_of, arrivals_of, settled_of, waiting_of, counts_in, policies_of, state_by, state_of}
-use Rattle.tenant_pipeline.specs.Held.{IsNoted, IsHeldAt}
+use Rattle.tenant_pipeline.specs.Invariant.{IsNoted, PipelineInvariantAt}
 use Rattle.tenant_pipeline.specs.Posts.{arrival_at, Came, IsComing, IsPosting}
 use Rattle.tenant_pipeline.proofs.Counting.{HasOne, fits_same, opens_fit, opens_in_time}
 use Rattle.tenant_pipeline.proofs.Placing.{IsReady, among_pending}
@@ -98,7 +98,7 @@ module _ (own : Pipeline) (mid : Part TraceNote) where
       ∙ (ap (λ (r : RowCounts). let y : Pipeline = record own { rows = r; ledger = left } in y) rows_are
       ∙ ap (λ (l : LedgerData). let y : Pipeline = record own { rows = record own.rows { first = first_left; decided = max own.rows.decided first_left; opened = own.rows.opened + 1 }; ledger = l } in y) (left_is ∙ ap (taken 1) ledger_is))
 
-module _ (own : Pipeline) (mid : Part TraceNote) (pending others : List ℕ) (sound : IsSound (counts_in own) pending others mid) (some : 0 < own.section.tail_sampling.num_traces)
+module _ (own : Pipeline) (mid : Part TraceNote) (pending others : List ℕ) (sound : StoreInvariant (counts_in own) pending others mid) (some : 0 < own.section.tail_sampling.num_traces)
     (first_is : own.rows.first ≡ own.rows.opened - own.section.tail_sampling.num_traces) (undecided : own.ledger.places.undecided ≡ spans_in (map waiting_of (waiting_in (counts_in own) mid))) where
   abbrev most : ℕ
   most = own.section.tail_sampling.num_traces
@@ -227,8 +227,8 @@ module _ (own : Pipeline) (p mid q : Part TraceNote) (moment : ℕ) (journal : J
     (kept_span : StoredData) (ready : IsReady own p mid journal keys span.text kept_span) (number key due : ℕ)
     (number_is : number ≡ own.rows.opened + 1) (due_is : due ≡ moment + own.section.tail_sampling.decision_wait)
     (change : Opens number key due span.trace kept_span span.note mid q)
-    (sound_q : (n : Counts) (pending others : List ℕ) → number ≡ n.opened + 1 → IsSound n pending (text_keys kept_span.keys ++ others) mid → IsSound (one_opened n) pending others q)
-    (shows_q : (n : Counts) (pending others shown : List ℕ) → number ≡ n.opened + 1 → IsSound n pending others mid → AreAmong shown pending →
+    (sound_q : (n : Counts) (pending others : List ℕ) → number ≡ n.opened + 1 → StoreInvariant n pending (text_keys kept_span.keys ++ others) mid → StoreInvariant (one_opened n) pending others q)
+    (shows_q : (n : Counts) (pending others shown : List ℕ) → number ≡ n.opened + 1 → StoreInvariant n pending others mid → AreAmong shown pending →
     view (one_opened n) shown q ≡ with_opened span.trace due (texts_of (text_at mid.texts) kept_span) span.note (view n shown mid))
     (fits : counted own.ledger + 1 ≤ most_counted) (budget : own.ledger.places.undecided + own.ledger.places.pending < own.section.max_spans) where
   abbrev s : State
@@ -264,7 +264,7 @@ module _ (own : Pipeline) (p mid q : Part TraceNote) (moment : ℕ) (journal : J
   abbrev v : View TraceNote
   v = view (counts_in own) own.batcher.spans mid
 
-  sound_mid : IsSound (counts_in own) pend (text_keys kept_span.keys ++ held) mid
+  sound_mid : StoreInvariant (counts_in own) pend (text_keys kept_span.keys ++ held) mid
   sound_mid = ready.sound held coming.posting.holds.sound
 
   undecided_is : own.ledger.places.undecided ≡ spans_in (map waiting_of (waiting_in (counts_in own) mid))
@@ -314,7 +314,7 @@ module _ (own : Pipeline) (p mid q : Part TraceNote) (moment : ℕ) (journal : J
       let noted_mid : AllByRecursion (IsNoted (policies_of own)) v.waiting = subst (λ (w : View TraceNote). AllByRecursion (IsNoted (policies_of own)) w.waiting) (sym ready.shown) h.noted in
       let rest = with_room_noted (policies_of own) (nat_lt own.rows.opened num) v noted_mid in
       let opened : WaitingRow TraceNote = record { trace = span.trace; due = moment + wait; spans = st ∷ []; note = span.note } in
-      let holds : IsHeldAt moment journal.undo.gone.items other new q = record {
+      let holds : PipelineInvariantAt moment journal.undo.gone.items other new q = record {
         sound = sound_q (room_made num (counts_in own)) pend other number_is (room.sound pend (text_keys kept_span.keys ++ other) sound);
         first_is = refl;
         noted = subst (λ (w : View TraceNote). AllByRecursion (IsNoted (policies_of own)) w.waiting) (sym shown_q) (all_more (policies_of own) (with_room num own.rows.opened v).waiting opened rest noted_new);
@@ -329,7 +329,7 @@ module _ (own : Pipeline) (p mid q : Part TraceNote) (moment : ℕ) (journal : J
         reached_fits = h.reached_fits;
       } in
       record {
-        holds = subst (λ (u : Undo). IsHeldAt moment u.gone.items other new q) (sym undo_is) holds;
+        holds = subst (λ (u : Undo). PipelineInvariantAt moment u.gone.items other new q) (sym undo_is) holds;
         quiet = posting.quiet;
         offers = let same = ap (λ (u : Undo). u.offers) undo_is in let few = posting.offers in omega (arith, same, few);
       }
@@ -352,6 +352,6 @@ module _ (own : Pipeline) (p mid q : Part TraceNote) (moment : ℕ) (journal : J
   open_came journal' undo_is = record {
     rules = state_is;
     posting = held_then journal' undo_is;
-    texts = λ other posting ks among. ap (λ (f : ℕ → Option Kept). origin_at (text_at f) ks) change.texts ∙ ready.origin other posting.holds.sound ks among;
+    texts = λ other posting ks among. ap (λ (f : ℕ → Option CountedText). origin_at (text_at f) ks) change.texts ∙ ready.origin other posting.holds.sound ks among;
     counted_by = counted_then;
   }

@@ -10,7 +10,7 @@ use Rattle.tenant_stores.specs.Changes.{all_released, ReleasesAll}
 use Rattle.tenant_stores.specs.Counts.{Counts, count}
 use Rattle.tenant_stores.specs.Part.{Part}
 use Rattle.tenant_stores.specs.Shows.{AreAmong}
-use Rattle.tenant_stores.specs.Sound.{IsSound}
+use Rattle.tenant_stores.specs.Invariant.{StoreInvariant}
 use Rattle.tenant_stores.specs.Trail.{HoldsAll}
 use Rattle.tenant_stores.specs.View.{text_at, text_keys, view}
 use Rattle.tenant_stores.proofs.Held.{four_parts}
@@ -18,7 +18,7 @@ use Rattle.tenant_stores.proofs.Lists.{count-append, count-self}
 use Rattle.tenant_stores.proofs.Parts.{all_released-append, part_by}
 use Rattle.otlp_prepare.specs.Arrivals.{origin_view}
 use Rattle.otlp_prepare.specs.Arrivals as prepared
-use Rattle.otlp_prepare.specs.declared.noted.Origin.{Origin}
+use Rattle.otlp_prepare.specs.declared.noted.SpanOrigin.{SpanOrigin}
 use Rattle.tenant_pipeline.specs.Posts.{all_text_keys, keys_at}
 
 -- ---- keys
@@ -65,19 +65,19 @@ origins_stay f g (keys ∷ all) same =
 -- ---- all origins are held, one after the other
 
 -- those of the first origins are held, at these keys
-pub record AreHeld (origins : List Origin) (index : ℕ) (all : List TextKeys) (start p : Part TraceNote) : Type 0 where
-  pub own : (n : Counts) (pending held : List ℕ) → IsSound n pending held start → HoldsAll (all_text_keys all) start p
-  pub sound : (n : Counts) (pending held : List ℕ) → IsSound n pending held start → IsSound n pending (all_text_keys all ++ held) p
-  pub texts : (n : Counts) (pending held : List ℕ) → IsSound n pending held start → map (origin_at (text_at p.texts)) all ++ map origin_view (drop index origins) ≡ map origin_view origins
-  pub shows : (n : Counts) (pending held shown : List ℕ) → IsSound n pending held start → AreAmong shown pending → view n shown p ≡ view n shown start
+pub record AreHeld (origins : List SpanOrigin) (index : ℕ) (all : List TextKeys) (start p : Part TraceNote) : Type 0 where
+  pub own : (n : Counts) (pending held : List ℕ) → StoreInvariant n pending held start → HoldsAll (all_text_keys all) start p
+  pub sound : (n : Counts) (pending held : List ℕ) → StoreInvariant n pending held start → StoreInvariant n pending (all_text_keys all ++ held) p
+  pub texts : (n : Counts) (pending held : List ℕ) → StoreInvariant n pending held start → map (origin_at (text_at p.texts)) all ++ map origin_view (drop index origins) ≡ map origin_view origins
+  pub shows : (n : Counts) (pending held shown : List ℕ) → StoreInvariant n pending held start → AreAmong shown pending → view n shown p ≡ view n shown start
 
-module _ (origins : List Origin) (index : ℕ) (all : List TextKeys) (keys : TextKeys) (start p q : Part TraceNote) (front : AreHeld origins index all start p)
-    (own : (n : Counts) (pending held : List ℕ) → IsSound n pending held p → HoldsAll (text_keys keys) p q)
-    (is_sound : (n : Counts) (pending held : List ℕ) → IsSound n pending held p → IsSound n pending (text_keys keys ++ held) q)
-    (shows : (n : Counts) (pending held shown : List ℕ) → IsSound n pending held p → AreAmong shown pending → view n shown q ≡ view n shown p)
-    (stay : (n : Counts) (pending held : List ℕ) → IsSound n pending held p → (key : ℕ) → 0 < count key held → text_at q.texts key ≡ text_at p.texts key)
+module _ (origins : List SpanOrigin) (index : ℕ) (all : List TextKeys) (keys : TextKeys) (start p q : Part TraceNote) (front : AreHeld origins index all start p)
+    (own : (n : Counts) (pending held : List ℕ) → StoreInvariant n pending held p → HoldsAll (text_keys keys) p q)
+    (is_sound : (n : Counts) (pending held : List ℕ) → StoreInvariant n pending held p → StoreInvariant n pending (text_keys keys ++ held) q)
+    (shows : (n : Counts) (pending held shown : List ℕ) → StoreInvariant n pending held p → AreAmong shown pending → view n shown q ≡ view n shown p)
+    (stay : (n : Counts) (pending held : List ℕ) → StoreInvariant n pending held p → (key : ℕ) → 0 < count key held → text_at q.texts key ≡ text_at p.texts key)
   where
-    more_own : (n : Counts) (pending held : List ℕ) → IsSound n pending held start → HoldsAll (all_text_keys (all ++ keys ∷ [])) start q
+    more_own : (n : Counts) (pending held : List ℕ) → StoreInvariant n pending held start → HoldsAll (all_text_keys (all ++ keys ∷ [])) start q
     more_own n pending held sound =
         let first = front.own n pending held sound in
         let last = own n pending (all_text_keys all ++ held) (front.sound n pending held sound) in
@@ -85,32 +85,32 @@ module _ (origins : List Origin) (index : ℕ) (all : List TextKeys) (keys : Tex
           spans = last.spans ∙ first.spans;
           texts = all_released-append (text_keys keys) (all_text_keys all) q.texts ∙ (ap (all_released (all_text_keys all)) last.texts ∙ first.texts);
           rows = last.rows ∙ first.rows;
-          seats = last.seats ∙ first.seats;
+          latest_rows = last.latest_rows ∙ first.latest_rows;
         })
 
-    more_sound : (n : Counts) (pending held : List ℕ) → IsSound n pending held start → IsSound n pending (all_text_keys (all ++ keys ∷ []) ++ held) q
+    more_sound : (n : Counts) (pending held : List ℕ) → StoreInvariant n pending held start → StoreInvariant n pending (all_text_keys (all ++ keys ∷ []) ++ held) q
     more_sound n pending held sound =
-        subst (λ (ks : List ℕ). IsSound n pending ks q) (sym (keys-push_held all keys held)) (is_sound n pending (all_text_keys all ++ held) (front.sound n pending held sound))
+        subst (λ (ks : List ℕ). StoreInvariant n pending ks q) (sym (keys-push_held all keys held)) (is_sound n pending (all_text_keys all ++ held) (front.sound n pending held sound))
 
-    more_texts : (origin : Origin) → origin ≡ get_or origins index origin → index < length origins →
-        ((n : Counts) (pending held : List ℕ) → IsSound n pending held p → origin_at (text_at q.texts) keys ≡ origin_view origin) →
-        (n : Counts) (pending held : List ℕ) → IsSound n pending held start → map (origin_at (text_at q.texts)) (all ++ keys ∷ []) ++ map origin_view (drop (index + 1) origins) ≡ map origin_view origins
+    more_texts : (origin : SpanOrigin) → origin ≡ get_or origins index origin → index < length origins →
+        ((n : Counts) (pending held : List ℕ) → StoreInvariant n pending held p → origin_at (text_at q.texts) keys ≡ origin_view origin) →
+        (n : Counts) (pending held : List ℕ) → StoreInvariant n pending held start → map (origin_at (text_at q.texts)) (all ++ keys ∷ []) ++ map origin_view (drop (index + 1) origins) ≡ map origin_view origins
     more_texts origin item within text n pending held sound =
         let behind = all_text_keys all ++ held in
         let reached = front.sound n pending held sound in
         let stays = origins_stay (text_at p.texts) (text_at q.texts) all (λ t some. stay n pending behind reached t (let both = count-append t (all_text_keys all) held in omega (arith, both, some))) in
         let here = text n pending behind reached in
         let rest = map origin_view (drop (index + 1) origins) in
-        let next : drop index origins ≡ origin ∷ drop (index + 1) origins = drop_more origins index origin within ∙ ap (λ (x : Origin). x ∷ drop (index + 1) origins) (sym item) in
+        let next : drop index origins ≡ origin ∷ drop (index + 1) origins = drop_more origins index origin within ∙ ap (λ (x : SpanOrigin). x ∷ drop (index + 1) origins) (sym item) in
         ap (λ (xs : List OriginData). xs ++ rest) (map-append (origin_at (text_at q.texts)) all (keys ∷ []))
         ∙ (append_assoc (map (origin_at (text_at q.texts)) all) (origin_at (text_at q.texts) keys ∷ []) rest
         ∙ (ap (λ (xs : List OriginData). xs ++ (origin_at (text_at q.texts) keys ∷ rest)) stays
         ∙ (ap (λ (x : OriginData). map (origin_at (text_at p.texts)) all ++ (x ∷ rest)) here
-        ∙ (ap (λ (xs : List Origin). map (origin_at (text_at p.texts)) all ++ map origin_view xs) (sym next)
+        ∙ (ap (λ (xs : List SpanOrigin). map (origin_at (text_at p.texts)) all ++ map origin_view xs) (sym next)
         ∙ front.texts n pending held sound))))
 
-    pub one_more_held : (origin : Origin) (all' : List TextKeys) → origin ≡ get_or origins index origin → all' ≡ all ++ keys ∷ [] → index < length origins →
-        ((n : Counts) (pending held : List ℕ) → IsSound n pending held p → origin_at (text_at q.texts) keys ≡ origin_view origin) →
+    pub one_more_held : (origin : SpanOrigin) (all' : List TextKeys) → origin ≡ get_or origins index origin → all' ≡ all ++ keys ∷ [] → index < length origins →
+        ((n : Counts) (pending held : List ℕ) → StoreInvariant n pending held p → origin_at (text_at q.texts) keys ≡ origin_view origin) →
         AreHeld origins (index + 1) all' start q
     one_more_held origin all' item pushed within text = subst (λ (ks : List TextKeys). AreHeld origins (index + 1) ks start q) (sym pushed) (record {
       own = more_own;
@@ -125,22 +125,22 @@ module _ (origins : List Origin) (index : ℕ) (all : List TextKeys) (keys : Tex
 -- what these keys' texts were held for holds of the rest of them
 pub record AreLeft (all left : List TextKeys) (old p : Part TraceNote) : Type 0 where
   pub own : (start : Part TraceNote) → HoldsAll (all_text_keys all) start old → HoldsAll (all_text_keys left) start p
-  pub sound : (n : Counts) (pending held : List ℕ) → IsSound n pending (all_text_keys all ++ held) old → IsSound n pending (all_text_keys left ++ held) p
-  pub shows : (n : Counts) (pending held shown : List ℕ) → IsSound n pending (all_text_keys all ++ held) old → AreAmong shown pending → view n shown p ≡ view n shown old
+  pub sound : (n : Counts) (pending held : List ℕ) → StoreInvariant n pending (all_text_keys all ++ held) old → StoreInvariant n pending (all_text_keys left ++ held) p
+  pub shows : (n : Counts) (pending held shown : List ℕ) → StoreInvariant n pending (all_text_keys all ++ held) old → AreAmong shown pending → view n shown p ≡ view n shown old
 
 pub all_left : (all : List TextKeys) (p : Part TraceNote) → AreLeft all all p p
 all_left all p = record { own = λ start holds. holds; sound = λ n pending held sound. sound; shows = λ n pending held shown sound among. refl }
 
 pub one_less_held : (all left front : List TextKeys) (keys : TextKeys) (old p q : Part TraceNote) → left ≡ front ++ keys ∷ [] → AreLeft all left old p →
     ReleasesAll (text_keys keys) p q →
-    ((n : Counts) (pending held : List ℕ) → IsSound n pending (text_keys keys ++ held) p → IsSound n pending held q) →
-    ((n : Counts) (pending held shown : List ℕ) → IsSound n pending (text_keys keys ++ held) p → AreAmong shown pending → view n shown q ≡ view n shown p) →
+    ((n : Counts) (pending held : List ℕ) → StoreInvariant n pending (text_keys keys ++ held) p → StoreInvariant n pending held q) →
+    ((n : Counts) (pending held shown : List ℕ) → StoreInvariant n pending (text_keys keys ++ held) p → AreAmong shown pending → view n shown q ≡ view n shown p) →
     AreLeft all front old q
 one_less_held all left front keys old p q popped was own is_sound shows =
     let split : (held : List ℕ) → all_text_keys left ++ held ≡ text_keys keys ++ (all_text_keys front ++ held) = λ held.
     ap (λ (ks : List TextKeys). all_text_keys ks ++ held) popped ∙ keys-push_held front keys held in
-    let reached : (n : Counts) (pending held : List ℕ) → IsSound n pending (all_text_keys all ++ held) old → IsSound n pending (text_keys keys ++ (all_text_keys front ++ held)) p = λ n pending held sound.
-    subst (λ (ks : List ℕ). IsSound n pending ks p) (split held) (was.sound n pending held sound) in
+    let reached : (n : Counts) (pending held : List ℕ) → StoreInvariant n pending (all_text_keys all ++ held) old → StoreInvariant n pending (text_keys keys ++ (all_text_keys front ++ held)) p = λ n pending held sound.
+    subst (λ (ks : List ℕ). StoreInvariant n pending ks p) (split held) (was.sound n pending held sound) in
     record {
       own = λ start holds.
           let before : HoldsAll (all_text_keys left) start p = was.own start holds in
@@ -151,7 +151,7 @@ one_less_held all left front keys old p q popped was own is_sound shows =
                 ∙ (sym (all_released-append (text_keys keys) (all_text_keys front) p.texts)
                 ∙ (ap (λ (ks : List ℕ). all_released ks p.texts) (sym keys_are) ∙ before.texts));
             rows = own.rows ∙ before.rows;
-            seats = own.seats ∙ before.seats;
+            latest_rows = own.latest_rows ∙ before.latest_rows;
           };
       sound = λ n pending held sound. is_sound n pending (all_text_keys front ++ held) (reached n pending held sound);
       shows = λ n pending held shown sound among. shows n pending (all_text_keys front ++ held) shown (reached n pending held sound) among ∙ was.shows n pending held shown sound among;
@@ -160,12 +160,12 @@ one_less_held all left front keys old p q popped was own is_sound shows =
 -- nothing is held any more
 pub given_back : (p start : Part TraceNote) → HoldsAll [] start p → p ≡ start
 given_back p start holds =
-    part_by p.spans start.spans p.texts start.texts p.rows start.rows p.seats start.seats holds.spans holds.texts holds.rows holds.seats
+    part_by p.spans start.spans p.texts start.texts p.rows start.rows p.latest_rows start.latest_rows holds.spans holds.texts holds.rows holds.latest_rows
 
 -- ---- the origin of a span
 
 -- texts at keys, where they are those of origins, at an index
-pub origin_is : (f : ℕ → Option (List ℕ)) (all : List TextKeys) (origins : List Origin) (index : ℕ) → map (origin_at f) all ≡ map origin_view origins → index < length origins →
+pub origin_is : (f : ℕ → Option (List ℕ)) (all : List TextKeys) (origins : List SpanOrigin) (index : ℕ) → map (origin_at f) all ≡ map origin_view origins → index < length origins →
     origin_at f (keys_at all index) ≡ prepared.origin_at origins index
 origin_is f all [] index same within = absurd (omega arith)
 origin_is f [] (origin ∷ origins) index same within = cc
@@ -175,7 +175,7 @@ origin_is f (keys ∷ all) (origin ∷ origins) (suc index) same within =
     origin_is f all origins index rest (omega (arith, within))
 
 -- as many keys as origins
-pub as_many : (f : ℕ → Option (List ℕ)) (all : List TextKeys) (origins : List Origin) → map (origin_at f) all ≡ map origin_view origins → length all ≡ length origins
+pub as_many : (f : ℕ → Option (List ℕ)) (all : List TextKeys) (origins : List SpanOrigin) → map (origin_at f) all ≡ map origin_view origins → length all ≡ length origins
 as_many f [] [] same = refl
 as_many f [] (origin ∷ origins) same = cc
 as_many f (keys ∷ all) [] same = cc

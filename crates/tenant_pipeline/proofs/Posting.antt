@@ -15,7 +15,7 @@ use Rattle.tail_settings.specs.declared.section.Section.{Section}
 use Rattle.tenant_stores.specs.Counts.{Counts, count}
 use Rattle.tenant_stores.specs.Part.{Part}
 use Rattle.tenant_stores.specs.Shows.{AreAmong}
-use Rattle.tenant_stores.specs.Sound.{IsSound}
+use Rattle.tenant_stores.specs.Invariant.{StoreInvariant}
 use Rattle.tenant_stores.specs.Trail.{HoldsAll}
 use Rattle.tenant_stores.specs.View.{View, text_at, text_keys, view}
 use Rattle.tenant_stores.proofs.Lists.{count-append}
@@ -30,11 +30,11 @@ use Rattle.otlp_prepare.specs.Arrivals.{arrival_with, arrivals_in, origin_view}
 use Rattle.otlp_prepare.specs.Arrivals as prepared
 use Rattle.otlp_prepare.specs.Prepared.{IsReady, AreReady}
 use Rattle.otlp_prepare.specs.declared.noted.NotedSpan.{NotedSpan}
-use Rattle.otlp_prepare.specs.declared.noted.Origin.{Origin}
+use Rattle.otlp_prepare.specs.declared.noted.SpanOrigin.{SpanOrigin}
 use Rattle.tenant_pipeline.specs.declared.journal.Journal.{Journal}
 use Rattle.tenant_pipeline.specs.declared.pipeline.Pipeline.{Pipeline}
 use Rattle.tenant_pipeline.specs.Acts.{IsPosted}
-use Rattle.tenant_pipeline.specs.Held.{IsNoted, IsHeldAt}
+use Rattle.tenant_pipeline.specs.Invariant.{IsNoted, PipelineInvariantAt}
 use Rattle.tenant_pipeline.specs.Posts.{all_text_keys, arrival_at, IsPosting, IsWritten, IsComing, Came, IsSameTenant, keys_at, arrivals_at, IsReadyAt, AreComing, IsTaken, verdict_after}
 use Rattle.tenant_pipeline.specs.StateIn.{arrival_of, counts_in, policies_of, state_by, state_of, view_in}
 use Rattle.tenant_pipeline.proofs.Origins.{among_at, origin_is, as_many}
@@ -46,8 +46,8 @@ use Rattle.tenant_pipeline.proofs.Taking.{all_take, verdict_shifts, none_taken}
 abbrev pub swept_to : ℕ → Pipeline → Pipeline
 swept_to k own = record own { rows = record own.rows { swept = k } }
 
-pub held_over : (moment k : ℕ) (gone gone' held held' : List ℕ) (own : Pipeline) (p q : Part TraceNote) → IsHeldAt moment gone held own p →
-    IsSound (counts_in (swept_to k own)) (gone' ++ own.batcher.spans) held' q → view_in (swept_to k own) q ≡ view_in own p → IsHeldAt moment gone' held' (swept_to k own) q
+pub held_over : (moment k : ℕ) (gone gone' held held' : List ℕ) (own : Pipeline) (p q : Part TraceNote) → PipelineInvariantAt moment gone held own p →
+    StoreInvariant (counts_in (swept_to k own)) (gone' ++ own.batcher.spans) held' q → view_in (swept_to k own) q ≡ view_in own p → PipelineInvariantAt moment gone' held' (swept_to k own) q
 held_over moment k gone gone' held held' own p q holds sound shows =
     let state : state_of (swept_to k own) q ≡ state_of own p = ap (state_by own) shows in
     record {
@@ -67,8 +67,8 @@ held_over moment k gone gone' held held' own p q holds sound shows =
 
 -- ---- what is left out is counted
 
-pub left_out_holds : (moment invalid over : ℕ) (gone held : List ℕ) (own : Pipeline) (p : Part TraceNote) → IsHeldAt moment gone held own p → counted own.ledger + (invalid + over) ≤ most_counted →
-    IsHeldAt moment gone held (record own { ledger = left_out invalid over own.ledger }) p
+pub left_out_holds : (moment invalid over : ℕ) (gone held : List ℕ) (own : Pipeline) (p : Part TraceNote) → PipelineInvariantAt moment gone held own p → counted own.ledger + (invalid + over) ≤ most_counted →
+    PipelineInvariantAt moment gone held (record own { ledger = left_out invalid over own.ledger }) p
 left_out_holds moment invalid over gone held own p holds fits =
     let c = holds.counted in
     let w = holds.within in
@@ -285,7 +285,7 @@ count_of moment keys spans own0 own p0 p is =
 
 -- ---- a body's spans, with their origins held
 
-module _ (own : Pipeline) (p : Part TraceNote) (keys : List TextKeys) (origins : List Origin) (texts : map (origin_at (text_at p.texts)) keys ≡ map origin_view origins)
+module _ (own : Pipeline) (p : Part TraceNote) (keys : List TextKeys) (origins : List SpanOrigin) (texts : map (origin_at (text_at p.texts)) keys ≡ map origin_view origins)
   where
     arrival_is : (span : NotedSpan) → span.origin < length origins → arrival_at p (keys_at keys span.origin) span.text ≡ prepared.arrival_in origins span
     arrival_is span within = ap (λ (o : OriginData). arrival_with o span.text) (origin_is (text_at p.texts) keys origins span.origin texts within)
@@ -312,7 +312,7 @@ module _ (own : Pipeline) (p : Part TraceNote) (keys : List TextKeys) (origins :
         let rest = arrivals_are spans ready.1 in
         λ i. one i ∷ rest i
 
-pub all_valid : (policies : List PolicyData) (origins : List Origin) (spans : List NotedSpan) → AreReady policies origins spans → AllByRecursion (λ a. is_valid a ≡ true) (arrivals_in origins spans)
+pub all_valid : (policies : List PolicyData) (origins : List SpanOrigin) (spans : List NotedSpan) → AreReady policies origins spans → AllByRecursion (λ a. is_valid a ≡ true) (arrivals_in origins spans)
 all_valid policies origins [] ready = tt
 all_valid policies origins (span ∷ spans) ready = (ready.0.valid, all_valid policies origins spans ready.1)
 
@@ -320,9 +320,9 @@ all_valid policies origins (span ∷ spans) ready = (ready.0.valid, all_valid po
 
 -- the spans that left in batches are no longer stored
 pub left_spans : (moment : ℕ) (journal : Journal) (gone held : List ℕ) (own : Pipeline) (p q : Part TraceNote) → gone ≡ journal.undo.gone.items → IsPosting moment journal held own p →
-    ((n : Counts) (pending left kept : List ℕ) → ((key : ℕ) → count key gone + count key left ≡ count key pending) → IsSound n pending kept p → IsSound n left kept q) →
-    ((n : Counts) (pending left kept shown : List ℕ) → ((key : ℕ) → count key gone + count key left ≡ count key pending) → IsSound n pending kept p → AreAmong shown left → view n shown q ≡ view n shown p) →
-    (state_of own q ≡ state_of own p) × IsHeldAt moment [] held own q
+    ((n : Counts) (pending left kept : List ℕ) → ((key : ℕ) → count key gone + count key left ≡ count key pending) → StoreInvariant n pending kept p → StoreInvariant n left kept q) →
+    ((n : Counts) (pending left kept shown : List ℕ) → ((key : ℕ) → count key gone + count key left ≡ count key pending) → StoreInvariant n pending kept p → AreAmong shown left → view n shown q ≡ view n shown p) →
+    (state_of own q ≡ state_of own p) × PipelineInvariantAt moment [] held own q
 left_spans moment journal gone held own p q gone_is posting is_sound is_shown =
     let holds = posting.holds in
     let pending = journal.undo.gone.items ++ own.batcher.spans in
@@ -391,7 +391,7 @@ on_err_then (Err e) f p = f p
 -- ---- a body whose origins are held
 
 pub record Body (moment : ℕ) (own : Pipeline) (p q : Part TraceNote) (keys : List TextKeys) (spans : List NotedSpan) (xs : List Arrival) : Type 0 where
-  pub holds : IsHeldAt moment [] (all_text_keys keys) own q
+  pub holds : PipelineInvariantAt moment [] (all_text_keys keys) own q
   pub ready : AreComing keys spans own q
   pub arrivals : arrivals_at q keys spans ≡ xs
   pub valid : AllByRecursion (λ a. is_valid a ≡ true) xs
@@ -399,18 +399,18 @@ pub record Body (moment : ℕ) (own : Pipeline) (p q : Part TraceNote) (keys : L
   pub back : HoldsAll (all_text_keys keys) p q
   pub state : state_of own q ≡ state_of own p
 
-pub body_is : (moment : ℕ) (own : Pipeline) (p q : Part TraceNote) (keys all : List TextKeys) (origins : List Origin) (spans : List NotedSpan) (policies : List PolicyData) (xs : List Arrival) →
-    IsHeldAt moment [] [] own p → keys ≡ all → policies ≡ policies_of own → AreReady policies origins spans → arrivals_in origins spans ≡ xs →
-    ((n : Counts) (pending held : List ℕ) → IsSound n pending held p → HoldsAll (all_text_keys all) p q) →
-    ((n : Counts) (pending held : List ℕ) → IsSound n pending held p → IsSound n pending (all_text_keys all ++ held) q) →
-    ((n : Counts) (pending held : List ℕ) → IsSound n pending held p → map (origin_at (text_at q.texts)) all ≡ map origin_view origins) →
-    ((n : Counts) (pending held shown : List ℕ) → IsSound n pending held p → AreAmong shown pending → view n shown q ≡ view n shown p) →
+pub body_is : (moment : ℕ) (own : Pipeline) (p q : Part TraceNote) (keys all : List TextKeys) (origins : List SpanOrigin) (spans : List NotedSpan) (policies : List PolicyData) (xs : List Arrival) →
+    PipelineInvariantAt moment [] [] own p → keys ≡ all → policies ≡ policies_of own → AreReady policies origins spans → arrivals_in origins spans ≡ xs →
+    ((n : Counts) (pending held : List ℕ) → StoreInvariant n pending held p → HoldsAll (all_text_keys all) p q) →
+    ((n : Counts) (pending held : List ℕ) → StoreInvariant n pending held p → StoreInvariant n pending (all_text_keys all ++ held) q) →
+    ((n : Counts) (pending held : List ℕ) → StoreInvariant n pending held p → map (origin_at (text_at q.texts)) all ≡ map origin_view origins) →
+    ((n : Counts) (pending held shown : List ℕ) → StoreInvariant n pending held p → AreAmong shown pending → view n shown q ≡ view n shown p) →
     Body moment own p q keys spans xs
 body_is moment own p q keys all origins spans policies xs holds keys_are policies_are ready arrivals own' is_sound texts shows =
     let n = counts_in own in
     let pending = own.batcher.spans in
     let mine : AreReady (policies_of own) origins spans = subst (λ (ps : List PolicyData). AreReady ps origins spans) policies_are ready in
-    let sound : IsSound n pending (all_text_keys all) q = subst (λ (ks : List ℕ). IsSound n pending ks q) (append-nil (all_text_keys all)) (is_sound n pending [] holds.sound) in
+    let sound : StoreInvariant n pending (all_text_keys all) q = subst (λ (ks : List ℕ). StoreInvariant n pending ks q) (append-nil (all_text_keys all)) (is_sound n pending [] holds.sound) in
     let same : view_in own q ≡ view_in own p = shows n pending [] pending holds.sound (λ key. omega arith) in
     let text = texts n pending [] holds.sound in
     subst (λ (ks : List TextKeys). Body moment own p q ks spans xs) (sym keys_are) (record {
@@ -424,13 +424,13 @@ body_is moment own p q keys all origins spans policies xs holds keys_are policie
     })
 
 -- its origins were given back
-pub body_left : (moment : ℕ) (own : Pipeline) (keys : List ℕ) (p q : Part TraceNote) → IsHeldAt moment [] keys own p →
-    ((n : Counts) (pending held : List ℕ) → IsSound n pending (keys ++ held) p → IsSound n pending held q) →
-    ((n : Counts) (pending held shown : List ℕ) → IsSound n pending (keys ++ held) p → AreAmong shown pending → view n shown q ≡ view n shown p) →
-    (state_of own q ≡ state_of own p) × IsHeldAt moment [] [] own q
+pub body_left : (moment : ℕ) (own : Pipeline) (keys : List ℕ) (p q : Part TraceNote) → PipelineInvariantAt moment [] keys own p →
+    ((n : Counts) (pending held : List ℕ) → StoreInvariant n pending (keys ++ held) p → StoreInvariant n pending held q) →
+    ((n : Counts) (pending held shown : List ℕ) → StoreInvariant n pending (keys ++ held) p → AreAmong shown pending → view n shown q ≡ view n shown p) →
+    (state_of own q ≡ state_of own p) × PipelineInvariantAt moment [] [] own q
 body_left moment own keys p q holds is_sound shows =
     let n = counts_in own in
     let pending = own.batcher.spans in
-    let held : IsSound n pending (keys ++ []) p = subst (λ (ks : List ℕ). IsSound n pending ks p) (sym (append-nil keys)) holds.sound in
+    let held : StoreInvariant n pending (keys ++ []) p = subst (λ (ks : List ℕ). StoreInvariant n pending ks p) (sym (append-nil keys)) holds.sound in
     let same : view_in own q ≡ view_in own p = shows n pending [] pending held (λ key. omega arith) in
     (ap (state_by own) same, held_over moment own.rows.swept [] [] keys [] own p q holds (is_sound n pending [] held) same)

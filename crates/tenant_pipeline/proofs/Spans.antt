@@ -10,7 +10,7 @@ use Rattle.span_batcher.proofs.Maps.{cuts-whole}
 use Rattle.span_pool.specs.Stored.{StoredData, SpanTexts, texts_of as keyed_texts}
 use Rattle.span_pool.specs.Pool.{owned}
 use Rattle.tail_policy.specs.declared.note.TraceNote.{TraceNote}
-use Rattle.text_pool.specs.declared.pool.Kept.{Kept}
+use Rattle.text_pool.specs.declared.pool.CountedText.{CountedText}
 use Rattle.std.specs.Borrow.{Bor}
 use Rattle.slab.specs.Slab.{Slab, get}
 use Rattle.text_pool.specs.Part.{text_of}
@@ -60,7 +60,7 @@ sent_is moment n payload xs size text =
 abbrev pub arrival_or : Part TraceNote → ℕ → Arrival
 arrival_or p key = arrival_of (span_at p key)
 
-shown_is : (texts : ℕ → Option Kept) (slot : Option StoredData) → slot ≢ None → shown texts slot ≡ shown_or texts no_span slot ∷ []
+shown_is : (texts : ℕ → Option CountedText) (slot : Option StoredData) → slot ≢ None → shown texts slot ≡ shown_or texts no_span slot ∷ []
 shown_is texts None some = absurd (some refl)
 shown_is texts (Some span) some = refl
 
@@ -122,8 +122,8 @@ module _ (tenant : ℕ) (stores : Stores TraceNote) where
       ∙ ap (λ (ys : List SpanTexts). spans_in stores.texts xs ++ (ys ++ spans_at p.spans p.texts rest)) (sym slot))
 
 -- texts by their tenants are all of them
-pub spans_same : (t u : Slab Kept) → ((tenant : ℕ) → texts.part tenant t ≡ texts.part tenant u) → (xs : List (Bor StoredData)) → spans_in t xs ≡ spans_in u xs
+pub spans_same : (t u : Slab CountedText) → ((tenant : ℕ) → texts.part tenant t ≡ texts.part tenant u) → (xs : List (Bor StoredData)) → spans_in t xs ≡ spans_in u xs
 spans_same t u same [] = refl
 spans_same t u same (x ∷ xs) =
-    let one : span_in t x.now ≡ span_in u x.now = ap (λ (at : ℕ → Option Kept). keyed_texts (λ key. text_of (at key)) x.now) (same x.now.owner) in
+    let one : span_in t x.now ≡ span_in u x.now = ap (λ (at : ℕ → Option CountedText). keyed_texts (λ key. text_of (at key)) x.now) (same x.now.owner) in
     ap (λ (y : SpanTexts). y ∷ spans_in t xs) one ∙ ap (λ (ys : List SpanTexts). span_in u x.now ∷ ys) (spans_same t u same xs)

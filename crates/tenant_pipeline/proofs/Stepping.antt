@@ -8,8 +8,8 @@ use Rattle.send_retry.specs.Class.{AnswerData}
 use Rattle.span_batcher.specs.Batches as batches
 use Rattle.tenant_stores.specs.Part.{Part, part}
 use Rattle.tenant_stores.specs.declared.stores.Stores.{Stores}
-use Rattle.tenant_rules.specs.declared.told.Told.{Told}
-use Rattle.tenant_rules.specs.declared.told.Told.TheVariants as tell
+use Rattle.tenant_rules.specs.declared.reply.StepReply.{StepReply}
+use Rattle.tenant_rules.specs.declared.reply.StepReply.TheVariants as replies
 use Rattle.tenant_rules.specs.Answers.{turn_told, heard}
 use Rattle.tenant_rules.specs.Batching.{rules_of}
 use Rattle.tenant_rules.specs.Limits.{IsWithinLimits}
@@ -25,10 +25,10 @@ use Rattle.tenant_rules.proofs.Counted.{steps_count}
 use Rattle.tenant_rules.proofs.Limits.{steps_stay_within}
 use Rattle.tenant_pipeline.specs.declared.pipeline.Pipeline.{Pipeline}
 use Rattle.tenant_pipeline.specs.Acts.{at}
-use Rattle.tenant_pipeline.specs.Held.{IsHeld, IsHeldAt, IsHeldBy}
+use Rattle.tenant_pipeline.specs.Invariant.{PipelineInvariant, PipelineInvariantAt, PipelineInvariantBy}
 use Rattle.tenant_pipeline.specs.Outbox.{Sends}
 use Rattle.tenant_pipeline.specs.StateIn.{part_in, state_in, state_of}
-use Rattle.tenant_pipeline.specs.Steps.{Answers, GoesOnFrom}
+use Rattle.tenant_pipeline.specs.Steps.{Answers, FollowsFromState}
 use Rattle.tenant_pipeline.proofs.Ranges.{batch_sound}
 
 -- ---- what a past gives
@@ -37,10 +37,10 @@ use Rattle.tenant_pipeline.proofs.Ranges.{batch_sound}
 pub record AreInRange (w : SectionData) : Type 0 where
   pub rows : 0 < w.tail_sampling.num_traces
   pub wait : 0 < w.tail_sampling.decision_wait
-  pub rules : batches.IsSound (rules_of w)
+  pub rules : batches.AreValidRules (rules_of w)
 
 -- what follows from a state follows from a past that gives it
-pub answers_of : (step : Own) (old new : State) (said : Told) → AreInRange old.section → GoesOnFrom step old said new → Answers step old said new
+pub answers_of : (step : Own) (old new : State) (said : StepReply) → AreInRange old.section → FollowsFromState step old said new → Answers step old said new
 unfolding state
 answers_of step old new said range goes w past stands =
     let same : old.section ≡ w = ap (λ (s : State). s.section) stands in
@@ -51,12 +51,12 @@ answers_of step old new said range goes w past stands =
 -- ---- what goes on to hold
 
 -- a change of the sender and the counters leaves all else as the timers left it
-pub held_after : (moment : ℕ) (mid sent : Pipeline) (q : Part TraceNote) → IsHeldAt moment [] [] mid q →
+pub held_after : (moment : ℕ) (mid sent : Pipeline) (q : Part TraceNote) → PipelineInvariantAt moment [] [] mid q →
     sent ≡ record mid { sender = sent.sender; ledger = sent.ledger } → mid.ledger.accepted ≤ sent.ledger.accepted →
     IsCounted (state_of (record sent { clock = moment }) q) → IsWithinLimits (state_of (record sent { clock = moment }) q) →
-    IsHeldBy (record sent { clock = moment }) q
+    PipelineInvariantBy (record sent { clock = moment }) q
 held_after moment mid sent q reached same taken counted within =
-    subst (λ (o : Pipeline). IsHeldBy (record o { clock = moment }) q) (sym same) (record {
+    subst (λ (o : Pipeline). PipelineInvariantBy (record o { clock = moment }) q) (sym same) (record {
       sound = reached.sound;
       first_is = reached.first_is;
       noted = reached.noted;
@@ -107,10 +107,10 @@ taken_same change mid sent q sends none =
 -- a step that changes the sender and the counters alone: what it leaves, and that this holds
 pub record Stepped (step : Own) (old : State) (new : Pipeline) (q : Part TraceNote) : Type 0 where
   pub new_is : state_of new q ≡ next step old
-  pub held : IsHeldBy new q
+  pub held : PipelineInvariantBy new q
 
 stepped : (step : Own) (change : State → State) (moment : ℕ) (s : State) (mid sent : Pipeline) (q : Part TraceNote) → (next step s ≡ change (advanced moment s)) → 0 < s.section.tail_sampling.num_traces → IsCounted s → IsWithinLimits s →
-    state_of mid q ≡ ran (enough s) moment s → IsHeldAt moment [] [] mid q → Sends change mid sent →
+    state_of mid q ≡ ran (enough s) moment s → PipelineInvariantAt moment [] [] mid q → Sends change mid sent →
     (change (state_of mid q)).ledger.accepted ≡ mid.ledger.accepted → Stepped step s (record sent { clock = moment }) q
 stepped step change moment s mid sent q is rows counted within ok reached sends none =
     let same : state_of (record sent { clock = moment }) q ≡ next step s = sent_is change moment s mid sent q ok sends ∙ sym is in
@@ -122,7 +122,7 @@ stepped step change moment s mid sent q is rows counted within ok reached sends 
     }
 
 pub turn_stepped : (now : ℕ) (s : State) (mid sent : Pipeline) (q : Part TraceNote) → 0 < s.section.tail_sampling.num_traces → IsCounted s → IsWithinLimits s →
-    state_of mid q ≡ ran (enough s) (effective (Turn now) s) s → IsHeldAt (effective (Turn now) s) [] [] mid q → Sends (turned (effective (Turn now) s)) mid sent →
+    state_of mid q ≡ ran (enough s) (effective (Turn now) s) s → PipelineInvariantAt (effective (Turn now) s) [] [] mid q → Sends (turned (effective (Turn now) s)) mid sent →
     Stepped (Turn now) s (record sent { clock = effective (Turn now) s }) q
 unfolding next
 turn_stepped now s mid sent q rows counted within ok reached sends =
@@ -130,7 +130,7 @@ turn_stepped now s mid sent q rows counted within ok reached sends =
     stepped (Turn now) (turned e) e s mid sent q refl rows counted within ok reached sends (turned_taken e (choice e mid.sender) (state_of mid q))
 
 pub answer_stepped : (now ticket word : ℕ) (given : AnswerData) (s : State) (mid sent : Pipeline) (q : Part TraceNote) → 0 < s.section.tail_sampling.num_traces → IsCounted s → IsWithinLimits s →
-    (let step = Answer now ticket word given in state_of mid q ≡ ran (enough s) (effective step s) s) → IsHeldAt (effective (Answer now ticket word given) s) [] [] mid q →
+    (let step = Answer now ticket word given in state_of mid q ≡ ran (enough s) (effective step s) s) → PipelineInvariantAt (effective (Answer now ticket word given) s) [] [] mid q →
     Sends (settled ticket (effective (Answer now ticket word given) s) word given) mid sent →
     Stepped (Answer now ticket word given) s (record sent { clock = effective (Answer now ticket word given) s }) q
 unfolding next
@@ -145,7 +145,7 @@ none_sent : (own : Pipeline) → Sends (λ (z : State). z) own own
 none_sent own = record { rules = λ (z : State) sender ledger. λ i. record z { sender = sender i; ledger = ledger i }; same = refl }
 
 pub report_stepped : (now : ℕ) (s : State) (mid : Pipeline) (q : Part TraceNote) → 0 < s.section.tail_sampling.num_traces → IsCounted s → IsWithinLimits s →
-    state_of mid q ≡ ran (enough s) (effective (Report now) s) s → IsHeldAt (effective (Report now) s) [] [] mid q →
+    state_of mid q ≡ ran (enough s) (effective (Report now) s) s → PipelineInvariantAt (effective (Report now) s) [] [] mid q →
     Stepped (Report now) s (record mid { clock = effective (Report now) s }) q
 unfolding next
 report_stepped now s mid q rows counted within ok reached =
@@ -155,9 +155,9 @@ report_stepped now s mid q rows counted within ok reached =
 -- ---- over the stores
 
 -- a step is done: what is told and left follows from the state before it, and what always holds goes on to hold
-pub record Done (step : Own) (old : State) (said : Told) (new : Pipeline) (stores : Stores TraceNote) : Type 0 where
-  pub goes_on : GoesOnFrom step old said (state_in new stores)
-  pub held : IsHeld new stores
+pub record Done (step : Own) (old : State) (said : StepReply) (new : Pipeline) (stores : Stores TraceNote) : Type 0 where
+  pub from_state : FollowsFromState step old said (state_in new stores)
+  pub held : PipelineInvariant new stores
 
 -- what a step finds: the rules' limits before it, and the timers that ran by the moment at which it takes effect
 pub record Finds (step : Own) (moment : ℕ) (s : State) (mid : Pipeline) (stores : Stores TraceNote) : Type 0 where
@@ -166,18 +166,18 @@ pub record Finds (step : Own) (moment : ℕ) (s : State) (mid : Pipeline) (store
   pub counted : IsCounted s
   pub within : IsWithinLimits s
   pub ok : state_in mid stores ≡ ran (enough s) moment s
-  pub reached : IsHeldAt moment [] [] mid (part_in mid stores)
+  pub reached : PipelineInvariantAt moment [] [] mid (part_in mid stores)
 
 -- the tenant is the same
-done_over : (step : Own) (s : State) (said : Told) (mid new : Pipeline) (stores : Stores TraceNote) → new.tenant ≡ mid.tenant →
+done_over : (step : Own) (s : State) (said : StepReply) (mid new : Pipeline) (stores : Stores TraceNote) → new.tenant ≡ mid.tenant →
     said ≡ told step s → Stepped step s new (part_in mid stores) → Done step s said new stores
 done_over step s said mid new stores tenant told_is stepped =
     let there : Stepped step s new (part_in new stores) = subst (λ (t : ℕ). Stepped step s new (part t stores)) (sym tenant) stepped in
-    record { goes_on = record { said_is = told_is; new_is = there.new_is }; held = there.held }
+    record { from_state = record { said_is = told_is; new_is = there.new_is }; held = there.held }
 
 -- at the moment at which it takes effect
 abbrev TurnDone : ℕ → State → Pipeline → Pipeline → Stores TraceNote → ℕ → Type 0
-TurnDone now s mid sent stores moment = state_in mid stores ≡ ran (enough s) moment s → IsHeldAt moment [] [] mid (part_in mid stores) → Sends (turned moment) mid sent →
+TurnDone now s mid sent stores moment = state_in mid stores ≡ ran (enough s) moment s → PipelineInvariantAt moment [] [] mid (part_in mid stores) → Sends (turned moment) mid sent →
     Done (Turn now) s (turn_told moment mid.sender) (record sent { clock = moment }) stores
 
 pub turn_done : (now moment : ℕ) (s : State) (mid sent : Pipeline) (stores : Stores TraceNote) → Finds (Turn now) moment s mid stores → Sends (turned moment) mid sent →
@@ -191,7 +191,7 @@ turn_done now moment s mid sent stores finds sends = subst (TurnDone now s mid s
         (turn_stepped now s mid sent (part_in mid stores) finds.rows finds.counted finds.within ok reached sends)
 
 abbrev AnswerDone : ℕ → ℕ → ℕ → AnswerData → State → Pipeline → Pipeline → Stores TraceNote → ℕ → Type 0
-AnswerDone now ticket word given s mid sent stores moment = state_in mid stores ≡ ran (enough s) moment s → IsHeldAt moment [] [] mid (part_in mid stores) →
+AnswerDone now ticket word given s mid sent stores moment = state_in mid stores ≡ ran (enough s) moment s → PipelineInvariantAt moment [] [] mid (part_in mid stores) →
     Sends (settled ticket moment word given) mid sent →
     Done (Answer now ticket word given) s (heard (in_flight ticket mid.sender)) (record sent { clock = moment }) stores
 
@@ -208,17 +208,17 @@ answer_done now ticket word moment given s mid sent stores finds sends =
         (answer_stepped now ticket word given s mid sent (part_in mid stores) finds.rows finds.counted finds.within ok reached sends)
 
 abbrev ReportDone : ℕ → State → Pipeline → Stores TraceNote → ℕ → Type 0
-ReportDone now s mid stores moment = state_in mid stores ≡ ran (enough s) moment s → IsHeldAt moment [] [] mid (part_in mid stores) →
-    Done (Report now) s (tell.Report (report_text mid.ledger)) (record mid { clock = moment }) stores
+ReportDone now s mid stores moment = state_in mid stores ≡ ran (enough s) moment s → PipelineInvariantAt moment [] [] mid (part_in mid stores) →
+    Done (Report now) s (replies.Report (report_text mid.ledger)) (record mid { clock = moment }) stores
 
 pub report_done : (now moment : ℕ) (s : State) (mid : Pipeline) (stores : Stores TraceNote) → Finds (Report now) moment s mid stores →
-    Done (Report now) s (tell.Report (report_text mid.ledger)) (record mid { clock = moment }) stores
+    Done (Report now) s (replies.Report (report_text mid.ledger)) (record mid { clock = moment }) stores
 unfolding told
 report_done now moment s mid stores finds = subst (ReportDone now s mid stores) (sym finds.at) then finds.ok finds.reached
   where
     then : ReportDone now s mid stores (effective (Report now) s)
-    then ok reached = done_over (Report now) s (tell.Report (report_text mid.ledger)) mid (record mid { clock = effective (Report now) s }) stores refl
-        (ap (λ (z : State). tell.Report (report_text z.ledger)) ok)
+    then ok reached = done_over (Report now) s (replies.Report (report_text mid.ledger)) mid (record mid { clock = effective (Report now) s }) stores refl
+        (ap (λ (z : State). replies.Report (report_text z.ledger)) ok)
         (report_stepped now s mid (part_in mid stores) finds.rows finds.counted finds.within ok reached)
 
 -- the settings of a tenant are in their ranges

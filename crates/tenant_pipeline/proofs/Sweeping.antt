@@ -3,7 +3,7 @@ use Rattle.std.proofs.Common.{◌≡◌, sym, subst}
 use Rattle.std.specs.Prelude.{Result, Ok, Err, OnOk, OnErr}
 use Rattle.tenant_pipeline.specs.declared.pipeline.Pipeline.{Pipeline}
 use Rattle.tenant_pipeline.specs.declared.pipeline.RowCounts.{RowCounts}
-use Rattle.tenant_pipeline.specs.Held.{IsSwept}
+use Rattle.tenant_pipeline.specs.Invariant.{IsSwept}
 
 -- of a tenant with the same rows
 pub swept_same : (old new : Pipeline) → new.rows ≡ old.rows → IsSwept old → IsSwept new

@@ -32,7 +32,7 @@ use Rattle.tenant_rules.proofs.Limits.{fronts_stay_within}
 use Rattle.tenant_rules.proofs.Sums.{fixed_of, kept_of, ran_kept}
 use Rattle.tenant_pipeline.specs.declared.pipeline.Pipeline.{Pipeline}
 use Rattle.tenant_pipeline.specs.StateIn.{settled_of, waiting_of, counts_in, policies_of, state_by, state_of, view_in}
-use Rattle.tenant_pipeline.specs.Held.{IsNoteOf, IsFrom}
+use Rattle.tenant_pipeline.specs.Invariant.{IsNoteOf, IsFrom}
 use Rattle.tenant_pipeline.specs.Outbox.{arrivals_at, pending_at}
 
 -- ---- verdicts

@@ -1,7 +1,7 @@
 -- Rows that wait have their verdicts: what a part has and shows then.
 use Rattle.std.proofs.Common.{◌≡◌, ◌<◌, ◌≤◌, ◌+◌, ◌-◌, ◌++◌, ◌∙◌, ℕ, zero, suc, List, [], refl, sym, ap, arith, Bool, true, false, cond, Option, Some, None}
 use Rattle.span_pool.specs.Stored.{StoredData}
-use Rattle.text_pool.specs.declared.pool.Kept.{Kept}
+use Rattle.text_pool.specs.declared.pool.CountedText.{CountedText}
 use Rattle.tail_policy.specs.declared.note.TraceNote.{TraceNote}
 use Rattle.tail_policy.specs.Note.{verdict_of}
 use Rattle.tail_settings.specs.Policy.{PolicyData}
@@ -52,7 +52,7 @@ module _ (policies : List PolicyData) where
       ap (λ (o : Option (Row TraceNote)). as_settled o ++ settled_rows new (range (suc a) m)) (same (suc a) (omega arith))
       ∙ ap (λ (rs : List SettledRow). as_settled (old (suc a)) ++ rs) (settled_same old new m (suc a) (λ k le. same k (omega (arith, le))))
 
-  settled_given : (s : ℕ → Option StoredData) (t : ℕ → Option Kept) (old new : ℕ → Option (Row TraceNote)) (m a : ℕ) → ((k : ℕ) → a < k → k ≤ a + m → new k ≡ verdict_given policies (old k)) →
+  settled_given : (s : ℕ → Option StoredData) (t : ℕ → Option CountedText) (old new : ℕ → Option (Row TraceNote)) (m a : ℕ) → ((k : ℕ) → a < k → k ≤ a + m → new k ≡ verdict_given policies (old k)) →
       settled_rows new (range a m) ≡ all_settled policies (waiting_rows s t old (range a m))
   settled_given s t old new zero a given = refl
   settled_given s t old new (suc m) a given =

@@ -1,4 +1,4 @@
--- What a step does once its due timers have run.
+-- What a step does once its due timers have run. This project's own rule.
 use Rattle.std.specs.Prelude.{◌≡◌, ℕ}
 use Rattle.drop_ledger.specs.Ledger.{left_out}
 use Rattle.tenant_rules.specs.Intake.{Verdict, accepted}

@@ -1,7 +1,7 @@
--- After a drain a tenant has no spans but those of batches on their way.
+-- After a drain a tenant has no spans but those of batches on their way. This project's own rule.
 use Rattle.std.specs.Prelude.{◌≡◌, ℕ, List, [], Some}
 use Rattle.tail_settings.specs.Section.{SectionData}
-use Rattle.span_batcher.specs.Batches.{IsSound}
+use Rattle.span_batcher.specs.Batches.{AreValidRules}
 use Rattle.tenant_rules.specs.Own.{Own, drained}
 use Rattle.tenant_rules.specs.Batching.{rules_of}
 use Rattle.tenant_rules.specs.State.{State, state}
@@ -15,5 +15,5 @@ pub record HoldsNone (s : State) : Type 0 where
 
 -- so it is after every past with a drain, where the batch settings are in their ranges
 abbrev pub DrainedHoldsNone : Type 0
-DrainedHoldsNone = (section : SectionData) → IsSound (rules_of section) → (past : List Own) (moment : ℕ) →
+DrainedHoldsNone = (section : SectionData) → AreValidRules (rules_of section) → (past : List Own) (moment : ℕ) →
     drained past ≡ Some moment → HoldsNone (state section past)

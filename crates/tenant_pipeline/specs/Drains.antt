@@ -1,4 +1,4 @@
--- How the rows that wait are decided at once, and all that is pending is sent.
+-- How the rows that wait are decided at once, and all that is pending is sent. This project's own rule.
 use Rattle.std.specs.Prelude.{◌≡◌, ◌++◌, ℕ, true, List, [], ◌∷◌, map, length, Option, None, Some, if◌then◌else◌}
 use Rattle.span_batcher.specs.State.{next_due, IsAfter}
 use Rattle.span_batcher.specs.Machine.{fired}

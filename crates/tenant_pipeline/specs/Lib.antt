@@ -1,6 +1,6 @@
 pub mod Prepared
 pub mod StateIn
-pub mod Held
+pub mod Invariant
 pub mod Steps
 pub mod Outbox
 pub mod Undo

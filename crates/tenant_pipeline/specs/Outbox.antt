@@ -1,4 +1,5 @@
--- How spans that leave their rows become batches that wait to be sent, by what is a tenant's own.
+-- How spans that leave their rows become batches that wait to be sent, by what is a tenant's own (the Collector's
+-- batchprocessor and exporterhelper, as `tenant_rules` has them).
 use Rattle.std.specs.Prelude.{None, ◌≡◌, ◌≢◌, ◌<◌, ◌≤◌, ◌+◌, ℕ, zero, suc, List, length}
 use Rattle.drop_ledger.specs.declared.places.Place.TheVariants.{Undecided}
 use Rattle.send_queue.specs.Sender.{SenderData, taken_back}

@@ -1,4 +1,5 @@
--- How the spans of a post come, one after the other.
+-- How the spans of a post come, one after the other (oTLP/HTTP, "Partial Success", and the Collector's
+-- tailsamplingprocessor, as `tenant_rules` has them).
 use Rattle.std.specs.Prelude.{◌≡◌, ◌<◌, ◌≤◌, ◌+◌, ◌++◌, ℕ, List, [], ◌∷◌, length, map, Bool, true, false, Option, None, Some, slice_index_or}
 use Rattle.std.specs.List.{AllByRecursion}
 use Rattle.drop_ledger.specs.Ledger.{counted}
@@ -17,12 +18,12 @@ use Rattle.tenant_rules.specs.Machine.{all_come, has_row, posted, sampled_in}
 use Rattle.tenant_rules.specs.Intake.{Verdict, verdict_of}
 use Rattle.tenant_pipeline.specs.declared.pipeline.Pipeline.{Pipeline}
 use Rattle.tenant_pipeline.specs.declared.journal.Journal.{Journal}
-use Rattle.tenant_pipeline.specs.declared.place.Seat.{Seat}
-use Rattle.tenant_pipeline.specs.declared.place.Seat.TheVariants as seats
+use Rattle.tenant_pipeline.specs.declared.place.TraceState.{TraceState}
+use Rattle.tenant_pipeline.specs.declared.place.TraceState.TheVariants as states
 use Rattle.otlp_prepare.specs.declared.noted.NotedSpan.{NotedSpan}
 use Rattle.tenant_stores.specs.Shows.{AreAmong}
 use Rattle.tenant_pipeline.specs.StateIn.{arrival_of, policies_of, state_of}
-use Rattle.tenant_pipeline.specs.Held.{IsHeldAt}
+use Rattle.tenant_pipeline.specs.Invariant.{PipelineInvariantAt}
 use Rattle.tenant_pipeline.specs.Undo.{TakesBack, hits_undone}
 
 -- the keys of texts that origins have, the last one's first
@@ -37,7 +38,7 @@ arrival_at p keys text = arrival_of (record { origin = origin_at (text_at p.text
 -- within a post, at a moment by which no timer is due, with the texts of its origins held
 pub record IsPosting (moment : ℕ) (journal : Journal) (held : List ℕ) (own : Pipeline) (p : Part TraceNote)
     : Type 0 where
-  pub holds : IsHeldAt moment journal.undo.gone.items held own p
+  pub holds : PipelineInvariantAt moment journal.undo.gone.items held own p
   pub quiet : IsAfter (next_due own.batcher) moment
   pub offers : journal.undo.offers ≤ length own.sender.queue
 
@@ -73,25 +74,26 @@ pub record IsSameTenant (old new : Pipeline) : Type 0 where
   pub drained : new.drained ≡ old.drained
 
 -- where a trace has its latest row, as the rules see it, or a cache its verdict
-abbrev pub IsSeat : List ℕ → Seat → State → Type 0
-IsSeat trace seats.Nowhere s =
+abbrev pub IsTraceState : List ℕ → TraceState → State → Type 0
+IsTraceState trace states.Nowhere s =
     (has_row trace s.waiting ≡ false) × (sampled_in trace s.settled ≡ None) × (found trace s.caches ≡ None)
-IsSeat trace (seats.Cached sampled) s =
+IsTraceState trace (states.Cached sampled) s =
     (has_row trace s.waiting ≡ false) × (sampled_in trace s.settled ≡ None) × (found trace s.caches ≡ Some sampled)
-IsSeat trace (seats.Decided sampled) s = (has_row trace s.waiting ≡ false) × (sampled_in trace s.settled ≡ Some sampled)
-IsSeat trace (seats.Waits number) s = has_row trace s.waiting ≡ true
+IsTraceState trace (states.Decided sampled) s = (has_row trace s.waiting ≡ false)
+    × (sampled_in trace s.settled ≡ Some sampled)
+IsTraceState trace (states.Waits number) s = has_row trace s.waiting ≡ true
 
 -- where a trace is that has no row that is present, by what the caches know
-abbrev pub seat_by : Option Bool → Seat
-seat_by None = seats.Nowhere
-seat_by (Some sampled) = seats.Cached sampled
+abbrev pub state_by_cache : Option Bool → TraceState
+state_by_cache None = states.Nowhere
+state_by_cache (Some sampled) = states.Cached sampled
 
 -- the number of a row that waits
-abbrev pub IsSeatAt : List ℕ → Seat → Pipeline → Part TraceNote → Type 0
-IsSeatAt trace seats.Nowhere own p = Unit
-IsSeatAt trace (seats.Cached sampled) own p = Unit
-IsSeatAt trace (seats.Decided sampled) own p = Unit
-IsSeatAt trace (seats.Waits number) own p = (p.seats trace ≡ Some number) × (own.rows.decided < number)
+abbrev pub IsTraceStateAt : List ℕ → TraceState → Pipeline → Part TraceNote → Type 0
+IsTraceStateAt trace states.Nowhere own p = Unit
+IsTraceStateAt trace (states.Cached sampled) own p = Unit
+IsTraceStateAt trace (states.Decided sampled) own p = Unit
+IsTraceStateAt trace (states.Waits number) own p = (p.latest_rows trace ≡ Some number) × (own.rows.decided < number)
 
 -- ---- all spans of a body
 

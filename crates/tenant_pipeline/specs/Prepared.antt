@@ -1,4 +1,4 @@
--- A body made ready for a tenant, as a step of its own.
+-- A body made ready for a tenant, as a step of its own. This project's own rule.
 use Rattle.std.specs.Prelude.{◌++◌, ℕ, List, [], None, replicate}
 use Rattle.span_view.specs.Reading.{facts_of}
 use Rattle.tenant_rules.specs.Arrivals.{Arrival}

@@ -1,4 +1,5 @@
--- What a tenant's rules see of it: what its pipeline keeps by itself, and what the stores have of it.
+-- What a tenant's rules see of it: what its pipeline keeps by itself, and what the stores have of it. This project's
+-- own rule.
 use Rattle.std.specs.Prelude.{ℕ, List, map}
 use Rattle.span_pool.specs.Stored.{SpanTexts, bytes_of}
 use Rattle.span_view.specs.Reading.{facts_of}

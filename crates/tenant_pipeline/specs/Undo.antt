@@ -1,4 +1,4 @@
--- How what a step has changed of its tenant's own is taken back.
+-- How what a step has changed of its tenant's own is taken back. This project's own rule.
 use Rattle.std.specs.Prelude.{◌≡◌, ◌≤◌, ℕ, length, take, Option, None, Some}
 use Rattle.drop_ledger.specs.Ledger.{ledger_of}
 use Rattle.span_batcher.specs.State as batcher

@@ -7,7 +7,7 @@ ghost use Rattle.trace_rows.specs.declared.table.Row.{Row};
 ghost use Rattle.tail_policy.specs.declared.note.TraceNote.{TraceNote as Note};
 ghost use Rattle.tenant_stores.specs.Part.{part};
 ghost use Rattle.tenant_stores.specs.Counts.{Counts, count, one_decided, waiting_numbers};
-ghost use Rattle.tenant_stores.specs.Sound.{IsSound};
+ghost use Rattle.tenant_stores.specs.Invariant.{StoreInvariant};
 ghost use Rattle.tenant_stores.specs.Shows.{row_shown};
 ghost use Rattle.tenant_stores.specs.View.{view};
 ghost use Rattle.tail_settings.specs.Section.{section_view};
@@ -18,7 +18,7 @@ ghost use Rattle.tenant_pipeline.specs.Acts.{ActsAt};
 ghost use Rattle.tenant_pipeline.specs.Drains.{SendsRow, SendsRest, SendsAll, keys_if, sampled_keys, all_settled, verdict_given};
 ghost use Rattle.tenant_pipeline.specs.Outbox.{AreThere, HasRoom};
 ghost use Rattle.tenant_pipeline.specs.StateIn.{counts_in, part_in, policies_of, state_in, waiting_of};
-ghost use Rattle.tenant_pipeline.specs.Held.{IsHeldAt, IsNoted, IsSwept};
+ghost use Rattle.tenant_pipeline.specs.Invariant.{PipelineInvariantAt, IsNoted, IsSwept};
 ghost use Rattle.tenant_pipeline.specs.Undo.{TakesBack};
 
 use crate::outbox::encoded;
@@ -37,15 +37,16 @@ impl Pipeline {
         stores: &mut Stores<TraceNote>,
         moment: u64,
     ) -> Result<(), AllocError>
-        requires holds { IsHeldAt moment [] [] self.old (part_in self.old stores.old) }
+        requires holds { PipelineInvariantAt moment [] [] self.old (part_in self.old stores.old) }
         requires quiet { IsAfter (next_due self.old.batcher) moment }
         requires first { self.old.drained ≡ false }
-        ensures ok { OnOk result (ActsAt moment (drain moment)
+        ensures on_success { OnOk result (ActsAt moment (drain moment)
             (state_in self.old stores.old) (state_in self.new stores.new)) }
-        ensures holds { OnOk result (IsHeldAt moment [] [] self.new (part_in self.new stores.new)) }
-        ensures others { (other : ℕ) → other ≢ self.old.tenant → part other stores.new ≡ part other stores.old }
-        ensures refused { OnErr result (self.new ≡ self.old) }
-        ensures refused_part { OnErr result (part self.old.tenant stores.new ≡ part self.old.tenant stores.old) }
+        ensures holds { OnOk result (PipelineInvariantAt moment [] [] self.new (part_in self.new stores.new)) }
+        ensures others_unchanged { (other : ℕ) → other ≢ self.old.tenant
+            → part other stores.new ≡ part other stores.old }
+        ensures on_refusal { OnErr result (self.new ≡ self.old) }
+        ensures part_on_refusal { OnErr result (part self.old.tenant stores.new ≡ part self.old.tenant stores.old) }
         ensures tenant { self.new.tenant ≡ self.old.tenant }
         ensures section { self.new.section ≡ self.old.section }
         ensures clock { self.new.clock ≡ self.old.clock }
@@ -75,10 +76,10 @@ impl Pipeline {
         undo: &mut Undo,
         moment: u64,
     ) -> Result<(), AllocError>
-        requires holds { IsHeldAt moment [] [] self.old (part_in self.old stores.now) }
+        requires holds { PipelineInvariantAt moment [] [] self.old (part_in self.old stores.now) }
         requires quiet { IsAfter (next_due self.old.batcher) moment }
         requires offers { undo.old.offers ≤ length self.old.sender.queue }
-        ensures ok { OnOk result (SendsAll moment (part_in self.old stores.now) self.old self.new) }
+        ensures on_success { OnOk result (SendsAll moment (part_in self.old stores.now) self.old self.new) }
         ensures gone { OnOk result ((key : ℕ) → count key undo.new.gone.items ≡ count key undo.old.gone.items
             + (count key self.old.batcher.spans + count key (sampled_keys (policies_of self.old)
             (part_in self.old stores.now).rows (waiting_numbers (counts_in self.old))))) }
@@ -110,7 +111,7 @@ impl Pipeline {
         requires pending { self.old.ledger.places.pending ≡ length self.old.batcher.spans }
         requires room { HasRoom self.old }
         requires offers { undo.old.offers ≤ length self.old.sender.queue }
-        ensures ok { OnOk result ((row : Row Note) → (part_in self.old stores.now).rows number ≡ Some row →
+        ensures on_success { OnOk result ((row : Row Note) → (part_in self.old stores.now).rows number ≡ Some row →
             SendsRow moment (waiting_of (row_shown (part_in self.old stores.now) row)) (part_in self.old stores.now)
             self.old self.new) }
         ensures gone { OnOk result ((key : ℕ) → count key undo.new.gone.items + count key self.new.batcher.spans ≡
@@ -144,7 +145,7 @@ impl Pipeline {
         requires room { HasRoom self.old }
         requires offers { undo.old.offers ≤ length self.old.sender.queue }
         requires there { AreThere (part_in self.old stores.now) self.old.batcher.spans }
-        ensures ok { OnOk result (SendsRest moment (part_in self.old stores.now) self.old self.new) }
+        ensures on_success { OnOk result (SendsRest moment (part_in self.old stores.now) self.old self.new) }
         ensures gone { OnOk result ((key : ℕ) → count key undo.new.gone.items ≡
             count key undo.old.gone.items + count key self.old.batcher.spans) }
         ensures back { (start : Own) → TakesBack undo.old start self.old → TakesBack undo.new start self.new }
@@ -170,13 +171,15 @@ impl Pipeline {
 
     /// All rows that wait have their verdict, and no keys any more.
     fn settle_rows(&mut self, stores: &mut Stores<TraceNote>)
-        requires sound { (pending : List ℕ) × IsSound (counts_in self.old) pending [] (part_in self.old stores.old) }
-        requires few { self.old.rows.opened ≤ 2 ^ 62 }
-        ensures own { self.new ≡ record self.old {
+        requires store_invariant { (pending : List ℕ) × StoreInvariant (counts_in self.old) pending []
+            (part_in self.old stores.old) }
+        requires rows_bounded { self.old.rows.opened ≤ 2 ^ 62 }
+        ensures only_decided { self.new ≡ record self.old {
           rows = record self.old.rows { decided = self.old.rows.opened };
         } }
-        ensures sound { (pending : List ℕ) → IsSound (counts_in self.old) pending [] (part_in self.old stores.old)
-            → IsSound (counts_in self.new) (pending ++ sampled_keys (policies_of self.old)
+        ensures store_invariant { (pending : List ℕ) → StoreInvariant (counts_in self.old) pending []
+            (part_in self.old stores.old)
+            → StoreInvariant (counts_in self.new) (pending ++ sampled_keys (policies_of self.old)
             (part_in self.old stores.old).rows (waiting_numbers (counts_in self.old))) []
             (part_in self.new stores.new) }
         ensures shows { view (counts_in self.new) [] (part_in self.new stores.new) ≡ (
@@ -186,7 +189,8 @@ impl Pipeline {
               waiting = [];
               pending = [];
             }) }
-        ensures others { (other : ℕ) → other ≢ self.old.tenant → part other stores.new ≡ part other stores.old }
+        ensures others_unchanged { (other : ℕ) → other ≢ self.old.tenant
+            → part other stores.new ≡ part other stores.old }
     {
         let mut number = self.rows.decided;
         while number < self.rows.opened {
@@ -199,14 +203,15 @@ impl Pipeline {
     /// The row has its verdict: where it is sampled its keys are pending, and else its spans leave.
     fn settle_row(&self, stores: &mut Stores<TraceNote>, number: u64)
         requires there { (part_in self.now stores.old).rows number ≢ None }
-        ensures sound { (n : Counts) (pending : List ℕ) → number ≡ n.decided + 1 → number ≤ n.opened
-            → IsSound n pending [] (part_in self.now stores.old)
-            → IsSound (one_decided n) (pending ++ keys_if (policies_of self.now)
+        ensures store_invariant { (n : Counts) (pending : List ℕ) → number ≡ n.decided + 1 → number ≤ n.opened
+            → StoreInvariant n pending [] (part_in self.now stores.old)
+            → StoreInvariant (one_decided n) (pending ++ keys_if (policies_of self.now)
             ((part_in self.now stores.old).rows number)) [] (part_in self.now stores.new) }
         ensures rows { (part_in self.now stores.new).rows ≡ with_at number
             (verdict_given (policies_of self.now) ((part_in self.now stores.old).rows number))
             (part_in self.now stores.old).rows }
-        ensures others { (other : ℕ) → other ≢ self.now.tenant → part other stores.new ≡ part other stores.old }
+        ensures others_unchanged { (other : ℕ) → other ≢ self.now.tenant
+            → part other stores.new ≡ part other stores.old }
     {
         let Some(row) = stores.row(self.tenant, number) else {
             unreachable!()

@@ -7,13 +7,13 @@ use crate::pipeline::Pipeline;
 use crate::undo::Undo;
 use std::alloc::AllocError;
 use tail_policy::TraceNote;
-use tenant_stores::Placed;
+use tenant_stores::UndoEntry;
 
 /// What a post has changed so far.
 #[derive(Drop)]
 pub struct Journal {
     /// Of the stores, one entry a span that came.
-    pub placed: Vec<Placed<TraceNote>>,
+    pub placed: Vec<UndoEntry<TraceNote>>,
     /// Of the tenant's own, but for its caches.
     pub undo: Undo,
     /// How many hits waited for a commit before it.

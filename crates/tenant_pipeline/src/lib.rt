@@ -10,8 +10,8 @@
 //! What a tenant is told depends on its settings and its own steps alone: `tenant_rules` says what it is after any list
 //! of own steps, and what it is told of the next one. A [`Pipeline`] answers so, over [`tenant_stores::Stores`] that it
 //! is lent for a step: contracts see what the rules see of both together (`specs/StateIn`), and what always holds of
-//! them (`specs/Held`). A step takes effect at the greatest moment so far, after the timers that are due by then, each
-//! at its own moment. It changes the part of its own tenant alone.
+//! them (`specs/Invariant`). A step takes effect at the greatest moment so far, after the timers that are due by then,
+//! each at its own moment. It changes the part of its own tenant alone.
 //!
 //! Where memory is refused, some of those timers may have run, the clock then stands at the last one's moment, and
 //! nothing else has changed. What a tenant is told afterwards follows from that state.

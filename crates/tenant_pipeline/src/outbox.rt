@@ -101,7 +101,7 @@ fn keys_of(alloc: Global, batches: &[span_batcher::Batch]) -> Result<Vec<usize>,
 
 /// What a group of spans will make of the pending ones.
 #[derive(Drop)]
-pub(crate) struct Cut {
+pub(crate) struct GroupPlan {
     /// The batches that it fills, by key, and what is pending afterwards.
     pub planned: Planned,
     /// The same batches, as they are sent.
@@ -117,8 +117,8 @@ impl Pipeline {
         stores: &Stores<TraceNote>,
         moment: u64,
         keys: &[usize],
-    ) -> Result<Cut, AllocError>
-        requires some { 0 < length keys.now }
+    ) -> Result<GroupPlan, AllocError>
+        requires not_empty { 0 < length keys.now }
         requires moment { moment ≤ 2 ^ 62 }
         requires timer { IsAfter (next_due self.now.batcher) moment }
         ensures batches { IfOk result (λ cut. cut.planned.batches ≡
@@ -132,7 +132,7 @@ impl Pipeline {
         let planned = self.batcher.plan(moment, keys)?;
         let sent = all_encoded(self.alloc, stores, self.tenant, planned.batches())?;
         let gone = keys_of(self.alloc, planned.batches())?;
-        Ok(Cut {
+        Ok(GroupPlan {
             planned,
             sent,
             gone,
@@ -143,10 +143,10 @@ impl Pipeline {
     /// many the queue took, one or none. Where memory is refused, nothing has changed.
     pub(crate) fn offer(&mut self, batch: Batch) -> Result<usize, AllocError>
         requires pending { batch.spans ≤ self.old.ledger.places.pending }
-        ensures ok { OnOk result (Sends (queued (batch_view batch)) self.old self.new) }
+        ensures on_success { OnOk result (Sends (queued (batch_view batch)) self.old self.new) }
         ensures took { IfOk result (λ offers. Took offers self.old.sender self.new.sender) }
-        ensures few { IfOk result (λ offers. offers ≤ 1) }
-        ensures refused { OnErr result (self.new ≡ self.old) }
+        ensures at_most_one { IfOk result (λ offers. offers ≤ 1) }
+        ensures on_refusal { OnErr result (self.new ≡ self.old) }
     {
         let spans = batch.spans;
         match self.sender.offer(batch) {
@@ -167,9 +167,9 @@ impl Pipeline {
     fn offer_all(&mut self, mut batches: VecDeque<Batch>) -> Result<usize, AllocError>
         requires pending { sizes (map batch_view batches.items) ≤ self.old.ledger.places.pending }
         requires room { HasRoom self.old }
-        ensures ok { OnOk result (Sends (all_queued (map batch_view batches.items)) self.old self.new) }
+        ensures on_success { OnOk result (Sends (all_queued (map batch_view batches.items)) self.old self.new) }
         ensures took { IfOk result (λ offers. Took offers self.old.sender self.new.sender) }
-        ensures refused { OnErr result (self.new ≡ self.old) }
+        ensures on_refusal { OnErr result (self.new ≡ self.old) }
     {
         let before = self.ledger.counters();
         let mut offers = 0;
@@ -192,10 +192,10 @@ impl Pipeline {
         requires undecided { spans ≤ self.old.ledger.places.undecided }
         requires pending { sizes (map batch_view batches.items) ≤ self.old.ledger.places.pending + spans }
         requires room { HasRoom self.old }
-        ensures ok { OnOk result (Sends (λ s. all_queued (map batch_view batches.items)
+        ensures on_success { OnOk result (Sends (λ s. all_queued (map batch_view batches.items)
             (recount Undecided Pending spans s)) self.old self.new) }
         ensures took { IfOk result (λ offers. Took offers self.old.sender self.new.sender) }
-        ensures refused { OnErr result (self.new ≡ self.old) }
+        ensures on_refusal { OnErr result (self.new ≡ self.old) }
     {
         let before = self.ledger.counters();
         self.ledger
@@ -216,7 +216,7 @@ impl Pipeline {
         moment: u64,
         keys: &[usize],
     ) -> Result<(), AllocError>
-        requires some { 0 < length keys.now }
+        requires not_empty { 0 < length keys.now }
         requires moment { moment ≤ 2 ^ 62 }
         requires timer { IsAfter (next_due self.old.batcher) moment }
         requires rules { self.old.batcher.rules ≡ rules_of (section_view self.old.section) }
@@ -225,7 +225,7 @@ impl Pipeline {
         requires there { AreThere (part_in self.old stores.now) (self.old.batcher.spans ++ keys.now) }
         requires room { HasRoom self.old }
         requires offers { undo.old.offers ≤ length self.old.sender.queue }
-        ensures ok { OnOk result (Groups moment keys.now (part_in self.old stores.now) self.old self.new) }
+        ensures on_success { OnOk result (Groups moment keys.now (part_in self.old stores.now) self.old self.new) }
 
         // Each key is pending or gone, as often as before.
         ensures gone { OnOk result ((key : ℕ) → count key undo.new.gone.items + count key self.new.batcher.spans ≡
@@ -233,10 +233,10 @@ impl Pipeline {
 
         // It can be taken back as before.
         ensures back { (start : Own) → TakesBack undo.old start self.old → TakesBack undo.new start self.new }
-        ensures refused { OnErr result (self.new ≡ self.old) }
-        ensures refused_gone { OnErr result (undo.new.gone.items ≡ undo.old.gone.items) }
+        ensures on_refusal { OnErr result (self.new ≡ self.old) }
+        ensures gone_on_refusal { OnErr result (undo.new.gone.items ≡ undo.old.gone.items) }
     {
-        let Cut {
+        let GroupPlan {
             mut planned,
             sent,
             mut gone,

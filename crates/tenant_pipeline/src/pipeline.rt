@@ -7,17 +7,17 @@ ghost use Rattle.tail_policy.specs.declared.note.TraceNote.{TraceNote as Note};
 ghost use Rattle.send_retry.specs.Class.{answer_view};
 ghost use Rattle.tenant_stores.specs.Counts.{no_rows};
 ghost use Rattle.tenant_stores.specs.Part.{Part, part};
-ghost use Rattle.tenant_stores.specs.Sound.{IsSound};
+ghost use Rattle.tenant_stores.specs.Invariant.{StoreInvariant};
 ghost use Rattle.tenant_rules.specs.Own.{latest_moment};
 ghost use Rattle.tenant_rules.specs.Own as step;
 ghost use Rattle.tenant_rules.specs.Machine.{effective};
 ghost use Rattle.tenant_rules.specs.Ready.{ready};
 ghost use Rattle.tenant_rules.specs.Timers.{IsFront};
-ghost use Rattle.tenant_rules.specs.declared.told.Told.TheVariants as tell;
+ghost use Rattle.tenant_rules.specs.declared.reply.StepReply.TheVariants as replies;
 ghost use Rattle.tenant_pipeline.specs.Prepared.{post_of};
 ghost use Rattle.tenant_pipeline.specs.StateIn.{policies_of, state_of, state_in};
-ghost use Rattle.tenant_pipeline.specs.Held.{IsHeldBy, IsHeld, IsSwept};
-ghost use Rattle.tenant_pipeline.specs.Steps.{StandsFor, Answers, GoesOnFrom};
+ghost use Rattle.tenant_pipeline.specs.Invariant.{PipelineInvariantBy, PipelineInvariant, IsSwept};
+ghost use Rattle.tenant_pipeline.specs.Steps.{StandsFor, Answers, FollowsFromState};
 
 use crate::section::copied_section;
 use decision_cache::DecisionCaches;
@@ -29,7 +29,7 @@ use span_batcher::SpanBatcher;
 use std::alloc::{AllocError, Global};
 use tail_policy::TraceNote;
 use tail_settings::Section;
-use tenant_rules::{Reply, Told};
+use tenant_rules::{Reply, StepReply};
 use tenant_stores::Stores;
 
 /// A later moment is taken as this one, in milliseconds.
@@ -77,9 +77,10 @@ impl Pipeline {
         section: &Section,
         keys: (u64, u64),
     ) -> Result<Self, AllocError>
-        ensures stands { IfOk result (λ made. (p : Part Note) → IsSound no_rows [] [] p →
+        ensures stands { IfOk result (λ made. (p : Part Note) → StoreInvariant no_rows [] [] p →
             StandsFor (section_view section.now) [] (state_of made p)) }
-        ensures held { IfOk result (λ made. (p : Part Note) → IsSound no_rows [] [] p → IsHeldBy made p) }
+        ensures invariant { IfOk result (λ made. (p : Part Note) → StoreInvariant no_rows [] [] p
+            → PipelineInvariantBy made p) }
         ensures swept { IfOk result (λ made. IsSwept made) }
         ensures tenant { IfOk result (λ made. made.tenant ≡ tenant) }
     {
@@ -138,25 +139,27 @@ impl Pipeline {
         now: u64,
         prepared: &Prepared,
     ) -> Result<Reply, AllocError>
-        requires held { IsHeld self.old stores.old }
+        requires invariant { PipelineInvariant self.old stores.old }
         requires policies { prepared.now.policies ≡ policies_of self.old }
 
         // The reply is what the settings and the own steps say, and the state is what they and this step give. Where no
         // own steps leave the old state, as after refused memory, both follow from that state.
-        ensures ok { IfOk result (λ reply. Answers (post_of now prepared.now) (state_in self.old stores.old)
-            (tell.Reply reply) (state_in self.new stores.new)) }
-        ensures goes_on { IfOk result (λ reply. GoesOnFrom (post_of now prepared.now) (state_in self.old stores.old)
-            (tell.Reply reply) (state_in self.new stores.new)) }
+        ensures on_success { IfOk result (λ reply. Answers (post_of now prepared.now) (state_in self.old stores.old)
+            (replies.Reply reply) (state_in self.new stores.new)) }
+        ensures from_state { IfOk result (λ reply. FollowsFromState (post_of now prepared.now)
+            (state_in self.old stores.old)
+            (replies.Reply reply) (state_in self.new stores.new)) }
 
         // Some first due timers have run, and all else is as before.
-        ensures refused { OnErr result (let taken = post_of now prepared.now in
+        ensures on_refusal { OnErr result (let taken = post_of now prepared.now in
             let old = state_in self.old stores.old in
             IsFront (effective taken old) old (state_in self.new stores.new)) }
 
         // What always holds goes on to hold, and nothing of other tenants changes.
-        ensures held { IsHeld self.new stores.new }
+        ensures invariant { PipelineInvariant self.new stores.new }
         ensures swept { IsSwept self.old → IsSwept self.new }
-        ensures others { (other : ℕ) → other ≢ self.old.tenant → part other stores.new ≡ part other stores.old }
+        ensures others_unchanged { (other : ℕ) → other ≢ self.old.tenant
+            → part other stores.new ≡ part other stores.old }
         ensures tenant { self.new.tenant ≡ self.old.tenant }
         ensures section { self.new.section ≡ self.old.section }
     {
@@ -169,24 +172,29 @@ impl Pipeline {
 
     /// A worker asks for a job, at a moment in milliseconds. Where memory is refused, timers that were due may have
     /// run, and no ticket is used up.
-    pub fn turn(&mut self, stores: &mut Stores<TraceNote>, now: u64) -> Result<Told, AllocError>
-        requires held { IsHeld self.old stores.old }
+    pub fn turn(
+        &mut self,
+        stores: &mut Stores<TraceNote>,
+        now: u64,
+    ) -> Result<StepReply, AllocError>
+        requires invariant { PipelineInvariant self.old stores.old }
 
         // What is told is what the settings and the own steps say, and the state is what they and this step give. Where
         // no own steps leave the old state, as after refused memory, both follow from that state.
-        ensures ok { IfOk result (λ told.
+        ensures on_success { IfOk result (λ told.
             Answers (step.Turn now) (state_in self.old stores.old) told (state_in self.new stores.new)) }
-        ensures goes_on { IfOk result (λ told.
-            GoesOnFrom (step.Turn now) (state_in self.old stores.old) told (state_in self.new stores.new)) }
+        ensures from_state { IfOk result (λ told.
+            FollowsFromState (step.Turn now) (state_in self.old stores.old) told (state_in self.new stores.new)) }
 
         // Some first due timers have run, and all else is as before.
-        ensures refused { OnErr result (let taken = step.Turn now in let old = state_in self.old stores.old in
+        ensures on_refusal { OnErr result (let taken = step.Turn now in let old = state_in self.old stores.old in
             IsFront (effective taken old) old (state_in self.new stores.new)) }
 
         // What always holds goes on to hold, and nothing of other tenants changes.
-        ensures held { IsHeld self.new stores.new }
+        ensures invariant { PipelineInvariant self.new stores.new }
         ensures swept { IsSwept self.old → IsSwept self.new }
-        ensures others { (other : ℕ) → other ≢ self.old.tenant → part other stores.new ≡ part other stores.old }
+        ensures others_unchanged { (other : ℕ) → other ≢ self.old.tenant
+            → part other stores.new ≡ part other stores.old }
         ensures tenant { self.new.tenant ≡ self.old.tenant }
         ensures section { self.new.section ≡ self.old.section }
     {
@@ -206,25 +214,27 @@ impl Pipeline {
         ticket: u64,
         word: u32,
         answer: &Answer,
-    ) -> Result<Told, AllocError>
-        requires held { IsHeld self.old stores.old }
+    ) -> Result<StepReply, AllocError>
+        requires invariant { PipelineInvariant self.old stores.old }
 
         // What is told is what the settings and the own steps say, and the state is what they and this step give. Where
         // no own steps leave the old state, as after refused memory, both follow from that state.
-        ensures ok { IfOk result (λ told. Answers (step.Answer now ticket word (answer_view answer.now))
+        ensures on_success { IfOk result (λ told. Answers (step.Answer now ticket word (answer_view answer.now))
             (state_in self.old stores.old) told (state_in self.new stores.new)) }
-        ensures goes_on { IfOk result (λ told. GoesOnFrom (step.Answer now ticket word (answer_view answer.now))
+        ensures from_state { IfOk result (λ told. FollowsFromState
+            (step.Answer now ticket word (answer_view answer.now))
             (state_in self.old stores.old) told (state_in self.new stores.new)) }
 
         // Some first due timers have run, and all else is as before.
-        ensures refused { OnErr result (let taken = step.Answer now ticket word (answer_view answer.now) in
+        ensures on_refusal { OnErr result (let taken = step.Answer now ticket word (answer_view answer.now) in
             let old = state_in self.old stores.old in
             IsFront (effective taken old) old (state_in self.new stores.new)) }
 
         // What always holds goes on to hold, and nothing of other tenants changes.
-        ensures held { IsHeld self.new stores.new }
+        ensures invariant { PipelineInvariant self.new stores.new }
         ensures swept { IsSwept self.old → IsSwept self.new }
-        ensures others { (other : ℕ) → other ≢ self.old.tenant → part other stores.new ≡ part other stores.old }
+        ensures others_unchanged { (other : ℕ) → other ≢ self.old.tenant
+            → part other stores.new ≡ part other stores.old }
         ensures tenant { self.new.tenant ≡ self.old.tenant }
         ensures section { self.new.section ≡ self.old.section }
     {
@@ -237,24 +247,29 @@ impl Pipeline {
 
     /// The counters are asked for, at a moment in milliseconds. Where memory is refused, timers that were due may have
     /// run.
-    pub fn report(&mut self, stores: &mut Stores<TraceNote>, now: u64) -> Result<Told, AllocError>
-        requires held { IsHeld self.old stores.old }
+    pub fn report(
+        &mut self,
+        stores: &mut Stores<TraceNote>,
+        now: u64,
+    ) -> Result<StepReply, AllocError>
+        requires invariant { PipelineInvariant self.old stores.old }
 
         // What is told is what the settings and the own steps say, and the state is what they and this step give. Where
         // no own steps leave the old state, as after refused memory, both follow from that state.
-        ensures ok { IfOk result (λ told.
+        ensures on_success { IfOk result (λ told.
             Answers (step.Report now) (state_in self.old stores.old) told (state_in self.new stores.new)) }
-        ensures goes_on { IfOk result (λ told.
-            GoesOnFrom (step.Report now) (state_in self.old stores.old) told (state_in self.new stores.new)) }
+        ensures from_state { IfOk result (λ told.
+            FollowsFromState (step.Report now) (state_in self.old stores.old) told (state_in self.new stores.new)) }
 
         // Some first due timers have run, and all else is as before.
-        ensures refused { OnErr result (let taken = step.Report now in let old = state_in self.old stores.old in
+        ensures on_refusal { OnErr result (let taken = step.Report now in let old = state_in self.old stores.old in
             IsFront (effective taken old) old (state_in self.new stores.new)) }
 
         // What always holds goes on to hold, and nothing of other tenants changes.
-        ensures held { IsHeld self.new stores.new }
+        ensures invariant { PipelineInvariant self.new stores.new }
         ensures swept { IsSwept self.old → IsSwept self.new }
-        ensures others { (other : ℕ) → other ≢ self.old.tenant → part other stores.new ≡ part other stores.old }
+        ensures others_unchanged { (other : ℕ) → other ≢ self.old.tenant
+            → part other stores.new ≡ part other stores.old }
         ensures tenant { self.new.tenant ≡ self.old.tenant }
         ensures section { self.new.section ≡ self.old.section }
     {
@@ -267,24 +282,29 @@ impl Pipeline {
 
     /// The tenant takes no more spans, and sends all it holds, at a moment in milliseconds. Where memory is refused,
     /// timers that were due may have run, and it goes on as before.
-    pub fn drain(&mut self, stores: &mut Stores<TraceNote>, now: u64) -> Result<Told, AllocError>
-        requires held { IsHeld self.old stores.old }
+    pub fn drain(
+        &mut self,
+        stores: &mut Stores<TraceNote>,
+        now: u64,
+    ) -> Result<StepReply, AllocError>
+        requires invariant { PipelineInvariant self.old stores.old }
 
         // What is told is what the settings and the own steps say, and the state is what they and this step give. Where
         // no own steps leave the old state, as after refused memory, both follow from that state.
-        ensures ok { IfOk result (λ told.
+        ensures on_success { IfOk result (λ told.
             Answers (step.Drain now) (state_in self.old stores.old) told (state_in self.new stores.new)) }
-        ensures goes_on { IfOk result (λ told.
-            GoesOnFrom (step.Drain now) (state_in self.old stores.old) told (state_in self.new stores.new)) }
+        ensures from_state { IfOk result (λ told.
+            FollowsFromState (step.Drain now) (state_in self.old stores.old) told (state_in self.new stores.new)) }
 
         // Some first due timers have run, and all else is as before.
-        ensures refused { OnErr result (let taken = step.Drain now in let old = state_in self.old stores.old in
+        ensures on_refusal { OnErr result (let taken = step.Drain now in let old = state_in self.old stores.old in
             IsFront (effective taken old) old (state_in self.new stores.new)) }
 
         // What always holds goes on to hold, and nothing of other tenants changes.
-        ensures held { IsHeld self.new stores.new }
+        ensures invariant { PipelineInvariant self.new stores.new }
         ensures swept { IsSwept self.old → IsSwept self.new }
-        ensures others { (other : ℕ) → other ≢ self.old.tenant → part other stores.new ≡ part other stores.old }
+        ensures others_unchanged { (other : ℕ) → other ≢ self.old.tenant
+            → part other stores.new ≡ part other stores.old }
         ensures tenant { self.new.tenant ≡ self.old.tenant }
         ensures section { self.new.section ≡ self.old.section }
     {
@@ -294,13 +314,13 @@ impl Pipeline {
             self.close(stores, moment)?;
         }
         self.clock = moment;
-        Ok(Told::Done)
+        Ok(StepReply::Done)
     }
 
     /// When there is next something to do, in milliseconds: the moment of the next timer, or that from which on there
     /// is a job.
     pub fn ready(&self, stores: &Stores<TraceNote>) -> Option<u64>
-        requires held { IsHeld self.now stores.now }
+        requires invariant { PipelineInvariant self.now stores.now }
         ensures { result ≡ ready (state_in self.now stores.now) }
     {
         lesser(self.next_timer(stores), self.sender.ready())

@@ -1,14 +1,14 @@
 //! A span of a post goes to its trace's row, leaves late, or opens a row.
 
 ghost use Rattle.std.specs.Prelude.{◌≡◌, ◌≢◌, ◌<◌, ◌≤◌, ◌+◌, ◌-◌, ◌++◌, ◌∷◌, [], ◌^◌, ℕ, List, Some, IfOk, OnOk, OnErr, if◌then◌else◌, nat_lt, length, vec_len, vec_capacity};
-ghost use Rattle.drop_ledger.specs.Ledger.{IsSound as IsSoundLedger, counted, moved, most_counted};
+ghost use Rattle.drop_ledger.specs.Ledger.{LedgerInvariant, counted, moved, most_counted};
 ghost use Rattle.drop_ledger.specs.declared.places.Place.TheVariants.{Undecided, TooEarly};
 ghost use Rattle.span_pool.specs.Stored.{origin_at};
 ghost use Rattle.tail_policy.specs.declared.note.TraceNote.{TraceNote as Note};
 ghost use Rattle.trace_rows.specs.Part.{keys_of};
 ghost use Rattle.tenant_stores.specs.Part.{Part, part};
 ghost use Rattle.tenant_stores.specs.Counts.{Counts, room_made};
-ghost use Rattle.tenant_stores.specs.Sound.{IsSound};
+ghost use Rattle.tenant_stores.specs.Invariant.{StoreInvariant};
 ghost use Rattle.tenant_stores.specs.View.{view, text_at, text_keys};
 ghost use Rattle.tenant_stores.specs.Trail.{HoldsAll};
 ghost use Rattle.tenant_rules.specs.Machine.{come, joins, opens, cached_or_opens, evicted, counted_in};
@@ -17,8 +17,8 @@ ghost use Rattle.decision_cache.specs.Caches.{found, shown};
 ghost use Rattle.tenant_pipeline.specs.declared.pipeline.Pipeline.{Pipeline as Own};
 ghost use Rattle.tenant_stores.specs.Shows.{AreAmong, Stay};
 ghost use Rattle.tenant_pipeline.specs.StateIn.{counts_in, part_in, state_in};
-ghost use Rattle.tenant_pipeline.specs.Held.{IsHeldAt};
-ghost use Rattle.tenant_pipeline.specs.Posts.{arrival_at, IsComing, Came, IsWritten, IsSameTenant, IsSeat, IsSeatAt, seat_by};
+ghost use Rattle.tenant_pipeline.specs.Invariant.{PipelineInvariantAt};
+ghost use Rattle.tenant_pipeline.specs.Posts.{arrival_at, IsComing, Came, IsWritten, IsSameTenant, IsTraceState, IsTraceStateAt, state_by_cache};
 
 use crate::journal::Journal;
 use crate::pipeline::Pipeline;
@@ -27,11 +27,11 @@ use otlp_prepare::NotedSpan;
 use span_pool::{StoredSpan, TextKeys};
 use std::alloc::AllocError;
 use tail_policy::TraceNote;
-use tenant_stores::{Placed, Stores};
+use tenant_stores::{Stores, UndoEntry};
 
 /// Where a trace has its latest row.
 #[derive(Clone, Copy, Debug, PartialEq, Eq)]
-pub enum Seat {
+pub enum TraceState {
     /// It has none that is present, and no cache has its verdict.
     Nowhere,
     /// It has none that is present, and is known to be sampled or not.
@@ -44,40 +44,40 @@ pub enum Seat {
 
 impl Pipeline {
     /// Where a trace has its latest row.
-    fn seat(&self, stores: &Stores<TraceNote>, trace: [u8; 16]) -> Seat
-        requires held { (reached : ℕ) × (gone held : List ℕ)
-            × IsHeldAt reached gone held self.now (part_in self.now stores.now) }
-        ensures seat { IsSeat trace result (state_in self.now stores.now) }
-        ensures number { IsSeatAt trace result self.now (part_in self.now stores.now) }
+    fn trace_state(&self, stores: &Stores<TraceNote>, trace: [u8; 16]) -> TraceState
+        requires invariant { (reached : ℕ) × (gone held : List ℕ)
+            × PipelineInvariantAt reached gone held self.now (part_in self.now stores.now) }
+        ensures state { IsTraceState trace result (state_in self.now stores.now) }
+        ensures number { IsTraceStateAt trace result self.now (part_in self.now stores.now) }
     {
-        let Some(number) = stores.seat(self.tenant, trace) else {
-            return self.seat_known(trace);
+        let Some(number) = stores.latest_row(self.tenant, trace) else {
+            return self.cached_state(trace);
         };
         if number <= self.rows.first {
-            return self.seat_known(trace);
+            return self.cached_state(trace);
         }
         if number > self.rows.decided {
-            return Seat::Waits(number);
+            return TraceState::Waits(number);
         }
         match stores.row(self.tenant, number) {
-            Some(row) => Seat::Decided(row.sampled),
+            Some(row) => TraceState::Decided(row.sampled),
             None => unreachable!(),
         }
     }
 
     /// Where a trace is that has no row that is present.
-    fn seat_known(&self, trace: [u8; 16]) -> Seat
-        ensures { result ≡ seat_by (found trace (shown self.now.caches)) }
+    fn cached_state(&self, trace: [u8; 16]) -> TraceState
+        ensures { result ≡ state_by_cache (found trace (shown self.now.caches)) }
     {
         match self.caches.find(trace) {
-            Some(sampled) => Seat::Cached(sampled),
-            None => Seat::Nowhere,
+            Some(sampled) => TraceState::Cached(sampled),
+            None => TraceState::Nowhere,
         }
     }
 
     /// Whether there is room for one more span.
     fn has_room(&self) -> bool
-        requires sound { IsSoundLedger self.now.ledger }
+        requires ledger_invariant { LedgerInvariant self.now.ledger }
         ensures { result ≡ nat_lt (self.now.ledger.places.undecided + self.now.ledger.places.pending)
             self.now.section.max_spans }
     {
@@ -87,7 +87,7 @@ impl Pipeline {
 
     /// A span of a post comes at a moment, in milliseconds, and is taken where there is room. The texts of its origin
     /// are held at these keys. What it changes is written down, also where memory is refused.
-    pub(crate) fn place(
+    pub(crate) fn admit(
         &mut self,
         stores: &mut Stores<TraceNote>,
         journal: &mut Journal,
@@ -106,24 +106,25 @@ impl Pipeline {
         ensures written { (start : Own) (first : Part Note)
             → IsWritten journal.old start self.old first (part_in self.old stores.old)
             → IsWritten journal.new start self.new first (part_in self.new stores.new) }
-        ensures others { (other : ℕ) → other ≢ self.old.tenant → part other stores.new ≡ part other stores.old }
+        ensures others_unchanged { (other : ℕ) → other ≢ self.old.tenant
+            → part other stores.new ≡ part other stores.old }
         ensures same { IsSameTenant self.old self.new }
     {
         if !self.has_room() {
             return Ok(());
         }
         journal.placed.reserve(1)?;
-        match self.seat(stores, span.trace) {
-            Seat::Waits(number) => self.join(stores, journal, number, moment, keys, span),
-            Seat::Decided(true) => self.come_late(stores, journal, moment, keys, span),
-            Seat::Decided(false) => {
+        match self.trace_state(stores, span.trace) {
+            TraceState::Waits(number) => self.join(stores, journal, number, moment, keys, span),
+            TraceState::Decided(true) => self.admit_late(stores, journal, moment, keys, span),
+            TraceState::Decided(false) => {
                 self.ledger.take(1);
                 self.ledger
                     .move_spans(Place::Undecided, Place::NotSampled, 1);
                 Ok(())
             }
-            Seat::Cached(sampled) => self.hit(stores, journal, moment, keys, span, sampled),
-            Seat::Nowhere => self.open(stores, journal, moment, keys, span),
+            TraceState::Cached(sampled) => self.hit(stores, journal, moment, keys, span, sampled),
+            TraceState::Nowhere => self.open(stores, journal, moment, keys, span),
         }
     }
 
@@ -151,11 +152,12 @@ impl Pipeline {
         ensures written { (start : Own) (first : Part Note)
             → IsWritten journal.old start self.old first (part_in self.old stores.old)
             → IsWritten journal.new start self.new first (part_in self.new stores.new) }
-        ensures others { (other : ℕ) → other ≢ self.old.tenant → part other stores.new ≡ part other stores.old }
+        ensures others_unchanged { (other : ℕ) → other ≢ self.old.tenant
+            → part other stores.new ≡ part other stores.old }
         ensures same { IsSameTenant self.old self.new }
     {
         if sampled {
-            self.come_late(stores, journal, moment, keys, span)?;
+            self.admit_late(stores, journal, moment, keys, span)?;
             return self.caches.push_hit(span.trace, true);
         }
         self.caches.push_hit(span.trace, false)?;
@@ -178,7 +180,7 @@ impl Pipeline {
         requires coming { (held : List ℕ)
             × IsComing moment journal.old keys span.now held self.old (part_in self.old stores.old) }
         requires fits { counted self.old.ledger + 1 ≤ most_counted }
-        requires seat { (part_in self.old stores.old).seats span.now.trace ≡ Some number }
+        requires latest_row { (part_in self.old stores.old).latest_rows span.now.trace ≡ Some number }
         requires waits { self.old.rows.decided < number }
         requires budget { self.old.ledger.places.undecided + self.old.ledger.places.pending
             < self.old.section.max_spans }
@@ -189,7 +191,8 @@ impl Pipeline {
         ensures written { (start : Own) (first : Part Note)
             → IsWritten journal.old start self.old first (part_in self.old stores.old)
             → IsWritten journal.new start self.new first (part_in self.new stores.new) }
-        ensures others { (other : ℕ) → other ≢ self.old.tenant → part other stores.new ≡ part other stores.old }
+        ensures others_unchanged { (other : ℕ) → other ≢ self.old.tenant
+            → part other stores.new ≡ part other stores.old }
         ensures same { IsSameTenant self.old self.new }
     {
         let Some(row) = stores.row(self.tenant, number) else {
@@ -203,7 +206,7 @@ impl Pipeline {
                 self.ledger.take(1);
                 journal
                     .placed
-                    .push_reserved(Placed::Joined(number, joining.key, joining.former));
+                    .push_reserved(UndoEntry::Joined(number, joining.key, joining.former));
                 Ok(())
             }
             Err(refused) => {
@@ -214,7 +217,7 @@ impl Pipeline {
     }
 
     /// A span comes after its row was decided and sampled: it waits for a batch alone.
-    fn come_late(
+    fn admit_late(
         &mut self,
         stores: &mut Stores<TraceNote>,
         journal: &mut Journal,
@@ -236,14 +239,15 @@ impl Pipeline {
         ensures written { (start : Own) (first : Part Note)
             → IsWritten journal.old start self.old first (part_in self.old stores.old)
             → IsWritten journal.new start self.new first (part_in self.new stores.new) }
-        ensures others { (other : ℕ) → other ≢ self.old.tenant → part other stores.new ≡ part other stores.old }
+        ensures others_unchanged { (other : ℕ) → other ≢ self.old.tenant
+            → part other stores.new ≡ part other stores.old }
         ensures same { IsSameTenant self.old self.new }
     {
         let keyed = self.keyed(stores, keys, span)?;
         let held = keyed.keys();
         match stores.keep_late(keyed) {
             Ok(key) => {
-                journal.placed.push_reserved(Placed::Late(key));
+                journal.placed.push_reserved(UndoEntry::Late(key));
                 self.ledger.take(1);
                 let keys = [key];
                 self.group(stores, &mut journal.undo, moment, keys.as_slice())
@@ -277,7 +281,8 @@ impl Pipeline {
         ensures written { (start : Own) (first : Part Note)
             → IsWritten journal.old start self.old first (part_in self.old stores.old)
             → IsWritten journal.new start self.new first (part_in self.new stores.new) }
-        ensures others { (other : ℕ) → other ≢ self.old.tenant → part other stores.new ≡ part other stores.old }
+        ensures others_unchanged { (other : ℕ) → other ≢ self.old.tenant
+            → part other stores.new ≡ part other stores.old }
         ensures same { IsSameTenant self.old self.new }
     {
         let keyed = self.keyed(stores, keys, span)?;
@@ -289,7 +294,7 @@ impl Pipeline {
             Ok(opening) => {
                 self.rows.opened = number;
                 self.ledger.take(1);
-                journal.placed.push_reserved(Placed::Opened(
+                journal.placed.push_reserved(UndoEntry::Opened(
                     number,
                     opening.key,
                     span.trace,
@@ -307,7 +312,7 @@ impl Pipeline {
     /// The first row leaves where as many are present as may be: only numbers change, and its spans are no longer
     /// undecided.
     fn make_room(&mut self, stores: &Stores<TraceNote>)
-        requires few { self.old.rows.opened < 2 ^ 63 }
+        requires rows_bounded { self.old.rows.opened < 2 ^ 63 }
         requires most { 0 < self.old.section.tail_sampling.num_traces }
         requires undecided { let first = self.old.rows.opened + 1 - self.old.section.tail_sampling.num_traces in
             self.old.rows.decided < first
@@ -342,26 +347,27 @@ impl Pipeline {
     ) -> Result<StoredSpan, AllocError>
         ensures owner { IfOk result (λ keyed. keyed.owner ≡ self.now.tenant) }
         ensures text { IfOk result (λ keyed. keyed.text ≡ span.now.text) }
-        ensures own { IfOk result (λ keyed. (n : Counts) (pending held : List ℕ)
-            → AreAmong (text_keys keys) held → IsSound n pending held (part_in self.now stores.old)
+        ensures uses_added { IfOk result (λ keyed. (n : Counts) (pending held : List ℕ)
+            → AreAmong (text_keys keys) held → StoreInvariant n pending held (part_in self.now stores.old)
             → HoldsAll (text_keys keyed.keys) (part_in self.now stores.old) (part_in self.now stores.new)) }
-        ensures sound { IfOk result (λ keyed. (n : Counts) (pending held : List ℕ)
-            → AreAmong (text_keys keys) held → IsSound n pending held (part_in self.now stores.old)
-            → IsSound n pending (text_keys keyed.keys ++ held) (part_in self.now stores.new)) }
+        ensures store_invariant { IfOk result (λ keyed. (n : Counts) (pending held : List ℕ)
+            → AreAmong (text_keys keys) held → StoreInvariant n pending held (part_in self.now stores.old)
+            → StoreInvariant n pending (text_keys keyed.keys ++ held) (part_in self.now stores.new)) }
         ensures texts { IfOk result (λ keyed. (n : Counts) (pending held : List ℕ)
-            → AreAmong (text_keys keys) held → IsSound n pending held (part_in self.now stores.old)
+            → AreAmong (text_keys keys) held → StoreInvariant n pending held (part_in self.now stores.old)
             → origin_at (text_at (part_in self.now stores.new).texts) keyed.keys ≡
             origin_at (text_at (part_in self.now stores.old).texts) keys) }
         ensures shows { OnOk result ((n : Counts) (pending held shown : List ℕ)
-            → AreAmong (text_keys keys) held → IsSound n pending held (part_in self.now stores.old)
+            → AreAmong (text_keys keys) held → StoreInvariant n pending held (part_in self.now stores.old)
             → AreAmong shown pending
             → view n shown (part_in self.now stores.new) ≡ view n shown (part_in self.now stores.old)) }
         ensures stay { OnOk result ((n : Counts) (pending held : List ℕ)
-            → AreAmong (text_keys keys) held → IsSound n pending held (part_in self.now stores.old)
+            → AreAmong (text_keys keys) held → StoreInvariant n pending held (part_in self.now stores.old)
             → Stay held (part_in self.now stores.old).texts (part_in self.now stores.new).texts) }
-        ensures others { (other : ℕ) → other ≢ self.now.tenant → part other stores.new ≡ part other stores.old }
-        ensures refused { OnErr result ((n : Counts) (pending held : List ℕ)
-            → AreAmong (text_keys keys) held → IsSound n pending held (part_in self.now stores.old)
+        ensures others_unchanged { (other : ℕ) → other ≢ self.now.tenant
+            → part other stores.new ≡ part other stores.old }
+        ensures on_refusal { OnErr result ((n : Counts) (pending held : List ℕ)
+            → AreAmong (text_keys keys) held → StoreInvariant n pending held (part_in self.now stores.old)
             → part_in self.now stores.new ≡ part_in self.now stores.old) }
     {
         let text = span.text.clone()?;

@@ -7,7 +7,7 @@ ghost use Rattle.span_pool.specs.Stored.{origin_at};
 ghost use Rattle.tail_policy.specs.declared.note.TraceNote.{TraceNote as Note};
 ghost use Rattle.tenant_stores.specs.Part.{Part, part};
 ghost use Rattle.tenant_stores.specs.Counts.{Counts};
-ghost use Rattle.tenant_stores.specs.Sound.{IsSound};
+ghost use Rattle.tenant_stores.specs.Invariant.{StoreInvariant};
 ghost use Rattle.tenant_stores.specs.View.{view, text_at};
 ghost use Rattle.tenant_stores.specs.Trail.{HoldsAll};
 ghost use Rattle.tenant_rules.specs.Answers.{reply_of};
@@ -18,14 +18,14 @@ ghost use Rattle.tenant_stores.specs.Shows.{AreAmong};
 ghost use Rattle.otlp_prepare.specs.Arrivals.{origin_view};
 ghost use Rattle.tenant_pipeline.specs.Prepared.{arrivals_of};
 ghost use Rattle.tenant_pipeline.specs.StateIn.{part_in, policies_of, state_in};
-ghost use Rattle.tenant_pipeline.specs.Held.{IsHeldAt, IsSwept};
+ghost use Rattle.tenant_pipeline.specs.Invariant.{PipelineInvariantAt, IsSwept};
 ghost use Rattle.tenant_pipeline.specs.Posts.{all_text_keys, arrivals_at, AreComing, IsPosting, IsTaken, IsWritten, IsSameTenant, verdict_after};
 ghost use Rattle.tenant_pipeline.specs.Acts.{ActsAt, IsPosted, at};
 
 use crate::journal::Journal;
 use crate::pipeline::Pipeline;
 use crate::reply::{refusal, success};
-use otlp_prepare::{NotedSpan, Origin, Prepared};
+use otlp_prepare::{NotedSpan, Prepared, SpanOrigin};
 use span_pool::TextKeys;
 use std::alloc::{AllocError, Global};
 use tail_policy::TraceNote;
@@ -37,23 +37,23 @@ fn hold_origins(
     alloc: Global,
     stores: &mut Stores<TraceNote>,
     tenant: u32,
-    origins: &[Origin],
+    origins: &[SpanOrigin],
 ) -> Result<Vec<TextKeys>, AllocError>
-    ensures own { IfOk result (λ all. (n : Counts) (pending held : List ℕ)
-        → IsSound n pending held (part tenant stores.old)
+    ensures uses_added { IfOk result (λ all. (n : Counts) (pending held : List ℕ)
+        → StoreInvariant n pending held (part tenant stores.old)
         → HoldsAll (all_text_keys all.items) (part tenant stores.old) (part tenant stores.new)) }
-    ensures sound { IfOk result (λ all. (n : Counts) (pending held : List ℕ)
-        → IsSound n pending held (part tenant stores.old)
-        → IsSound n pending (all_text_keys all.items ++ held) (part tenant stores.new)) }
+    ensures store_invariant { IfOk result (λ all. (n : Counts) (pending held : List ℕ)
+        → StoreInvariant n pending held (part tenant stores.old)
+        → StoreInvariant n pending (all_text_keys all.items ++ held) (part tenant stores.new)) }
     ensures origins { IfOk result (λ all. (n : Counts) (pending held : List ℕ)
-        → IsSound n pending held (part tenant stores.old)
+        → StoreInvariant n pending held (part tenant stores.old)
         → map (origin_at (text_at (part tenant stores.new).texts)) all.items ≡ map origin_view origins.now) }
     ensures shows { OnOk result ((n : Counts) (pending held shown : List ℕ)
-        → IsSound n pending held (part tenant stores.old) → AreAmong shown pending
+        → StoreInvariant n pending held (part tenant stores.old) → AreAmong shown pending
         → view n shown (part tenant stores.new) ≡ view n shown (part tenant stores.old)) }
-    ensures others { (other : ℕ) → other ≢ tenant → part other stores.new ≡ part other stores.old }
-    ensures refused { OnErr result ((n : Counts) (pending held : List ℕ)
-        → IsSound n pending held (part tenant stores.old) → part tenant stores.new ≡ part tenant stores.old) }
+    ensures others_unchanged { (other : ℕ) → other ≢ tenant → part other stores.new ≡ part other stores.old }
+    ensures on_refusal { OnErr result ((n : Counts) (pending held : List ℕ)
+        → StoreInvariant n pending held (part tenant stores.old) → part tenant stores.new ≡ part tenant stores.old) }
 {
     let mut all = Vec::with_capacity(alloc, origins.len())?;
     for origin in origins {
@@ -76,15 +76,15 @@ fn hold_origins(
 
 /// One use less of the texts of each origin. It takes no memory.
 fn release_origins(stores: &mut Stores<TraceNote>, tenant: u32, all: Vec<TextKeys>)
-    ensures own { (start : Part Note) → HoldsAll (all_text_keys all.items) start (part tenant stores.old)
+    ensures uses_removed { (start : Part Note) → HoldsAll (all_text_keys all.items) start (part tenant stores.old)
         → part tenant stores.new ≡ start }
-    ensures sound { (n : Counts) (pending held : List ℕ)
-        → IsSound n pending (all_text_keys all.items ++ held) (part tenant stores.old)
-        → IsSound n pending held (part tenant stores.new) }
+    ensures store_invariant { (n : Counts) (pending held : List ℕ)
+        → StoreInvariant n pending (all_text_keys all.items ++ held) (part tenant stores.old)
+        → StoreInvariant n pending held (part tenant stores.new) }
     ensures shows { (n : Counts) (pending held shown : List ℕ)
-        → IsSound n pending (all_text_keys all.items ++ held) (part tenant stores.old) → AreAmong shown pending
+        → StoreInvariant n pending (all_text_keys all.items ++ held) (part tenant stores.old) → AreAmong shown pending
         → view n shown (part tenant stores.new) ≡ view n shown (part tenant stores.old) }
-    ensures others { (other : ℕ) → other ≢ tenant → part other stores.new ≡ part other stores.old }
+    ensures others_unchanged { (other : ℕ) → other ≢ tenant → part other stores.new ≡ part other stores.old }
 {
     let mut left = all;
     while let Some(keys) = left.pop() {
@@ -101,17 +101,18 @@ impl Pipeline {
         moment: u64,
         prepared: &Prepared,
     ) -> Result<Reply, AllocError>
-        requires holds { IsHeldAt moment [] [] self.old (part_in self.old stores.old) }
+        requires holds { PipelineInvariantAt moment [] [] self.old (part_in self.old stores.old) }
         requires quiet { IsAfter (next_due self.old.batcher) moment }
         requires policies { prepared.now.policies ≡ policies_of self.old }
-        ensures ok { OnOk result (ActsAt moment (post moment (arrivals_of prepared.now))
+        ensures on_success { OnOk result (ActsAt moment (post moment (arrivals_of prepared.now))
             (state_in self.old stores.old) (state_in self.new stores.new)) }
-        ensures told { IfOk result (λ reply. reply ≡
+        ensures reply { IfOk result (λ reply. reply ≡
             reply_of (post_verdict moment (arrivals_of prepared.now) (at moment (state_in self.old stores.old)))) }
-        ensures holds { OnOk result (IsHeldAt moment [] [] self.new (part_in self.new stores.new)) }
-        ensures others { (other : ℕ) → other ≢ self.old.tenant → part other stores.new ≡ part other stores.old }
-        ensures refused { OnErr result (self.new ≡ self.old) }
-        ensures refused_part { OnErr result (part self.old.tenant stores.new ≡ part self.old.tenant stores.old) }
+        ensures holds { OnOk result (PipelineInvariantAt moment [] [] self.new (part_in self.new stores.new)) }
+        ensures others_unchanged { (other : ℕ) → other ≢ self.old.tenant
+            → part other stores.new ≡ part other stores.old }
+        ensures on_refusal { OnErr result (self.new ≡ self.old) }
+        ensures part_on_refusal { OnErr result (part self.old.tenant stores.new ≡ part self.old.tenant stores.old) }
         ensures swept { IsSwept self.old → IsSwept self.new }
         ensures same { IsSameTenant self.old self.new }
     {
@@ -142,25 +143,27 @@ impl Pipeline {
         spans: &[NotedSpan],
         invalid: u64,
     ) -> Result<Reply, AllocError>
-        requires holds { IsHeldAt moment [] (all_text_keys keys.now) self.old (part_in self.old stores.old) }
+        requires holds { PipelineInvariantAt moment [] (all_text_keys keys.now) self.old (part_in self.old stores.old) }
         requires quiet { IsAfter (next_due self.old.batcher) moment }
         requires ready { AreComing keys.now spans.now self.old (part_in self.old stores.old) }
         requires fits { counted self.old.ledger + (length spans.now + invalid) ≤ most_counted }
-        ensures ok { OnOk result (IsTaken (arrivals_at (part_in self.old stores.old) keys.now spans.now) invalid moment
+        ensures on_success { OnOk result (IsTaken (arrivals_at (part_in self.old stores.old) keys.now spans.now)
+            invalid moment
             (state_in self.old stores.old) (state_in self.new stores.new)) }
-        ensures told { IfOk result (λ reply. reply ≡ reply_of (verdict_after
+        ensures reply { IfOk result (λ reply. reply ≡ reply_of (verdict_after
             (arrivals_at (part_in self.old stores.old) keys.now spans.now) invalid moment
             (state_in self.old stores.old))) }
-        ensures holds { OnOk result (IsHeldAt moment [] (all_text_keys keys.now) self.new
+        ensures holds { OnOk result (PipelineInvariantAt moment [] (all_text_keys keys.now) self.new
             (part_in self.new stores.new)) }
-        ensures others { (other : ℕ) → other ≢ self.old.tenant → part other stores.new ≡ part other stores.old }
-        ensures refused { OnErr result (self.new ≡ self.old) }
-        ensures refused_part { OnErr result (part self.old.tenant stores.new ≡ part self.old.tenant stores.old) }
+        ensures others_unchanged { (other : ℕ) → other ≢ self.old.tenant
+            → part other stores.new ≡ part other stores.old }
+        ensures on_refusal { OnErr result (self.new ≡ self.old) }
+        ensures part_on_refusal { OnErr result (part self.old.tenant stores.new ≡ part self.old.tenant stores.old) }
         ensures swept { OnOk result (IsSwept self.new) }
         ensures same { IsSameTenant self.old self.new }
     {
         let mut journal = Journal::of(self, spans.len())?;
-        match self.place_all(stores, &mut journal, moment, keys, spans, invalid) {
+        match self.admit_all(stores, &mut journal, moment, keys, spans, invalid) {
             Ok(reply) => {
                 stores.flush(self.tenant, journal.undo.gone.as_slice());
                 self.caches.commit();
@@ -177,7 +180,7 @@ impl Pipeline {
     }
 
     /// The spans of a body come, one after the other, and the reply says how many were left out.
-    fn place_all(
+    fn admit_all(
         &mut self,
         stores: &mut Stores<TraceNote>,
         journal: &mut Journal,
@@ -190,9 +193,10 @@ impl Pipeline {
             (part_in self.old stores.old) }
         requires ready { AreComing keys.now spans.now self.old (part_in self.old stores.old) }
         requires fits { counted self.old.ledger + (length spans.now + invalid) ≤ most_counted }
-        ensures ok { OnOk result (IsTaken (arrivals_at (part_in self.old stores.old) keys.now spans.now) invalid moment
+        ensures on_success { OnOk result (IsTaken (arrivals_at (part_in self.old stores.old) keys.now spans.now)
+            invalid moment
             (state_in self.old stores.old) (state_in self.new stores.new)) }
-        ensures told { IfOk result (λ reply. reply ≡ reply_of (verdict_after
+        ensures reply { IfOk result (λ reply. reply ≡ reply_of (verdict_after
             (arrivals_at (part_in self.old stores.old) keys.now spans.now) invalid moment
             (state_in self.old stores.old))) }
         ensures posting { OnOk result (IsPosting moment journal.new (all_text_keys keys.now) self.new
@@ -200,12 +204,13 @@ impl Pipeline {
         ensures written { (start : Own) (first : Part Note)
             → IsWritten journal.old start self.old first (part_in self.old stores.old)
             → IsWritten journal.new start self.new first (part_in self.new stores.new) }
-        ensures others { (other : ℕ) → other ≢ self.old.tenant → part other stores.new ≡ part other stores.old }
+        ensures others_unchanged { (other : ℕ) → other ≢ self.old.tenant
+            → part other stores.new ≡ part other stores.old }
         ensures same { IsSameTenant self.old self.new }
     {
         let before = self.ledger.accepted();
         for span in spans {
-            self.place(stores, journal, moment, keys[span.origin], span)?;
+            self.admit(stores, journal, moment, keys[span.origin], span)?;
         }
         let taken = self.ledger.accepted() - before;
         let reply = self.reply(spans.len() as u64, taken, invalid)?;
@@ -217,10 +222,10 @@ impl Pipeline {
     fn reply(&mut self, valid: u64, taken: u64, invalid: u64) -> Result<Reply, AllocError>
         requires fits { counted self.old.ledger + (invalid + (valid - taken)) ≤ most_counted }
         requires within { taken ≤ valid }
-        ensures told { (before : ℕ) → IfOk result (λ reply. reply ≡
+        ensures reply { (before : ℕ) → IfOk result (λ reply. reply ≡
             reply_of (verdict_of (valid + invalid) valid before (before + taken))) }
-        ensures ok { OnOk result (IsPosted (verdict_of (valid + invalid) valid 0 taken) self.old self.new) }
-        ensures refused { OnErr result (self.new ≡ self.old) }
+        ensures on_success { OnOk result (IsPosted (verdict_of (valid + invalid) valid 0 taken) self.old self.new) }
+        ensures on_refusal { OnErr result (self.new ≡ self.old) }
     {
         if taken == 0 && valid > 0 {
             return refusal(self.alloc, 429, "span budget exhausted");
@@ -233,12 +238,13 @@ impl Pipeline {
     /// Rows that are no longer present leave the table, with their spans. It takes no memory.
     fn sweep(&mut self, stores: &mut Stores<TraceNote>)
         requires { (reached : ℕ) × (held : List ℕ)
-            × IsHeldAt reached [] held self.old (part_in self.old stores.old) }
+            × PipelineInvariantAt reached [] held self.old (part_in self.old stores.old) }
         ensures state { state_in self.new stores.new ≡ state_in self.old stores.old }
         ensures holds { (reached : ℕ) (held : List ℕ)
-            → IsHeldAt reached [] held self.old (part_in self.old stores.old)
-            → IsHeldAt reached [] held self.new (part_in self.new stores.new) }
-        ensures others { (other : ℕ) → other ≢ self.old.tenant → part other stores.new ≡ part other stores.old }
+            → PipelineInvariantAt reached [] held self.old (part_in self.old stores.old)
+            → PipelineInvariantAt reached [] held self.new (part_in self.new stores.new) }
+        ensures others_unchanged { (other : ℕ) → other ≢ self.old.tenant
+            → part other stores.new ≡ part other stores.old }
         ensures swept { IsSwept self.new }
         ensures same { IsSameTenant self.old self.new }
     {

@@ -8,7 +8,7 @@ ghost use Rattle.tenant_rules.specs.Answers.{turn_told, heard};
 ghost use Rattle.tenant_rules.specs.Machine.{turned, settled, all_moved};
 ghost use Rattle.tenant_rules.specs.Sender.{sizes, active_sizes};
 ghost use Rattle.tenant_rules.specs.Sending.{ended_by};
-ghost use Rattle.tenant_rules.specs.declared.told.Told.TheVariants as tell;
+ghost use Rattle.tenant_rules.specs.declared.reply.StepReply.TheVariants as replies;
 ghost use Rattle.tenant_pipeline.specs.Outbox.{Sends, spans_ended};
 
 use crate::pipeline::Pipeline;
@@ -17,38 +17,44 @@ use otlp_trace::Octets;
 use send_queue::{SettleFault, Settled};
 use send_retry::Answer;
 use std::alloc::AllocError;
-use tenant_rules::Told;
+use tenant_rules::StepReply;
 
 impl Pipeline {
     /// Hands out the job whose turn it is at a moment, in milliseconds, where there is one.
-    pub(crate) fn hand_out(&mut self, moment: u64) -> Result<Told, AllocError>
+    pub(crate) fn hand_out(&mut self, moment: u64) -> Result<StepReply, AllocError>
         requires queued { sizes self.old.sender.queue ≡ self.old.ledger.places.queued }
-        ensures told { IfOk result (λ told. told ≡ turn_told moment self.old.sender) }
-        ensures ok { OnOk result (Sends (turned moment) self.old self.new) }
-        ensures refused { OnErr result (self.new ≡ self.old) }
+        ensures step_reply { IfOk result (λ told. told ≡ turn_told moment self.old.sender) }
+        ensures on_success { OnOk result (Sends (turned moment) self.old self.new) }
+        ensures on_refusal { OnErr result (self.new ≡ self.old) }
     {
         let leaving = self.sender.leaving(moment);
         let Some((ticket, payload)) = self.sender.take_job(moment)? else {
-            return Ok(Told::Worked);
+            return Ok(StepReply::Worked);
         };
         self.ledger
             .move_spans(Place::Queued, Place::Active, leaving);
-        Ok(Told::Job { ticket, payload })
+        Ok(StepReply::Job { ticket, payload })
     }
 
     /// The batch in flight under a ticket was answered at a moment, in milliseconds. It takes no memory.
-    pub(crate) fn settle(&mut self, moment: u64, ticket: u64, word: u32, answer: &Answer) -> Told
+    pub(crate) fn settle(
+        &mut self,
+        moment: u64,
+        ticket: u64,
+        word: u32,
+        answer: &Answer,
+    ) -> StepReply
         requires fits { moment ≤ 2 ^ 62 }
         requires active { active_sizes self.old.sender.active ≡ self.old.ledger.places.active }
-        ensures told { result ≡ heard (in_flight ticket self.old.sender) }
+        ensures step_reply { result ≡ heard (in_flight ticket self.old.sender) }
         ensures sends { Sends (settled ticket moment word (answer_view answer.now)) self.old self.new }
     {
         match self.sender.settle(ticket, moment, word, answer) {
             Ok(settled) => {
                 self.end(settled);
-                Told::Done
+                StepReply::Done
             }
-            Err(SettleFault::UnknownTicket) => Told::UnknownTicket,
+            Err(SettleFault::UnknownTicket) => StepReply::UnknownTicket,
         }
     }
 
@@ -77,10 +83,10 @@ impl Pipeline {
     }
 
     /// What a report tells.
-    pub(crate) fn report_told(&self) -> Result<Told, AllocError>
-        ensures { IfOk result (λ told. told ≡ tell.Report (report_text self.now.ledger)) }
+    pub(crate) fn report_told(&self) -> Result<StepReply, AllocError>
+        ensures { IfOk result (λ told. told ≡ replies.Report (report_text self.now.ledger)) }
     {
         let text = self.ledger.report_text(self.alloc)?;
-        Ok(Told::Report(Octets::from_vec(text.into_bytes())))
+        Ok(StepReply::Report(Octets::from_vec(text.into_bytes())))
     }
 }

@@ -6,7 +6,7 @@ ghost use Rattle.span_batcher.specs.Timers.{is_due};
 ghost use Rattle.tenant_stores.specs.Part.{part};
 ghost use Rattle.tenant_rules.specs.Timers.{first_due, next_timer, is_batch, flushed, decide, one_run, ran, enough, IsFront};
 ghost use Rattle.tenant_pipeline.specs.StateIn.{part_in, state_in};
-ghost use Rattle.tenant_pipeline.specs.Held.{IsHeld, IsHeldAt, IsSwept};
+ghost use Rattle.tenant_pipeline.specs.Invariant.{PipelineInvariant, PipelineInvariantAt, IsSwept};
 
 use crate::outbox::encoded;
 use crate::pipeline::{Pipeline, lesser};
@@ -40,7 +40,7 @@ fn is_due(timer: Option<u64>, moment: u64) -> bool
 impl Pipeline {
     /// When the first row that waits is due, in milliseconds.
     fn first_due(&self, stores: &Stores<TraceNote>) -> Option<u64>
-        requires held { IsHeld self.now stores.now }
+        requires invariant { PipelineInvariant self.now stores.now }
         ensures { result ≡ first_due (state_in self.now stores.now).waiting }
     {
         if self.rows.decided >= self.rows.opened {
@@ -54,7 +54,7 @@ impl Pipeline {
 
     /// When the first timer is due, in milliseconds.
     pub(crate) fn next_timer(&self, stores: &Stores<TraceNote>) -> Option<u64>
-        requires held { IsHeld self.now stores.now }
+        requires invariant { PipelineInvariant self.now stores.now }
         ensures { result ≡ next_timer (state_in self.now stores.now) }
     {
         lesser(self.batcher.next_due(), self.first_due(stores))
@@ -62,15 +62,16 @@ impl Pipeline {
 
     /// The batch timer runs out: all that is pending is one batch.
     fn flush(&mut self, stores: &mut Stores<TraceNote>) -> Result<(), AllocError>
-        requires held { IsHeld self.old stores.old }
+        requires invariant { PipelineInvariant self.old stores.old }
         requires first { is_batch (next_due self.old.batcher) (first_due (state_in self.old stores.old).waiting)
             ≡ true }
         requires fits { (due : ℕ) → next_due self.old.batcher ≡ Some due → due ≤ 2 ^ 62 }
-        ensures ok { OnOk result (state_in self.new stores.new ≡
+        ensures on_success { OnOk result (state_in self.new stores.new ≡
             flushed (next_due (state_in self.old stores.old).pending) (state_in self.old stores.old)) }
-        ensures held { IsHeld self.new stores.new }
-        ensures others { (other : ℕ) → other ≢ self.old.tenant → part other stores.new ≡ part other stores.old }
-        ensures refused { OnErr result (state_in self.new stores.new ≡ state_in self.old stores.old) }
+        ensures invariant { PipelineInvariant self.new stores.new }
+        ensures others_unchanged { (other : ℕ) → other ≢ self.old.tenant
+            → part other stores.new ≡ part other stores.old }
+        ensures on_refusal { OnErr result (state_in self.new stores.new ≡ state_in self.old stores.old) }
         ensures tenant { self.new.tenant ≡ self.old.tenant }
         ensures section { self.new.section ≡ self.old.section }
         ensures swept { IsSwept self.old → IsSwept self.new }
@@ -100,17 +101,18 @@ impl Pipeline {
     /// The first row that waits is decided: its spans wait for a batch where it is sampled, and else they leave. A
     /// cache has its trace then.
     fn decide(&mut self, stores: &mut Stores<TraceNote>) -> Result<(), AllocError>
-        requires held { IsHeld self.old stores.old }
-        requires some { self.old.rows.decided < self.old.rows.opened }
+        requires invariant { PipelineInvariant self.old stores.old }
+        requires row_undecided { self.old.rows.decided < self.old.rows.opened }
         requires first { is_batch (next_due self.old.batcher) (first_due (state_in self.old stores.old).waiting)
             ≡ false }
         requires fits { (due : ℕ) → first_due (state_in self.old stores.old).waiting ≡ Some due → due ≤ 2 ^ 62 }
         requires no_hits { self.old.caches.hits ≡ [] }
-        ensures ok { OnOk result (state_in self.new stores.new ≡
+        ensures on_success { OnOk result (state_in self.new stores.new ≡
             decide (state_in self.old stores.old).waiting (state_in self.old stores.old)) }
-        ensures held { IsHeld self.new stores.new }
-        ensures others { (other : ℕ) → other ≢ self.old.tenant → part other stores.new ≡ part other stores.old }
-        ensures refused { OnErr result (state_in self.new stores.new ≡ state_in self.old stores.old) }
+        ensures invariant { PipelineInvariant self.new stores.new }
+        ensures others_unchanged { (other : ℕ) → other ≢ self.old.tenant
+            → part other stores.new ≡ part other stores.old }
+        ensures on_refusal { OnErr result (state_in self.new stores.new ≡ state_in self.old stores.old) }
         ensures tenant { self.new.tenant ≡ self.old.tenant }
         ensures section { self.new.section ≡ self.old.section }
         ensures swept { IsSwept self.old → IsSwept self.new }
@@ -154,13 +156,14 @@ impl Pipeline {
 
     /// The first timer runs.
     fn run_one(&mut self, stores: &mut Stores<TraceNote>, moment: u64) -> Result<(), AllocError>
-        requires held { IsHeld self.old stores.old }
+        requires invariant { PipelineInvariant self.old stores.old }
         requires due { is_due (next_timer (state_in self.old stores.old)) moment ≡ true }
         requires fits { moment ≤ 2 ^ 62 }
-        ensures ok { OnOk result (state_in self.new stores.new ≡ one_run (state_in self.old stores.old)) }
-        ensures held { IsHeld self.new stores.new }
-        ensures others { (other : ℕ) → other ≢ self.old.tenant → part other stores.new ≡ part other stores.old }
-        ensures refused { OnErr result (state_in self.new stores.new ≡ state_in self.old stores.old) }
+        ensures on_success { OnOk result (state_in self.new stores.new ≡ one_run (state_in self.old stores.old)) }
+        ensures invariant { PipelineInvariant self.new stores.new }
+        ensures others_unchanged { (other : ℕ) → other ≢ self.old.tenant
+            → part other stores.new ≡ part other stores.old }
+        ensures on_refusal { OnErr result (state_in self.new stores.new ≡ state_in self.old stores.old) }
         ensures tenant { self.new.tenant ≡ self.old.tenant }
         ensures section { self.new.section ≡ self.old.section }
         ensures swept { IsSwept self.old → IsSwept self.new }
@@ -181,20 +184,21 @@ impl Pipeline {
         stores: &mut Stores<TraceNote>,
         moment: u64,
     ) -> Result<(), AllocError>
-        requires held { IsHeld self.old stores.old }
+        requires invariant { PipelineInvariant self.old stores.old }
         requires later { self.old.clock ≤ moment }
         requires fits { moment ≤ 2 ^ 62 }
 
         // All of them have run, or some first ones.
-        ensures ok { OnOk result (state_in self.new stores.new ≡
+        ensures on_success { OnOk result (state_in self.new stores.new ≡
             ran (enough (state_in self.old stores.old)) moment (state_in self.old stores.old)) }
         ensures front { IsFront moment (state_in self.old stores.old) (state_in self.new stores.new) }
         ensures quiet { OnOk result (is_due (next_timer (state_in self.new stores.new)) moment ≡ false) }
 
         // What always holds goes on to hold, up to the moment where all have run.
-        ensures held { IsHeld self.new stores.new }
-        ensures reached { OnOk result (IsHeldAt moment [] [] self.new (part_in self.new stores.new)) }
-        ensures others { (other : ℕ) → other ≢ self.old.tenant → part other stores.new ≡ part other stores.old }
+        ensures invariant { PipelineInvariant self.new stores.new }
+        ensures reached { OnOk result (PipelineInvariantAt moment [] [] self.new (part_in self.new stores.new)) }
+        ensures others_unchanged { (other : ℕ) → other ≢ self.old.tenant
+            → part other stores.new ≡ part other stores.old }
         ensures tenant { self.new.tenant ≡ self.old.tenant }
         ensures section { self.new.section ≡ self.old.section }
         ensures swept { IsSwept self.old → IsSwept self.new }

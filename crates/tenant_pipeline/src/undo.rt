@@ -1,7 +1,7 @@
 //! Taking back what a step has changed of its tenant's own.
 
 ghost use Rattle.std.specs.Prelude.{◌≡◌, ◌+◌, ◌<◌, ◌^◌, [], Some, unwrap_or};
-ghost use Rattle.drop_ledger.specs.Ledger.{IsSound, ledger_of};
+ghost use Rattle.drop_ledger.specs.Ledger.{LedgerInvariant, ledger_of};
 ghost use Rattle.tenant_pipeline.specs.declared.pipeline.Pipeline.{Pipeline as Own};
 ghost use Rattle.tenant_pipeline.specs.Outbox.{undone};
 ghost use Rattle.tenant_pipeline.specs.Undo.{before, TakesBack};
@@ -31,7 +31,7 @@ impl Undo {
     pub fn of(own: &Pipeline) -> Undo
         ensures back { TakesBack result own.now own.now }
         ensures none { result.gone.items ≡ [] }
-        ensures sound { IsSound (ledger_of result.counters) }
+        ensures ledger_invariant { LedgerInvariant (ledger_of result.counters) }
     {
         Undo {
             rows: own.rows,
@@ -44,7 +44,7 @@ impl Undo {
 
     /// A group came, before which this was pending, and the queue took so many batches of it.
     pub(crate) fn note(&mut self, former: Planned, offers: usize)
-        requires few { self.old.offers + offers < 2 ^ 64 }
+        requires offers_bounded { self.old.offers + offers < 2 ^ 64 }
         ensures { self.new ≡ record self.old {
           former = Some (unwrap_or self.old.former former);
           offers = self.old.offers + offers;
@@ -60,7 +60,7 @@ impl Undo {
 impl Pipeline {
     /// All that has changed of the tenant's own is taken back. It takes no memory.
     pub(crate) fn take_back(&mut self, undo: Undo)
-        requires sound { IsSound (ledger_of undo.counters) }
+        requires ledger_invariant { LedgerInvariant (ledger_of undo.counters) }
         ensures { (start : Own) → TakesBack undo start self.old → self.new ≡ start }
     {
         let Undo {

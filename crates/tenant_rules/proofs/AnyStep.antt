@@ -1,7 +1,7 @@
 -- What a tenant is after any own step, and what it is told of it.
 use Rattle.std.proofs.Common.{◌<◌, List}
 use Rattle.tail_settings.specs.Section.{SectionData}
-use Rattle.span_batcher.specs.Batches.{IsSound}
+use Rattle.span_batcher.specs.Batches.{AreValidRules}
 use Rattle.tenant_rules.specs.Own.{Own, Post, Turn, Answer, Report, Drain}
 use Rattle.tenant_rules.specs.Batching.{rules_of}
 use Rattle.tenant_rules.specs.Law.{Follows, StepsFollow}
@@ -9,7 +9,7 @@ use Rattle.tenant_rules.proofs.Steps.{report_goes_on, report_told, turn_goes_on,
 use Rattle.tenant_rules.proofs.Drained.{drain_goes_on, drain_told}
 use Rattle.tenant_rules.proofs.Posted.{post_goes_on, post_told}
 
-follows : (w : SectionData) → 0 < w.tail_sampling.num_traces → 0 < w.tail_sampling.decision_wait → IsSound (rules_of w) → (past : List Own) (step : Own) → Follows w past step
+follows : (w : SectionData) → 0 < w.tail_sampling.num_traces → 0 < w.tail_sampling.decision_wait → AreValidRules (rules_of w) → (past : List Own) (step : Own) → Follows w past step
 follows w pos wait sound past (Post now xs) = record { state_is = post_goes_on w past now xs pos wait sound; told_is = post_told w past now xs pos wait sound }
 follows w pos wait sound past (Turn now) = record { state_is = turn_goes_on w past now pos sound; told_is = turn_told_is w past now pos sound }
 follows w pos wait sound past (Answer now ticket word given) = record { state_is = answer_goes_on w past now ticket word given pos sound; told_is = answer_told w past now ticket word given pos sound }

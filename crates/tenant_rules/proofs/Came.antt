@@ -8,16 +8,16 @@ use Rattle.span_pool.specs.Stored.{same_bytes}
 use Rattle.drop_ledger.specs.declared.places.Place.TheVariants.{Undecided, Pending, NotSampled, TooEarly}
 use Rattle.drop_ledger.specs.declared.places.Places.{Places}
 use Rattle.drop_ledger.specs.Ledger.{LedgerData, taken, moved}
-use Rattle.span_batcher.specs.Batches.{IsSound, Group, batches}
+use Rattle.span_batcher.specs.Batches.{AreValidRules, Group, batches}
 use Rattle.span_batcher.specs.State as batcher
 use Rattle.span_batcher.specs.Machine.{cuts, uncut, added}
 use Rattle.tenant_rules.specs.Arrivals.{Arrival, trace_of}
-use Rattle.tenant_rules.specs.Rows.{Taken, Opened, Seat, Seated, Hit, Placed, Sits, Hits, seats, present_seat}
+use Rattle.tenant_rules.specs.Rows.{Taken, Opened, RowOpening, SpanInRow, Hit, SpanPlacement, InRow, CacheHit, in_rows, present_row}
 use Rattle.tenant_rules.specs.Fate.{most_of, is_sampled, SettledData, WaitingData, settled, waiting, dropped, late_dropped, too_early}
 use Rattle.tenant_rules.specs.Decisions.{by_moment}
 use Rattle.decision_cache.specs.Caches.{BothData, noted_in}
 use Rattle.tenant_rules.specs.Events.{decisions, caches_of}
-use Rattle.tenant_rules.specs.Seating.{known, seating, opened, placed, seated}
+use Rattle.tenant_rules.specs.Placement.{known, placement, opened, placements, spans_in_rows}
 use Rattle.tenant_rules.specs.Groups.{decided, cut_short, late, groups_of, groups}
 use Rattle.tenant_rules.specs.Sender.{BatchData, SenderData, sizes, active_sizes}
 use Rattle.tenant_rules.specs.Batching.{rules_of, as_sent, all_sent, formed, pending, waiting_rows, spans_in}
@@ -51,14 +51,14 @@ based_same l c c' t t' u u' p p' q x n n' f f' e1 e2 e3 e4 e5 e6 = cc (e1, e2, e
 -- of other spans, from those of these
 counts_came : (w : SectionData) (i : IntakeData) (B : List Taken) (e : ℕ) (D D' : SenderData) (P : Places) (f : ℕ) →
     ledger_at w (record i { spans = B }) e None D' (record P { queue_full = f })
-    ≡ set_counts (based (ledger_at w i e None D P) (length B) (too_early w (seated w B) (opened w B) (opened w B))) (spans_in (waiting_rows w e None B)) (length (pending w e None B).spans) (sizes D'.queue) (active_sizes D'.active) (not_sampled w e None B) f
+    ≡ set_counts (based (ledger_at w i e None D P) (length B) (too_early w (spans_in_rows w B) (opened w B) (opened w B))) (spans_in (waiting_rows w e None B)) (length (pending w e None B).spans) (sizes D'.queue) (active_sizes D'.active) (not_sampled w e None B) f
 unfolding ledger_at
 counts_came w i B e D D' P f = refl
 
 -- one more is counted, undecided at first
 counted : (w : SectionData) (i : IntakeData) (e : ℕ) (D : SenderData) (es : List EndedData) →
     taken 1 (ledger_at w i e None D (ended_places es))
-    ≡ set_counts (based (ledger_at w i e None D (ended_places es)) (length i.spans + 1) (too_early w (seated w i.spans) (opened w i.spans) (opened w i.spans))) (spans_in (waiting_rows w e None i.spans) + 1) (length (pending w e None i.spans).spans) (sizes D.queue) (active_sizes D.active) (not_sampled w e None i.spans) (ended_places es).queue_full
+    ≡ set_counts (based (ledger_at w i e None D (ended_places es)) (length i.spans + 1) (too_early w (spans_in_rows w i.spans) (opened w i.spans) (opened w i.spans))) (spans_in (waiting_rows w e None i.spans) + 1) (length (pending w e None i.spans).spans) (sizes D.queue) (active_sizes D.active) (not_sampled w e None i.spans) (ended_places es).queue_full
 unfolding ledger_at
 counted w i e D es = refl
 
@@ -70,8 +70,8 @@ parts_same s k k' S S' W W' P P' D L L' K K' e1 e2 e3 e4 e5 e6 = cc (e1, e2, e3,
 
 came_is : (w : SectionData) (i : IntakeData) (B : List Taken) (e : ℕ) (D : SenderData) (es : List EndedData) (new : List BatchData)
     (k : ℕ) (S : List SettledData) (W : List WaitingData) (P : batcher.State Arrival) (accepted early ns : ℕ) (L : LedgerData) (K : BothData) →
-    length (opened w B) ≡ k → settled w e None (seated w B) (length (opened w B)) (opened w B) ≡ S → waiting_rows w e None B ≡ W → pending w e None B ≡ P → caches_of w e None (placed w B) (opened w B) ≡ K →
-    length B ≡ accepted → too_early w (seated w B) (opened w B) (opened w B) ≡ early → not_sampled w e None B ≡ ns →
+    length (opened w B) ≡ k → settled w e None (spans_in_rows w B) (length (opened w B)) (opened w B) ≡ S → waiting_rows w e None B ≡ W → pending w e None B ≡ P → caches_of w e None (placements w B) (opened w B) ≡ K →
+    length B ≡ accepted → too_early w (spans_in_rows w B) (opened w B) (opened w B) ≡ early → not_sampled w e None B ≡ ns →
     L ≡ set_counts (based (ledger_at w i e None D (ended_places es)) accepted early) (spans_in W) (length P.spans) (sizes (all_offered new D).queue) (active_sizes (all_offered new D).active) ns ((ended_places es).queue_full + sizes (overflow new D)) →
     state_with w (record i { spans = B }) e None (all_offered new D) (map met_full_queue (overflow new D) ++ es)
     ≡ record (state_with w i e None D es) { opened = k; settled = S; waiting = W; caches = K; pending = P; sender = all_offered new D; ledger = L }
@@ -80,40 +80,40 @@ came_is w i B e D es new k S W P accepted early ns L K opens settles waits pends
     let D' = all_offered new D in
     let f = (ended_places es).queue_full + sizes (overflow new D) in
     let now : ledger_at w (record i { spans = B }) e None D' (ended_places (map met_full_queue (overflow new D) ++ es))
-    ≡ set_counts (based l (length B) (too_early w (seated w B) (opened w B) (opened w B))) (spans_in (waiting_rows w e None B)) (length (pending w e None B).spans) (sizes D'.queue) (active_sizes D'.active) (not_sampled w e None B) f =
+    ≡ set_counts (based l (length B) (too_early w (spans_in_rows w B) (opened w B) (opened w B))) (spans_in (waiting_rows w e None B)) (length (pending w e None B).spans) (sizes D'.queue) (active_sizes D'.active) (not_sampled w e None B) f =
     ap (λ (q : Places). ledger_at w (record i { spans = B }) e None D' q) (ended_met (overflow new D) es) ∙ counts_came w i B e D D' (ended_places es) f in
     let same = based_same l (length B) accepted _ early (spans_in (waiting_rows w e None B)) (spans_in W) (length (pending w e None B).spans) (length P.spans) (sizes D'.queue) (active_sizes D'.active) (not_sampled w e None B) ns f f
     takes evicts (ap spans_in waits) (ap (λ (q : batcher.State Arrival). length q.spans) pends) drops refl in
     let ledger_is : ledger_at w (record i { spans = B }) e None D' (ended_places (map met_full_queue (overflow new D) ++ es)) ≡ L = now ∙ (same ∙ sym counts) in
-    parts_same (state_with w i e None D es) (length (opened w B)) k _ S (waiting_rows w e None B) W (pending w e None B) P D' (ledger_at w (record i { spans = B }) e None D' (ended_places (map met_full_queue (overflow new D) ++ es))) L (caches_of w e None (placed w B) (opened w B)) K opens settles waits pends ledger_is remembers
+    parts_same (state_with w i e None D es) (length (opened w B)) k _ S (waiting_rows w e None B) W (pending w e None B) P D' (ledger_at w (record i { spans = B }) e None D' (ended_places (map met_full_queue (overflow new D) ++ es))) L (caches_of w e None (placements w B) (opened w B)) K opens settles waits pends ledger_is remembers
 
 -- ---- groups and batches
 
--- a function of seats and rows
+-- a function of rows and spans in them
 both : {S : Type 0} (C : Type 0) (f : S → List Opened → C) (N N' : S) (R R' : List Opened) → N ≡ N' → R ≡ R' → f N R ≡ f N' R'
 both C f N N' R R' sits rows = ap (λ X. f X R) sits ∙ ap (λ (Y : List Opened). f N' Y) rows
 
-groups_are : (w : SectionData) (e : ℕ) (B : List Taken) (Q : List Placed) (R : List Opened) → placed w B ≡ Q → opened w B ≡ R → groups w e None B ≡ by_moment (decided w e None (seats Q) R R ++ late w Q)
+groups_are : (w : SectionData) (e : ℕ) (B : List Taken) (Q : List SpanPlacement) (R : List Opened) → placements w B ≡ Q → opened w B ≡ R → groups w e None B ≡ by_moment (decided w e None (in_rows Q) R R ++ late w Q)
 unfolding groups
 groups_are w e B Q R spots rows =
-    let none : late w Q ++ cut_short w e None (seats Q) R R ≡ late w Q = ap (λ (gs : List (Group Arrival)). late w Q ++ gs) (cut_none w e (seats Q) R R) ∙ append-nil (late w Q) in
-    both (List (Group Arrival)) (λ X Y. groups_of w e None X Y) (placed w B) Q (opened w B) R spots rows ∙ ap (λ (gs : List (Group Arrival)). by_moment (decided w e None (seats Q) R R ++ gs)) none
+    let none : late w Q ++ cut_short w e None (in_rows Q) R R ≡ late w Q = ap (λ (gs : List (Group Arrival)). late w Q ++ gs) (cut_none w e (in_rows Q) R R) ∙ append-nil (late w Q) in
+    both (List (Group Arrival)) (λ X Y. groups_of w e None X Y) (placements w B) Q (opened w B) R spots rows ∙ ap (λ (gs : List (Group Arrival)). by_moment (decided w e None (in_rows Q) R R ++ gs)) none
 
-groups_same : (w : SectionData) (e : ℕ) (A B : List Taken) (Q : List Placed) (R : List Opened) → placed w B ≡ Q → opened w B ≡ R →
-    decided w e None (seats Q) R R ≡ decided w e None (seated w A) (opened w A) (opened w A) → late w Q ≡ late w (placed w A) → groups w e None B ≡ groups w e None A
+groups_same : (w : SectionData) (e : ℕ) (A B : List Taken) (Q : List SpanPlacement) (R : List Opened) → placements w B ≡ Q → opened w B ≡ R →
+    decided w e None (in_rows Q) R R ≡ decided w e None (spans_in_rows w A) (opened w A) (opened w A) → late w Q ≡ late w (placements w A) → groups w e None B ≡ groups w e None A
 groups_same w e A B Q R spots rows decides lates =
     groups_are w e B Q R spots rows
     ∙ (ap (λ (gs : List (Group Arrival)). by_moment (gs ++ late w Q)) decides
-    ∙ (ap (λ (gs : List (Group Arrival)). by_moment (decided w e None (seated w A) (opened w A) (opened w A) ++ gs)) lates
-    ∙ sym (groups_are w e A (placed w A) (opened w A) refl refl)))
+    ∙ (ap (λ (gs : List (Group Arrival)). by_moment (decided w e None (spans_in_rows w A) (opened w A) (opened w A) ++ gs)) lates
+    ∙ sym (groups_are w e A (placements w A) (opened w A) refl refl)))
 
-groups_more : (w : SectionData) (e : ℕ) (A B : List Taken) (Q : List Placed) (R : List Opened) (g : Group Arrival) → TakenBy e A → g.moment ≡ e → placed w B ≡ Q → opened w B ≡ R →
-    decided w e None (seats Q) R R ≡ decided w e None (seated w A) (opened w A) (opened w A) → late w Q ≡ late w (placed w A) ++ g ∷ [] → groups w e None B ≡ groups w e None A ++ g ∷ []
+groups_more : (w : SectionData) (e : ℕ) (A B : List Taken) (Q : List SpanPlacement) (R : List Opened) (g : Group Arrival) → TakenBy e A → g.moment ≡ e → placements w B ≡ Q → opened w B ≡ R →
+    decided w e None (in_rows Q) R R ≡ decided w e None (spans_in_rows w A) (opened w A) (opened w A) → late w Q ≡ late w (placements w A) ++ g ∷ [] → groups w e None B ≡ groups w e None A ++ g ∷ []
 groups_more w e A B Q R g by moment spots rows decides lates =
-    let Q' = placed w A in
+    let Q' = placements w A in
     let R' = opened w A in
-    let X = decided w e None (seats Q') R' R' in
-    let up = AllUpTo-append e X (late w Q') (AllUpTo-decided w e (seats Q') R' R') (AllUpTo-late w e A by) in
+    let X = decided w e None (in_rows Q') R' R' in
+    let up = AllUpTo-append e X (late w Q') (AllUpTo-decided w e (in_rows Q') R' R') (AllUpTo-late w e A by) in
     groups_are w e B Q R spots rows
     ∙ (ap (λ (gs : List (Group Arrival)). by_moment (gs ++ late w Q)) decides
     ∙ (ap (λ (gs : List (Group Arrival)). by_moment (X ++ gs)) lates
@@ -130,7 +130,7 @@ unfolding pending
 pending_same w e A B same = ap (batcher.state (rules_of w) e None) same
 
 -- one group more, of one span
-formed_more : (w : SectionData) (e : ℕ) (a : Arrival) (A B : List Taken) → IsSound (rules_of w) → TakenBy e A → groups w e None B ≡ groups w e None A ++ record { moment = e; spans = a ∷ [] } ∷ [] →
+formed_more : (w : SectionData) (e : ℕ) (a : Arrival) (A B : List Taken) → AreValidRules (rules_of w) → TakenBy e A → groups w e None B ≡ groups w e None A ++ record { moment = e; spans = a ∷ [] } ∷ [] →
     formed w e None B ≡ formed w e None A ++ all_sent (cuts (pending w e None A).rules e ((pending w e None A).spans ++ a ∷ []))
 unfolding formed pending
 formed_more w e a A B sound by more =
@@ -140,7 +140,7 @@ formed_more w e a A B sound by more =
     ap (λ (gs : List (Group Arrival)). all_sent (batches (rules_of w) e None gs)) more
     ∙ (ap all_sent adds.0 ∙ map-append as_sent (batches (rules_of w) e None G) (cuts s.rules e (s.spans ++ a ∷ [])))
 
-pending_more : (w : SectionData) (e : ℕ) (a : Arrival) (A B : List Taken) → IsSound (rules_of w) → TakenBy e A → groups w e None B ≡ groups w e None A ++ record { moment = e; spans = a ∷ [] } ∷ [] →
+pending_more : (w : SectionData) (e : ℕ) (a : Arrival) (A B : List Taken) → AreValidRules (rules_of w) → TakenBy e A → groups w e None B ≡ groups w e None A ++ record { moment = e; spans = a ∷ [] } ∷ [] →
     pending w e None B ≡ added e (a ∷ []) (pending w e None A)
 unfolding pending
 pending_more w e a A B sound by more =
@@ -148,11 +148,11 @@ pending_more w e a A B sound by more =
     let adds = one_more (rules_of w) e G (a ∷ []) (omega arith) sound (IsUpTo-groups w e A by) in
     ap (batcher.state (rules_of w) e None) more ∙ sym adds.1
 
--- the caches, where the span has a seat and no row that is decided changes
-seat_remembers : (w : SectionData) (e : ℕ) (A B : List Taken) (n : Seated) (R : List Opened) → placed w B ≡ Sits n ∷ placed w A → opened w B ≡ R →
-    ((v : Bool) → decisions w v e None (n ∷ seated w A) R R ≡ decisions w v e None (seated w A) (opened w A) (opened w A)) → caches_of w e None (placed w B) (opened w B) ≡ caches_of w e None (placed w A) (opened w A)
+-- the caches, where the span has a row and no row that is decided changes
+seat_remembers : (w : SectionData) (e : ℕ) (A B : List Taken) (n : SpanInRow) (R : List Opened) → placements w B ≡ InRow n ∷ placements w A → opened w B ≡ R →
+    ((v : Bool) → decisions w v e None (n ∷ spans_in_rows w A) R R ≡ decisions w v e None (spans_in_rows w A) (opened w A) (opened w A)) → caches_of w e None (placements w B) (opened w B) ≡ caches_of w e None (placements w A) (opened w A)
 seat_remembers w e A B n R spots rows decides =
-    both BothData (λ X Y. caches_of w e None X Y) (placed w B) (Sits n ∷ placed w A) (opened w B) R spots rows ∙ caches_same w e n (placed w A) R (opened w A) decides
+    both BothData (λ X Y. caches_of w e None X Y) (placements w B) (InRow n ∷ placements w A) (opened w B) R spots rows ∙ caches_same w e n (placements w A) R (opened w A) decides
 
 -- ---- what the machine does with a span
 
@@ -178,73 +178,73 @@ one_taken e a A = omega arith
 -- ---- a late span
 
 -- the state's parts, whatever becomes of the span
-late_parts : (w : SectionData) (e : ℕ) (a : Arrival) (s : Seat) (A : List Taken) → present_seat (most_of w) (trace_of a) (opened w A) ≡ Some s → s.opening + w.tail_sampling.decision_wait ≤ e →
+late_parts : (w : SectionData) (e : ℕ) (a : Arrival) (s : RowOpening) (A : List Taken) → present_row (most_of w) (trace_of a) (opened w A) ≡ Some s → s.opening + w.tail_sampling.decision_wait ≤ e →
     (length (opened w (more e a A)) ≡ length (opened w A))
-    × (settled w e None (seated w (more e a A)) (length (opened w (more e a A))) (opened w (more e a A)) ≡ settled w e None (seated w A) (length (opened w A)) (opened w A))
+    × (settled w e None (spans_in_rows w (more e a A)) (length (opened w (more e a A))) (opened w (more e a A)) ≡ settled w e None (spans_in_rows w A) (length (opened w A)) (opened w A))
     × (waiting_rows w e None (more e a A) ≡ waiting_rows w e None A)
-    × (too_early w (seated w (more e a A)) (opened w (more e a A)) (opened w (more e a A)) ≡ too_early w (seated w A) (opened w A) (opened w A))
+    × (too_early w (spans_in_rows w (more e a A)) (opened w (more e a A)) (opened w (more e a A)) ≡ too_early w (spans_in_rows w A) (opened w A) (opened w A))
 late_parts w e a s A is due =
     let B = more e a A in
     let R = opened w A in
-    let Q = placed w A in
-    let N = seats Q in
-    let n : Seated = record { row = s.row; opening = s.opening; moment = e; arrival = a } in
+    let Q = placements w A in
+    let N = in_rows Q in
+    let n : SpanInRow = record { row = s.row; opening = s.opening; moment = e; arrival = a } in
     let rows = opened_some w e a A s is in
     let spots = placed_some w e a A s is in
-    let sits = ap seats spots in
+    let sits = ap in_rows spots in
     let same = same_late w n N R due in (
       ap (λ (X : List Opened). length X) rows,
-      both (List SettledData) (λ X Y. settled w e None X (length Y) Y) (seated w B) (n ∷ N) (opened w B) R sits rows ∙ settled_same w e (length R) (n ∷ N) N R (over_of w e (n ∷ N) N R same),
-      both (List WaitingData) (λ X Y. waiting w e None X (length Y) Y) (seated w B) (n ∷ N) (opened w B) R sits rows ∙ waiting_same w e (length R) (n ∷ N) N R same,
-      both ℕ (λ X Y. too_early w X Y Y) (seated w B) (n ∷ N) (opened w B) R sits rows ∙ early_same w (n ∷ N) N R R same,
+      both (List SettledData) (λ X Y. settled w e None X (length Y) Y) (spans_in_rows w B) (n ∷ N) (opened w B) R sits rows ∙ settled_same w e (length R) (n ∷ N) N R (over_of w e (n ∷ N) N R same),
+      both (List WaitingData) (λ X Y. waiting w e None X (length Y) Y) (spans_in_rows w B) (n ∷ N) (opened w B) R sits rows ∙ waiting_same w e (length R) (n ∷ N) N R same,
+      both ℕ (λ X Y. too_early w X Y Y) (spans_in_rows w B) (n ∷ N) (opened w B) R sits rows ∙ early_same w (n ∷ N) N R R same,
     )
 
-late_decided : (w : SectionData) (e : ℕ) (a : Arrival) (s : Seat) (N : List Seated) (R : List Opened) → s.opening + w.tail_sampling.decision_wait ≤ e →
+late_decided : (w : SectionData) (e : ℕ) (a : Arrival) (s : RowOpening) (N : List SpanInRow) (R : List Opened) → s.opening + w.tail_sampling.decision_wait ≤ e →
     decided w e None (record { row = s.row; opening = s.opening; moment = e; arrival = a } ∷ N) R R ≡ decided w e None N R R
 late_decided w e a s N R due =
-    let n : Seated = record { row = s.row; opening = s.opening; moment = e; arrival = a } in
+    let n : SpanInRow = record { row = s.row; opening = s.opening; moment = e; arrival = a } in
     decided_same w e (n ∷ N) N R R (over_of w e (n ∷ N) N R (same_late w n N R due))
 
 -- the machine finds its row among those that were decided
-late_found : (w : SectionData) (i : IntakeData) (e : ℕ) (D : SenderData) (es : List EndedData) (a : Arrival) (s : Seat) → present_seat (most_of w) (trace_of a) (opened w i.spans) ≡ Some s → s.opening + w.tail_sampling.decision_wait ≤ e → TakenBy e i.spans →
-    goes e a (counted_in (state_with w i e None D es)) ≡ late_or_opens e a (Some (is_sampled w s.row (seated w i.spans))) (counted_in (state_with w i e None D es))
+late_found : (w : SectionData) (i : IntakeData) (e : ℕ) (D : SenderData) (es : List EndedData) (a : Arrival) (s : RowOpening) → present_row (most_of w) (trace_of a) (opened w i.spans) ≡ Some s → s.opening + w.tail_sampling.decision_wait ≤ e → TakenBy e i.spans →
+    goes e a (counted_in (state_with w i e None D es)) ≡ late_or_opens e a (Some (is_sampled w s.row (spans_in_rows w i.spans))) (counted_in (state_with w i e None D es))
 late_found w i e D es a s is due by =
     let R = opened w i.spans in
-    let N = seated w i.spans in
+    let N = spans_in_rows w i.spans in
     let t = trace_of a in
     let over : leb (s.opening + w.tail_sampling.decision_wait) e ≡ true = grind (arith, nat_tests, due) in
-    let idle : waits_at w e (present_seat (most_of w) t R) ≡ false = ap (waits_at w e) is ∙ ap not over in
+    let idle : waits_at w e (present_row (most_of w) t R) ≡ false = ap (waits_at w e) is ∙ ap not over in
     let waits = waiting_found t w e e N R (OpenedBy-opened w e i.spans by) in
     let settles = settled_found t w e N R idle in
     goes_by e a (counted_in (state_with w i e None D es)) (Some (is_sampled w s.row N)) (waits ∙ idle) (settles ∙ ap (sampled_at w N) is)
 
-late_drops : (w : SectionData) (e : ℕ) (a : Arrival) (s : Seat) (A : List Taken) (b : Bool) → present_seat (most_of w) (trace_of a) (opened w A) ≡ Some s → s.opening + w.tail_sampling.decision_wait ≤ e → is_sampled w s.row (seated w A) ≡ b →
+late_drops : (w : SectionData) (e : ℕ) (a : Arrival) (s : RowOpening) (A : List Taken) (b : Bool) → present_row (most_of w) (trace_of a) (opened w A) ≡ Some s → s.opening + w.tail_sampling.decision_wait ≤ e → is_sampled w s.row (spans_in_rows w A) ≡ b →
     not_sampled w e None (more e a A) ≡ not_sampled w e None A + cond (not b) 1 0
 late_drops w e a s A b is due sampled =
     let B = more e a A in
     let R = opened w A in
-    let Q = placed w A in
-    let N = seats Q in
-    let n : Seated = record { row = s.row; opening = s.opening; moment = e; arrival = a } in
+    let Q = placements w A in
+    let N = in_rows Q in
+    let n : SpanInRow = record { row = s.row; opening = s.opening; moment = e; arrival = a } in
     let rows = opened_some w e a A s is in
     let spots = placed_some w e a A s is in
-    let sits = ap seats spots in
+    let sits = ap in_rows spots in
     let over : leb (s.opening + w.tail_sampling.decision_wait) e ≡ true = grind (arith, nat_tests, due) in
     let same = dropped_same w e (n ∷ N) N R R (over_of w e (n ∷ N) N R (same_late w n N R due)) in
-    let lates : late_dropped w (Sits n ∷ Q) ≡ late_dropped w Q + cond (not b) 1 0 = rw (over, sampled) refl in
-    let all : not_sampled w e None B ≡ dropped w e None (n ∷ N) R R + late_dropped w (Sits n ∷ Q) = both ℕ (λ X Y. dropped w e None (seats X) Y Y + late_dropped w X) (placed w B) (Sits n ∷ Q) (opened w B) R spots rows in
+    let lates : late_dropped w (InRow n ∷ Q) ≡ late_dropped w Q + cond (not b) 1 0 = rw (over, sampled) refl in
+    let all : not_sampled w e None B ≡ dropped w e None (n ∷ N) R R + late_dropped w (InRow n ∷ Q) = both ℕ (λ X Y. dropped w e None (in_rows X) Y Y + late_dropped w X) (placements w B) (InRow n ∷ Q) (opened w B) R spots rows in
     omega (arith, all, same, lates)
 
 -- of a row that isn't sampled: it is dropped
-late_lost : (w : SectionData) (i : IntakeData) (e : ℕ) (D : SenderData) (es : List EndedData) (a : Arrival) (s : Seat) → present_seat (most_of w) (trace_of a) (opened w i.spans) ≡ Some s → s.opening + w.tail_sampling.decision_wait ≤ e → TakenBy e i.spans →
-    is_sampled w s.row (seated w i.spans) ≡ false → Came w i e D es a
+late_lost : (w : SectionData) (i : IntakeData) (e : ℕ) (D : SenderData) (es : List EndedData) (a : Arrival) (s : RowOpening) → present_row (most_of w) (trace_of a) (opened w i.spans) ≡ Some s → s.opening + w.tail_sampling.decision_wait ≤ e → TakenBy e i.spans →
+    is_sampled w s.row (spans_in_rows w i.spans) ≡ false → Came w i e D es a
 late_lost w i e D es a s is due by sampled =
     let A = i.spans in
     let B = more e a A in
     let R = opened w A in
-    let Q = placed w A in
-    let N = seats Q in
-    let n : Seated = record { row = s.row; opening = s.opening; moment = e; arrival = a } in
+    let Q = placements w A in
+    let N = in_rows Q in
+    let n : SpanInRow = record { row = s.row; opening = s.opening; moment = e; arrival = a } in
     let st = state_with w i e None D es in
     let l = ledger_at w i e None D (ended_places es) in
     let W = waiting_rows w e None A in
@@ -254,12 +254,12 @@ late_lost w i e D es a s is due by sampled =
     let f = (ended_places es).queue_full in
     let rows = opened_some w e a A s is in
     let spots = placed_some w e a A s is in
-    let sits = ap seats spots in
+    let sits = ap in_rows spots in
     let over : leb (s.opening + w.tail_sampling.decision_wait) e ≡ true = grind (arith, nat_tests, due) in
     let parts = late_parts w e a s A is due in
     let drops : not_sampled w e None B ≡ ns + 1 = late_drops w e a s A false is due sampled in
-    let lates : late w (Sits n ∷ Q) ≡ late w Q = rw (over, sampled) (append-nil (late w Q)) in
-    let groups_is = groups_same w e A B (Sits n ∷ Q) R spots rows (late_decided w e a s N R due) lates in
+    let lates : late w (InRow n ∷ Q) ≡ late w Q = rw (over, sampled) (append-nil (late w Q)) in
+    let groups_is = groups_same w e A B (InRow n ∷ Q) R spots rows (late_decided w e a s N R due) lates in
     let remembers = seat_remembers w e A B n R spots rows (λ v. decisions_same w v e (n ∷ N) N R R (over_of w e (n ∷ N) N R (same_late w n N R due))) in
     let L = moved Undecided NotSampled 1 (taken 1 l) in
     let counts : L ≡ set_counts (based l (length A + 1) early) (spans_in W) (length P.spans) (sizes D.queue) (active_sizes D.active) (ns + 1) (f + 0) =
@@ -270,16 +270,16 @@ late_lost w i e D es a s is due by sampled =
     ([], formed_same w e A B groups_is, came ∙ sym found)
 
 -- of one that is: it leaves alone
-late_kept : (w : SectionData) (i : IntakeData) (e : ℕ) (D : SenderData) (es : List EndedData) (a : Arrival) (s : Seat) → IsSound (rules_of w) → present_seat (most_of w) (trace_of a) (opened w i.spans) ≡ Some s → s.opening + w.tail_sampling.decision_wait ≤ e → TakenBy e i.spans →
-    is_sampled w s.row (seated w i.spans) ≡ true → Came w i e D es a
+late_kept : (w : SectionData) (i : IntakeData) (e : ℕ) (D : SenderData) (es : List EndedData) (a : Arrival) (s : RowOpening) → AreValidRules (rules_of w) → present_row (most_of w) (trace_of a) (opened w i.spans) ≡ Some s → s.opening + w.tail_sampling.decision_wait ≤ e → TakenBy e i.spans →
+    is_sampled w s.row (spans_in_rows w i.spans) ≡ true → Came w i e D es a
 unfolding added
 late_kept w i e D es a s sound is due by sampled =
     let A = i.spans in
     let B = more e a A in
     let R = opened w A in
-    let Q = placed w A in
-    let N = seats Q in
-    let n : Seated = record { row = s.row; opening = s.opening; moment = e; arrival = a } in
+    let Q = placements w A in
+    let N = in_rows Q in
+    let n : SpanInRow = record { row = s.row; opening = s.opening; moment = e; arrival = a } in
     let st = state_with w i e None D es in
     let l = ledger_at w i e None D (ended_places es) in
     let W = waiting_rows w e None A in
@@ -291,12 +291,12 @@ late_kept w i e D es a s sound is due by sampled =
     let x = active_sizes D.active in
     let rows = opened_some w e a A s is in
     let spots = placed_some w e a A s is in
-    let sits = ap seats spots in
+    let sits = ap in_rows spots in
     let over : leb (s.opening + w.tail_sampling.decision_wait) e ≡ true = grind (arith, nat_tests, due) in
     let parts = late_parts w e a s A is due in
     let drops : not_sampled w e None B ≡ ns = late_drops w e a s A true is due sampled ∙ (omega arith) in
-    let lates : late w (Sits n ∷ Q) ≡ late w Q ++ record { moment = e; spans = a ∷ [] } ∷ [] = rw (over, sampled) refl in
-    let groups_is = groups_more w e A B (Sits n ∷ Q) R (record { moment = e; spans = a ∷ [] }) by refl spots rows (late_decided w e a s N R due) lates in
+    let lates : late w (InRow n ∷ Q) ≡ late w Q ++ record { moment = e; spans = a ∷ [] } ∷ [] = rw (over, sampled) refl in
+    let groups_is = groups_more w e A B (InRow n ∷ Q) R (record { moment = e; spans = a ∷ [] }) by refl spots rows (late_decided w e a s N R due) lates in
     let remembers = seat_remembers w e A B n R spots rows (λ v. decisions_same w v e (n ∷ N) N R R (over_of w e (n ∷ N) N R (same_late w n N R due))) in
     let all = P.spans ++ a ∷ [] in
     let new = all_sent (cuts P.rules e all) in
@@ -324,15 +324,15 @@ spans_joined a (r ∷ rs) is = by_tests (has_row (trace_of a) rs) (same_bytes (t
     by_tests false true here ih = let all : length (r.spans ++ a ∷ []) + spans_in rs ≡ length r.spans + spans_in rs + 1 = omega (arith, length-append r.spans (a ∷ [])) in all
     by_tests false false here ih = absurd (cc)
 
-joins_row : (w : SectionData) (i : IntakeData) (e : ℕ) (D : SenderData) (es : List EndedData) (a : Arrival) (s : Seat) → present_seat (most_of w) (trace_of a) (opened w i.spans) ≡ Some s → e < s.opening + w.tail_sampling.decision_wait → TakenBy e i.spans → Came w i e D es a
+joins_row : (w : SectionData) (i : IntakeData) (e : ℕ) (D : SenderData) (es : List EndedData) (a : Arrival) (s : RowOpening) → present_row (most_of w) (trace_of a) (opened w i.spans) ≡ Some s → e < s.opening + w.tail_sampling.decision_wait → TakenBy e i.spans → Came w i e D es a
 joins_row w i e D es a s is lt by =
     let A = i.spans in
     let B = more e a A in
     let R = opened w A in
-    let Q = placed w A in
-    let N = seats Q in
+    let Q = placements w A in
+    let N = in_rows Q in
     let t = trace_of a in
-    let n : Seated = record { row = s.row; opening = s.opening; moment = e; arrival = a } in
+    let n : SpanInRow = record { row = s.row; opening = s.opening; moment = e; arrival = a } in
     let st = state_with w i e None D es in
     let l = ledger_at w i e None D (ended_places es) in
     let W = waiting_rows w e None A in
@@ -343,21 +343,21 @@ joins_row w i e D es a s is lt by =
     let opens_by = OpenedBy-opened w e A by in
     let rows = opened_some w e a A s is in
     let spots = placed_some w e a A s is in
-    let sits = ap seats spots in
+    let sits = ap in_rows spots in
     let there = seat_found (most_of w) t R s is in
     let early_yet : leb (s.opening + w.tail_sampling.decision_wait) e ≡ false = grind (arith, nat_tests, lt) in
     let same = same_join t w e n N R there.0 lt in
-    let settles : settled w e None (seated w B) (length (opened w B)) (opened w B) ≡ settled w e None N (length R) R =
-    both (List SettledData) (λ X Y. settled w e None X (length Y) Y) (seated w B) (n ∷ N) (opened w B) R sits rows ∙ settled_same w e (length R) (n ∷ N) N R same in
+    let settles : settled w e None (spans_in_rows w B) (length (opened w B)) (opened w B) ≡ settled w e None N (length R) R =
+    both (List SettledData) (λ X Y. settled w e None X (length Y) Y) (spans_in_rows w B) (n ∷ N) (opened w B) R sits rows ∙ settled_same w e (length R) (n ∷ N) N R same in
     let waits : waiting_rows w e None B ≡ joined a W =
-    both (List WaitingData) (λ X Y. waiting w e None X (length Y) Y) (seated w B) (n ∷ N) (opened w B) R sits rows ∙ waiting_joined w e (length R) n N R there.0 there.1 lt refl in
-    let evicts : too_early w (seated w B) (opened w B) (opened w B) ≡ early =
-    both ℕ (λ X Y. too_early w X Y Y) (seated w B) (n ∷ N) (opened w B) R sits rows ∙ early_joined t w e n N R R there.0 there.1 lt opens_by in
-    let lates : late w (Sits n ∷ Q) ≡ late w Q = rw early_yet (append-nil (late w Q)) in
-    let late_drops_is : late_dropped w (Sits n ∷ Q) ≡ late_dropped w Q + 0 = rw early_yet refl in
-    let drops_all : not_sampled w e None B ≡ dropped w e None (n ∷ N) R R + late_dropped w (Sits n ∷ Q) = both ℕ (λ X Y. dropped w e None (seats X) Y Y + late_dropped w X) (placed w B) (Sits n ∷ Q) (opened w B) R spots rows in
+    both (List WaitingData) (λ X Y. waiting w e None X (length Y) Y) (spans_in_rows w B) (n ∷ N) (opened w B) R sits rows ∙ waiting_joined w e (length R) n N R there.0 there.1 lt refl in
+    let evicts : too_early w (spans_in_rows w B) (opened w B) (opened w B) ≡ early =
+    both ℕ (λ X Y. too_early w X Y Y) (spans_in_rows w B) (n ∷ N) (opened w B) R sits rows ∙ early_joined t w e n N R R there.0 there.1 lt opens_by in
+    let lates : late w (InRow n ∷ Q) ≡ late w Q = rw early_yet (append-nil (late w Q)) in
+    let late_drops_is : late_dropped w (InRow n ∷ Q) ≡ late_dropped w Q + 0 = rw early_yet refl in
+    let drops_all : not_sampled w e None B ≡ dropped w e None (n ∷ N) R R + late_dropped w (InRow n ∷ Q) = both ℕ (λ X Y. dropped w e None (in_rows X) Y Y + late_dropped w X) (placements w B) (InRow n ∷ Q) (opened w B) R spots rows in
     let drops : not_sampled w e None B ≡ ns = omega (arith, drops_all, dropped_same w e (n ∷ N) N R R same, late_drops_is) in
-    let groups_is = groups_same w e A B (Sits n ∷ Q) R spots rows (decided_same w e (n ∷ N) N R R same) lates in
+    let groups_is = groups_same w e A B (InRow n ∷ Q) R spots rows (decided_same w e (n ∷ N) N R R same) lates in
     let remembers = seat_remembers w e A B n R spots rows (λ v. decisions_same w v e (n ∷ N) N R R same) in
     let found : has_row t W ≡ true = waiting_found t w e e N R opens_by ∙ (ap (waits_at w e) is ∙ ap not early_yet) in
     let L = taken 1 l in
@@ -414,9 +414,9 @@ pub record Room (w : SectionData) (i : IntakeData) (e : ℕ) (D : SenderData) (e
   pub early : ℕ
   pub left : IsLeft (counted_in (state_with w i e None D es)) decided_ones waiting_ones t
   pub counts : t.ledger ≡ set_counts (based (ledger_at w i e None D (ended_places es)) (length i.spans + 1) early) (spans_in waiting_ones + 1) (length (pending w e None i.spans).spans) (sizes D.queue) (active_sizes D.active) (not_sampled w e None i.spans) (ended_places es).queue_full
-  pub settled_is : settled w e None (seated w i.spans) (length (opened w i.spans) + 1) (opened w i.spans) ≡ decided_ones
-  pub waiting_is : waiting w e None (seated w i.spans) (length (opened w i.spans) + 1) (opened w i.spans) ≡ waiting_ones
-  pub gone : too_early w (seated w i.spans) (opened w i.spans) (opened w i.spans) + spans_in (waiting_rows w e None i.spans) ≡ early + spans_in waiting_ones
+  pub settled_is : settled w e None (spans_in_rows w i.spans) (length (opened w i.spans) + 1) (opened w i.spans) ≡ decided_ones
+  pub waiting_is : waiting w e None (spans_in_rows w i.spans) (length (opened w i.spans) + 1) (opened w i.spans) ≡ waiting_ones
+  pub gone : too_early w (spans_in_rows w i.spans) (opened w i.spans) (opened w i.spans) + spans_in (waiting_rows w e None i.spans) ≡ early + spans_in waiting_ones
 
 room : (w : SectionData) (i : IntakeData) (e : ℕ) (D : SenderData) (es : List EndedData) → TakenBy e i.spans → Room w i e D es (evicted (counted_in (state_with w i e None D es)))
 room w i e D es by = by_test (ltb (length R) w.tail_sampling.num_traces) refl
@@ -427,8 +427,8 @@ room w i e D es by = by_test (ltb (length R) w.tail_sampling.num_traces) refl
     R : List Opened
     R = opened w A
 
-    N : List Seated
-    N = seated w A
+    N : List SpanInRow
+    N = spans_in_rows w A
 
     c : State
     c = counted_in (state_with w i e None D es)
@@ -461,13 +461,13 @@ room w i e D es by = by_test (ltb (length R) w.tail_sampling.num_traces) refl
           gone = omega (arith, gone_spans S W);
         }
 
-opens_row : (w : SectionData) (i : IntakeData) (e : ℕ) (D : SenderData) (es : List EndedData) (a : Arrival) → 0 < w.tail_sampling.num_traces → 0 < w.tail_sampling.decision_wait → present_seat (most_of w) (trace_of a) (opened w i.spans) ≡ None → known w e (trace_of a) (seating w i.spans) ≡ None → TakenBy e i.spans → Came w i e D es a
+opens_row : (w : SectionData) (i : IntakeData) (e : ℕ) (D : SenderData) (es : List EndedData) (a : Arrival) → 0 < w.tail_sampling.num_traces → 0 < w.tail_sampling.decision_wait → present_row (most_of w) (trace_of a) (opened w i.spans) ≡ None → known w e (trace_of a) (placement w i.spans) ≡ None → TakenBy e i.spans → Came w i e D es a
 opens_row w i e D es a pos wait is new by =
     let A = i.spans in
     let B = more e a A in
     let R = opened w A in
-    let Q = placed w A in
-    let N = seats Q in
+    let Q = placements w A in
+    let N = in_rows Q in
     let t = trace_of a in
     let n = first_of e a R in
     let r = row_of e a in
@@ -482,31 +482,31 @@ opens_row w i e D es a pos wait is new by =
     let opens_by = OpenedBy-opened w e A by in
     let rows = opened_none w e a A is new in
     let spots = placed_none w e a A is new in
-    let sits = ap seats spots in
+    let sits = ap in_rows spots in
     let left = room w i e D es by in
     let S = left.decided_ones in
     let row : WaitingData = record { trace = t; due = e + w.tail_sampling.decision_wait; spans = a ∷ [] } in
     let W = left.waiting_ones ++ row ∷ [] in
     let L = (evicted c).ledger in
     let number : length (opened w B) ≡ length R + 1 = ap (λ (X : List Opened). length X) rows ∙ (omega arith) in
-    let settles : settled w e None (seated w B) (length (opened w B)) (opened w B) ≡ S =
-    both (List SettledData) (λ X Y. settled w e None X (length Y) Y) (seated w B) (n ∷ N) (opened w B) (r ∷ R) sits rows ∙ (settled_first w e a N R wait ∙ left.settled_is) in
+    let settles : settled w e None (spans_in_rows w B) (length (opened w B)) (opened w B) ≡ S =
+    both (List SettledData) (λ X Y. settled w e None X (length Y) Y) (spans_in_rows w B) (n ∷ N) (opened w B) (r ∷ R) sits rows ∙ (settled_first w e a N R wait ∙ left.settled_is) in
     let waits : waiting_rows w e None B ≡ W =
-    both (List WaitingData) (λ X Y. waiting w e None X (length Y) Y) (seated w B) (n ∷ N) (opened w B) (r ∷ R) sits rows
+    both (List WaitingData) (λ X Y. waiting w e None X (length Y) Y) (spans_in_rows w B) (n ∷ N) (opened w B) (r ∷ R) sits rows
     ∙ (waiting_first w e a N R pos wait (SeatedUpTo-seated w A) ∙ ap (λ (ws : List WaitingData). ws ++ row ∷ []) left.waiting_is) in
     let left_spans : spans_in (waiting w e None N (length R + 1) R) ≡ spans_in left.waiting_ones = ap spans_in left.waiting_is in
     let new_early : too_early w (n ∷ N) (r ∷ R) (r ∷ R) ≡ left.early = omega (arith, early_first w e a N R pos opens_by, left_spans, left.gone) in
-    let evicts : too_early w (seated w B) (opened w B) (opened w B) ≡ left.early = both ℕ (λ X Y. too_early w X Y Y) (seated w B) (n ∷ N) (opened w B) (r ∷ R) sits rows ∙ new_early in
-    let drops_all : not_sampled w e None B ≡ dropped w e None (n ∷ N) (r ∷ R) (r ∷ R) + late_dropped w (Sits n ∷ Q) = both ℕ (λ X Y. dropped w e None (seats X) Y Y + late_dropped w X) (placed w B) (Sits n ∷ Q) (opened w B) (r ∷ R) spots rows in
+    let evicts : too_early w (spans_in_rows w B) (opened w B) (opened w B) ≡ left.early = both ℕ (λ X Y. too_early w X Y Y) (spans_in_rows w B) (n ∷ N) (opened w B) (r ∷ R) sits rows ∙ new_early in
+    let drops_all : not_sampled w e None B ≡ dropped w e None (n ∷ N) (r ∷ R) (r ∷ R) + late_dropped w (InRow n ∷ Q) = both ℕ (λ X Y. dropped w e None (in_rows X) Y Y + late_dropped w X) (placements w B) (InRow n ∷ Q) (opened w B) (r ∷ R) spots rows in
     let drops : not_sampled w e None B ≡ ns = omega (arith, drops_all, dropped_first w e a N R wait, late_dropped_first w e a Q R wait) in
-    let groups_is = groups_same w e A B (Sits n ∷ Q) (r ∷ R) spots rows (decided_first w e a N R wait) (late_first w e a Q R wait) in
+    let groups_is = groups_same w e A B (InRow n ∷ Q) (r ∷ R) spots rows (decided_first w e a N R wait) (late_first w e a Q R wait) in
     let remembers = seat_remembers w e A B n (r ∷ R) spots rows (λ v. decisions_first w v e a N R wait) in
     let alone : spans_in (row ∷ []) ≡ 1 = refl in
     let sum : spans_in left.waiting_ones + 1 ≡ spans_in W = omega (arith, alone, spans_append left.waiting_ones (row ∷ [])) in
     let counts : L ≡ set_counts (based l (length A + 1) left.early) (spans_in W) (length P.spans) q x ns (f + 0) =
     left.counts ∙ based_same l (length A + 1) (length A + 1) left.early left.early (spans_in left.waiting_ones + 1) (spans_in W) (length P.spans) (length P.spans) q x ns ns f (f + 0) refl refl sum refl refl (omega arith) in
     let came = came_is w i B e D es [] (length R + 1) S W P (length A + 1) left.early ns L st.caches number settles waits (pending_same w e A B groups_is) remembers (one_taken e a A) evicts drops counts in
-    let idle : waits_at w e (present_seat (most_of w) t R) ≡ false = ap (waits_at w e) is in
+    let idle : waits_at w e (present_row (most_of w) t R) ≡ false = ap (waits_at w e) is in
     let found = goes_by e a c None (waiting_found t w e e N R opens_by ∙ idle) (settled_found t w e N R idle ∙ ap (sampled_at w N) is)
     ∙ ap (λ (o : Option Bool). cached_or_opens e a o c) (found_is w e t A ∙ new) in
     let made : opens e a (evicted c) ≡ opens e a (record c { settled = S; waiting = left.waiting_ones; ledger = L }) = ap (opens e a) left.left in
@@ -515,62 +515,62 @@ opens_row w i e D es a pos wait is new by =
 -- ---- a span whose trace a cache has
 
 -- the state's parts, whatever becomes of the span
-hit_parts : (w : SectionData) (e : ℕ) (a : Arrival) (b : Bool) (A : List Taken) → present_seat (most_of w) (trace_of a) (opened w A) ≡ None → known w e (trace_of a) (seating w A) ≡ Some b →
+hit_parts : (w : SectionData) (e : ℕ) (a : Arrival) (b : Bool) (A : List Taken) → present_row (most_of w) (trace_of a) (opened w A) ≡ None → known w e (trace_of a) (placement w A) ≡ Some b →
     (length (opened w (more e a A)) ≡ length (opened w A))
-    × (settled w e None (seated w (more e a A)) (length (opened w (more e a A))) (opened w (more e a A)) ≡ settled w e None (seated w A) (length (opened w A)) (opened w A))
+    × (settled w e None (spans_in_rows w (more e a A)) (length (opened w (more e a A))) (opened w (more e a A)) ≡ settled w e None (spans_in_rows w A) (length (opened w A)) (opened w A))
     × (waiting_rows w e None (more e a A) ≡ waiting_rows w e None A)
-    × (too_early w (seated w (more e a A)) (opened w (more e a A)) (opened w (more e a A)) ≡ too_early w (seated w A) (opened w A) (opened w A))
+    × (too_early w (spans_in_rows w (more e a A)) (opened w (more e a A)) (opened w (more e a A)) ≡ too_early w (spans_in_rows w A) (opened w A) (opened w A))
 hit_parts w e a b A is known_is =
     let B = more e a A in
     let R = opened w A in
-    let N = seated w A in
+    let N = spans_in_rows w A in
     let rows = opened_hit w e a A b is known_is in
-    let sits : seated w B ≡ N = ap seats (placed_hit w e a A b is known_is) in (
+    let sits : spans_in_rows w B ≡ N = ap in_rows (placed_hit w e a A b is known_is) in (
       ap (λ (X : List Opened). length X) rows,
-      both (List SettledData) (λ X Y. settled w e None X (length Y) Y) (seated w B) N (opened w B) R sits rows,
-      both (List WaitingData) (λ X Y. waiting w e None X (length Y) Y) (seated w B) N (opened w B) R sits rows,
-      both ℕ (λ X Y. too_early w X Y Y) (seated w B) N (opened w B) R sits rows,
+      both (List SettledData) (λ X Y. settled w e None X (length Y) Y) (spans_in_rows w B) N (opened w B) R sits rows,
+      both (List WaitingData) (λ X Y. waiting w e None X (length Y) Y) (spans_in_rows w B) N (opened w B) R sits rows,
+      both ℕ (λ X Y. too_early w X Y Y) (spans_in_rows w B) N (opened w B) R sits rows,
     )
 
-hit_drops : (w : SectionData) (e : ℕ) (a : Arrival) (b : Bool) (A : List Taken) → present_seat (most_of w) (trace_of a) (opened w A) ≡ None → known w e (trace_of a) (seating w A) ≡ Some b →
+hit_drops : (w : SectionData) (e : ℕ) (a : Arrival) (b : Bool) (A : List Taken) → present_row (most_of w) (trace_of a) (opened w A) ≡ None → known w e (trace_of a) (placement w A) ≡ Some b →
     not_sampled w e None (more e a A) ≡ not_sampled w e None A + cond b 0 1
 hit_drops w e a b A is known_is =
     let B = more e a A in
     let R = opened w A in
-    let Q = placed w A in
+    let Q = placements w A in
     let h : Hit = record { moment = e; arrival = a; sampled = b } in
-    let all : not_sampled w e None B ≡ dropped w e None (seats Q) R R + late_dropped w (Hits h ∷ Q) =
-    both ℕ (λ X Y. dropped w e None (seats X) Y Y + late_dropped w X) (placed w B) (Hits h ∷ Q) (opened w B) R (placed_hit w e a A b is known_is) (opened_hit w e a A b is known_is) in
-    let lates : late_dropped w (Hits h ∷ Q) ≡ late_dropped w Q + cond b 0 1 = refl in
+    let all : not_sampled w e None B ≡ dropped w e None (in_rows Q) R R + late_dropped w (CacheHit h ∷ Q) =
+    both ℕ (λ X Y. dropped w e None (in_rows X) Y Y + late_dropped w X) (placements w B) (CacheHit h ∷ Q) (opened w B) R (placed_hit w e a A b is known_is) (opened_hit w e a A b is known_is) in
+    let lates : late_dropped w (CacheHit h ∷ Q) ≡ late_dropped w Q + cond b 0 1 = refl in
     omega (arith, all, lates)
 
-hit_remembers : (w : SectionData) (e : ℕ) (a : Arrival) (b : Bool) (A : List Taken) → TakenBy e A → present_seat (most_of w) (trace_of a) (opened w A) ≡ None → known w e (trace_of a) (seating w A) ≡ Some b →
-    caches_of w e None (placed w (more e a A)) (opened w (more e a A)) ≡ noted_in b (trace_of a) (caches_of w e None (placed w A) (opened w A))
+hit_remembers : (w : SectionData) (e : ℕ) (a : Arrival) (b : Bool) (A : List Taken) → TakenBy e A → present_row (most_of w) (trace_of a) (opened w A) ≡ None → known w e (trace_of a) (placement w A) ≡ Some b →
+    caches_of w e None (placements w (more e a A)) (opened w (more e a A)) ≡ noted_in b (trace_of a) (caches_of w e None (placements w A) (opened w A))
 hit_remembers w e a b A by is known_is =
     let B = more e a A in
     let h : Hit = record { moment = e; arrival = a; sampled = b } in
-    both BothData (λ X Y. caches_of w e None X Y) (placed w B) (Hits h ∷ placed w A) (opened w B) (opened w A) (placed_hit w e a A b is known_is) (opened_hit w e a A b is known_is) ∙ caches_hit w e a b A by
+    both BothData (λ X Y. caches_of w e None X Y) (placements w B) (CacheHit h ∷ placements w A) (opened w B) (opened w A) (placed_hit w e a A b is known_is) (opened_hit w e a A b is known_is) ∙ caches_hit w e a b A by
 
 -- the machine finds its trace in the cache
-hit_found : (w : SectionData) (i : IntakeData) (e : ℕ) (D : SenderData) (es : List EndedData) (a : Arrival) (b : Bool) → present_seat (most_of w) (trace_of a) (opened w i.spans) ≡ None → known w e (trace_of a) (seating w i.spans) ≡ Some b → TakenBy e i.spans →
+hit_found : (w : SectionData) (i : IntakeData) (e : ℕ) (D : SenderData) (es : List EndedData) (a : Arrival) (b : Bool) → present_row (most_of w) (trace_of a) (opened w i.spans) ≡ None → known w e (trace_of a) (placement w i.spans) ≡ Some b → TakenBy e i.spans →
     goes e a (counted_in (state_with w i e None D es)) ≡ cached_or_opens e a (Some b) (counted_in (state_with w i e None D es))
 hit_found w i e D es a b is known_is by =
     let R = opened w i.spans in
-    let N = seated w i.spans in
+    let N = spans_in_rows w i.spans in
     let t = trace_of a in
     let c = counted_in (state_with w i e None D es) in
-    let idle : waits_at w e (present_seat (most_of w) t R) ≡ false = ap (waits_at w e) is in
+    let idle : waits_at w e (present_row (most_of w) t R) ≡ false = ap (waits_at w e) is in
     goes_by e a c None (waiting_found t w e e N R (OpenedBy-opened w e i.spans by) ∙ idle) (settled_found t w e N R idle ∙ ap (sampled_at w N) is)
     ∙ ap (λ (o : Option Bool). cached_or_opens e a o c) (found_is w e t i.spans ∙ known_is)
 
 -- of a trace that wasn't sampled: it is dropped
-hit_lost : (w : SectionData) (i : IntakeData) (e : ℕ) (D : SenderData) (es : List EndedData) (a : Arrival) → present_seat (most_of w) (trace_of a) (opened w i.spans) ≡ None → known w e (trace_of a) (seating w i.spans) ≡ Some false → TakenBy e i.spans → Came w i e D es a
+hit_lost : (w : SectionData) (i : IntakeData) (e : ℕ) (D : SenderData) (es : List EndedData) (a : Arrival) → present_row (most_of w) (trace_of a) (opened w i.spans) ≡ None → known w e (trace_of a) (placement w i.spans) ≡ Some false → TakenBy e i.spans → Came w i e D es a
 hit_lost w i e D es a is known_is by =
     let A = i.spans in
     let B = more e a A in
     let R = opened w A in
-    let Q = placed w A in
-    let N = seats Q in
+    let Q = placements w A in
+    let N = in_rows Q in
     let h : Hit = record { moment = e; arrival = a; sampled = false } in
     let st = state_with w i e None D es in
     let l = ledger_at w i e None D (ended_places es) in
@@ -581,7 +581,7 @@ hit_lost w i e D es a is known_is by =
     let f = (ended_places es).queue_full in
     let parts = hit_parts w e a false A is known_is in
     let drops : not_sampled w e None B ≡ ns + 1 = hit_drops w e a false A is known_is in
-    let groups_is = groups_same w e A B (Hits h ∷ Q) R (placed_hit w e a A false is known_is) (opened_hit w e a A false is known_is) refl (append-nil (late w Q)) in
+    let groups_is = groups_same w e A B (CacheHit h ∷ Q) R (placed_hit w e a A false is known_is) (opened_hit w e a A false is known_is) refl (append-nil (late w Q)) in
     let remembers = hit_remembers w e a false A by is known_is in
     let L = moved Undecided NotSampled 1 (taken 1 l) in
     let counts : L ≡ set_counts (based l (length A + 1) early) (spans_in W) (length P.spans) (sizes D.queue) (active_sizes D.active) (ns + 1) (f + 0) =
@@ -591,14 +591,14 @@ hit_lost w i e D es a is known_is by =
     ([], formed_same w e A B groups_is, came ∙ sym (hit_found w i e D es a false is known_is by))
 
 -- of one that was: it leaves alone
-hit_kept : (w : SectionData) (i : IntakeData) (e : ℕ) (D : SenderData) (es : List EndedData) (a : Arrival) → IsSound (rules_of w) → present_seat (most_of w) (trace_of a) (opened w i.spans) ≡ None → known w e (trace_of a) (seating w i.spans) ≡ Some true → TakenBy e i.spans → Came w i e D es a
+hit_kept : (w : SectionData) (i : IntakeData) (e : ℕ) (D : SenderData) (es : List EndedData) (a : Arrival) → AreValidRules (rules_of w) → present_row (most_of w) (trace_of a) (opened w i.spans) ≡ None → known w e (trace_of a) (placement w i.spans) ≡ Some true → TakenBy e i.spans → Came w i e D es a
 unfolding added
 hit_kept w i e D es a sound is known_is by =
     let A = i.spans in
     let B = more e a A in
     let R = opened w A in
-    let Q = placed w A in
-    let N = seats Q in
+    let Q = placements w A in
+    let N = in_rows Q in
     let h : Hit = record { moment = e; arrival = a; sampled = true } in
     let st = state_with w i e None D es in
     let l = ledger_at w i e None D (ended_places es) in
@@ -611,7 +611,7 @@ hit_kept w i e D es a sound is known_is by =
     let x = active_sizes D.active in
     let parts = hit_parts w e a true A is known_is in
     let drops : not_sampled w e None B ≡ ns = hit_drops w e a true A is known_is ∙ (omega arith) in
-    let groups_is = groups_more w e A B (Hits h ∷ Q) R (record { moment = e; spans = a ∷ [] }) by refl (placed_hit w e a A true is known_is) (opened_hit w e a A true is known_is) refl refl in
+    let groups_is = groups_more w e A B (CacheHit h ∷ Q) R (record { moment = e; spans = a ∷ [] }) by refl (placed_hit w e a A true is known_is) (opened_hit w e a A true is known_is) refl refl in
     let remembers = hit_remembers w e a true A by is known_is in
     let K = noted_in true (trace_of a) st.caches in
     let all = P.spans ++ a ∷ [] in
@@ -629,13 +629,13 @@ hit_kept w i e D es a sound is known_is by =
 
 -- ---- any span
 
-pub came : (w : SectionData) (i : IntakeData) (e : ℕ) (D : SenderData) (es : List EndedData) (a : Arrival) → 0 < w.tail_sampling.num_traces → 0 < w.tail_sampling.decision_wait → IsSound (rules_of w) → TakenBy e i.spans → Came w i e D es a
-came w i e D es a pos wait sound by = by_seat (present_seat (most_of w) (trace_of a) (opened w i.spans)) refl
+pub came : (w : SectionData) (i : IntakeData) (e : ℕ) (D : SenderData) (es : List EndedData) (a : Arrival) → 0 < w.tail_sampling.num_traces → 0 < w.tail_sampling.decision_wait → AreValidRules (rules_of w) → TakenBy e i.spans → Came w i e D es a
+came w i e D es a pos wait sound by = by_seat (present_row (most_of w) (trace_of a) (opened w i.spans)) refl
   where
-    by_seat : (o : Option Seat) → present_seat (most_of w) (trace_of a) (opened w i.spans) ≡ o → Came w i e D es a
-    by_seat None is = by_verdict (known w e (trace_of a) (seating w i.spans)) refl
+    by_seat : (o : Option RowOpening) → present_row (most_of w) (trace_of a) (opened w i.spans) ≡ o → Came w i e D es a
+    by_seat None is = by_verdict (known w e (trace_of a) (placement w i.spans)) refl
       where
-        by_verdict : (h : Option Bool) → known w e (trace_of a) (seating w i.spans) ≡ h → Came w i e D es a
+        by_verdict : (h : Option Bool) → known w e (trace_of a) (placement w i.spans) ≡ h → Came w i e D es a
         by_verdict None new = opens_row w i e D es a pos wait is new by
         by_verdict (Some true) found = hit_kept w i e D es a sound is found by
         by_verdict (Some false) found = hit_lost w i e D es a is found by
@@ -643,8 +643,8 @@ came w i e D es a pos wait sound by = by_seat (present_seat (most_of w) (trace_o
       where
         by_due : (b : Bool) → leb (s.opening + w.tail_sampling.decision_wait) e ≡ b → Came w i e D es a
         by_due false late = joins_row w i e D es a s is (grind (arith, nat_tests, late)) by
-        by_due true late = by_kept (is_sampled w s.row (seated w i.spans)) refl
+        by_due true late = by_kept (is_sampled w s.row (spans_in_rows w i.spans)) refl
           where
-            by_kept : (b : Bool) → is_sampled w s.row (seated w i.spans) ≡ b → Came w i e D es a
+            by_kept : (b : Bool) → is_sampled w s.row (spans_in_rows w i.spans) ≡ b → Came w i e D es a
             by_kept true kept = late_kept w i e D es a s sound is (grind (arith, nat_tests, late)) by kept
             by_kept false kept = late_lost w i e D es a s is (grind (arith, nat_tests, late)) by kept

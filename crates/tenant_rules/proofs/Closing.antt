@@ -6,7 +6,7 @@ use Rattle.std.proofs.lemmas.Bool.Decides.{nat_tests}
 use Rattle.std.proofs.lemmas.List.{map-append}
 use Rattle.tail_settings.specs.Policy.{PolicyData}
 use Rattle.tail_settings.specs.Section.{SectionData}
-use Rattle.span_batcher.specs.Batches.{Rules, IsSound, Group, Batch, batches}
+use Rattle.span_batcher.specs.Batches.{Rules, AreValidRules, Group, Batch, batches}
 use Rattle.span_batcher.specs.State.{IsUpTo, IsAfter, next_due}
 use Rattle.span_batcher.specs.State as batcher
 use Rattle.span_batcher.specs.Machine.{cuts, added, fired}
@@ -14,9 +14,9 @@ use Rattle.span_batcher.specs.Machine as machine
 use Rattle.span_batcher.proofs.Timers.{passes}
 use Rattle.span_batcher.proofs.Laws.{adds, drains}
 use Rattle.tenant_rules.specs.Arrivals.{Arrival}
-use Rattle.tenant_rules.specs.Rows.{Taken, Opened, Seated}
+use Rattle.tenant_rules.specs.Rows.{Taken, Opened, SpanInRow}
 use Rattle.tenant_rules.specs.Fate.{are_sampled, is_evicted, SettledData, WaitingData, settled, waiting, dropped}
-use Rattle.tenant_rules.specs.Seating.{opened, placed, seated}
+use Rattle.tenant_rules.specs.Placement.{opened, placements, spans_in_rows}
 use Rattle.tenant_rules.specs.Decisions.{by_moment}
 use Rattle.tenant_rules.specs.Groups.{decided, cut_short, late, groups}
 use Rattle.tenant_rules.specs.Batching.{rules_of, as_sent, all_sent, formed, pending, waiting_rows}
@@ -61,7 +61,7 @@ min_due a e le = omega (arith, le)
 min_drain : (a e : ℕ) → leb (min a e) e ≡ true
 min_drain a e = let few : min a e ≤ e = omega arith in grind (arith, nat_tests, few)
 
-pub decided_drained : (w : SectionData) (e : ℕ) (N : List Seated) (all R : List Opened) → decided w e (Some e) N all R ≡ decided w e None N all R
+pub decided_drained : (w : SectionData) (e : ℕ) (N : List SpanInRow) (all R : List Opened) → decided w e (Some e) N all R ≡ decided w e None N all R
 decided_drained w e N all [] = refl
 decided_drained w e N all (r ∷ R) =
     let a = r.moment + w.tail_sampling.decision_wait in
@@ -69,7 +69,7 @@ decided_drained w e N all (r ∷ R) =
     let over : leb (min a e) e ≡ true = min_drain a e in
     grind (arith, nat_tests, same, over, decided_drained w e N all R)
 
-pub cut_drained : (w : SectionData) (e m : ℕ) (N : List Seated) (all R : List Opened) → 0 < w.tail_sampling.num_traces → OpenedBy e all →
+pub cut_drained : (w : SectionData) (e m : ℕ) (N : List SpanInRow) (all R : List Opened) → 0 < w.tail_sampling.num_traces → OpenedBy e all →
     cut_short w e (Some e) N all R ≡ cut_groups w.tail_sampling.policies e (waiting w e None N (length all) R)
 cut_drained w e m N all [] pos by = refl
 cut_drained w e m N all (r ∷ R) pos by =
@@ -79,7 +79,7 @@ cut_drained w e m N all (r ∷ R) pos by =
     let out : e < a → is_evicted w (length R + 1) a all ≡ leb (length R + 1 + w.tail_sampling.num_traces) (length all) = λ lt. evicted_late e a (length R + 1 + w.tail_sampling.num_traces) all by lt (omega arith) in
     grind (arith, nat_tests, over, last, out, cut_append, append-nil, cut_drained w e m N all R pos by)
 
-pub settled_drained : (w : SectionData) (e m n : ℕ) (N : List Seated) (R : List Opened) → OpenedBy m R →
+pub settled_drained : (w : SectionData) (e m n : ℕ) (N : List SpanInRow) (R : List Opened) → OpenedBy m R →
     settled w e (Some e) N n R ≡ settled w e None N n R ++ all_done w.tail_sampling.policies (waiting w e None N n R)
 settled_drained w e m n N [] by = refl
 settled_drained w e m n N (r ∷ R) by =
@@ -88,7 +88,7 @@ settled_drained w e m n N (r ∷ R) by =
     let none : a ≤ e → waiting w e None N n R ≡ [] = λ due. waiting_none w e r.moment n N R due by.1 in
     grind (arith, nat_tests, over, none, done_append, append_assoc, append-nil, settled_drained w e r.moment n N R by.1)
 
-pub dropped_drained : (w : SectionData) (e : ℕ) (N : List Seated) (all R : List Opened) → 0 < w.tail_sampling.num_traces → OpenedBy e all →
+pub dropped_drained : (w : SectionData) (e : ℕ) (N : List SpanInRow) (all R : List Opened) → 0 < w.tail_sampling.num_traces → OpenedBy e all →
     dropped w e (Some e) N all R ≡ dropped w e None N all R + all_lost w.tail_sampling.policies (waiting w e None N (length all) R)
 dropped_drained w e N all [] pos by = omega arith
 dropped_drained w e N all (r ∷ R) pos by =
@@ -118,10 +118,10 @@ pub groups_drained : (w : SectionData) (e : ℕ) (A : List Taken) → 0 < w.tail
 unfolding groups
 groups_drained w e A pos by =
     let p = w.tail_sampling.policies in
-    let N = seated w A in
+    let N = spans_in_rows w A in
     let R = opened w A in
     let W = waiting_rows w e None A in
-    let L = late w (placed w A) in
+    let L = late w (placements w A) in
     let D = decided w e None N R R in
     let opens = OpenedBy-opened w e A by in
     let one : by_moment (decided w e (Some e) N R R ++ (L ++ cut_short w e (Some e) N R R)) ≡ by_moment (D ++ (L ++ cut_groups p e W)) =
@@ -143,7 +143,7 @@ abbrev pub all_cut : List PolicyData → ℕ → List WaitingData → batcher.St
 all_cut p m [] s = []
 all_cut p m (r ∷ rs) s = if are_sampled p r.spans then cuts s.rules m (s.spans ++ r.spans) ++ all_cut p m rs (added m r.spans s) else all_cut p m rs s
 
-pub later_than : (r : Rules) (m : ℕ) (G : List (Group Arrival)) → IsSound r → IsUpTo m G → IsAfter (next_due (batcher.state r m None G)) m
+pub later_than : (r : Rules) (m : ℕ) (G : List (Group Arrival)) → AreValidRules r → IsUpTo m G → IsAfter (next_due (batcher.state r m None G)) m
 later_than r m G sound up =
     let s = batcher.state r m None G in
     let same = (passes r m m G sound up (omega arith)).1 in
@@ -154,13 +154,13 @@ push_up m [] spans up = (omega arith, tt)
 push_up m (g ∷ G) spans up = (up.0, push_up m G spans up.1)
 
 -- one group more at the moment reached
-pub one_more : (r : Rules) (m : ℕ) (G : List (Group Arrival)) (xs : List Arrival) → 0 < length xs → IsSound r → IsUpTo m G →
+pub one_more : (r : Rules) (m : ℕ) (G : List (Group Arrival)) (xs : List Arrival) → 0 < length xs → AreValidRules r → IsUpTo m G →
     (batches r m None (G ++ record { moment = m; spans = xs } ∷ []) ≡ batches r m None G ++ cuts (batcher.state r m None G).rules m ((batcher.state r m None G).spans ++ xs))
     × (added m xs (batcher.state r m None G) ≡ batcher.state r m None (G ++ record { moment = m; spans = xs } ∷ []))
 one_more r m G [] some sound up = absurd (omega (arith, some))
 one_more r m G (x ∷ xs) some sound up = let s = batcher.state r m None G in adds m x xs s (sound_of r m G sound) (later_than r m G sound up) r m G up (omega arith) refl
 
-cut_batches : (p : List PolicyData) (r : Rules) (m : ℕ) (G : List (Group Arrival)) (ws : List WaitingData) → IsSound r → IsUpTo m G →
+cut_batches : (p : List PolicyData) (r : Rules) (m : ℕ) (G : List (Group Arrival)) (ws : List WaitingData) → AreValidRules r → IsUpTo m G →
     (batches r m None (G ++ cut_groups p m ws) ≡ batches r m None G ++ all_cut p m ws (batcher.state r m None G))
     × (batcher.state r m None (G ++ cut_groups p m ws) ≡ all_added p m ws (batcher.state r m None G)) × IsUpTo m (G ++ cut_groups p m ws)
 cut_batches p r m G [] sound up = (ap (batches r m None) (append-nil G) ∙ sym (append-nil (batches r m None G)), ap (batcher.state r m None) (append-nil G), rw append-nil up)
@@ -191,7 +191,7 @@ cut_batches p r m G (row ∷ ws) sound up = by_test (are_sampled p row.spans) re
 abbrev pub closing : List PolicyData → ℕ → List WaitingData → batcher.State Arrival → List (Batch Arrival)
 closing p m ws s = all_cut p m ws s ++ option_to_list (machine.drained m (all_added p m ws s).spans)
 
-both_drained : (w : SectionData) (e : ℕ) (A : List Taken) → 0 < w.tail_sampling.num_traces → IsSound (rules_of w) → TakenBy e A →
+both_drained : (w : SectionData) (e : ℕ) (A : List Taken) → 0 < w.tail_sampling.num_traces → AreValidRules (rules_of w) → TakenBy e A →
     (batches (rules_of w) e (Some e) (groups w e (Some e) A) ≡ batches (rules_of w) e None (groups w e None A) ++ closing w.tail_sampling.policies e (waiting_rows w e None A) (batcher.state (rules_of w) e None (groups w e None A)))
     × (batcher.state (rules_of w) e (Some e) (groups w e (Some e) A) ≡ fired (all_added w.tail_sampling.policies e (waiting_rows w e None A) (batcher.state (rules_of w) e None (groups w e None A))))
 both_drained w e A pos sound by =
@@ -211,14 +211,14 @@ both_drained w e A pos sound by =
       ap (batcher.state r e (Some e)) same ∙ (sym last.1 ∙ ap fired cut.1),
     )
 
-pub formed_drained : (w : SectionData) (e : ℕ) (A : List Taken) → 0 < w.tail_sampling.num_traces → IsSound (rules_of w) → TakenBy e A →
+pub formed_drained : (w : SectionData) (e : ℕ) (A : List Taken) → 0 < w.tail_sampling.num_traces → AreValidRules (rules_of w) → TakenBy e A →
     formed w e (Some e) A ≡ formed w e None A ++ all_sent (closing w.tail_sampling.policies e (waiting_rows w e None A) (pending w e None A))
 unfolding formed pending
 formed_drained w e A pos sound by =
     ap all_sent (both_drained w e A pos sound by).0
     ∙ map-append as_sent (batches (rules_of w) e None (groups w e None A)) (closing w.tail_sampling.policies e (waiting_rows w e None A) (batcher.state (rules_of w) e None (groups w e None A)))
 
-pub pending_drained : (w : SectionData) (e : ℕ) (A : List Taken) → 0 < w.tail_sampling.num_traces → IsSound (rules_of w) → TakenBy e A →
+pub pending_drained : (w : SectionData) (e : ℕ) (A : List Taken) → 0 < w.tail_sampling.num_traces → AreValidRules (rules_of w) → TakenBy e A →
     pending w e (Some e) A ≡ fired (all_added w.tail_sampling.policies e (waiting_rows w e None A) (pending w e None A))
 unfolding pending
 pending_drained w e A pos sound by = (both_drained w e A pos sound by).1

@@ -8,7 +8,7 @@ use Rattle.tail_settings.specs.Section.{SectionData}
 use Rattle.drop_ledger.specs.declared.places.Place.TheVariants.{Undecided, Pending}
 use Rattle.drop_ledger.specs.declared.places.Places.{Places}
 use Rattle.drop_ledger.specs.Ledger.{LedgerData}
-use Rattle.span_batcher.specs.Batches.{IsSound, Batch}
+use Rattle.span_batcher.specs.Batches.{AreValidRules, Batch}
 use Rattle.span_batcher.specs.State as batcher
 use Rattle.span_batcher.specs.Machine.{added, fired}
 use Rattle.span_batcher.specs.Machine as machine
@@ -16,7 +16,7 @@ use Rattle.tenant_rules.specs.Arrivals.{Arrival}
 use Rattle.tenant_rules.specs.Own.{Own, Drain, clock, drained}
 use Rattle.tenant_rules.specs.Fate.{are_sampled, SettledData, WaitingData, settled}
 use Rattle.tenant_rules.specs.Events.{caches_of}
-use Rattle.tenant_rules.specs.Seating.{opened, placed, seated}
+use Rattle.tenant_rules.specs.Placement.{opened, placements, spans_in_rows}
 use Rattle.tenant_rules.specs.Sender.{BatchData, SenderData, sizes, active_sizes}
 use Rattle.tenant_rules.specs.Batching.{rules_of, as_sent, all_sent, formed, pending, waiting_rows, spans_in}
 use Rattle.tenant_rules.specs.Intake.{IntakeData, intake}
@@ -122,13 +122,13 @@ counts_are : (w : SectionData) (i : IntakeData) (e : ℕ) (D D' : SenderData) (P
 unfolding ledger_at
 counts_are w i e D D' P f = refl
 
-drain_first : (w : SectionData) (i : IntakeData) (e : ℕ) (D : SenderData) (es : List EndedData) (M : List BatchData) → 0 < w.tail_sampling.num_traces → IsSound (rules_of w) → TakenBy e i.spans →
+drain_first : (w : SectionData) (i : IntakeData) (e : ℕ) (D : SenderData) (es : List EndedData) (M : List BatchData) → 0 < w.tail_sampling.num_traces → AreValidRules (rules_of w) → TakenBy e i.spans →
     M ≡ all_sent (closing w.tail_sampling.policies e (waiting_rows w e None i.spans) (pending w e None i.spans)) →
     state_with w i e (Some e) (all_offered M D) (map met_full_queue (overflow M D) ++ es) ≡ drain e (state_with w i e None D es)
 drain_first w i e D es M pos sound by same =
     let A = i.spans in
     let p = w.tail_sampling.policies in
-    let N = seated w A in
+    let N = spans_in_rows w A in
     let R = opened w A in
     let s = state_with w i e None D es in
     let l = ledger_at w i e None D (ended_places es) in
@@ -172,7 +172,7 @@ drain_first w i e D es M pos sound by same =
     (ap spans_in no_rows ∙ sym (ap spans_in waits1)) (ap (λ (z : batcher.State Arrival). length z.spans) pends) (ap (λ (z : SenderData). sizes z.queue) sender_is) (ap (λ (z : SenderData). active_sizes z.active) sender_is) ns (omega (arith, over_all)) ∙ sym queued) in
     let base : State = record s { drained = true } in
     let all : state_with w i e (Some e) D' (map met_full_queue (overflow M D) ++ es) ≡ record base { clock = e; settled = s.settled ++ all_done p W; waiting = []; pending = fired (all_added p e W P); sender = D'; ledger = (all_queued B t0).ledger } =
-    state_same base (settled w e (Some e) N (length R) R) (settled w e None N (length R) R ++ all_done p W) (waiting_rows w e (Some e) A) [] (pending w e (Some e) A) (fired (all_added p e W P)) D' e (ledger_at w i e (Some e) D' (ended_places (map met_full_queue (overflow M D) ++ es))) (all_queued B t0).ledger (caches_of w e (Some e) (placed w A) R) s.caches (settled_drained w e e (length R) N R opens) no_rows pends ledger_is (caches_drained w e (placed w A) R) in
+    state_same base (settled w e (Some e) N (length R) R) (settled w e None N (length R) R ++ all_done p W) (waiting_rows w e (Some e) A) [] (pending w e (Some e) A) (fired (all_added p e W P)) D' e (ledger_at w i e (Some e) D' (ended_places (map met_full_queue (overflow M D) ++ es))) (all_queued B t0).ledger (caches_of w e (Some e) (placements w A) R) s.caches (settled_drained w e e (length R) N R opens) no_rows pends ledger_is (caches_drained w e (placements w A) R) in
     let sent : record base { clock = e; settled = s.settled ++ all_done p W; waiting = []; pending = fired (all_added p e W P); sender = D'; ledger = (all_queued B t0).ledger } ≡ record base { clock = e; settled = s.settled ++ all_done p W; waiting = []; pending = fired (all_added p e W P); sender = all_offered B t.sender; ledger = (all_queued B t0).ledger } =
     ap (λ (z : SenderData). record base { clock = e; settled = s.settled ++ all_done p W; waiting = []; pending = fired (all_added p e W P); sender = z; ledger = (all_queued B t0).ledger }) sender_is in
     let made : resent (all_offered B t.sender) (all_queued B t0).ledger (record (set_to e t) { drained = true; pending = fired t.pending }) ≡ record base { clock = e; settled = s.settled ++ all_done p W; waiting = []; pending = fired (all_added p e W P); sender = all_offered B t.sender; ledger = (all_queued B t0).ledger } =
@@ -189,7 +189,7 @@ met_append xs ys es =
     let both : P.queue_full + sizes (xs ++ ys) ≡ P.queue_full + sizes xs + sizes ys = omega (arith, sizes-append xs ys) in
     ended_met (xs ++ ys) es ∙ (ap (λ (n : ℕ). record P { queue_full = n }) both ∙ (ap (λ (q : Places). record q { queue_full = q.queue_full + sizes ys }) (sym (ended_met xs es)) ∙ sym (ended_met ys (map met_full_queue xs ++ es))))
 
-drain_by : (w : SectionData) (i : IntakeData) (d e : ℕ) (o : Option ℕ) (D : SenderData) (es : List EndedData) (new : List BatchData) → 0 < w.tail_sampling.num_traces → IsSound (rules_of w) → d ≤ e → TakenBy d i.spans → DrainedBy o d i.spans →
+drain_by : (w : SectionData) (i : IntakeData) (d e : ℕ) (o : Option ℕ) (D : SenderData) (es : List EndedData) (new : List BatchData) → 0 < w.tail_sampling.num_traces → AreValidRules (rules_of w) → d ≤ e → TakenBy d i.spans → DrainedBy o d i.spans →
     new ≡ drop (length (formed w d o i.spans)) (formed w e (Some (unwrap_or o e)) i.spans) →
     state_with w i e (Some (unwrap_or o e)) (all_offered new D) (map met_full_queue (overflow new D) ++ es) ≡ drain e (advanced e (state_with w i d o D es))
 drain_by w i d e (Some x) D es new pos sound le by drain_at is =
@@ -216,7 +216,7 @@ drain_by w i d e None D es new pos sound le by drain_at is =
     ∙ ap (λ (q : Places). state_at w A e (Some e) (all_offered M sent1) (ledger_at w i e (Some e) (all_offered M sent1) q)) places in
     first ∙ (second ∙ (drain_first w i e sent1 es1 M pos sound later_by refl ∙ ap (drain e) (elapsed w i d e D es pos sound le by)))
 
-pub drain_goes_on : (w : SectionData) (past : List Own) (now : ℕ) → 0 < w.tail_sampling.num_traces → IsSound (rules_of w) → state w (Drain now ∷ past) ≡ next (Drain now) (state w past)
+pub drain_goes_on : (w : SectionData) (past : List Own) (now : ℕ) → 0 < w.tail_sampling.num_traces → AreValidRules (rules_of w) → state w (Drain now ∷ past) ≡ next (Drain now) (state w past)
 unfolding state next sender ended
 drain_goes_on w past now pos sound =
     drain_by w (intake w past) (clock past) (clock (Drain now ∷ past)) (drained past) (sender w past) (ended w past) (newly_formed w (Drain now) past) pos sound (omega arith) (TakenBy-intake w past) (DrainedBy-intake w past) refl

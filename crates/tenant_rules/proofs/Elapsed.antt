@@ -3,12 +3,12 @@ use Rattle.std.proofs.Common.{◌≡◌, ℕ, ◌+◌, ◌<◌, ◌≤◌, List,
 use Rattle.tail_settings.specs.Section.{SectionData}
 use Rattle.drop_ledger.specs.declared.places.Places.{Places}
 use Rattle.drop_ledger.specs.Ledger.{LedgerData}
-use Rattle.span_batcher.specs.Batches.{IsSound}
+use Rattle.span_batcher.specs.Batches.{AreValidRules}
 use Rattle.tenant_rules.specs.Rows.{Taken}
 use Rattle.tenant_rules.specs.Fate.{SettledData, WaitingData, settled}
 use Rattle.decision_cache.specs.Caches.{BothData}
 use Rattle.tenant_rules.specs.Events.{caches_of}
-use Rattle.tenant_rules.specs.Seating.{opened, placed, seated}
+use Rattle.tenant_rules.specs.Placement.{opened, placements, spans_in_rows}
 use Rattle.tenant_rules.specs.Sender.{BatchData, SenderData, sizes, active_sizes}
 use Rattle.tenant_rules.specs.Batching.{rules_of, all_sent, pending, waiting_rows, spans_in}
 use Rattle.tenant_rules.specs.Intake.{IntakeData}
@@ -61,12 +61,12 @@ pub state_same : (s : State) (S S' : List SettledData) (W W' : List WaitingData)
     Path State (record s { clock = e; settled = S; waiting = W; caches = K; pending = P; sender = D; ledger = L }) (record s { clock = e; settled = S'; waiting = W'; caches = K'; pending = P'; sender = D; ledger = L' })
 state_same s S S' W W' P P' D e L L' K K' a b c d f = cc (a, b, c, d, f)
 
-pub elapsed : (w : SectionData) (i : IntakeData) (d e : ℕ) (D : SenderData) (es : List EndedData) → 0 < w.tail_sampling.num_traces → IsSound (rules_of w) → d ≤ e → TakenBy d i.spans →
+pub elapsed : (w : SectionData) (i : IntakeData) (d e : ℕ) (D : SenderData) (es : List EndedData) → 0 < w.tail_sampling.num_traces → AreValidRules (rules_of w) → d ≤ e → TakenBy d i.spans →
     state_with w i e None (all_offered (between w d e i.spans) D) (map met_full_queue (overflow (between w d e i.spans) D) ++ es) ≡ advanced e (state_with w i d None D es)
 elapsed w i d e D es pos sound le by =
     let A = i.spans in
     let p = w.tail_sampling.policies in
-    let N = seated w A in
+    let N = spans_in_rows w A in
     let R = opened w A in
     let s = state_with w i d None D es in
     let l = ledger_at w i d None D (ended_places es) in
@@ -93,5 +93,5 @@ elapsed w i d e D es pos sound le by =
     (sym (ap (λ (z : State). sizes z.sender.queue) fields)) (sym (ap (λ (z : State). active_sizes z.sender.active) fields)) ns refl in
     let ledger_is : ledger_at w i e None D' (ended_places (map met_full_queue (overflow M D) ++ es)) ≡ t.ledger = now ∙ (then_is ∙ sym tally) in
     let all : state_with w i e None D' (map met_full_queue (overflow M D) ++ es) ≡ became s (s.settled ++ done p e W) (later e W) (left_then p e W P) M e t.ledger (due_noted p e W s.caches) =
-    state_same s (settled w e None N (length R) R) (settled w d None N (length R) R ++ done p e W) (waiting_rows w e None A) (later e W) (pending w e None A) (left_then p e W P) D' e (ledger_at w i e None D' (ended_places (map met_full_queue (overflow M D) ++ es))) t.ledger (caches_of w e None (placed w A) R) (due_noted p e W s.caches) settles waits pends ledger_is (caches_later w d e A pos le by) in
+    state_same s (settled w e None N (length R) R) (settled w d None N (length R) R ++ done p e W) (waiting_rows w e None A) (later e W) (pending w e None A) (left_then p e W P) D' e (ledger_at w i e None D' (ended_places (map met_full_queue (overflow M D) ++ es))) t.ledger (caches_of w e None (placements w A) R) (due_noted p e W s.caches) settles waits pends ledger_is (caches_later w d e A pos le by) in
     all ∙ (sym fields ∙ sym (ap (set_to e) (all_ran e s)))

@@ -12,11 +12,11 @@ use Rattle.decision_cache.specs.Recent.{is_cached, cached, has}
 use Rattle.decision_cache.specs.Ids.{is_same}
 use Rattle.decision_cache.specs.Caches.{BothData, both, noted_in, found}
 use Rattle.tenant_rules.specs.Arrivals.{Arrival, trace_of}
-use Rattle.tenant_rules.specs.Rows.{Taken, Opened, Seat, Seated, Placed, Sits, Hits, seats, present_seat}
+use Rattle.tenant_rules.specs.Rows.{Taken, Opened, RowOpening, SpanInRow, SpanPlacement, InRow, CacheHit, in_rows, present_row}
 use Rattle.tenant_rules.specs.Fate.{most_of, are_sampled, is_sampled, is_evicted, WaitingData, waiting}
 use Rattle.tenant_rules.specs.Decisions.{by_moment}
 use Rattle.tenant_rules.specs.Events.{size_of, event, is_verdict, decisions, hits, ids_of, events_of, caches_of}
-use Rattle.tenant_rules.specs.Seating.{known, place_by, seating, opened, placed, seated}
+use Rattle.tenant_rules.specs.Placement.{known, place_by, placement, opened, placements, spans_in_rows}
 use Rattle.tenant_rules.specs.Batching.{waiting_rows}
 use Rattle.decision_cache.proofs.Lists.{lists_say, events_are_noted}
 use Rattle.tenant_rules.proofs.Order.{AllUpTo, AllFrom, Ascending, AllUpTo-append, AllUpTo_more, AllFrom_less, by_moment-push, by_moment-middle}
@@ -35,7 +35,7 @@ AllUpTo_if : (m : ℕ) (g : Group (List ℕ)) (b : Bool) → g.moment ≤ m → 
 AllUpTo_if m g true le = (le, tt)
 AllUpTo_if m g false le = tt
 
-AllUpTo-decisions : (w : SectionData) (v : Bool) (e : ℕ) (N : List Seated) (all R : List Opened) → AllUpTo e (decisions w v e None N all R)
+AllUpTo-decisions : (w : SectionData) (v : Bool) (e : ℕ) (N : List SpanInRow) (all R : List Opened) → AllUpTo e (decisions w v e None N all R)
 AllUpTo-decisions w v e N all [] = tt
 AllUpTo-decisions w v e N all (r ∷ R) =
     AllUpTo-append e (decisions w v e None N all R) _ (AllUpTo-decisions w v e N all R) (by_test (leb (r.moment + w.tail_sampling.decision_wait) e) _ refl)
@@ -48,15 +48,15 @@ AllUpTo-decisions w v e N all (r ∷ R) =
     by_test true false is = tt
     by_test false b is = tt
 
-AllUpTo-hits : (w : SectionData) (v : Bool) (e : ℕ) (A : List Taken) → TakenBy e A → AllUpTo e (hits v (placed w A))
+AllUpTo-hits : (w : SectionData) (v : Bool) (e : ℕ) (A : List Taken) → TakenBy e A → AllUpTo e (hits v (placements w A))
 AllUpTo-hits w v e [] by = tt
 AllUpTo-hits w v e (x ∷ A) by =
-    by_seat (present_seat (most_of w) (trace_of x.arrival) (opened w A)) (known w x.moment (trace_of x.arrival) (seating w A))
-    (AllUpTo_more x.moment e (hits v (placed w A)) by.0 (AllUpTo-hits w v x.moment A by.1))
+    by_seat (present_row (most_of w) (trace_of x.arrival) (opened w A)) (known w x.moment (trace_of x.arrival) (placement w A))
+    (AllUpTo_more x.moment e (hits v (placements w A)) by.0 (AllUpTo-hits w v x.moment A by.1))
   where
-    by_seat : (o : Option Seat) (h : Option Bool) → AllUpTo e (hits v (placed w A)) → AllUpTo e (hits v (place_by x (seating w A) o h).placed)
+    by_seat : (o : Option RowOpening) (h : Option Bool) → AllUpTo e (hits v (placements w A)) → AllUpTo e (hits v (place_by x (placement w A) o h).placements)
     by_seat None None rest = rest
-    by_seat None (Some b) rest = AllUpTo-append e (hits v (placed w A)) _ rest (AllUpTo_if e (event x.moment (trace_of x.arrival)) (is_verdict v b) by.0)
+    by_seat None (Some b) rest = AllUpTo-append e (hits v (placements w A)) _ rest (AllUpTo_if e (event x.moment (trace_of x.arrival)) (is_verdict v b) by.0)
     by_seat (Some s) h rest = rest
 
 -- ---- the rows that are decided meanwhile
@@ -93,7 +93,7 @@ none_made v p e m (r ∷ ws) lt asc =
     let late : leb r.due e ≡ false = grind (arith, nat_tests, lt, le) in
     rw late (none_made v p e r.due ws (omega (arith, lt, le)) asc.1)
 
-decisions_later : (w : SectionData) (v : Bool) (d e m : ℕ) (N : List Seated) (all R : List Opened) → 0 < w.tail_sampling.num_traces → d ≤ e → OpenedBy d all → OpenedBy m R →
+decisions_later : (w : SectionData) (v : Bool) (d e m : ℕ) (N : List SpanInRow) (all R : List Opened) → 0 < w.tail_sampling.num_traces → d ≤ e → OpenedBy d all → OpenedBy m R →
     decisions w v e None N all R ≡ decisions w v d None N all R ++ events_made v w.tail_sampling.policies e (waiting w d None N (length all) R)
 decisions_later w v d e m N all [] pos le by by' = refl
 decisions_later w v d e m N all (r ∷ R) pos le by by' =
@@ -102,12 +102,12 @@ decisions_later w v d e m N all (r ∷ R) pos le by by' =
     grind (arith, nat_tests, decisions_later w v d e r.moment N all R pos le by by'.1, none, out, made-append, append_assoc, append-nil)
 
 events_later : (w : SectionData) (v : Bool) (d e : ℕ) (A : List Taken) → 0 < w.tail_sampling.num_traces → d ≤ e → TakenBy d A →
-    events_of w v e None (placed w A) (opened w A) ≡ ids_of (events_made v w.tail_sampling.policies e (waiting_rows w d None A)) ++ events_of w v d None (placed w A) (opened w A)
+    events_of w v e None (placements w A) (opened w A) ≡ ids_of (events_made v w.tail_sampling.policies e (waiting_rows w d None A)) ++ events_of w v d None (placements w A) (opened w A)
 events_later w v d e A pos le by =
     let p = w.tail_sampling.policies in
-    let N = seated w A in
+    let N = spans_in_rows w A in
     let R = opened w A in
-    let H = hits v (placed w A) in
+    let H = hits v (placements w A) in
     let X = decisions w v d None N R R in
     let M = events_made v p e (waiting_rows w d None A) in
     let opens = OpenedBy-opened w d A by in
@@ -165,19 +165,19 @@ with_made n m p e k (r ∷ rs) E F asc = by_due (leb r.due e) refl (are_sampled 
         with_same n m (yes' ++ E) E (no' ++ F) F (ap (λ (gs : List (Group (List ℕ))). ids_of gs ++ E) (none_made true p e r.due rs lt asc.1)) (ap (λ (gs : List (Group (List ℕ))). ids_of gs ++ F) (none_made false p e r.due rs lt asc.1))
 
 pub caches_later : (w : SectionData) (d e : ℕ) (A : List Taken) → 0 < w.tail_sampling.num_traces → d ≤ e → TakenBy d A →
-    caches_of w e None (placed w A) (opened w A) ≡ due_noted w.tail_sampling.policies e (waiting_rows w d None A) (caches_of w d None (placed w A) (opened w A))
+    caches_of w e None (placements w A) (opened w A) ≡ due_noted w.tail_sampling.policies e (waiting_rows w d None A) (caches_of w d None (placements w A) (opened w A))
 caches_later w d e A pos le by =
     let R = opened w A in
     let W = waiting_rows w d None A in
     let p = w.tail_sampling.policies in
-    let asc = Ascends-waiting w d d (length R) (seated w A) R (OpenedBy-opened w d A by) in
+    let asc = Ascends-waiting w d d (length R) (spans_in_rows w A) R (OpenedBy-opened w d A by) in
     with_same (size_of w true) (size_of w false) _ _ _ _ (events_later w true d e A pos le by) (events_later w false d e A pos le by)
-    ∙ with_made (size_of w true) (size_of w false) p e (d + 1) W (events_of w true d None (placed w A) R) (events_of w false d None (placed w A) R) asc
+    ∙ with_made (size_of w true) (size_of w false) p e (d + 1) W (events_of w true d None (placements w A) R) (events_of w false d None (placements w A) R) asc
 
 -- ---- a drain
 
 -- the rows that it decides have no events
-decisions_drained : (w : SectionData) (v : Bool) (e : ℕ) (N : List Seated) (all R : List Opened) → decisions w v e (Some e) N all R ≡ decisions w v e None N all R
+decisions_drained : (w : SectionData) (v : Bool) (e : ℕ) (N : List SpanInRow) (all R : List Opened) → decisions w v e (Some e) N all R ≡ decisions w v e None N all R
 decisions_drained w v e N all [] = refl
 decisions_drained w v e N all (r ∷ R) =
     let a = r.moment + w.tail_sampling.decision_wait in
@@ -186,14 +186,14 @@ decisions_drained w v e N all (r ∷ R) =
     let over : leb (min a e) e ≡ true = grind (arith, nat_tests, few) in
     grind (arith, nat_tests, same, over, decisions_drained w v e N all R)
 
-events_drained : (w : SectionData) (v : Bool) (e : ℕ) (Q : List Placed) (R : List Opened) → events_of w v e (Some e) Q R ≡ events_of w v e None Q R
-events_drained w v e Q R = ap (λ (gs : List (Group (List ℕ))). ids_of (by_moment (gs ++ hits v Q))) (decisions_drained w v e (seats Q) R R)
+events_drained : (w : SectionData) (v : Bool) (e : ℕ) (Q : List SpanPlacement) (R : List Opened) → events_of w v e (Some e) Q R ≡ events_of w v e None Q R
+events_drained w v e Q R = ap (λ (gs : List (Group (List ℕ))). ids_of (by_moment (gs ++ hits v Q))) (decisions_drained w v e (in_rows Q) R R)
 
-pub caches_drained : (w : SectionData) (e : ℕ) (Q : List Placed) (R : List Opened) → caches_of w e (Some e) Q R ≡ caches_of w e None Q R
+pub caches_drained : (w : SectionData) (e : ℕ) (Q : List SpanPlacement) (R : List Opened) → caches_of w e (Some e) Q R ≡ caches_of w e None Q R
 caches_drained w e Q R = with_same (size_of w true) (size_of w false) _ _ _ _ (events_drained w true e Q R) (events_drained w false e Q R)
 
 -- and after it no row has one
-decisions_stay : (w : SectionData) (v : Bool) (x d e : ℕ) (N : List Seated) (all R : List Opened) → x ≤ d → x ≤ e → decisions w v e (Some x) N all R ≡ decisions w v d (Some x) N all R
+decisions_stay : (w : SectionData) (v : Bool) (x d e : ℕ) (N : List SpanInRow) (all R : List Opened) → x ≤ d → x ≤ e → decisions w v e (Some x) N all R ≡ decisions w v d (Some x) N all R
 decisions_stay w v x d e N all [] le le' = refl
 decisions_stay w v x d e N all (r ∷ R) le le' =
     let few : min (r.moment + w.tail_sampling.decision_wait) x ≤ e = omega (arith, le') in
@@ -202,65 +202,65 @@ decisions_stay w v x d e N all (r ∷ R) le le' =
     let b : leb (min (r.moment + w.tail_sampling.decision_wait) x) d ≡ true = grind (arith, nat_tests, few') in
     grind (arith, nat_tests, a, b, decisions_stay w v x d e N all R le le')
 
-events_stay : (w : SectionData) (v : Bool) (x d e : ℕ) (Q : List Placed) (R : List Opened) → x ≤ d → x ≤ e → events_of w v e (Some x) Q R ≡ events_of w v d (Some x) Q R
-events_stay w v x d e Q R le le' = ap (λ (gs : List (Group (List ℕ))). ids_of (by_moment (gs ++ hits v Q))) (decisions_stay w v x d e (seats Q) R R le le')
+events_stay : (w : SectionData) (v : Bool) (x d e : ℕ) (Q : List SpanPlacement) (R : List Opened) → x ≤ d → x ≤ e → events_of w v e (Some x) Q R ≡ events_of w v d (Some x) Q R
+events_stay w v x d e Q R le le' = ap (λ (gs : List (Group (List ℕ))). ids_of (by_moment (gs ++ hits v Q))) (decisions_stay w v x d e (in_rows Q) R R le le')
 
-pub caches_stay : (w : SectionData) (x d e : ℕ) (Q : List Placed) (R : List Opened) → x ≤ d → x ≤ e → caches_of w e (Some x) Q R ≡ caches_of w d (Some x) Q R
+pub caches_stay : (w : SectionData) (x d e : ℕ) (Q : List SpanPlacement) (R : List Opened) → x ≤ d → x ≤ e → caches_of w e (Some x) Q R ≡ caches_of w d (Some x) Q R
 caches_stay w x d e Q R le le' = with_same (size_of w true) (size_of w false) _ _ _ _ (events_stay w true x d e Q R le le') (events_stay w false x d e Q R le le')
 
--- ---- a span with a seat has no event
+-- ---- a span with a row has no event
 
-events_same : (w : SectionData) (v : Bool) (e : ℕ) (Q Q' : List Placed) (R R' : List Opened) → decisions w v e None (seats Q) R R ≡ decisions w v e None (seats Q') R' R' → hits v Q ≡ hits v Q' →
+events_same : (w : SectionData) (v : Bool) (e : ℕ) (Q Q' : List SpanPlacement) (R R' : List Opened) → decisions w v e None (in_rows Q) R R ≡ decisions w v e None (in_rows Q') R' R' → hits v Q ≡ hits v Q' →
     events_of w v e None Q R ≡ events_of w v e None Q' R'
 events_same w v e Q Q' R R' decides same =
     ap (λ (gs : List (Group (List ℕ))). ids_of (by_moment (gs ++ hits v Q))) decides
-    ∙ ap (λ (gs : List (Group (List ℕ))). ids_of (by_moment (decisions w v e None (seats Q') R' R' ++ gs))) same
+    ∙ ap (λ (gs : List (Group (List ℕ))). ids_of (by_moment (decisions w v e None (in_rows Q') R' R' ++ gs))) same
 
 -- where no row that is decided changes
-pub caches_same : (w : SectionData) (e : ℕ) (n : Seated) (Q : List Placed) (R R' : List Opened) →
-    ((v : Bool) → decisions w v e None (n ∷ seats Q) R R ≡ decisions w v e None (seats Q) R' R') → caches_of w e None (Sits n ∷ Q) R ≡ caches_of w e None Q R'
+pub caches_same : (w : SectionData) (e : ℕ) (n : SpanInRow) (Q : List SpanPlacement) (R R' : List Opened) →
+    ((v : Bool) → decisions w v e None (n ∷ in_rows Q) R R ≡ decisions w v e None (in_rows Q) R' R') → caches_of w e None (InRow n ∷ Q) R ≡ caches_of w e None Q R'
 caches_same w e n Q R R' decides =
-    with_same (size_of w true) (size_of w false) _ _ _ _ (events_same w true e (Sits n ∷ Q) Q R R' (decides true) refl) (events_same w false e (Sits n ∷ Q) Q R R' (decides false) refl)
+    with_same (size_of w true) (size_of w false) _ _ _ _ (events_same w true e (InRow n ∷ Q) Q R R' (decides true) refl) (events_same w false e (InRow n ∷ Q) Q R R' (decides false) refl)
 
--- ---- a span without a seat has one
+-- ---- a span without a row has one
 
 event_hit : (w : SectionData) (v b : Bool) (e : ℕ) (a : Arrival) (s : Bool) (A : List Taken) → TakenBy e A → is_verdict v s ≡ b →
-    events_of w v e None (Hits (record { moment = e; arrival = a; sampled = s }) ∷ placed w A) (opened w A) ≡ cond b (trace_of a ∷ events_of w v e None (placed w A) (opened w A)) (events_of w v e None (placed w A) (opened w A))
+    events_of w v e None (CacheHit (record { moment = e; arrival = a; sampled = s }) ∷ placements w A) (opened w A) ≡ cond b (trace_of a ∷ events_of w v e None (placements w A) (opened w A)) (events_of w v e None (placements w A) (opened w A))
 event_hit w v true e a s A by is =
-    let N = seated w A in
+    let N = spans_in_rows w A in
     let R = opened w A in
-    let H = hits v (placed w A) in
+    let H = hits v (placements w A) in
     let X = decisions w v e None N R R in
     let g = event e (trace_of a) in
     let up = AllUpTo-append e X H (AllUpTo-decisions w v e N R R) (AllUpTo-hits w v e A by) in
-    let more : hits v (Hits (record { moment = e; arrival = a; sampled = s }) ∷ placed w A) ≡ H ++ g ∷ [] = rw is refl in
+    let more : hits v (CacheHit (record { moment = e; arrival = a; sampled = s }) ∷ placements w A) ≡ H ++ g ∷ [] = rw is refl in
     ap (λ (gs : List (Group (List ℕ))). ids_of (by_moment (X ++ gs))) more
     ∙ (ap (λ (gs : List (Group (List ℕ))). ids_of (by_moment gs)) (sym (append_assoc X H (g ∷ [])))
     ∙ (ap ids_of (by_moment-push (X ++ H) g up) ∙ ids-append (by_moment (X ++ H)) (g ∷ [])))
 event_hit w v false e a s A by is =
-    let more : hits v (Hits (record { moment = e; arrival = a; sampled = s }) ∷ placed w A) ≡ hits v (placed w A) = rw is (append-nil (hits v (placed w A))) in
-    ap (λ (gs : List (Group (List ℕ))). ids_of (by_moment (decisions w v e None (seated w A) (opened w A) (opened w A) ++ gs))) more
+    let more : hits v (CacheHit (record { moment = e; arrival = a; sampled = s }) ∷ placements w A) ≡ hits v (placements w A) = rw is (append-nil (hits v (placements w A))) in
+    ap (λ (gs : List (Group (List ℕ))). ids_of (by_moment (decisions w v e None (spans_in_rows w A) (opened w A) (opened w A) ++ gs))) more
 
 pub caches_hit : (w : SectionData) (e : ℕ) (a : Arrival) (s : Bool) (A : List Taken) → TakenBy e A →
-    caches_of w e None (Hits (record { moment = e; arrival = a; sampled = s }) ∷ placed w A) (opened w A) ≡ noted_in s (trace_of a) (caches_of w e None (placed w A) (opened w A))
+    caches_of w e None (CacheHit (record { moment = e; arrival = a; sampled = s }) ∷ placements w A) (opened w A) ≡ noted_in s (trace_of a) (caches_of w e None (placements w A) (opened w A))
 caches_hit w e a s A by = by_verdict s
   where
     E : List (List ℕ)
-    E = events_of w true e None (placed w A) (opened w A)
+    E = events_of w true e None (placements w A) (opened w A)
 
     F : List (List ℕ)
-    F = events_of w false e None (placed w A) (opened w A)
+    F = events_of w false e None (placements w A) (opened w A)
 
-    by_verdict : (s : Bool) → caches_of w e None (Hits (record { moment = e; arrival = a; sampled = s }) ∷ placed w A) (opened w A) ≡ noted_in s (trace_of a) (caches_of w e None (placed w A) (opened w A))
+    by_verdict : (s : Bool) → caches_of w e None (CacheHit (record { moment = e; arrival = a; sampled = s }) ∷ placements w A) (opened w A) ≡ noted_in s (trace_of a) (caches_of w e None (placements w A) (opened w A))
     by_verdict true = with_same (size_of w true) (size_of w false) _ (trace_of a ∷ E) _ F (event_hit w true true e a true A by refl) (event_hit w false false e a true A by refl) ∙ with_more true (size_of w true) (size_of w false) (trace_of a) E F
     by_verdict false = with_same (size_of w true) (size_of w false) _ E _ (trace_of a ∷ F) (event_hit w true false e a false A by refl) (event_hit w false true e a false A by refl) ∙ with_more false (size_of w true) (size_of w false) (trace_of a) E F
 
 -- ---- the caches have the verdicts that are known
 
-pub found_is : (w : SectionData) (e : ℕ) (t : List ℕ) (A : List Taken) → found t (caches_of w e None (placed w A) (opened w A)) ≡ known w e t (seating w A)
+pub found_is : (w : SectionData) (e : ℕ) (t : List ℕ) (A : List Taken) → found t (caches_of w e None (placements w A) (opened w A)) ≡ known w e t (placement w A)
 found_is w e t A =
-    let E = events_of w true e None (placed w A) (opened w A) in
-    let F = events_of w false e None (placed w A) (opened w A) in
+    let E = events_of w true e None (placements w A) (opened w A) in
+    let F = events_of w false e None (placements w A) (opened w A) in
     let n = size_of w true in
     let m = size_of w false in
     ap (λ (b : Bool). if b then Some true else if has is_same t (cached is_same m F) then Some false else None) (lists_say is_same laws n t E)

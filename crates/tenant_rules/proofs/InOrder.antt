@@ -3,13 +3,13 @@ use Rattle.std.proofs.Common.{◌≡◌, ℕ, ◌+◌, ◌<◌, ◌≤◌, List,
 use Rattle.std.specs.Prelude.{min}
 use Rattle.std.proofs.lemmas.Bool.Decides.{nat_tests}
 use Rattle.tail_settings.specs.Section.{SectionData}
-use Rattle.span_batcher.specs.Batches.{IsSound}
+use Rattle.span_batcher.specs.Batches.{AreValidRules}
 use Rattle.span_batcher.specs.State.{next_due, IsAfter}
 use Rattle.span_batcher.specs.Timers.{is_due}
 use Rattle.tenant_rules.specs.Own.{clock, drained}
 use Rattle.tenant_rules.specs.Rows.{Taken}
 use Rattle.tenant_rules.specs.Fate.{WaitingData}
-use Rattle.tenant_rules.specs.Seating.{opened, seated}
+use Rattle.tenant_rules.specs.Placement.{opened, spans_in_rows}
 use Rattle.tenant_rules.specs.Groups.{groups}
 use Rattle.tenant_rules.specs.Batching.{rules_of, pending, waiting_rows}
 use Rattle.tenant_rules.specs.Intake.{intake}
@@ -26,11 +26,11 @@ use Rattle.tenant_rules.proofs.Intakes.{TakenBy-intake, DrainedBy, DrainedBy-int
 
 -- before a drain they ascend from the moment reached
 rows_ascend : (w : SectionData) (e : ℕ) (A : List Taken) → TakenBy e A → Ascends (e + 1) (waiting_rows w e None A)
-rows_ascend w e A by = let R = opened w A in Ascends-waiting w e e (length R) (seated w A) R (OpenedBy-opened w e A by)
+rows_ascend w e A by = let R = opened w A in Ascends-waiting w e e (length R) (spans_in_rows w A) R (OpenedBy-opened w e A by)
 
 -- after it none wait
 none_wait : (w : SectionData) (x e : ℕ) (A : List Taken) → x ≤ e → waiting_rows w e (Some x) A ≡ []
-none_wait w x e A le = let R = opened w A in waits_none w x e (length R) (seated w A) R le
+none_wait w x e A le = let R = opened w A in waits_none w x e (length R) (spans_in_rows w A) R le
 
 order_is : (m : ℕ) (ws : List WaitingData) → Ascends m ws → AreInOrder m ws
 order_is m [] asc = tt
@@ -60,11 +60,11 @@ both_later None (Some y) e one other = grind (arith, nat_tests, other)
 both_later (Some x) None e one other = grind (arith, nat_tests, one)
 both_later (Some x) (Some y) e one other = let lt : e < min x y = omega (arith, one, other) in grind (arith, nat_tests, lt)
 
-batch_later : (w : SectionData) (e : ℕ) (A : List Taken) → IsSound (rules_of w) → TakenBy e A → IsAfter (next_due (pending w e None A)) e
+batch_later : (w : SectionData) (e : ℕ) (A : List Taken) → AreValidRules (rules_of w) → TakenBy e A → IsAfter (next_due (pending w e None A)) e
 unfolding pending
 batch_later w e A sound by = later_than (rules_of w) e (groups w e None A) sound (IsUpTo-groups w e A by)
 
-due_by : (w : SectionData) (e : ℕ) (o : Option ℕ) (A : List Taken) → IsSound (rules_of w) → TakenBy e A → DrainedBy o e A → is_due (lesser (next_due (pending w e o A)) (first_due (waiting_rows w e o A))) e ≡ false
+due_by : (w : SectionData) (e : ℕ) (o : Option ℕ) (A : List Taken) → AreValidRules (rules_of w) → TakenBy e A → DrainedBy o e A → is_due (lesser (next_due (pending w e o A)) (first_due (waiting_rows w e o A))) e ≡ false
 due_by w e None A sound by drain = both_later (next_due (pending w e None A)) (first_due (waiting_rows w e None A)) e (batch_later w e A sound by) (first_later e (waiting_rows w e None A) (rows_ascend w e A by))
 due_by w e (Some x) A sound by drain =
     ap (λ (d : Option ℕ). is_due (lesser d (first_due (waiting_rows w e (Some x) A))) e) (pending_none w x e A sound drain.1 drain.0)

@@ -5,15 +5,15 @@ use Rattle.std.proofs.lemmas.Bool.Decides.{nat_tests}
 use Rattle.std.proofs.lemmas.List.{map-append}
 use Rattle.tail_settings.specs.Policy.{PolicyData}
 use Rattle.tail_settings.specs.Section.{SectionData}
-use Rattle.span_batcher.specs.Batches.{Rules, IsSound, Group, Batch, batches}
+use Rattle.span_batcher.specs.Batches.{Rules, AreValidRules, Group, Batch, batches}
 use Rattle.span_batcher.specs.State.{IsUpTo}
 use Rattle.span_batcher.specs.State as batcher
 use Rattle.span_batcher.specs.Timers.{passed, after, come, come_batches, InOrder, last_moment}
 use Rattle.span_batcher.proofs.Timers.{passes, all_come}
 use Rattle.tenant_rules.specs.Arrivals.{Arrival, trace_of}
-use Rattle.tenant_rules.specs.Rows.{Taken, Opened, Seated, Seat, present_seat}
+use Rattle.tenant_rules.specs.Rows.{Taken, Opened, SpanInRow, RowOpening, present_row}
 use Rattle.tenant_rules.specs.Fate.{most_of, on_time, are_sampled, is_sampled, WaitingData}
-use Rattle.tenant_rules.specs.Seating.{place_by, known, seating, opened, placed, seated}
+use Rattle.tenant_rules.specs.Placement.{place_by, known, placement, opened, placements, spans_in_rows}
 use Rattle.tenant_rules.specs.Decisions.{by_moment}
 use Rattle.tenant_rules.specs.Groups.{decided, cut_short, late, groups}
 use Rattle.tenant_rules.specs.Batching.{rules_of, as_sent, all_sent, formed, pending, waiting_rows}
@@ -26,7 +26,7 @@ AllUpTo_if : (m : ℕ) (g : Group Arrival) (b : Bool) → (b ≡ true → g.mome
 AllUpTo_if m g true le = (le refl, tt)
 AllUpTo_if m g false le = tt
 
-pub AllUpTo-decided : (w : SectionData) (e : ℕ) (N : List Seated) (all R : List Opened) → AllUpTo e (decided w e None N all R)
+pub AllUpTo-decided : (w : SectionData) (e : ℕ) (N : List SpanInRow) (all R : List Opened) → AllUpTo e (decided w e None N all R)
 AllUpTo-decided w e N all [] = tt
 AllUpTo-decided w e N all (r ∷ R) = AllUpTo-append e (decided w e None N all R) _ (AllUpTo-decided w e N all R) (by_test (leb (r.moment + w.tail_sampling.decision_wait) e) _ refl)
   where
@@ -38,19 +38,19 @@ AllUpTo-decided w e N all (r ∷ R) = AllUpTo-append e (decided w e None N all R
     by_test true false is = tt
     by_test false b is = tt
 
-pub AllUpTo-late : (w : SectionData) (e : ℕ) (A : List Taken) → TakenBy e A → AllUpTo e (late w (placed w A))
+pub AllUpTo-late : (w : SectionData) (e : ℕ) (A : List Taken) → TakenBy e A → AllUpTo e (late w (placements w A))
 AllUpTo-late w e [] by = tt
 AllUpTo-late w e (x ∷ A) by =
-    by_seat (present_seat (most_of w) (trace_of x.arrival) (opened w A)) (known w x.moment (trace_of x.arrival) (seating w A))
-    (AllUpTo_more x.moment e (late w (placed w A)) by.0 (AllUpTo-late w x.moment A by.1))
+    by_seat (present_row (most_of w) (trace_of x.arrival) (opened w A)) (known w x.moment (trace_of x.arrival) (placement w A))
+    (AllUpTo_more x.moment e (late w (placements w A)) by.0 (AllUpTo-late w x.moment A by.1))
   where
     one : Group Arrival
     one = record { moment = x.moment; spans = x.arrival ∷ [] }
 
-    by_seat : (o : Option Seat) (h : Option Bool) → AllUpTo e (late w (placed w A)) → AllUpTo e (late w (place_by x (seating w A) o h).placed)
-    by_seat None None rest = AllUpTo-append e (late w (placed w A)) _ rest (AllUpTo_if e one _ (λ _. by.0))
-    by_seat None (Some b) rest = AllUpTo-append e (late w (placed w A)) _ rest (AllUpTo_if e one b (λ _. by.0))
-    by_seat (Some s) h rest = AllUpTo-append e (late w (placed w A)) _ rest (AllUpTo_if e one _ (λ _. by.0))
+    by_seat : (o : Option RowOpening) (h : Option Bool) → AllUpTo e (late w (placements w A)) → AllUpTo e (late w (place_by x (placement w A) o h).placements)
+    by_seat None None rest = AllUpTo-append e (late w (placements w A)) _ rest (AllUpTo_if e one _ (λ _. by.0))
+    by_seat None (Some b) rest = AllUpTo-append e (late w (placements w A)) _ rest (AllUpTo_if e one b (λ _. by.0))
+    by_seat (Some s) h rest = AllUpTo-append e (late w (placements w A)) _ rest (AllUpTo_if e one _ (λ _. by.0))
 
 -- ---- the groups of rows that are decided meanwhile
 
@@ -76,12 +76,12 @@ pub groups_later : (w : SectionData) (d e : ℕ) (A : List Taken) → 0 < w.tail
 unfolding groups
 groups_later w d e A pos le by =
     let p = w.tail_sampling.policies in
-    let N = seated w A in
+    let N = spans_in_rows w A in
     let R = opened w A in
     let W = waiting_rows w d None A in
     let opens = OpenedBy-opened w d A by in
     let asc = Ascends-waiting w d d (length R) N R opens in
-    let L = late w (placed w A) in
+    let L = late w (placements w A) in
     let more : decided w e None N R R ≡ decided w d None N R R ++ fired p e W = decided_later w d e d N R R pos le opens opens in
     let none : L ++ cut_short w e None N R R ≡ L = ap (λ (gs : List (Group Arrival)). L ++ gs) (cut_none w e N R R) ∙ append-nil L in
     let none' : L ++ cut_short w d None N R R ≡ L = ap (λ (gs : List (Group Arrival)). L ++ gs) (cut_none w d N R R) ∙ append-nil L in
@@ -100,9 +100,9 @@ IsUpTo_is m (g ∷ gs) up = (up.0, IsUpTo_is m gs up.1)
 pub IsUpTo-groups : (w : SectionData) (e : ℕ) (A : List Taken) → TakenBy e A → IsUpTo e (groups w e None A)
 unfolding groups
 IsUpTo-groups w e A by =
-    let N = seated w A in
+    let N = spans_in_rows w A in
     let R = opened w A in
-    let L = late w (placed w A) in
+    let L = late w (placements w A) in
     let none : L ++ cut_short w e None N R R ≡ L = ap (λ (gs : List (Group Arrival)). L ++ gs) (cut_none w e N R R) ∙ append-nil L in
     IsUpTo_is e _ (AllUpTo-by_moment e _ (AllUpTo-append e (decided w e None N R R) _ (AllUpTo-decided w e N R R) (rw none (AllUpTo-late w e A by))))
 
@@ -155,7 +155,7 @@ IsUpTo_last m gs (g ∷ more) up ord =
     push (x ∷ xs) up' = (up'.0, push xs up'.1)
 
 -- all batches that form up to a later moment, of groups and of those that come meanwhile
-batches_more : (r : Rules) (d e : ℕ) (G M : List (Group Arrival)) → IsSound r → IsUpTo d G → InOrder d M → last_moment d M ≤ e →
+batches_more : (r : Rules) (d e : ℕ) (G M : List (Group Arrival)) → AreValidRules r → IsUpTo d G → InOrder d M → last_moment d M ≤ e →
     (batches r e None (G ++ M) ≡ batches r d None G ++ (come_batches M (batcher.state r d None G) ++ passed e (come M (batcher.state r d None G))))
     × (batcher.state r e None (G ++ M) ≡ after e (come M (batcher.state r d None G)))
 batches_more r d e G M sound up ord le =
@@ -175,7 +175,7 @@ meanwhile p e ws s = come_batches (fired p e ws) s ++ passed e (come (fired p e 
 abbrev pub left_then : List PolicyData → ℕ → List WaitingData → batcher.State Arrival → batcher.State Arrival
 left_then p e ws s = after e (come (fired p e ws) s)
 
-pub formed_later : (w : SectionData) (d e : ℕ) (A : List Taken) → 0 < w.tail_sampling.num_traces → IsSound (rules_of w) → d ≤ e → TakenBy d A →
+pub formed_later : (w : SectionData) (d e : ℕ) (A : List Taken) → 0 < w.tail_sampling.num_traces → AreValidRules (rules_of w) → d ≤ e → TakenBy d A →
     formed w e None A ≡ formed w d None A ++ all_sent (meanwhile w.tail_sampling.policies e (waiting_rows w d None A) (pending w d None A))
 unfolding formed pending
 formed_later w d e A pos sound le by =
@@ -183,14 +183,14 @@ formed_later w d e A pos sound le by =
     let R = opened w A in
     let W = waiting_rows w d None A in
     let G = groups w d None A in
-    let asc = Ascends-waiting w d d (length R) (seated w A) R (OpenedBy-opened w d A by) in
+    let asc = Ascends-waiting w d d (length R) (spans_in_rows w A) R (OpenedBy-opened w d A by) in
     let ord = InOrder_less d (d + 1) (fired p e W) (omega arith) (InOrder-fired p (d + 1) e W asc) in
     let more = batches_more (rules_of w) d e G (fired p e W) sound (IsUpTo-groups w d A by) ord (last_fired p d e W le) in
     let P = batcher.state (rules_of w) d None G in
     ap (λ (gs : List (Group Arrival)). all_sent (batches (rules_of w) e None gs)) (groups_later w d e A pos le by)
     ∙ (ap all_sent more.0 ∙ map-append as_sent (batches (rules_of w) d None G) (meanwhile p e W P))
 
-pub pending_later : (w : SectionData) (d e : ℕ) (A : List Taken) → 0 < w.tail_sampling.num_traces → IsSound (rules_of w) → d ≤ e → TakenBy d A →
+pub pending_later : (w : SectionData) (d e : ℕ) (A : List Taken) → 0 < w.tail_sampling.num_traces → AreValidRules (rules_of w) → d ≤ e → TakenBy d A →
     pending w e None A ≡ left_then w.tail_sampling.policies e (waiting_rows w d None A) (pending w d None A)
 unfolding pending
 pending_later w d e A pos sound le by =
@@ -198,7 +198,7 @@ pending_later w d e A pos sound le by =
     let R = opened w A in
     let W = waiting_rows w d None A in
     let G = groups w d None A in
-    let asc = Ascends-waiting w d d (length R) (seated w A) R (OpenedBy-opened w d A by) in
+    let asc = Ascends-waiting w d d (length R) (spans_in_rows w A) R (OpenedBy-opened w d A by) in
     let ord = InOrder_less d (d + 1) (fired p e W) (omega arith) (InOrder-fired p (d + 1) e W asc) in
     let more = batches_more (rules_of w) d e G (fired p e W) sound (IsUpTo-groups w d A by) ord (last_fired p d e W le) in
     ap (batcher.state (rules_of w) e None) (groups_later w d e A pos le by) ∙ more.1

@@ -4,13 +4,13 @@ use Rattle.std.specs.Prelude.{if◌then◌else◌}
 use Rattle.std.proofs.lemmas.Bool.Decides.{nat_tests}
 use Rattle.tail_settings.specs.Section.{SectionData}
 use Rattle.span_pool.specs.Stored.{same_bytes}
-use Rattle.tenant_rules.specs.Rows.{Opened, Seat, Seated, latest, is_present, if_present, present_seat}
+use Rattle.tenant_rules.specs.Rows.{Opened, RowOpening, SpanInRow, latest, is_present, if_present, present_row}
 use Rattle.tenant_rules.specs.Fate.{most_of, due_of, on_time, is_sampled, SettledData, WaitingData, settled, waiting}
 use Rattle.tenant_rules.specs.Machine.{last_of, sampled_in, has_row}
 use Rattle.tenant_rules.proofs.Times.{OpenedBy, waiting_none}
 
 -- rows that so many others opened after are not present
-pub rows_none : (w : SectionData) (e n : ℕ) (N : List Seated) (R : List Opened) → length R + w.tail_sampling.num_traces ≤ n → (settled w e None N n R ≡ []) × (waiting w e None N n R ≡ [])
+pub rows_none : (w : SectionData) (e n : ℕ) (N : List SpanInRow) (R : List Opened) → length R + w.tail_sampling.num_traces ≤ n → (settled w e None N n R ≡ []) × (waiting w e None N n R ≡ [])
 rows_none w e n N [] le = (refl, refl)
 rows_none w e n N (r ∷ R) le =
     let rest = rows_none w e n N R (omega (arith, le)) in
@@ -18,14 +18,14 @@ rows_none w e n N (r ∷ R) le =
     (grind (arith, nat_tests, s, le), grind (arith, nat_tests, t, le))
 
 -- the latest row of a trace is one of these
-pub latest_row : (t : List ℕ) (R : List Opened) (s : Seat) → latest t R ≡ Some s → (0 < s.row) × (s.row ≤ length R)
+pub latest_row : (t : List ℕ) (R : List Opened) (s : RowOpening) → latest t R ≡ Some s → (0 < s.row) × (s.row ≤ length R)
 latest_row t [] s is = absurd (cc)
 latest_row t (r ∷ R) s is = by_test (same_bytes t r.trace) is (λ rest. latest_row t R s rest)
   where
-    by_test : (b : Bool) → Path (Option Seat) (cond b (Some (record { row = length R + 1; opening = r.moment })) (latest t R)) (Some s) → (latest t R ≡ Some s → (0 < s.row) × (s.row ≤ length R)) → (0 < s.row) × (s.row ≤ suc (length R))
-    by_test true here ih = let row : length R + 1 ≡ s.row = ap (λ (z : Seat). z.row) (seat_same here) in (omega (arith, row), omega (arith, row))
+    by_test : (b : Bool) → Path (Option RowOpening) (cond b (Some (record { row = length R + 1; opening = r.moment })) (latest t R)) (Some s) → (latest t R ≡ Some s → (0 < s.row) × (s.row ≤ length R)) → (0 < s.row) × (s.row ≤ suc (length R))
+    by_test true here ih = let row : length R + 1 ≡ s.row = ap (λ (z : RowOpening). z.row) (seat_same here) in (omega (arith, row), omega (arith, row))
       where
-        seat_same : Path (Option Seat) (Some (record { row = length R + 1; opening = r.moment })) (Some s) → Path Seat (record { row = length R + 1; opening = r.moment }) s
+        seat_same : Path (Option RowOpening) (Some (record { row = length R + 1; opening = r.moment })) (Some s) → Path RowOpening (record { row = length R + 1; opening = r.moment }) s
         seat_same same = cc
     by_test false here ih = let rest = ih here in (rest.0, omega (arith, rest.1))
 
@@ -43,12 +43,12 @@ has_last t (x ∷ xs) row = by_test (same_bytes t row.trace) (has_row t xs) (sam
     by_test true b c d is = rw is refl
     by_test false b c d is = rw is refl
 
--- whether the seat of a trace's latest row is in one that is present and waits
-abbrev pub seat_waits : SectionData → ℕ → ℕ → Option Seat → Bool
+-- whether a trace's latest row is one that is present and waits
+abbrev pub seat_waits : SectionData → ℕ → ℕ → Option RowOpening → Bool
 seat_waits w e n None = false
 seat_waits w e n (Some s) = is_present (most_of w) n s.row && not (leb (s.opening + w.tail_sampling.decision_wait) e)
 
-has_row_is : (t : List ℕ) (w : SectionData) (e m n : ℕ) (N : List Seated) (R : List Opened) → OpenedBy m R → has_row t (waiting w e None N n R) ≡ seat_waits w e n (latest t R)
+has_row_is : (t : List ℕ) (w : SectionData) (e m n : ℕ) (N : List SpanInRow) (R : List Opened) → OpenedBy m R → has_row t (waiting w e None N n R) ≡ seat_waits w e n (latest t R)
 has_row_is t w e m n N [] by = refl
 has_row_is t w e m n N (r ∷ R) by =
     by_test (same_bytes t r.trace) (is_present (most_of w) n (length R + 1)) (leb (r.moment + w.tail_sampling.decision_wait) e) refl refl refl (has_row_is t w e r.moment n N R by.1)
@@ -88,11 +88,11 @@ sampled_last t (x ∷ xs) row =
     ap (last_of one) (sampled_last t xs row) ∙ last_assoc one (sampled_in t xs) (if same_bytes t row.trace then Some row.sampled else None)
 
 -- whether the trace's latest row is sampled, where that is present
-abbrev pub seat_sampled : SectionData → ℕ → List Seated → Option Seat → Option Bool
+abbrev pub seat_sampled : SectionData → ℕ → List SpanInRow → Option RowOpening → Option Bool
 seat_sampled w n N None = None
 seat_sampled w n N (Some s) = if is_present (most_of w) n s.row then Some (is_sampled w s.row N) else None
 
-sampled_in_is : (t : List ℕ) (w : SectionData) (e n : ℕ) (N : List Seated) (R : List Opened) → seat_waits w e n (latest t R) ≡ false → sampled_in t (settled w e None N n R) ≡ seat_sampled w n N (latest t R)
+sampled_in_is : (t : List ℕ) (w : SectionData) (e n : ℕ) (N : List SpanInRow) (R : List Opened) → seat_waits w e n (latest t R) ≡ false → sampled_in t (settled w e None N n R) ≡ seat_sampled w n N (latest t R)
 sampled_in_is t w e n N [] out = refl
 sampled_in_is t w e n N (r ∷ R) out =
     by_test (same_bytes t r.trace) (is_present (most_of w) n (length R + 1)) (leb (r.moment + w.tail_sampling.decision_wait) e) refl refl refl out (λ rest. sampled_in_is t w e n N R rest)
@@ -120,16 +120,16 @@ sampled_in_is t w e n N (r ∷ R) out =
 -- ---- where the next span of a trace goes
 
 -- its row waits at a moment
-abbrev pub waits_at : SectionData → ℕ → Option Seat → Bool
+abbrev pub waits_at : SectionData → ℕ → Option RowOpening → Bool
 waits_at w e None = false
 waits_at w e (Some s) = not (leb (s.opening + w.tail_sampling.decision_wait) e)
 
 -- its row is sampled
-abbrev pub sampled_at : SectionData → List Seated → Option Seat → Option Bool
+abbrev pub sampled_at : SectionData → List SpanInRow → Option RowOpening → Option Bool
 sampled_at w N None = None
 sampled_at w N (Some s) = Some (is_sampled w s.row N)
 
-waits_present : (w : SectionData) (e n : ℕ) (o : Option Seat) → seat_waits w e n o ≡ waits_at w e (if_present (most_of w) n o)
+waits_present : (w : SectionData) (e n : ℕ) (o : Option RowOpening) → seat_waits w e n o ≡ waits_at w e (if_present (most_of w) n o)
 waits_present w e n None = refl
 waits_present w e n (Some s) = by_test (is_present (most_of w) n s.row)
   where
@@ -137,7 +137,7 @@ waits_present w e n (Some s) = by_test (is_present (most_of w) n s.row)
     by_test true = refl
     by_test false = refl
 
-sampled_present : (w : SectionData) (n : ℕ) (N : List Seated) (o : Option Seat) → seat_sampled w n N o ≡ sampled_at w N (if_present (most_of w) n o)
+sampled_present : (w : SectionData) (n : ℕ) (N : List SpanInRow) (o : Option RowOpening) → seat_sampled w n N o ≡ sampled_at w N (if_present (most_of w) n o)
 sampled_present w n N None = refl
 sampled_present w n N (Some s) = by_test (is_present (most_of w) n s.row)
   where
@@ -145,10 +145,10 @@ sampled_present w n N (Some s) = by_test (is_present (most_of w) n s.row)
     by_test true = refl
     by_test false = refl
 
--- the machine finds the row where the definitions seat the span: among the rows that wait
-pub waiting_found : (t : List ℕ) (w : SectionData) (e m : ℕ) (N : List Seated) (R : List Opened) → OpenedBy m R → has_row t (waiting w e None N (length R) R) ≡ waits_at w e (present_seat (most_of w) t R)
+-- the machine finds the row where the definitions put the span: among the rows that wait
+pub waiting_found : (t : List ℕ) (w : SectionData) (e m : ℕ) (N : List SpanInRow) (R : List Opened) → OpenedBy m R → has_row t (waiting w e None N (length R) R) ≡ waits_at w e (present_row (most_of w) t R)
 waiting_found t w e m N R by = has_row_is t w e m (length R) N R by ∙ waits_present w e (length R) (latest t R)
 
 -- or else among those that were decided
-pub settled_found : (t : List ℕ) (w : SectionData) (e : ℕ) (N : List Seated) (R : List Opened) → waits_at w e (present_seat (most_of w) t R) ≡ false → sampled_in t (settled w e None N (length R) R) ≡ sampled_at w N (present_seat (most_of w) t R)
+pub settled_found : (t : List ℕ) (w : SectionData) (e : ℕ) (N : List SpanInRow) (R : List Opened) → waits_at w e (present_row (most_of w) t R) ≡ false → sampled_in t (settled w e None N (length R) R) ≡ sampled_at w N (present_row (most_of w) t R)
 settled_found t w e N R idle = sampled_in_is t w e (length R) N R (waits_present w e (length R) (latest t R) ∙ idle) ∙ sampled_present w (length R) N (latest t R)

@@ -6,13 +6,13 @@ use Rattle.tenant_rules.specs.Arrivals.{Arrival}
 use Rattle.tenant_rules.specs.Own.{Own, Post, Turn, Answer, Report, Drain, moment_of, clock, drained}
 use Rattle.tenant_rules.specs.Fate.{settled}
 use Rattle.tenant_rules.specs.Events.{caches_of}
-use Rattle.tenant_rules.specs.Seating.{opened, placed, seated}
+use Rattle.tenant_rules.specs.Placement.{opened, placements, spans_in_rows}
 use Rattle.tenant_rules.specs.Groups.{groups}
 use Rattle.tenant_rules.specs.Batching.{formed, pending, waiting_rows}
 use Rattle.tenant_rules.specs.Intake.{IntakeData, verdict, intake_by, intake}
 use Rattle.tenant_rules.specs.State.{ledger_at, state}
-use Rattle.tenant_rules.specs.declared.told.Told.{Told}
-use Rattle.tenant_rules.specs.declared.told.Told.TheVariants as tell
+use Rattle.tenant_rules.specs.declared.reply.StepReply.{StepReply}
+use Rattle.tenant_rules.specs.declared.reply.StepReply.TheVariants as replies
 use Rattle.tenant_rules.specs.Answers.{reply_of, answer}
 use Rattle.tenant_rules.specs.Others.{as_report, without_others, NeverFall, AreAlike, MomentsCount, OthersDontCount, RepliesDontChange}
 
@@ -21,8 +21,8 @@ use Rattle.tenant_rules.specs.Others.{as_report, without_others, NeverFall, AreA
 abbrev intake_with : SectionData → List Arrival → Option ℕ → ℕ → IntakeData → IntakeData
 intake_with w arrivals drain e i = intake_by w e arrivals i (verdict w (is_some drain) e arrivals i)
 
-abbrev told_with : SectionData → List Arrival → Option ℕ → ℕ → IntakeData → Told
-told_with w arrivals drain e i = tell.Reply (reply_of (verdict w (is_some drain) e arrivals i))
+abbrev told_with : SectionData → List Arrival → Option ℕ → ℕ → IntakeData → StepReply
+told_with w arrivals drain e i = replies.Reply (reply_of (verdict w (is_some drain) e arrivals i))
 
 -- a function of drain, moment and intake
 alike : {A : Type 0} (f : Option ℕ → ℕ → IntakeData → A) (o o' : Option ℕ) (e e' : ℕ) (i i' : IntakeData) → o ≡ o' → e ≡ e' → i ≡ i' → f o e i ≡ f o' e' i'
@@ -48,9 +48,9 @@ all_alike w one other drain_is clock_is intake_is =
       groups_is = alike (λ (z : Option ℕ) (m : ℕ) (j : IntakeData). groups w m z j.spans) o o' e e' i i' drain_is clock_is intake_is;
       formed_is = alike (λ (z : Option ℕ) (m : ℕ) (j : IntakeData). formed w m z j.spans) o o' e e' i i' drain_is clock_is intake_is;
       opened_is = ap (λ (j : IntakeData). length (opened w j.spans)) intake_is;
-      settled_is = alike (λ (z : Option ℕ) (m : ℕ) (j : IntakeData). settled w m z (seated w j.spans) (length (opened w j.spans)) (opened w j.spans)) o o' e e' i i' drain_is clock_is intake_is;
+      settled_is = alike (λ (z : Option ℕ) (m : ℕ) (j : IntakeData). settled w m z (spans_in_rows w j.spans) (length (opened w j.spans)) (opened w j.spans)) o o' e e' i i' drain_is clock_is intake_is;
       waiting_is = alike (λ (z : Option ℕ) (m : ℕ) (j : IntakeData). waiting_rows w m z j.spans) o o' e e' i i' drain_is clock_is intake_is;
-      caches_is = alike (λ (z : Option ℕ) (m : ℕ) (j : IntakeData). caches_of w m z (placed w j.spans) (opened w j.spans)) o o' e e' i i' drain_is clock_is intake_is;
+      caches_is = alike (λ (z : Option ℕ) (m : ℕ) (j : IntakeData). caches_of w m z (placements w j.spans) (opened w j.spans)) o o' e e' i i' drain_is clock_is intake_is;
       pending_is = alike (λ (z : Option ℕ) (m : ℕ) (j : IntakeData). pending w m z j.spans) o o' e e' i i' drain_is clock_is intake_is;
       counters_are = λ sender ended. alike (λ (z : Option ℕ) (m : ℕ) (j : IntakeData). ledger_at w j m z sender ended) o o' e e' i i' drain_is clock_is intake_is;
     }

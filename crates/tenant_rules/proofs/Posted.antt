@@ -6,8 +6,8 @@ use Rattle.tail_settings.specs.Section.{SectionData}
 use Rattle.drop_ledger.specs.declared.places.Places.{Places}
 use Rattle.drop_ledger.specs.Ledger.{left_out, most_counted}
 use Rattle.drop_ledger.specs.Ledger as counters
-use Rattle.span_batcher.specs.Batches.{IsSound}
-use Rattle.tenant_rules.specs.declared.told.Told.TheVariants as tell
+use Rattle.span_batcher.specs.Batches.{AreValidRules}
+use Rattle.tenant_rules.specs.declared.reply.StepReply.TheVariants as replies
 use Rattle.tenant_rules.specs.Arrivals.{Arrival, valid}
 use Rattle.tenant_rules.specs.Own.{Own, Post, clock, drained}
 use Rattle.tenant_rules.specs.Sender.{BatchData, SenderData}
@@ -52,7 +52,7 @@ abbrev pub AllCame : SectionData → ℕ → List Arrival → IntakeData → Sen
 AllCame w e xs i D es = (new : List BatchData) × (formed w e None (taken_after w e xs i.spans) ≡ formed w e None i.spans ++ new)
     × (state_with w (record i { spans = taken_after w e xs i.spans }) e None (all_offered new D) (map met_full_queue (overflow new D) ++ es) ≡ all_come e xs (state_with w i e None D es))
 
-all_came : (w : SectionData) (e : ℕ) (xs : List Arrival) (i : IntakeData) (D : SenderData) (es : List EndedData) → 0 < w.tail_sampling.num_traces → 0 < w.tail_sampling.decision_wait → IsSound (rules_of w) → TakenBy e i.spans → AllCame w e xs i D es
+all_came : (w : SectionData) (e : ℕ) (xs : List Arrival) (i : IntakeData) (D : SenderData) (es : List EndedData) → 0 < w.tail_sampling.num_traces → 0 < w.tail_sampling.decision_wait → AreValidRules (rules_of w) → TakenBy e i.spans → AllCame w e xs i D es
 all_came w e [] i D es pos wait sound by = ([], sym (append-nil (formed w e None i.spans)), refl)
 all_came w e (x ∷ xs) i D es pos wait sound by = by_room (ltb (held w e None i.spans) w.max_spans) come_is (λ i' D' es' by'. all_came w e xs i' D' es' pos wait sound by')
   where
@@ -107,7 +107,7 @@ unfolding ledger_at
 left_out_is w i e o D es n m = refl
 
 -- whatever becomes of the post
-posted_is : (w : SectionData) (i : IntakeData) (d e : ℕ) (D : SenderData) (es : List EndedData) (xs : List Arrival) (new : List BatchData) (v : Verdict) → 0 < w.tail_sampling.num_traces → IsSound (rules_of w) → d ≤ e → TakenBy d i.spans →
+posted_is : (w : SectionData) (i : IntakeData) (d e : ℕ) (D : SenderData) (es : List EndedData) (xs : List Arrival) (new : List BatchData) (v : Verdict) → 0 < w.tail_sampling.num_traces → AreValidRules (rules_of w) → d ≤ e → TakenBy d i.spans →
     AllCame w e (valid xs) i (all_offered (between w d e i.spans) D) (map met_full_queue (overflow (between w d e i.spans) D) ++ es) →
     new ≡ drop (length (formed w d None i.spans)) (formed w e None (intake_by w e xs i v).spans) →
     state_with w (intake_by w e xs i v) e None (all_offered new D) (map met_full_queue (overflow new D) ++ es)
@@ -135,7 +135,7 @@ posted_is w i d e D es xs new (accepted n m) pos sound le by all is =
     ∙ ap (λ (s : State). record s { ledger = left_out n m s.ledger }) all.2))
 
 -- before a drain or after it
-post_by : (w : SectionData) (i : IntakeData) (d e : ℕ) (o : Option ℕ) (D : SenderData) (es : List EndedData) (xs : List Arrival) (new : List BatchData) → 0 < w.tail_sampling.num_traces → 0 < w.tail_sampling.decision_wait → IsSound (rules_of w) → d ≤ e → TakenBy d i.spans → DrainedBy o d i.spans →
+post_by : (w : SectionData) (i : IntakeData) (d e : ℕ) (o : Option ℕ) (D : SenderData) (es : List EndedData) (xs : List Arrival) (new : List BatchData) → 0 < w.tail_sampling.num_traces → 0 < w.tail_sampling.decision_wait → AreValidRules (rules_of w) → d ≤ e → TakenBy d i.spans → DrainedBy o d i.spans →
     new ≡ drop (length (formed w d o i.spans)) (formed w e o (intake_by w e xs i (verdict w (is_some o) e xs i)).spans) →
     state_with w (intake_by w e xs i (verdict w (is_some o) e xs i)) e o (all_offered new D) (map met_full_queue (overflow new D) ++ es) ≡ post e xs (advanced e (state_with w i d o D es))
 post_by w i d e (Some x) D es xs new pos wait sound le by drain is =
@@ -151,7 +151,7 @@ post_by w i d e None D es xs new pos wait sound le by drain is =
     posted_is w i d e D es xs new (verdict w false e xs i) pos sound le by all is
     ∙ (ap (λ (v : Verdict). posted v s (all_come e (valid xs) s)) (sym (verdict_is w i e offered es1 xs all)) ∙ ap (post e xs) (elapsed w i d e D es pos sound le by))
 
-told_by : (w : SectionData) (i : IntakeData) (d e : ℕ) (o : Option ℕ) (D : SenderData) (es : List EndedData) (xs : List Arrival) → 0 < w.tail_sampling.num_traces → 0 < w.tail_sampling.decision_wait → IsSound (rules_of w) → d ≤ e → TakenBy d i.spans → DrainedBy o d i.spans →
+told_by : (w : SectionData) (i : IntakeData) (d e : ℕ) (o : Option ℕ) (D : SenderData) (es : List EndedData) (xs : List Arrival) → 0 < w.tail_sampling.num_traces → 0 < w.tail_sampling.decision_wait → AreValidRules (rules_of w) → d ≤ e → TakenBy d i.spans → DrainedBy o d i.spans →
     verdict w (is_some o) e xs i ≡ post_verdict e xs (advanced e (state_with w i d o D es))
 told_by w i d e (Some x) D es xs pos wait sound le by drain = ap (post_verdict e xs) (stays w i x d e D es sound drain.0 le drain.1)
 told_by w i d e None D es xs pos wait sound le by drain =
@@ -161,13 +161,13 @@ told_by w i d e None D es xs pos wait sound le by drain =
     let all = all_came w e (valid xs) i offered es1 pos wait sound (TakenBy_more d e i.spans le by) in
     sym (verdict_is w i e offered es1 xs all) ∙ ap (post_verdict e xs) (elapsed w i d e D es pos sound le by)
 
-pub post_goes_on : (w : SectionData) (past : List Own) (now : ℕ) (xs : List Arrival) → 0 < w.tail_sampling.num_traces → 0 < w.tail_sampling.decision_wait → IsSound (rules_of w) → state w (Post now xs ∷ past) ≡ next (Post now xs) (state w past)
+pub post_goes_on : (w : SectionData) (past : List Own) (now : ℕ) (xs : List Arrival) → 0 < w.tail_sampling.num_traces → 0 < w.tail_sampling.decision_wait → AreValidRules (rules_of w) → state w (Post now xs ∷ past) ≡ next (Post now xs) (state w past)
 unfolding state next sender ended
 post_goes_on w past now xs pos wait sound =
     post_by w (intake w past) (clock past) (clock (Post now xs ∷ past)) (drained past) (sender w past) (ended w past) xs (newly_formed w (Post now xs) past) pos wait sound (omega arith) (TakenBy-intake w past) (DrainedBy-intake w past) refl
 
-pub post_told : (w : SectionData) (past : List Own) (now : ℕ) (xs : List Arrival) → 0 < w.tail_sampling.num_traces → 0 < w.tail_sampling.decision_wait → IsSound (rules_of w) → answer w past (Post now xs) ≡ told (Post now xs) (state w past)
+pub post_told : (w : SectionData) (past : List Own) (now : ℕ) (xs : List Arrival) → 0 < w.tail_sampling.num_traces → 0 < w.tail_sampling.decision_wait → AreValidRules (rules_of w) → answer w past (Post now xs) ≡ told (Post now xs) (state w past)
 unfolding state answer told
 post_told w past now xs pos wait sound =
-    ap (λ (v : Verdict). tell.Reply (reply_of v))
+    ap (λ (v : Verdict). replies.Reply (reply_of v))
     (told_by w (intake w past) (clock past) (clock (Post now xs ∷ past)) (drained past) (sender w past) (ended w past) xs pos wait sound (omega arith) (TakenBy-intake w past) (DrainedBy-intake w past))

@@ -3,11 +3,11 @@ use Rattle.std.proofs.Common.{◌≡◌, ℕ, ◌≤◌, List, [], ◌∷◌, �
 use Rattle.std.specs.Prelude.{is_some, unwrap_or}
 use Rattle.std.proofs.Math.Seq.{drop-append_seam}
 use Rattle.tail_settings.specs.Section.{SectionData}
-use Rattle.span_batcher.specs.Batches.{IsSound}
+use Rattle.span_batcher.specs.Batches.{AreValidRules}
 use Rattle.span_batcher.specs.Timers.{is_due}
 use Rattle.tenant_rules.specs.Arrivals.{Arrival}
 use Rattle.tenant_rules.specs.Own.{Own, Post, Report, Drain, clock, drained}
-use Rattle.tenant_rules.specs.Seating.{opened, seated}
+use Rattle.tenant_rules.specs.Placement.{opened, spans_in_rows}
 use Rattle.tenant_rules.specs.Sender.{BatchData, SenderData}
 use Rattle.tenant_rules.specs.Batching.{rules_of, formed, waiting_rows}
 use Rattle.tenant_rules.specs.Intake.{IntakeData, verdict, intake_by, intake}
@@ -23,13 +23,13 @@ use Rattle.tenant_rules.proofs.Stays.{waits_none, formed_stay, pending_none, sta
 use Rattle.tenant_rules.proofs.Intakes.{DrainedBy, DrainedBy-intake}
 
 -- time changes the clock alone
-rests : (w : SectionData) (i : IntakeData) (x d e : ℕ) (D : SenderData) (es : List EndedData) → IsSound (rules_of w) → d ≤ e → DrainedBy (Some x) d i.spans →
+rests : (w : SectionData) (i : IntakeData) (x d e : ℕ) (D : SenderData) (es : List EndedData) → AreValidRules (rules_of w) → d ≤ e → DrainedBy (Some x) d i.spans →
     state_with w i e (Some x) D es ≡ set_to e (state_with w i d (Some x) D es)
 rests w i x d e D es sound le by =
     let A = i.spans in
     let R = opened w A in
     let s = state_with w i d (Some x) D es in
-    let none : next_timer s ≡ None = ap (λ (o : Option ℕ). lesser o (first_due (waiting_rows w d (Some x) A))) (pending_none w x d A sound by.1 by.0) ∙ ap first_due (waits_none w x d (length R) (seated w A) R by.0) in
+    let none : next_timer s ≡ None = ap (λ (o : Option ℕ). lesser o (first_due (waiting_rows w d (Some x) A))) (pending_none w x d A sound by.1 by.0) ∙ ap first_due (waits_none w x d (length R) (spans_in_rows w A) R by.0) in
     let idle : is_due (next_timer s) e ≡ false = ap (λ (o : Option ℕ). is_due o e) none in
     stays w i x d e D es sound by.0 le by.1 ∙ ap (set_to e) (ran_none (enough s) e s idle)
 
@@ -46,7 +46,7 @@ none_form w i x d e new le by is =
     is ∙ (ap (drop (length F)) same ∙ drop-append_seam F [])
 
 -- a step with the same drain, before which time went on
-rests_with : (w : SectionData) (i : IntakeData) (x d e : ℕ) (o o' : Option ℕ) (D : SenderData) (es : List EndedData) (new : List BatchData) → IsSound (rules_of w) → d ≤ e → o ≡ Some x → o' ≡ o → DrainedBy o d i.spans →
+rests_with : (w : SectionData) (i : IntakeData) (x d e : ℕ) (o o' : Option ℕ) (D : SenderData) (es : List EndedData) (new : List BatchData) → AreValidRules (rules_of w) → d ≤ e → o ≡ Some x → o' ≡ o → DrainedBy o d i.spans →
     new ≡ drop (length (formed w d o i.spans)) (formed w e o' i.spans) → offered_with w i e o' D es new ≡ set_to e (state_with w i d o D es)
 rests_with w i x d e None o' D es new sound le is same by formed_is = absurd (cc)
 rests_with w i x d e (Some y) o' D es new sound le is same by formed_is =
@@ -64,19 +64,19 @@ refused : (w : SectionData) (x e : ℕ) (arrivals : List Arrival) (i : IntakeDat
 refused w x e arrivals i None is = absurd (cc)
 refused w x e arrivals i (Some y) is = refl
 
-report_rests : (w : SectionData) (past : List Own) (x now : ℕ) → IsSound (rules_of w) → drained past ≡ Some x → ChangesClockAlone w past (Report now)
+report_rests : (w : SectionData) (past : List Own) (x now : ℕ) → AreValidRules (rules_of w) → drained past ≡ Some x → ChangesClockAlone w past (Report now)
 unfolding state sender ended
 report_rests w past x now sound is =
     let step = Report now in
     rests_with w (intake w past) x (clock past) (clock (step ∷ past)) (drained past) (drained past) (sender w past) (ended w past) (newly_formed w step past) sound (omega arith) is refl (DrainedBy-intake w past) refl
 
-drain_rests : (w : SectionData) (past : List Own) (x now : ℕ) → IsSound (rules_of w) → drained past ≡ Some x → ChangesClockAlone w past (Drain now)
+drain_rests : (w : SectionData) (past : List Own) (x now : ℕ) → AreValidRules (rules_of w) → drained past ≡ Some x → ChangesClockAlone w past (Drain now)
 unfolding state sender ended
 drain_rests w past x now sound is =
     let step = Drain now in
     rests_with w (intake w past) x (clock past) (clock (step ∷ past)) (drained past) (drained (step ∷ past)) (sender w past) (ended w past) (newly_formed w step past) sound (omega arith) is (unwrapped x (clock (step ∷ past)) (drained past) is) (DrainedBy-intake w past) refl
 
-post_rests : (w : SectionData) (past : List Own) (x now : ℕ) (arrivals : List Arrival) → IsSound (rules_of w) → drained past ≡ Some x → ChangesClockAlone w past (Post now arrivals)
+post_rests : (w : SectionData) (past : List Own) (x now : ℕ) (arrivals : List Arrival) → AreValidRules (rules_of w) → drained past ≡ Some x → ChangesClockAlone w past (Post now arrivals)
 unfolding state sender ended
 post_rests w past x now arrivals sound is =
     let e = clock (Post now arrivals ∷ past) in

@@ -5,20 +5,20 @@ use Rattle.std.specs.Prelude.{if◌then◌else◌}
 use Rattle.std.proofs.lemmas.Bool.Decides.{nat_tests}
 use Rattle.std.proofs.lemmas.List.{drop-append-le}
 use Rattle.tail_settings.specs.Section.{SectionData}
-use Rattle.tenant_rules.specs.Rows.{Opened, Seated}
+use Rattle.tenant_rules.specs.Rows.{Opened, SpanInRow}
 use Rattle.tenant_rules.specs.Fate.{due_of, on_time, is_sampled, is_over, SettledData, WaitingData, settled, waiting}
 use Rattle.tenant_rules.proofs.Times.{OpenedBy, waiting_none}
 use Rattle.tenant_rules.proofs.Lookups.{rows_none}
 
 -- where all rows are still there none leaves
-pub room_left : (w : SectionData) (e n : ℕ) (N : List Seated) (R : List Opened) → n < w.tail_sampling.num_traces → (settled w e None N (n + 1) R ≡ settled w e None N n R) × (waiting w e None N (n + 1) R ≡ waiting w e None N n R)
+pub room_left : (w : SectionData) (e n : ℕ) (N : List SpanInRow) (R : List Opened) → n < w.tail_sampling.num_traces → (settled w e None N (n + 1) R ≡ settled w e None N n R) × (waiting w e None N (n + 1) R ≡ waiting w e None N n R)
 room_left w e n N [] lt = (refl, refl)
 room_left w e n N (r ∷ R) lt =
     let rest = room_left w e n N R lt in
     let s = rest.0 in let t = rest.1 in
     (grind (arith, nat_tests, s, lt), grind (arith, nat_tests, t, lt))
 
-rows_some : (w : SectionData) (e n : ℕ) (N : List Seated) (R : List Opened) → n < length R + w.tail_sampling.num_traces → 0 < length R → 1 ≤ length (settled w e None N n R) + length (waiting w e None N n R)
+rows_some : (w : SectionData) (e n : ℕ) (N : List SpanInRow) (R : List Opened) → n < length R + w.tail_sampling.num_traces → 0 < length R → 1 ≤ length (settled w e None N n R) + length (waiting w e None N n R)
 rows_some w e n N [] lt pos = omega (arith, pos)
 rows_some w e n N (r ∷ R) lt pos =
     let test : ltb n (length R + 1 + w.tail_sampling.num_traces) ≡ true = grind (arith, nat_tests, lt) in
@@ -38,7 +38,7 @@ room_step [] S' z W W' z' e e' some none =
     (rw is (ap (λ (l : List SettledData). l ++ []) e), rw is (ap (λ (l : List WaitingData). l ++ z') e' ∙ sym d))
 
 -- the first present row leaves
-pub room_made : (w : SectionData) (e m n : ℕ) (N : List Seated) (R : List Opened) → w.tail_sampling.num_traces ≤ n → length R ≤ n → OpenedBy m R →
+pub room_made : (w : SectionData) (e m n : ℕ) (N : List SpanInRow) (R : List Opened) → w.tail_sampling.num_traces ≤ n → length R ≤ n → OpenedBy m R →
     (settled w e None N (n + 1) R ≡ drop 1 (settled w e None N n R)) × (waiting w e None N (n + 1) R ≡ rest_of (settled w e None N n R) (waiting w e None N n R))
 room_made w e m n N [] le few by = (refl, refl)
 room_made w e m n N (r ∷ R) le few by = by_test (leb (length R + w.tail_sampling.num_traces) n) refl (room_made w e r.moment n N R le (omega (arith, few)) by.1)

@@ -13,7 +13,7 @@ use Rattle.send_retry.specs.Class.{AnswerData, class_of}
 use Rattle.send_retry.specs.Delay.{StateData, NextData, Delay, GiveUp, next_delay}
 use Rattle.send_queue.specs.declared.active.Retry.{Retry}
 use Rattle.send_queue.specs.declared.settled.Settled.TheVariants as settleds
-use Rattle.span_batcher.specs.Batches.{IsSound}
+use Rattle.span_batcher.specs.Batches.{AreValidRules}
 use Rattle.tenant_rules.specs.Own.{Own, Turn, Answer, Report, clock, drained}
 use Rattle.tenant_rules.specs.Rows.{Taken}
 use Rattle.tenant_rules.specs.Sender.{BatchData, ActiveData, SenderData, sizes, active_sizes, first_retry, due_by, has_consumer, has_tickets, under, retried, oldest, Choice, Retried, Oldest, NoBatch, choice_by, choice, without, replaced, sent_again, sent_first, handed_of, asked, FateData, Leaves, Stays, fate_next, fate_by, fate, settled_by, flying, in_flight, left_by, answered_by, answered}
@@ -21,7 +21,7 @@ use Rattle.tenant_rules.specs.Batching.{rules_of, formed}
 use Rattle.tenant_rules.specs.Intake.{IntakeData, intake}
 use Rattle.tenant_rules.specs.Sending.{EndedData, formed_by, newly_formed, all_offered, overflow, sender, met_full_queue, ended_in_flight, ended_by, ended}
 use Rattle.tenant_rules.specs.State.{State, ended_places, ledger_at, state}
-use Rattle.tenant_rules.specs.declared.told.Told.TheVariants as tell
+use Rattle.tenant_rules.specs.declared.reply.StepReply.TheVariants as replies
 use Rattle.drop_ledger.specs.Report.{report_text}
 use Rattle.tenant_rules.specs.Answers.{answer, turn_told, heard}
 use Rattle.tenant_rules.specs.Timers.{advanced}
@@ -39,16 +39,16 @@ abbrev pub meantime : SectionData → ℕ → ℕ → Option ℕ → List Taken 
 meantime w d e None A = between w d e A
 meantime w d e (Some x) A = []
 
-formed_meantime : (w : SectionData) (d e : ℕ) (o : Option ℕ) (A : List Taken) → 0 < w.tail_sampling.num_traces → IsSound (rules_of w) → d ≤ e → TakenBy d A → DrainedBy o d A →
+formed_meantime : (w : SectionData) (d e : ℕ) (o : Option ℕ) (A : List Taken) → 0 < w.tail_sampling.num_traces → AreValidRules (rules_of w) → d ≤ e → TakenBy d A → DrainedBy o d A →
     formed w e o A ≡ formed w d o A ++ meantime w d e o A
 formed_meantime w d e None A pos sound le by drain = formed_later w d e A pos sound le by
 formed_meantime w d e (Some x) A pos sound le by drain = formed_stay w x d e A drain.0 (omega (arith, le, drain.0)) ∙ sym (append-nil (formed w d (Some x) A))
 
-pub newly_is : (w : SectionData) (d e : ℕ) (o : Option ℕ) (A : List Taken) → 0 < w.tail_sampling.num_traces → IsSound (rules_of w) → d ≤ e → TakenBy d A → DrainedBy o d A →
+pub newly_is : (w : SectionData) (d e : ℕ) (o : Option ℕ) (A : List Taken) → 0 < w.tail_sampling.num_traces → AreValidRules (rules_of w) → d ≤ e → TakenBy d A → DrainedBy o d A →
     drop (length (formed w d o A)) (formed w e o A) ≡ meantime w d e o A
 newly_is w d e o A pos sound le by drain = ap (drop (length (formed w d o A))) (formed_meantime w d e o A pos sound le by drain) ∙ drop-append_seam (formed w d o A) (meantime w d e o A)
 
-reached : (w : SectionData) (i : IntakeData) (d e : ℕ) (o : Option ℕ) (D : SenderData) (es : List EndedData) → 0 < w.tail_sampling.num_traces → IsSound (rules_of w) → d ≤ e → TakenBy d i.spans → DrainedBy o d i.spans →
+reached : (w : SectionData) (i : IntakeData) (d e : ℕ) (o : Option ℕ) (D : SenderData) (es : List EndedData) → 0 < w.tail_sampling.num_traces → AreValidRules (rules_of w) → d ≤ e → TakenBy d i.spans → DrainedBy o d i.spans →
     state_with w i e o (all_offered (meantime w d e o i.spans) D) (map met_full_queue (overflow (meantime w d e o i.spans) D) ++ es) ≡ advanced e (state_with w i d o D es)
 reached w i d e None D es pos sound le by drain = elapsed w i d e D es pos sound le by
 reached w i d e (Some x) D es pos sound le by drain = stays w i x d e D es sound drain.0 le drain.1
@@ -58,7 +58,7 @@ unfolding state
 state_is w past = refl
 
 -- the batches that a step's timers make have been offered
-pub at_step : (w : SectionData) (past : List Own) (e : ℕ) (new : List BatchData) → 0 < w.tail_sampling.num_traces → IsSound (rules_of w) → clock past ≤ e →
+pub at_step : (w : SectionData) (past : List Own) (e : ℕ) (new : List BatchData) → 0 < w.tail_sampling.num_traces → AreValidRules (rules_of w) → clock past ≤ e →
     new ≡ drop (length (formed_by w past)) (formed w e (drained past) (intake w past).spans) →
     state_with w (intake w past) e (drained past) (all_offered new (sender w past)) (map met_full_queue (overflow new (sender w past)) ++ ended w past) ≡ advanced e (state w past)
 at_step w past e new pos sound le is =
@@ -269,11 +269,11 @@ answered_is w i e o D es ticket word given = answered_with w i e o D es ticket w
 
 -- ---- the steps
 
-pub report_goes_on : (w : SectionData) (past : List Own) (now : ℕ) → 0 < w.tail_sampling.num_traces → IsSound (rules_of w) → state w (Report now ∷ past) ≡ next (Report now) (state w past)
+pub report_goes_on : (w : SectionData) (past : List Own) (now : ℕ) → 0 < w.tail_sampling.num_traces → AreValidRules (rules_of w) → state w (Report now ∷ past) ≡ next (Report now) (state w past)
 unfolding state next sender ended
 report_goes_on w past now pos sound = at_step w past (clock (Report now ∷ past)) (newly_formed w (Report now) past) pos sound (omega arith) refl
 
-pub turn_goes_on : (w : SectionData) (past : List Own) (now : ℕ) → 0 < w.tail_sampling.num_traces → IsSound (rules_of w) → state w (Turn now ∷ past) ≡ next (Turn now) (state w past)
+pub turn_goes_on : (w : SectionData) (past : List Own) (now : ℕ) → 0 < w.tail_sampling.num_traces → AreValidRules (rules_of w) → state w (Turn now ∷ past) ≡ next (Turn now) (state w past)
 unfolding state next sender ended
 turn_goes_on w past now pos sound =
     let e = clock (Turn now ∷ past) in
@@ -281,7 +281,7 @@ turn_goes_on w past now pos sound =
     turned_is w (intake w past) e (drained past) (all_offered new (sender w past)) (map met_full_queue (overflow new (sender w past)) ++ ended w past)
     ∙ ap (turned e) (at_step w past e new pos sound (omega arith) refl)
 
-pub answer_goes_on : (w : SectionData) (past : List Own) (now ticket word : ℕ) (given : AnswerData) → 0 < w.tail_sampling.num_traces → IsSound (rules_of w) →
+pub answer_goes_on : (w : SectionData) (past : List Own) (now ticket word : ℕ) (given : AnswerData) → 0 < w.tail_sampling.num_traces → AreValidRules (rules_of w) →
     state w (Answer now ticket word given ∷ past) ≡ next (Answer now ticket word given) (state w past)
 unfolding state next sender ended
 answer_goes_on w past now ticket word given pos sound =
@@ -293,17 +293,17 @@ answer_goes_on w past now ticket word given pos sound =
 
 -- ---- what is told
 
-pub report_told : (w : SectionData) (past : List Own) (now : ℕ) → 0 < w.tail_sampling.num_traces → IsSound (rules_of w) → answer w past (Report now) ≡ told (Report now) (state w past)
+pub report_told : (w : SectionData) (past : List Own) (now : ℕ) → 0 < w.tail_sampling.num_traces → AreValidRules (rules_of w) → answer w past (Report now) ≡ told (Report now) (state w past)
 unfolding state answer told sender ended
-report_told w past now pos sound = ap (λ (s : State). tell.Report (report_text s.ledger)) (at_step w past (clock (Report now ∷ past)) (newly_formed w (Report now) past) pos sound (omega arith) refl)
+report_told w past now pos sound = ap (λ (s : State). replies.Report (report_text s.ledger)) (at_step w past (clock (Report now ∷ past)) (newly_formed w (Report now) past) pos sound (omega arith) refl)
 
-pub turn_told_is : (w : SectionData) (past : List Own) (now : ℕ) → 0 < w.tail_sampling.num_traces → IsSound (rules_of w) → answer w past (Turn now) ≡ told (Turn now) (state w past)
+pub turn_told_is : (w : SectionData) (past : List Own) (now : ℕ) → 0 < w.tail_sampling.num_traces → AreValidRules (rules_of w) → answer w past (Turn now) ≡ told (Turn now) (state w past)
 unfolding state answer told
 turn_told_is w past now pos sound =
     let e = clock (Turn now ∷ past) in
     ap (λ (s : State). turn_told e s.sender) (at_step w past e (newly_formed w (Turn now) past) pos sound (omega arith) refl)
 
-pub answer_told : (w : SectionData) (past : List Own) (now ticket word : ℕ) (given : AnswerData) → 0 < w.tail_sampling.num_traces → IsSound (rules_of w) →
+pub answer_told : (w : SectionData) (past : List Own) (now ticket word : ℕ) (given : AnswerData) → 0 < w.tail_sampling.num_traces → AreValidRules (rules_of w) →
     answer w past (Answer now ticket word given) ≡ told (Answer now ticket word given) (state w past)
 unfolding state answer told
 answer_told w past now ticket word given pos sound =

@@ -6,9 +6,9 @@ use Rattle.tail_settings.specs.Policy.{PolicyData}
 use Rattle.tail_settings.specs.Section.{SectionData}
 use Rattle.span_batcher.specs.Batches.{Group}
 use Rattle.tenant_rules.specs.Arrivals.{Arrival, trace_of}
-use Rattle.tenant_rules.specs.Rows.{Taken, Opened, Seated, is_present, present_seat, Seat}
+use Rattle.tenant_rules.specs.Rows.{Taken, Opened, SpanInRow, is_present, present_row, RowOpening}
 use Rattle.tenant_rules.specs.Fate.{most_of, on_time, are_sampled, opening_of, is_before, is_evicted, is_decided, SettledData, WaitingData, settled, waiting, dropped}
-use Rattle.tenant_rules.specs.Seating.{place_by, known, seating, opened}
+use Rattle.tenant_rules.specs.Placement.{place_by, known, placement, opened}
 use Rattle.tenant_rules.specs.Groups.{group_of, decided, cut_short}
 
 -- no span was taken after this moment, and moments don't fall
@@ -31,9 +31,9 @@ OpenedBy_more d e (r ∷ R) le by = (omega (arith, le, by.0), by.1)
 
 pub OpenedBy-opened : (w : SectionData) (e : ℕ) (A : List Taken) → TakenBy e A → OpenedBy e (opened w A)
 OpenedBy-opened w e [] by = tt
-OpenedBy-opened w e (x ∷ A) by = by_seat (present_seat (most_of w) (trace_of x.arrival) (opened w A)) (known w x.moment (trace_of x.arrival) (seating w A)) (OpenedBy-opened w x.moment A by.1)
+OpenedBy-opened w e (x ∷ A) by = by_seat (present_row (most_of w) (trace_of x.arrival) (opened w A)) (known w x.moment (trace_of x.arrival) (placement w A)) (OpenedBy-opened w x.moment A by.1)
   where
-    by_seat : (o : Option Seat) (h : Option Bool) → OpenedBy x.moment (opened w A) → OpenedBy e (place_by x (seating w A) o h).rows
+    by_seat : (o : Option RowOpening) (h : Option Bool) → OpenedBy x.moment (opened w A) → OpenedBy e (place_by x (placement w A) o h).rows
     by_seat None None rest = (by.0, rest)
     by_seat None (Some b) rest = OpenedBy_more x.moment e (opened w A) by.0 rest
     by_seat (Some s) h rest = OpenedBy_more x.moment e (opened w A) by.0 rest
@@ -73,7 +73,7 @@ lost-append p e [] ys = omega arith
 lost-append p e (x ∷ xs) ys = grind (arith, nat_tests, lost-append p e xs ys)
 
 -- rows that opened that early wait no more
-pub waiting_none : (w : SectionData) (d m n : ℕ) (N : List Seated) (R : List Opened) → m + w.tail_sampling.decision_wait ≤ d → OpenedBy m R → waiting w d None N n R ≡ []
+pub waiting_none : (w : SectionData) (d m n : ℕ) (N : List SpanInRow) (R : List Opened) → m + w.tail_sampling.decision_wait ≤ d → OpenedBy m R → waiting w d None N n R ≡ []
 waiting_none w d m n N [] le by = refl
 waiting_none w d m n N (r ∷ R) le by =
     let le' : r.moment ≤ m = by.0 in
@@ -81,11 +81,11 @@ waiting_none w d m n N (r ∷ R) le by =
     let rest = waiting_none w d r.moment n N R (omega (arith, le, le')) by.1 in
     grind (arith, nat_tests, due, rest)
 
-pub waiting_later : (w : SectionData) (d e n : ℕ) (N : List Seated) (R : List Opened) → d ≤ e → waiting w e None N n R ≡ later e (waiting w d None N n R)
+pub waiting_later : (w : SectionData) (d e n : ℕ) (N : List SpanInRow) (R : List Opened) → d ≤ e → waiting w e None N n R ≡ later e (waiting w d None N n R)
 waiting_later w d e n N [] le = refl
 waiting_later w d e n N (r ∷ R) le = grind (arith, nat_tests, waiting_later w d e n N R le, later-append, append-nil)
 
-pub settled_later : (w : SectionData) (d e m n : ℕ) (N : List Seated) (R : List Opened) → d ≤ e → OpenedBy m R → settled w e None N n R ≡ settled w d None N n R ++ done w.tail_sampling.policies e (waiting w d None N n R)
+pub settled_later : (w : SectionData) (d e m n : ℕ) (N : List SpanInRow) (R : List Opened) → d ≤ e → OpenedBy m R → settled w e None N n R ≡ settled w d None N n R ++ done w.tail_sampling.policies e (waiting w d None N n R)
 settled_later w d e m n N [] le by = refl
 settled_later w d e m n N (r ∷ R) le by =
     let none : r.moment + w.tail_sampling.decision_wait ≤ d → waiting w d None N n R ≡ [] = λ due. waiting_none w d r.moment n N R due by.1 in
@@ -99,7 +99,7 @@ evicted_late d due j (r ∷ all) by lt pos =
     let rest = evicted_late r.moment due j all by.1 (omega (arith, by.0)) pos in
     grind (arith, nat_tests, rest)
 
-pub decided_later : (w : SectionData) (d e m : ℕ) (N : List Seated) (all R : List Opened) → 0 < w.tail_sampling.num_traces → d ≤ e → OpenedBy d all → OpenedBy m R →
+pub decided_later : (w : SectionData) (d e m : ℕ) (N : List SpanInRow) (all R : List Opened) → 0 < w.tail_sampling.num_traces → d ≤ e → OpenedBy d all → OpenedBy m R →
     decided w e None N all R ≡ decided w d None N all R ++ fired w.tail_sampling.policies e (waiting w d None N (length all) R)
 decided_later w d e m N all [] pos le by by' = refl
 decided_later w d e m N all (r ∷ R) pos le by by' =
@@ -107,7 +107,7 @@ decided_later w d e m N all (r ∷ R) pos le by by' =
     let out : d < r.moment + w.tail_sampling.decision_wait → is_evicted w (length R + 1) (r.moment + w.tail_sampling.decision_wait) all ≡ leb (length R + 1 + w.tail_sampling.num_traces) (length all) = λ lt. evicted_late d (r.moment + w.tail_sampling.decision_wait) (length R + 1 + w.tail_sampling.num_traces) all by lt (omega arith) in
     grind (arith, nat_tests, decided_later w d e r.moment N all R pos le by by'.1, none, out, fired-append, append_assoc, append-nil)
 
-pub dropped_later : (w : SectionData) (d e m : ℕ) (N : List Seated) (all R : List Opened) → 0 < w.tail_sampling.num_traces → d ≤ e → OpenedBy d all → OpenedBy m R →
+pub dropped_later : (w : SectionData) (d e m : ℕ) (N : List SpanInRow) (all R : List Opened) → 0 < w.tail_sampling.num_traces → d ≤ e → OpenedBy d all → OpenedBy m R →
     dropped w e None N all R ≡ dropped w d None N all R + lost w.tail_sampling.policies e (waiting w d None N (length all) R)
 dropped_later w d e m N all [] pos le by by' = omega arith
 dropped_later w d e m N all (r ∷ R) pos le by by' =
@@ -116,7 +116,7 @@ dropped_later w d e m N all (r ∷ R) pos le by by' =
     grind (arith, nat_tests, dropped_later w d e r.moment N all R pos le by by'.1, none, out, lost-append)
 
 -- without a drain no row is cut short
-pub cut_none : (w : SectionData) (e : ℕ) (N : List Seated) (all R : List Opened) → cut_short w e None N all R ≡ []
+pub cut_none : (w : SectionData) (e : ℕ) (N : List SpanInRow) (all R : List Opened) → cut_short w e None N all R ≡ []
 cut_none w e N all [] = refl
 cut_none w e N all (r ∷ R) = by_test (is_decided w e None all r (length R + 1)) (cut_none w e N all R)
   where
@@ -153,7 +153,7 @@ DueBy_if : (n : ℕ) (r : WaitingData) (b : Bool) → r.due ≤ n → DueBy n (c
 DueBy_if n r true le = (le, tt)
 DueBy_if n r false le = tt
 
-pub DueBy-waiting : (w : SectionData) (d m n : ℕ) (N : List Seated) (R : List Opened) → OpenedBy m R → DueBy (m + w.tail_sampling.decision_wait) (waiting w d None N n R)
+pub DueBy-waiting : (w : SectionData) (d m n : ℕ) (N : List SpanInRow) (R : List Opened) → OpenedBy m R → DueBy (m + w.tail_sampling.decision_wait) (waiting w d None N n R)
 DueBy-waiting w d m n N [] by = tt
 DueBy-waiting w d m n N (r ∷ R) by =
     let le : r.moment + w.tail_sampling.decision_wait ≤ m + w.tail_sampling.decision_wait = omega (arith, by.0) in
@@ -162,7 +162,7 @@ DueBy-waiting w d m n N (r ∷ R) by =
     (DueBy_if (m + w.tail_sampling.decision_wait) (record { trace = r.trace; due = r.moment + w.tail_sampling.decision_wait; spans = on_time w (length R + 1) N }) _ le)
 
 -- rows that wait are due after the moment reached, in order
-pub Ascends-waiting : (w : SectionData) (d m n : ℕ) (N : List Seated) (R : List Opened) → OpenedBy m R → Ascends (d + 1) (waiting w d None N n R)
+pub Ascends-waiting : (w : SectionData) (d m n : ℕ) (N : List SpanInRow) (R : List Opened) → OpenedBy m R → Ascends (d + 1) (waiting w d None N n R)
 Ascends-waiting w d m n N [] by = tt
 Ascends-waiting w d m n N (r ∷ R) by = by_tests (is_present (most_of w) n (length R + 1)) (leb (r.moment + w.tail_sampling.decision_wait) d) refl (Ascends-waiting w d r.moment n N R by.1)
   where

@@ -5,7 +5,7 @@ use Rattle.std.proofs.lemmas.Bool.Decides.{nat_tests}
 use Rattle.tail_settings.specs.Section.{SectionData}
 use Rattle.send_queue.specs.declared.active.Retry.{Retry}
 use Rattle.send_queue.specs.Sender.{comes_before, sooner, sooner_of}
-use Rattle.span_batcher.specs.Batches.{IsSound}
+use Rattle.span_batcher.specs.Batches.{AreValidRules}
 use Rattle.span_batcher.specs.State.{next_due}
 use Rattle.span_batcher.specs.Timers.{is_due}
 use Rattle.tenant_rules.specs.Own.{Own, Turn, clock}
@@ -13,7 +13,7 @@ use Rattle.tenant_rules.specs.Fate.{WaitingData}
 use Rattle.tenant_rules.specs.Sender.{BatchData, ActiveData, SenderData, has_tickets, has_consumer, first_retry, due_by, under, retried, oldest, Choice, NoBatch, choice_by, choice}
 use Rattle.tenant_rules.specs.Batching.{rules_of}
 use Rattle.tenant_rules.specs.State.{State, state}
-use Rattle.tenant_rules.specs.declared.told.Told.TheVariants as tell
+use Rattle.tenant_rules.specs.declared.reply.StepReply.TheVariants as replies
 use Rattle.tenant_rules.specs.Answers.{job_of, turn_told}
 use Rattle.tenant_rules.specs.Ready.{lesser, next_decision}
 use Rattle.tenant_rules.specs.Timers.{first_due, next_timer, enough, advanced}
@@ -149,7 +149,7 @@ no_job s e none formed = by_tickets (has_tickets s.sender) refl
 
 -- a batch is handed out
 abbrev HandsOut : ℕ → SenderData → Type 0
-HandsOut e d = (ticket : ℕ) × (payload : List ℕ) × (turn_told e d ≡ tell.Job ticket payload)
+HandsOut e d = (ticket : ℕ) × (payload : List ℕ) × (turn_told e d ≡ replies.Job ticket payload)
 
 -- some batch is under this ticket
 abbrev IsUnder : ℕ → List ActiveData → Type 0
@@ -203,7 +203,7 @@ hands_retry : (e : ℕ) (d : SenderData) (r : Retry) → has_tickets d ≡ true 
 hands_retry e d r tickets is =
     let found = due_under e d.active r is in
     let chosen : choice e d ≡ choice_by (due_by e (first_retry d.active)) d = rw tickets refl in
-    let turn : turn_told e d ≡ tell.Job (d.handed_out + 1) found.0.batch.payload =
+    let turn : turn_told e d ≡ replies.Job (d.handed_out + 1) found.0.batch.payload =
     ap (job_of d.handed_out) (chosen ∙ (ap (λ (o : Option Retry). choice_by o d) is ∙ ap retried found.1)) in
     (d.handed_out + 1, found.0.batch.payload, turn)
 
@@ -211,7 +211,7 @@ hands_oldest : (e : ℕ) (d : SenderData) (b : BatchData) (rest : List BatchData
 hands_oldest e d b rest tickets none free is =
     let chosen : choice e d ≡ choice_by (due_by e (first_retry d.active)) d = rw tickets refl in
     let open_to : choice_by None d ≡ oldest d.queue = rw free refl in
-    let turn : turn_told e d ≡ tell.Job (d.handed_out + 1) b.payload =
+    let turn : turn_told e d ≡ replies.Job (d.handed_out + 1) b.payload =
     ap (job_of d.handed_out) (chosen ∙ (ap (λ (o : Option Retry). choice_by o d) none ∙ (open_to ∙ ap oldest is))) in
     (d.handed_out + 1, b.payload, turn)
 
@@ -271,11 +271,11 @@ idle_turn : (s : State) (e : ℕ) → is_due (next_timer s) e ≡ false → choi
 idle_turn s e idle none =
     ap (turned e) (time_alone s e idle) ∙ ap (λ (c : Choice). turned_by e c (set_to e s)) none
 
-idle_told : (s : State) (e : ℕ) → is_due (next_timer s) e ≡ false → choice e s.sender ≡ NoBatch → turn_told e (advanced e s).sender ≡ tell.Worked
+idle_told : (s : State) (e : ℕ) → is_due (next_timer s) e ≡ false → choice e s.sender ≡ NoBatch → turn_told e (advanced e s).sender ≡ replies.Worked
 idle_told s e idle none =
     ap (λ (t : State). turn_told e t.sender) (time_alone s e idle) ∙ ap (job_of s.sender.handed_out) none
 
-idle : (w : SectionData) (past : List Own) (now : ℕ) → 0 < w.tail_sampling.num_traces → IsSound (rules_of w) → FormedBy (clock past) (state w past).sender.queue → Nothing (state w past) (clock (Turn now ∷ past)) → IsIdle w past now
+idle : (w : SectionData) (past : List Own) (now : ℕ) → 0 < w.tail_sampling.num_traces → AreValidRules (rules_of w) → FormedBy (clock past) (state w past).sender.queue → Nothing (state w past) (clock (Turn now ∷ past)) → IsIdle w past now
 unfolding state next told
 idle w past now some sound formed none =
     let e = clock (Turn now ∷ past) in
@@ -287,7 +287,7 @@ idle w past now some sound formed none =
       told_is = turn_told_is w past now some sound ∙ idle_told s e timer job;
     }
 
-busy : (w : SectionData) (past : List Own) (now m : ℕ) → 0 < w.tail_sampling.num_traces → IsSound (rules_of w) → IsDueAt (state w past) m → m ≤ clock (Turn now ∷ past) → IsBusy w past now
+busy : (w : SectionData) (past : List Own) (now m : ℕ) → 0 < w.tail_sampling.num_traces → AreValidRules (rules_of w) → IsDueAt (state w past) m → m ≤ clock (Turn now ∷ past) → IsBusy w past now
 unfolding state next told
 busy w past now m some sound due le = by_timer (is_due (next_timer (state w past)) (clock (Turn now ∷ past))) refl (timer_or_job (state w past) (clock (Turn now ∷ past)) m (rows_wait_in_order w past) due le)
   where

@@ -1,7 +1,7 @@
--- After a drain nothing but the clock changes at another drain, at a post and at a report.
+-- After a drain nothing but the clock changes at another drain, at a post and at a report. This project's own rule.
 use Rattle.std.specs.Prelude.{◌≡◌, ℕ, List, ◌∷◌, Some}
 use Rattle.tail_settings.specs.Section.{SectionData}
-use Rattle.span_batcher.specs.Batches.{IsSound}
+use Rattle.span_batcher.specs.Batches.{AreValidRules}
 use Rattle.tenant_rules.specs.Arrivals.{Arrival}
 use Rattle.tenant_rules.specs.Own.{Own, Post, Report, Drain, clock, drained}
 use Rattle.tenant_rules.specs.Batching.{rules_of}
@@ -20,5 +20,5 @@ pub record IsAtRest (section : SectionData) (past : List Own) (now : ℕ) : Type
 
 -- where the batch settings are in their ranges
 abbrev pub DrainedRests : Type 0
-DrainedRests = (section : SectionData) → IsSound (rules_of section) → (past : List Own) (moment : ℕ) →
+DrainedRests = (section : SectionData) → AreValidRules (rules_of section) → (past : List Own) (moment : ℕ) →
     drained past ≡ Some moment → (now : ℕ) → IsAtRest section past now

@@ -6,7 +6,7 @@ use Rattle.span_batcher.specs.State as batcher
 use Rattle.tenant_rules.specs.Arrivals.{Arrival}
 use Rattle.tenant_rules.specs.Rows.{Taken}
 use Rattle.tenant_rules.specs.Fate.{WaitingData, waiting}
-use Rattle.tenant_rules.specs.Seating.{opened, seated}
+use Rattle.tenant_rules.specs.Placement.{opened, spans_in_rows}
 use Rattle.tenant_rules.specs.Groups.{groups}
 use Rattle.tenant_rules.specs.ExportText.{export_text}
 use Rattle.tenant_rules.specs.Sender.{BatchData}
@@ -45,7 +45,7 @@ spans_in (row ∷ rows) = length row.spans + spans_in rows
 -- the rows that wait at the moment
 abbrev pub waiting_rows : SectionData → ℕ → Option ℕ → List Taken → List WaitingData
 waiting_rows section reached drain spans =
-    waiting section reached drain (seated section spans) (length (opened section spans)) (opened section spans)
+    waiting section reached drain (spans_in_rows section spans) (length (opened section spans)) (opened section spans)
 
 -- the spans that are held: on time in rows that wait, or in groups and in no batch
 unfoldable pub held : SectionData → ℕ → Option ℕ → List Taken → ℕ

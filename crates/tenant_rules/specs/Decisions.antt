@@ -1,4 +1,5 @@
--- What rows give when their wait is over, in order: the groups of their spans, say.
+-- What rows give when their wait is over, in order: the groups of their spans, say (`decision_wait` of the Collector's
+-- tailsamplingprocessor).
 use Rattle.std.specs.Prelude.{ℕ, ◌+◌, Bool, not, List, [], ◌∷◌, ◌++◌, length, Option, if◌then◌else◌, ◌&&◌, nat_le}
 use Rattle.tail_settings.specs.Section.{SectionData}
 use Rattle.span_batcher.specs.Batches.{Group, is_by}

@@ -1,4 +1,4 @@
--- What a batch of spans that arrived is sent as.
+-- What a batch of spans that arrived is sent as (OTLP 1.x's trace.proto, as `span_batcher` has it).
 use Rattle.std.specs.Prelude.{ℕ, List, map}
 use Rattle.span_pool.specs.Stored.{SpanTexts}
 use Rattle.span_batcher.specs.ExportText as batches

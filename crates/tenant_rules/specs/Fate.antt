@@ -9,7 +9,7 @@ use Rattle.tail_settings.specs.Policy.{PolicyData}
 use Rattle.tail_settings.specs.Section.{SectionData}
 use Rattle.tail_policy.specs.Meaning.{keeps}
 use Rattle.tenant_rules.specs.Arrivals.{Arrival}
-use Rattle.tenant_rules.specs.Rows.{Opened, Seated, Placed, Sits, Hits, seats, is_present}
+use Rattle.tenant_rules.specs.Rows.{Opened, SpanInRow, SpanPlacement, InRow, CacheHit, in_rows, is_present}
 
 -- a tenant holds so many rows
 abbrev pub most_of : SectionData → ℕ
@@ -52,7 +52,7 @@ is_decided section reached drain all row number =
     is_over section reached drain row && not (is_evicted section number (due_of section row.moment) all)
 
 -- a row's spans that came before its wait was over, in order of arrival
-abbrev pub on_time : SectionData → ℕ → List Seated → List Arrival
+abbrev pub on_time : SectionData → ℕ → List SpanInRow → List Arrival
 on_time section row [] = []
 on_time section row (x ∷ before) =
     if x.row == row && nat_lt x.moment (due_of section x.opening) then on_time section row before ++ x.arrival ∷ []
@@ -64,7 +64,7 @@ are_sampled policies [] = false
 are_sampled policies (x ∷ xs) = keeps policies (map (λ a. a.facts) (x ∷ xs))
 
 -- whether the row of this number is sampled: what counts is its spans that came on time
-abbrev pub is_sampled : SectionData → ℕ → List Seated → Bool
+abbrev pub is_sampled : SectionData → ℕ → List SpanInRow → Bool
 is_sampled section row spans = are_sampled section.tail_sampling.policies (on_time section row spans)
 
 -- ---- the rows that are present, by number
@@ -81,7 +81,7 @@ pub record WaitingData : Type 0 where
   pub spans : List Arrival
 
 -- the present rows that are decided by the moment, n rows being opened in all
-abbrev pub settled : SectionData → ℕ → Option ℕ → List Seated → ℕ → List Opened → List SettledData
+abbrev pub settled : SectionData → ℕ → Option ℕ → List SpanInRow → ℕ → List Opened → List SettledData
 settled section reached drain spans n [] = []
 settled section reached drain spans n (row ∷ rows) =
     settled section reached drain spans n rows
@@ -89,7 +89,7 @@ settled section reached drain spans n (row ∷ rows) =
     then record { trace = row.trace; sampled = is_sampled section (length rows + 1) spans } ∷ [] else [])
 
 -- and those that aren't
-abbrev pub waiting : SectionData → ℕ → Option ℕ → List Seated → ℕ → List Opened → List WaitingData
+abbrev pub waiting : SectionData → ℕ → Option ℕ → List SpanInRow → ℕ → List Opened → List WaitingData
 waiting section reached drain spans n [] = []
 waiting section reached drain spans n (row ∷ rows) =
     waiting section reached drain spans n rows
@@ -103,23 +103,23 @@ waiting section reached drain spans n (row ∷ rows) =
 -- ---- where spans ended that leave in no group
 
 -- on-time spans of decided rows that are not sampled
-abbrev pub dropped : SectionData → ℕ → Option ℕ → List Seated → List Opened → List Opened → ℕ
+abbrev pub dropped : SectionData → ℕ → Option ℕ → List SpanInRow → List Opened → List Opened → ℕ
 dropped section reached drain spans all [] = 0
 dropped section reached drain spans all (row ∷ rows) =
     dropped section reached drain spans all rows
     + (if is_decided section reached drain all row (length rows + 1) && not (is_sampled section (length rows + 1) spans)
     then length (on_time section (length rows + 1) spans) else 0)
 
--- late spans of such rows, and spans without a seat of traces that weren't sampled
-abbrev pub late_dropped : SectionData → List Placed → ℕ
+-- late spans of such rows, and spans without a row of traces that weren't sampled
+abbrev pub late_dropped : SectionData → List SpanPlacement → ℕ
 late_dropped section [] = 0
-late_dropped section (Sits x ∷ before) =
+late_dropped section (InRow x ∷ before) =
     late_dropped section before
-    + (if nat_le (due_of section x.opening) x.moment && not (is_sampled section x.row (seats before)) then 1 else 0)
-late_dropped section (Hits h ∷ before) = late_dropped section before + (if h.sampled then 0 else 1)
+    + (if nat_le (due_of section x.opening) x.moment && not (is_sampled section x.row (in_rows before)) then 1 else 0)
+late_dropped section (CacheHit h ∷ before) = late_dropped section before + (if h.sampled then 0 else 1)
 
 -- spans of evicted rows
-abbrev pub too_early : SectionData → List Seated → List Opened → List Opened → ℕ
+abbrev pub too_early : SectionData → List SpanInRow → List Opened → List Opened → ℕ
 too_early section spans all [] = 0
 too_early section spans all (row ∷ rows) =
     too_early section spans all rows

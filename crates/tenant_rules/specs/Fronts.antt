@@ -1,6 +1,6 @@
 -- What some first timers of a state do, in terms of its lists: the first rows that wait are decided, each at its due
 -- moment, before which the batch timer runs out where it is due by then; and it may run out once more after the last
--- group came.
+-- group came. This project's own rule.
 use Rattle.std.specs.Prelude.{◌≡◌, ◌≤◌, ℕ, max, List, [], ◌∷◌, ◌++◌, take, drop, Option, Some, None, if◌then◌else◌}
 use Rattle.tail_settings.specs.Policy.{PolicyData}
 use Rattle.span_batcher.specs.Batches.{Group, Batch}

@@ -1,7 +1,7 @@
--- How timers stand after every past.
+-- How timers stand after every past. This project's own rule.
 use Rattle.std.specs.Prelude.{◌≡◌, false, List}
 use Rattle.tail_settings.specs.Section.{SectionData}
-use Rattle.span_batcher.specs.Batches.{IsSound}
+use Rattle.span_batcher.specs.Batches.{AreValidRules}
 use Rattle.span_batcher.specs.Timers.{is_due}
 use Rattle.tenant_rules.specs.Own.{Own, clock}
 use Rattle.tenant_rules.specs.Batching.{rules_of}
@@ -15,5 +15,5 @@ RowsWaitInOrder = (section : SectionData) (past : List Own) → AreInOrder 0 (st
 
 -- and no timer is due by the moment of the last step: all that were due have run
 abbrev pub NoneIsDue : Type 0
-NoneIsDue = (section : SectionData) → IsSound (rules_of section) → (past : List Own) →
+NoneIsDue = (section : SectionData) → AreValidRules (rules_of section) → (past : List Own) →
     is_due (next_timer (state section past)) (clock past) ≡ false

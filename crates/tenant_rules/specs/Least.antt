@@ -1,14 +1,14 @@
--- What `ready` is: the least moment at which something is due.
+-- What `ready` is: the least moment at which something is due. This project's own rule.
 use Rattle.std.specs.Prelude.{◌≡◌, ◌<◌, ◌≤◌, ◌⊎◌, ℕ, true, List, ◌∷◌, Contains, Option, Some, None}
 use Rattle.tail_settings.specs.Section.{SectionData}
-use Rattle.span_batcher.specs.Batches.{IsSound}
+use Rattle.span_batcher.specs.Batches.{AreValidRules}
 use Rattle.span_batcher.specs.State.{next_due}
 use Rattle.tenant_rules.specs.Fate.{WaitingData}
 use Rattle.tenant_rules.specs.Sender.{BatchData, ActiveData, has_tickets, has_consumer}
 use Rattle.tenant_rules.specs.Own.{Own, Turn, clock}
 use Rattle.tenant_rules.specs.Batching.{rules_of}
 use Rattle.tenant_rules.specs.State.{State, state}
-use Rattle.tenant_rules.specs.declared.told.Told.TheVariants as tell
+use Rattle.tenant_rules.specs.declared.reply.StepReply.TheVariants as replies
 use Rattle.tenant_rules.specs.Answers.{answer}
 use Rattle.tenant_rules.specs.Ready.{lesser, next_job, ready}
 use Rattle.span_batcher.specs.Timers.{is_due}
@@ -45,12 +45,12 @@ ReadyIsNext = (section : SectionData) (past : List Own) → ready (state section
 pub record IsIdle (section : SectionData) (past : List Own) (now : ℕ) : Type 0 where
   pub state_is : state section (Turn now ∷ past) ≡
       record (state section past) { clock = clock (Turn now ∷ past) }
-  pub told_is : answer section past (Turn now) ≡ tell.Worked
+  pub told_is : answer section past (Turn now) ≡ replies.Worked
 
 -- by a turn's moment a timer runs, or it hands out a batch
 abbrev pub IsBusy : SectionData → List Own → ℕ → Type 0
 IsBusy section past now = (is_due (next_timer (state section past)) (clock (Turn now ∷ past)) ≡ true)
-    ⊎ ((ticket : ℕ) × (payload : List ℕ) × (answer section past (Turn now) ≡ tell.Job ticket payload))
+    ⊎ ((ticket : ℕ) × (payload : List ℕ) × (answer section past (Turn now) ≡ replies.Job ticket payload))
 
 -- where the settings are in their ranges, a turn is idle before something is due, and busy from then on
 pub record TurnsTell (section : SectionData) (past : List Own) (now : ℕ) : Type 0 where
@@ -61,5 +61,5 @@ pub record TurnsTell (section : SectionData) (past : List Own) (now : ℕ) : Typ
 -- after every past
 abbrev pub DueTurnsAct : Type 0
 DueTurnsAct = (section : SectionData) → 0 < section.tail_sampling.num_traces →
-    0 < section.tail_sampling.decision_wait → IsSound (rules_of section) → (past : List Own) (now : ℕ) →
+    0 < section.tail_sampling.decision_wait → AreValidRules (rules_of section) → (past : List Own) (now : ℕ) →
     TurnsTell section past now

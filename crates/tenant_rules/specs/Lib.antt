@@ -4,7 +4,7 @@ pub mod Rows
 pub mod Fate
 pub mod Decisions
 pub mod Events
-pub mod Seating
+pub mod Placement
 pub mod Groups
 pub mod ExportText
 pub mod Sender

@@ -3,7 +3,7 @@
 -- exporterhelper).
 use Rattle.std.specs.Prelude.{◌≡◌, ◌<◌, ◌≤◌, ◌+◌, ℕ, true, false, min, List, length}
 use Rattle.tail_settings.specs.Section.{SectionData}
-use Rattle.span_batcher.specs.Batches.{IsSound}
+use Rattle.span_batcher.specs.Batches.{AreValidRules}
 use Rattle.tenant_rules.specs.Own.{Own}
 use Rattle.tenant_rules.specs.Events.{size_of}
 use Rattle.tenant_rules.specs.Batching.{rules_of}
@@ -36,5 +36,5 @@ FrontsStayWithin = (moment : ℕ) (old new : State) → IsFront moment old new �
 -- and so it is after every past, where the settings are in their ranges
 abbrev pub PastsStayWithin : Type 0
 PastsStayWithin = (section : SectionData) → 0 < section.tail_sampling.num_traces →
-    0 < section.tail_sampling.decision_wait → IsSound (rules_of section) → (past : List Own) →
+    0 < section.tail_sampling.decision_wait → AreValidRules (rules_of section) → (past : List Own) →
     IsWithinLimits (state section past)

@@ -1,4 +1,4 @@
--- How the state goes on: what the steps of the code do to its fields.
+-- How the state goes on: what the steps of the code do to its fields. This project's own rule.
 use Rattle.std.specs.Prelude.{ℕ, ◌+◌, Bool, true, false, max, List, [], ◌∷◌, ◌++◌, length, Option, Some, None, option_to_list, if◌then◌else◌, ◌||◌, nat_lt}
 use Rattle.span_pool.specs.Stored.{same_bytes}
 use Rattle.drop_ledger.specs.declared.places.Place.TheVariants.{Undecided, Queued, Active, NotSampled, TooEarly}
@@ -7,8 +7,8 @@ use Rattle.drop_ledger.specs.Ledger as ledger
 use Rattle.drop_ledger.specs.Report.{report_text}
 use Rattle.send_retry.specs.Class.{AnswerData}
 use Rattle.span_batcher.specs.Machine as batcher
-use Rattle.tenant_rules.specs.declared.told.Told.{Told}
-use Rattle.tenant_rules.specs.declared.told.Told.TheVariants as tell
+use Rattle.tenant_rules.specs.declared.reply.StepReply.{StepReply}
+use Rattle.tenant_rules.specs.declared.reply.StepReply.TheVariants as replies
 use Rattle.tenant_rules.specs.Arrivals.{Arrival, valid, trace_of}
 use Rattle.tenant_rules.specs.Own.{Own, Post, Turn, Answer, Report, Drain, moment_of}
 use Rattle.tenant_rules.specs.Fate.{SettledData, WaitingData}
@@ -196,13 +196,13 @@ unfoldable pub next : Own → State → State
 next step s = acts (effective step s) step (advanced (effective step s) s)
 
 -- what is told of a step when its due timers have run
-abbrev pub told_at : ℕ → Own → State → Told
-told_at moment (Post now arrivals) s = tell.Reply (reply_of (post_verdict moment arrivals s))
+abbrev pub told_at : ℕ → Own → State → StepReply
+told_at moment (Post now arrivals) s = replies.Reply (reply_of (post_verdict moment arrivals s))
 told_at moment (Turn now) s = turn_told moment s.sender
 told_at moment (Answer now ticket word answer) s = heard (in_flight ticket s.sender)
-told_at moment (Report now) s = tell.Report (report_text s.ledger)
-told_at moment (Drain now) s = tell.Done
+told_at moment (Report now) s = replies.Report (report_text s.ledger)
+told_at moment (Drain now) s = replies.Done
 
 -- what is told of a step
-unfoldable pub told : Own → State → Told
+unfoldable pub told : Own → State → StepReply
 told step s = told_at (effective step s) step (advanced (effective step s) s)

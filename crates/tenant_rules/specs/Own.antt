@@ -1,4 +1,5 @@
 -- A tenant's own steps, and the moments they take effect. A list of own steps has the newest first: it is the past.
+-- This project's own rule.
 use Rattle.std.specs.Prelude.{ℕ, ◌^◌, min, max, List, [], ◌∷◌, Option, Some, None, unwrap_or}
 use Rattle.send_retry.specs.Class.{AnswerData}
 use Rattle.tenant_rules.specs.Arrivals.{Arrival}

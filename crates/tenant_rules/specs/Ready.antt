@@ -1,4 +1,4 @@
--- When a tenant next has something to do. When there is a job is a rule of `send_queue`.
+-- When a tenant next has something to do. When there is a job is a rule of `send_queue`. This project's own rule.
 use Rattle.std.specs.Prelude.{ℕ, List, [], ◌∷◌, Option, Some, None}
 use Rattle.span_batcher.specs.State.{next_due}
 use Rattle.tenant_rules.specs.Fate.{WaitingData}

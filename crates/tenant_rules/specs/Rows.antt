@@ -1,4 +1,4 @@
--- Rows of traces, and seats of spans in them: a trace's latest row while that is present; at most `num_traces` rows are
+-- Rows of traces, and spans in them: a trace's latest row while that is present; at most `num_traces` rows are
 -- (the Collector's tailsamplingprocessor; the numbering of rows is our own). Lists of spans and of rows have the newest
 -- first.
 use Rattle.std.specs.Prelude.{ℕ, ◌+◌, Bool, List, [], ◌∷◌, length, Option, Some, None, if◌then◌else◌, nat_lt}
@@ -16,37 +16,37 @@ pub record Opened : Type 0 where
   pub moment : ℕ
 
 -- a row's number, counted from 1 as rows open, and the moment at which it opened
-pub record Seat : Type 0 where
+pub record RowOpening : Type 0 where
   pub row : ℕ
   pub opening : ℕ
 
--- a span with its seat and its moment
-pub record Seated : Type 0 where
+-- a span with its row and its moment
+pub record SpanInRow : Type 0 where
   pub row : ℕ
   pub opening : ℕ
   pub moment : ℕ
   pub arrival : Arrival
 
--- a span that has no seat, since its trace has no row that is present, but whose trace's verdict is known from an
+-- a span that has no row, since its trace has no row that is present, but whose trace's verdict is known from an
 -- earlier row: its moment, and whether that row was sampled
 pub record Hit : Type 0 where
   pub moment : ℕ
   pub arrival : Arrival
   pub sampled : Bool
 
--- a span has a seat, or has none
-pub data Placed : Type 0 where
-  Sits : Seated → Placed
-  Hits : Hit → Placed
+-- a span has a row, or has none
+pub data SpanPlacement : Type 0 where
+  InRow : SpanInRow → SpanPlacement
+  CacheHit : Hit → SpanPlacement
 
 -- those that have one
-abbrev pub seats : List Placed → List Seated
-seats [] = []
-seats (Sits x ∷ placed) = x ∷ seats placed
-seats (Hits h ∷ placed) = seats placed
+abbrev pub in_rows : List SpanPlacement → List SpanInRow
+in_rows [] = []
+in_rows (InRow x ∷ placements) = x ∷ in_rows placements
+in_rows (CacheHit h ∷ placements) = in_rows placements
 
 -- the latest row of a trace
-abbrev pub latest : List ℕ → List Opened → Option Seat
+abbrev pub latest : List ℕ → List Opened → Option RowOpening
 latest trace [] = None
 latest trace (row ∷ rows) =
     if same_bytes trace row.trace
@@ -57,11 +57,11 @@ latest trace (row ∷ rows) =
 abbrev pub is_present : ℕ → ℕ → ℕ → Bool
 is_present most n row = nat_lt n (row + most)
 
--- a seat in a row that is present
-abbrev pub if_present : ℕ → ℕ → Option Seat → Option Seat
+-- a row, where it is present
+abbrev pub if_present : ℕ → ℕ → Option RowOpening → Option RowOpening
 if_present most n None = None
-if_present most n (Some seat) = if is_present most n seat.row then Some seat else None
+if_present most n (Some latest_row) = if is_present most n latest_row.row then Some latest_row else None
 
 -- the latest row of a trace, where that is present
-abbrev pub present_seat : ℕ → List ℕ → List Opened → Option Seat
-present_seat most trace rows = if_present most (length rows) (latest trace rows)
+abbrev pub present_row : ℕ → List ℕ → List Opened → Option RowOpening
+present_row most trace rows = if_present most (length rows) (latest trace rows)

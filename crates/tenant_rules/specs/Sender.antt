@@ -1,5 +1,6 @@
 -- The sender of one tenant: its rules are those of `send_queue`, one event at a time, and stand there. Here are the
--- counts of spans that its ledger takes from it.
+-- counts of spans that its ledger takes from it (`sending_queue` and `retry_on_failure` of the Collector's
+-- exporterhelper).
 use Rattle.std.specs.Prelude.{ℕ, ◌+◌, List, [], ◌∷◌}
 pub use Rattle.send_queue.specs.Sender.{BatchData, ActiveData, SenderData, no_batches, is_full, offered, has_tickets, has_consumer, first_retry, due_by, Choice, Retried, Oldest, NoBatch, oldest, under, retried, choice_by, choice, without, replaced, sent_again, sent_first, handed_of, asked, FateData, Leaves, Stays, fate_next, fate_by, fate, settled_by, flying, in_flight, left_by, answered_by, answered}
 

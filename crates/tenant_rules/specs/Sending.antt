@@ -1,5 +1,6 @@
 -- What is kept of a tenant's batches after its own steps, and where the spans of the others ended. At each step the
--- batches that form by then are offered first, in order; then a worker's turn or a back end's answer acts.
+-- batches that form by then are offered first, in order; then a worker's turn or a back end's answer acts
+-- (`sending_queue` of the Collector's exporterhelper; the order is this project's own rule).
 use Rattle.std.specs.Prelude.{ℕ, List, [], ◌∷◌, ◌++◌, map, length, drop, Option, Some, None, if◌then◌else◌}
 use Rattle.tail_settings.specs.Section.{SectionData}
 use Rattle.drop_ledger.specs.declared.places.Place.{Place}

@@ -1,4 +1,4 @@
--- What a tenant is after its own steps.
+-- What a tenant is after its own steps. This project's own rule.
 use Rattle.std.specs.Prelude.{ℕ, ◌+◌, Bool, List, [], ◌∷◌, length, Option, is_some}
 use Rattle.tail_settings.specs.Section.{SectionData}
 use Rattle.drop_ledger.specs.declared.places.Places.{Places}
@@ -10,7 +10,7 @@ use Rattle.tenant_rules.specs.Rows.{Taken}
 use Rattle.tenant_rules.specs.Fate.{SettledData, WaitingData, settled, dropped, late_dropped, too_early}
 use Rattle.decision_cache.specs.Caches.{BothData}
 use Rattle.tenant_rules.specs.Events.{caches_of}
-use Rattle.tenant_rules.specs.Seating.{opened, placed, seated}
+use Rattle.tenant_rules.specs.Placement.{opened, placements, spans_in_rows}
 use Rattle.tenant_rules.specs.Batching.{pending, waiting_rows, spans_in}
 use Rattle.tenant_rules.specs.Intake.{IntakeData, intake}
 use Rattle.tenant_rules.specs.Sender.{SenderData, sizes, active_sizes}
@@ -43,8 +43,8 @@ ended_places (e ∷ es) = with_more e.place e.spans (ended_places es)
 -- spans that leave in no group since their row isn't sampled
 abbrev pub not_sampled : SectionData → ℕ → Option ℕ → List Taken → ℕ
 not_sampled section reached drain spans =
-    dropped section reached drain (seated section spans) (opened section spans) (opened section spans)
-    + late_dropped section (placed section spans)
+    dropped section reached drain (spans_in_rows section spans) (opened section spans) (opened section spans)
+    + late_dropped section (placements section spans)
 
 -- where the spans are by the moment, from what came in, the sender, and the spans of settled batches by place
 unfoldable pub ledger_at : SectionData → IntakeData → ℕ → Option ℕ → SenderData → Places → LedgerData
@@ -57,7 +57,7 @@ ledger_at section i reached drain sender ended = record {
     active = active_sizes sender.active;
     exported = ended.exported;
     not_sampled = not_sampled section reached drain i.spans;
-    too_early = too_early section (seated section i.spans) (opened section i.spans) (opened section i.spans);
+    too_early = too_early section (spans_in_rows section i.spans) (opened section i.spans) (opened section i.spans);
     queue_full = ended.queue_full;
     retry_exhausted = ended.retry_exhausted;
     back_end_refused = ended.back_end_refused;
@@ -80,9 +80,10 @@ state_at section spans reached drain sender ledger = record {
   clock = reached;
   drained = is_some drain;
   opened = length (opened section spans);
-  settled = settled section reached drain (seated section spans) (length (opened section spans)) (opened section spans);
+  settled = settled section reached drain (spans_in_rows section spans) (length (opened section spans))
+      (opened section spans);
   waiting = waiting_rows section reached drain spans;
-  caches = caches_of section reached drain (placed section spans) (opened section spans);
+  caches = caches_of section reached drain (placements section spans) (opened section spans);
   pending = pending section reached drain spans;
   sender = sender;
   ledger = ledger;

@@ -1,8 +1,8 @@
 -- Each span that was taken is counted in exactly one place, and the counters of spans that are kept are those of the
--- lists that keep them: in every state, however it came about.
+-- lists that keep them: in every state, however it came about. This project's own rule.
 use Rattle.std.specs.Prelude.{◌≡◌, ◌<◌, ◌≤◌, ℕ, List, [], length}
 use Rattle.tail_settings.specs.Section.{SectionData}
-use Rattle.drop_ledger.specs.Ledger.{IsSound}
+use Rattle.drop_ledger.specs.Ledger.{LedgerInvariant}
 use Rattle.span_batcher.specs.Batches as batches
 use Rattle.tenant_rules.specs.Own.{Own}
 use Rattle.tenant_rules.specs.Sender.{sizes, active_sizes}
@@ -14,7 +14,7 @@ use Rattle.tenant_rules.specs.Machine.{held, next}
 -- the counters of a state are in order: the eleven places add up to what was taken, and no more is counted than may be
 -- (`sound`); four of them are what the state's lists have; and no more spans are held than the budget allows
 pub record IsCounted (s : State) : Type 0 where
-  pub sound : IsSound s.ledger
+  pub sound : LedgerInvariant s.ledger
   pub undecided_is : s.ledger.places.undecided ≡ spans_in s.waiting
   pub pending_is : s.ledger.places.pending ≡ length s.pending.spans
   pub queued_is : s.ledger.places.queued ≡ sizes s.sender.queue
@@ -36,5 +36,5 @@ FrontsCount = (moment : ℕ) (old new : State) → IsFront moment old new → Is
 -- and so after every past, where the settings are in their ranges
 abbrev pub PastsCount : Type 0
 PastsCount = (section : SectionData) → 0 < section.tail_sampling.num_traces →
-    0 < section.tail_sampling.decision_wait → batches.IsSound (rules_of section) → (past : List Own) →
+    0 < section.tail_sampling.decision_wait → batches.AreValidRules (rules_of section) → (past : List Own) →
     IsCounted (state section past)

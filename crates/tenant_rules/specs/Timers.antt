@@ -1,5 +1,6 @@
 -- A tenant's due timers, which run one at a time: the batch timer, and the decisions of rows, by number. At one moment
--- the batch timer runs first.
+-- the batch timer runs first (`timeout` of the Collector's batchprocessor and `decision_wait` of its
+-- tailsamplingprocessor; the order is this project's own rule).
 use Rattle.std.specs.Prelude.{◌≡◌, ℕ, zero, suc, ◌+◌, Bool, true, false, List, [], ◌∷◌, ◌++◌, length, Option, Some, None, if◌then◌else◌, nat_le}
 use Rattle.drop_ledger.specs.declared.places.Place.{Place}
 use Rattle.drop_ledger.specs.declared.places.Place.TheVariants.{Undecided, Pending, Queued, NotSampled, QueueFull}

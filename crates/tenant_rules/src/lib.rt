@@ -25,9 +25,9 @@ ghost use Rattle.tenant_rules.specs.Least.{ReadyIsLeast, ReadyIsNext, DueTurnsAc
 ghost use Rattle.tenant_rules.specs.Others.{MomentsCount, OthersDontCount, RepliesDontChange};
 ghost use Rattle.tenant_rules.specs.AfterDrain.{DrainedRests};
 
-mod told;
+mod reply;
 
-pub use told::{Reply, Told};
+pub use reply::{Reply, StepReply};
 
 /// As time goes on, due timers run one at a time, and a report changes nothing else: a law over the definitions.
 pub fn reports_follow()
@@ -108,7 +108,7 @@ pub fn ready_is_least()
 /// where moments never fall not even by these: a law over the definitions.
 pub fn posts_stand_alone()
     ensures moments { MomentsCount }
-    ensures others { OthersDontCount }
+    ensures others_unchanged { OthersDontCount }
     ensures replies { RepliesDontChange }
 {}
 

@@ -15,7 +15,7 @@ use Rattle.tenant_shard.specs.Outcomes.{OwnStep, own_step, named_in, Answered, n
 use Rattle.tenant_shard.specs.Pick.{ready_in}
 use Rattle.shard_agenda.specs.Pick.{NotAfter, IsPick}
 use Rattle.tenant_shard.specs.Refusal.{Reaches, ReachesNone, IsFor, IsStepFor, IsForNone, IsNobodys}
-use Rattle.tenant_shard.specs.GoesOn.{refusal_number, told_of_none, told_of_nobodys, MemberGoesOn, ShardGoesOn}
+use Rattle.tenant_shard.specs.Follows.{refusal_number, told_of_none, told_of_nobodys, MemberFollows, ShardFollows}
 use Rattle.tenant_shard.specs.Chain.{KeepSame, KeptDecides}
 use Rattle.tenant_shard.proofs.Runs.{IsPick-same, not_both}
 
@@ -66,7 +66,7 @@ some_same : (a b : State) → Some a ≡ Some b → a ≡ b
 some_same a b e = ap (λ o. unwrap_or o a) e
 
 -- what a member is told, and what is left of all tenants
-module _ (step : Step) (old old' : List View) (o o' : Outcome) (new new' : List View) (t u : ℕ) (same : KeepSame old old') (is : MemberGoesOn t step old o new) (is' : MemberGoesOn u step old' o' new') where
+module _ (step : Step) (old old' : List View) (o o' : Outcome) (new new' : List View) (t u : ℕ) (same : KeepSame old old') (is : MemberFollows t step old o new) (is' : MemberFollows u step old' o' new') where
   whom : u ≡ t
   whom = one_whose step old old' t u same is.whose is'.whose
 
@@ -74,10 +74,10 @@ module _ (step : Step) (old old' : List View) (o o' : Outcome) (new new' : List 
   before = some_same is'.before is.before (sym is'.was ∙ (same u ∙ (ap (λ x. kept_of x old) whom ∙ is.was)))
 
   said : is'.said ≡ is.said
-  said = is'.goes_on.said_is ∙ (ap (told (own_step step).step) before ∙ sym is.goes_on.said_is)
+  said = is'.from_state.said_is ∙ (ap (told (own_step step).step) before ∙ sym is.from_state.said_is)
 
   left : is'.after ≡ is.after
-  left = is'.goes_on.new_is ∙ (ap (next (own_step step).step) before ∙ sym is.goes_on.new_is)
+  left = is'.from_state.new_is ∙ (ap (next (own_step step).step) before ∙ sym is.from_state.new_is)
 
   member_decides : (o' ≡ o) × KeepSame new new'
   member_decides = (
@@ -88,7 +88,7 @@ module _ (step : Step) (old old' : List View) (o o' : Outcome) (new new' : List 
     ],
   )
 
-step_decides : (step : Step) (old old' : List View) (o o' : Outcome) (new new' : List View) → KeepSame old old' → ShardGoesOn step old o new → ShardGoesOn step old' o' new' → (o' ≡ o) × KeepSame new new'
+step_decides : (step : Step) (old old' : List View) (o o' : Outcome) (new new' : List View) → KeepSame old old' → ShardFollows step old o new → ShardFollows step old' o' new' → (o' ≡ o) × KeepSame new new'
 step_decides step old old' o o' new new' same (inl is) (inl is') = (
   is'.outcome_is ∙ (nobodys_told step old old' same ∙ sym is.outcome_is),
   λ x. rw (is.new_is, is'.new_is) (same x),

@@ -4,7 +4,7 @@ use Rattle.std.proofs.lemmas.Bool.{cases_eq}
 use Rattle.std.specs.Prelude.{is_some, option_and_then, IfSome, ◌||◌}
 use Rattle.std.specs.List.{insert}
 use Rattle.std.proofs.lemmas.Bool.Decides.{nat_tests}
-use Rattle.shard_agenda.specs.declared.Entry.{Entry}
+use Rattle.shard_agenda.specs.declared.AgendaEntry.{AgendaEntry}
 use Rattle.shard_agenda.specs.Agenda.{ready_of, is_member, with_ready}
 use Rattle.tail_policy.specs.declared.note.TraceNote.{TraceNote}
 use Rattle.tail_settings.specs.Section.{section_view}
@@ -13,10 +13,10 @@ use Rattle.tenant_rules.specs.Sum.{IsCounted}
 use Rattle.tenant_stores.specs.declared.stores.Stores.{Stores}
 use Rattle.tenant_stores.specs.Counts.{no_rows}
 use Rattle.tenant_stores.specs.Part.{Part, part}
-use Rattle.tenant_stores.specs.Sound.{IsSound}
+use Rattle.tenant_stores.specs.Invariant.{StoreInvariant}
 use Rattle.tenant_pipeline.specs.declared.pipeline.Pipeline.{Pipeline}
 use Rattle.tenant_pipeline.specs.StateIn.{state_of, state_in}
-use Rattle.tenant_pipeline.specs.Held.{IsHeldBy, IsHeld, IsSwept}
+use Rattle.tenant_pipeline.specs.Invariant.{PipelineInvariantBy, PipelineInvariant, IsSwept}
 use Rattle.tenant_shard.specs.View.{kept_of}
 use Rattle.tenant_shard.specs.Members.{views, AllAbove, AreInOrder, IsPlaceOf, IsGapFor}
 use Rattle.tenant_shard.specs.Pick.{ready_in}
@@ -28,8 +28,8 @@ use Rattle.tenant_shard.proofs.Places.{AreInOrder-set, AreInOrder-insert}
 state_same : (old new : Stores TraceNote) (m : Pipeline) → part m.tenant new ≡ part m.tenant old → state_in m new ≡ state_in m old
 state_same old new m same = ap (state_of m) same
 
-held_same : (old new : Stores TraceNote) (m : Pipeline) → part m.tenant new ≡ part m.tenant old → IsHeld m old → IsHeld m new
-held_same old new m same held = subst (IsHeldBy m) (sym same) held
+held_same : (old new : Stores TraceNote) (m : Pipeline) → part m.tenant new ≡ part m.tenant old → PipelineInvariant m old → PipelineInvariant m new
+held_same old new m same held = subst (PipelineInvariantBy m) (sym same) held
 
 abbrev pub Others : ℕ → Stores TraceNote → Stores TraceNote → Type 0
 Others t old new = (v : ℕ) → v ≢ t → part v new ≡ part v old
@@ -109,7 +109,7 @@ change_at t old new ms i own m p is same others section = record {
 }
 
 -- what always holds of the member at a place
-pub held_at : (t : ℕ) (stores : Stores TraceNote) (ms : List Pipeline) (i : ℕ) (d : Pipeline) → IsPlaceOf t ms i → AllHeld stores ms → IsHeld (get_or ms i d) stores
+pub held_at : (t : ℕ) (stores : Stores TraceNote) (ms : List Pipeline) (i : ℕ) (d : Pipeline) → IsPlaceOf t ms i → AllHeld stores ms → PipelineInvariant (get_or ms i d) stores
 held_at t stores [] i d p all = absurd p
 held_at t stores (x ∷ ms) zero d p all = all.0
 held_at t stores (x ∷ ms) (suc i) d p all = held_at t stores ms i d p.1 all.1
@@ -118,12 +118,12 @@ held_rest : (t n : ℕ) (old new : Stores TraceNote) (ms : List Pipeline) → Ot
 held_rest t n old new [] others above le all = tt
 held_rest t n old new (x ∷ ms) others above le all = (held_same old new x (others x.tenant (λ e. omega (arith, above.0, le, e))) all.0, held_rest t n old new ms others above.1 le all.1)
 
-held_set : (t : ℕ) (old new : Stores TraceNote) (ms : List Pipeline) (i : ℕ) (m : Pipeline) → IsPlaceOf t ms i → Others t old new → AreInOrder ms → AllHeld old ms → IsHeld m new → AllHeld new (set ms i m)
+held_set : (t : ℕ) (old new : Stores TraceNote) (ms : List Pipeline) (i : ℕ) (m : Pipeline) → IsPlaceOf t ms i → Others t old new → AreInOrder ms → AllHeld old ms → PipelineInvariant m new → AllHeld new (set ms i m)
 held_set t old new [] i m p others order all held = absurd p
 held_set t old new (x ∷ ms) zero m p others order all held = (held, held_rest t x.tenant old new ms others order.0 (omega (arith, p)) all.1)
 held_set t old new (x ∷ ms) (suc i) m p others order all held = (held_same old new x (others x.tenant p.0) all.0, held_set t old new ms i m p.1 others order.1 all.1 held)
 
-held_insert : (stores : Stores TraceNote) (ms : List Pipeline) (i : ℕ) (m : Pipeline) → IsGapFor m.tenant ms i → AllHeld stores ms → IsHeld m stores → AllHeld stores (insert ms i m)
+held_insert : (stores : Stores TraceNote) (ms : List Pipeline) (i : ℕ) (m : Pipeline) → IsGapFor m.tenant ms i → AllHeld stores ms → PipelineInvariant m stores → AllHeld stores (insert ms i m)
 held_insert stores [] zero m gap all held = (held, tt)
 held_insert stores [] (suc i) m gap all held = absurd gap
 held_insert stores (x ∷ ms) zero m gap all held = (held, all)
@@ -155,11 +155,11 @@ counted_at t stores (x ∷ ms) all = by_test (eqb x.tenant t) (counted_at t stor
     by_test true rest = all.0.counted
     by_test false rest = rest
 
-pub all_counted : (stores : Stores TraceNote) (es : List Entry) (ms : List Pipeline) → IsWhole stores es ms → AllCounted (views stores ms)
+pub all_counted : (stores : Stores TraceNote) (es : List AgendaEntry) (ms : List Pipeline) → IsWhole stores es ms → AllCounted (views stores ms)
 all_counted stores es ms whole = λ t. counted_at t stores ms whole.held
 
 -- the whole shard after a step of the member at a place
-pub whole_set : (t : ℕ) (old new : Stores TraceNote) (es es' : List Entry) (ms : List Pipeline) (i : ℕ) (m : Pipeline) → IsWhole old es ms → IsPlaceOf t ms i → m.tenant ≡ t → Others t old new → IsHeld m new → IsSwept m →
+pub whole_set : (t : ℕ) (old new : Stores TraceNote) (es es' : List AgendaEntry) (ms : List Pipeline) (i : ℕ) (m : Pipeline) → IsWhole old es ms → IsPlaceOf t ms i → m.tenant ≡ t → Others t old new → PipelineInvariant m new → IsSwept m →
     ready_of es' ≡ with_ready t (ready (state_in m new)) (ready_of es) → is_member es' ≡ is_member es → IsWhole new es' (set ms i m)
 whole_set t old new es es' ms i m whole p same others held swept at members = record {
   order = AreInOrder-set t ms i m p same whole.order;
@@ -171,7 +171,7 @@ whole_set t old new es es' ms i m whole p same others held swept at members = re
         absurd (cc)
     | inr other ↦
         let none' : kept_of u (views old ms) ≡ None = sym (kept_other t u old new ms i m p same others other) ∙ none in
-        subst (λ (q : Part TraceNote). IsSound no_rows [] [] q) (sym (others u other)) (whole.strangers u none')
+        subst (λ (q : Part TraceNote). StoreInvariant no_rows [] [] q) (sym (others u other)) (whole.strangers u none')
   ];
   listed = λ u. ap (λ (f : ℕ → Bool). f u) members ∙ (whole.listed u ∙ by_listed u);
   ready = λ u. ap (λ (f : ℕ → Option ℕ). f u) at ∙ by_ready u (eqb u t) refl;
@@ -204,7 +204,7 @@ kept_insert_other u stores [] (suc i) m gap other = absurd gap
 kept_insert_other u stores (x ∷ ms) zero m gap other = kept_rest u stores m (x ∷ ms) other
 kept_insert_other u stores (x ∷ ms) (suc i) m gap other = rest_same u stores x (insert ms i m) ms (kept_insert_other u stores ms i m gap.1 other)
 
-pub whole_insert : (stores : Stores TraceNote) (es es' : List Entry) (ms : List Pipeline) (i : ℕ) (m : Pipeline) → IsWhole stores es ms → IsGapFor m.tenant ms i → IsHeld m stores → IsSwept m →
+pub whole_insert : (stores : Stores TraceNote) (es es' : List AgendaEntry) (ms : List Pipeline) (i : ℕ) (m : Pipeline) → IsWhole stores es ms → IsGapFor m.tenant ms i → PipelineInvariant m stores → IsSwept m →
     ready_of es' ≡ with_ready m.tenant (ready (state_in m stores)) (ready_of es) → ((u : ℕ) → is_member es' u ≡ (eqb m.tenant u || is_member es u)) → IsWhole stores es' (insert ms i m)
 whole_insert stores es es' ms i m whole gap held swept at members = record {
   order = AreInOrder-insert ms i m gap whole.order;

@@ -5,8 +5,8 @@ use Rattle.std.proofs.lemmas.Bool.Decides.{nat_tests}
 use Rattle.std.specs.Prelude.{option_and_then, min, if◌then◌else◌}
 use Rattle.std.specs.Option.{unwrap_or}
 use Rattle.tail_settings.specs.Section.{SectionData}
-use Rattle.tenant_rules.specs.declared.told.Told.{Told}
-use Rattle.tenant_rules.specs.declared.told.Told.TheVariants as told
+use Rattle.tenant_rules.specs.declared.reply.StepReply.{StepReply}
+use Rattle.tenant_rules.specs.declared.reply.StepReply.TheVariants as replies
 use Rattle.tenant_rules.specs.Own.{Own, asked, latest_moment, moment_of}
 use Rattle.tenant_rules.specs.State.{State, state}
 use Rattle.tenant_rules.specs.Ready.{ready}
@@ -22,7 +22,7 @@ use Rattle.tenant_shard.specs.Pick.{ready_in, ready_after, ready_at}
 use Rattle.shard_agenda.specs.Pick.{IsPick}
 use Rattle.tenant_shard.specs.Run.{IsTakenOrNot, IsAnswered, IsAnswerTo, IsOutcomeOf, IsOutcome, recorded, AllKnown, OthersStay, ShardSteps, after}
 use Rattle.tenant_shard.specs.Refusal.{IsStepFor, IsNobodys, Reaches, ReachesNone, ShardRefuses}
-use Rattle.tenant_shard.specs.GoesOn.{ShardGoesOn}
+use Rattle.tenant_shard.specs.Follows.{ShardFollows}
 use Rattle.tenant_shard.specs.Steps.{IsStepOf, IsLossOf}
 
 -- what is kept of a member says its section
@@ -32,7 +32,7 @@ keeps_section section past true kept stands = ap (λ (s : State). s.section) sta
 keeps_section section past false kept stands = stands
 
 -- a member's own step that reaches its pipeline
-own_answer : (t : ℕ) (section : Option SectionData) (past : List Own) (known : Bool) (kept : Option State) (step : OwnStep) (before after : State) (said : Told) →
+own_answer : (t : ℕ) (section : Option SectionData) (past : List Own) (known : Bool) (kept : Option State) (step : OwnStep) (before after : State) (said : StepReply) →
     MemberStands section past known kept → kept ≡ Some before → is_taken before.section step ≡ true → Answers step.step before said after → after.section ≡ before.section →
     IsAnswered t section past known step (named t (Answered said)) × MemberStands section (recorded section step past) known (Some after)
 own_answer t None past known kept step before after said stands is takes_it answers stay = absurd (let stands' : MemberStands None past known (Some before) = rw is at stands in stands')
@@ -49,7 +49,7 @@ own_answer t (Some section) past known kept step before after said stands is tak
 
     by_known : (k : Bool) → MemberStands (Some section) past k (Some before) →
         IsTakenOrNot (is_taken section step) t section past k step.step (named t (Answered said)) × MemberStands (Some section) (if is_taken section step then step.step ∷ past else past) k (Some after)
-    by_known true known_stands = let both = answers section past known_stands in rw test (ap (λ told. named t (Answered told)) both.0, both.1)
+    by_known true known_stands = let both = answers section past known_stands in rw test (ap (λ replies. named t (Answered told)) both.0, both.1)
     by_known false known_stands = rw test ((said, refl), stay ∙ keeps)
 
 -- every tenant after a member's own step
@@ -65,12 +65,12 @@ all_stand t s old new outcome lists whose is takes_it stands =
     )
 
 pub told_whom-named : (t : ℕ) (said : Answer) → told_whom (named t said) ≡ Some t
-told_whom-named t (Answered (told.Reply reply)) = refl
-told_whom-named t (Answered (told.Job ticket payload)) = refl
-told_whom-named t (Answered told.Worked) = refl
-told_whom-named t (Answered told.Done) = refl
-told_whom-named t (Answered (told.Report text)) = refl
-told_whom-named t (Answered told.UnknownTicket) = refl
+told_whom-named t (Answered (replies.Reply reply)) = refl
+told_whom-named t (Answered (replies.Job ticket payload)) = refl
+told_whom-named t (Answered replies.Worked) = refl
+told_whom-named t (Answered replies.Done) = refl
+told_whom-named t (Answered (replies.Report text)) = refl
+told_whom-named t (Answered replies.UnknownTicket) = refl
 told_whom-named t (NotTaken number) = refl
 
 whom_told : (t : ℕ) (step : Own) (old new : List View) (outcome : Outcome) → IsStepOf t step old outcome new → told_whom outcome ≡ Some t
@@ -233,7 +233,7 @@ idle_steps s old name pick = done s old Idle old all (λ other ne. refl)
     )
 
 -- what was kept decides what a member's own step gives
-pub own_goes_on : (t : ℕ) (step : Step) (old new : List View) (outcome : Outcome) → IsStepFor t step old → IsStepOf t (own_step step).step old outcome new → ShardGoesOn step old outcome new
+pub own_goes_on : (t : ℕ) (step : Step) (old new : List View) (outcome : Outcome) → IsStepFor t step old → IsStepOf t (own_step step).step old outcome new → ShardFollows step old outcome new
 own_goes_on t step old new outcome whose is = inr (
   t,
   record {
@@ -242,7 +242,7 @@ own_goes_on t step old new outcome whose is = inr (
     said = is.said;
     after = is.after;
     was = is.change.was;
-    goes_on = is.goes_on;
+    from_state = is.from_state;
     outcome_is = is.outcome_is;
     is_now = is.change.is_now;
     others = is.change.others;
@@ -257,13 +257,13 @@ pub turn_for : (t : ℕ) (s : Step) (old : List View) → named_in s ≡ None �
 turn_for t s old name pick = rw name pick
 
 -- a step that is nobody's
-pub stranger_goes_on : (t : ℕ) (s : Step) (old : List View) → named_in s ≡ Some t → kept_of t old ≡ None → ShardGoesOn s old (Refused t not_member) old
+pub stranger_goes_on : (t : ℕ) (s : Step) (old : List View) → named_in s ≡ Some t → kept_of t old ≡ None → ShardFollows s old (Refused t not_member) old
 stranger_goes_on t s old name none = inl (record { whose = rw name (rw none tt); outcome_is = rw name (rw none refl); new_is = refl })
 
-pub other_goes_on : (t : ℕ) (s : Step) (old : List View) (before : State) → named_in s ≡ Some t → kept_of t old ≡ Some before → is_taken before.section (own_step s) ≡ false → ShardGoesOn s old (Refused t other_policies) old
+pub other_goes_on : (t : ℕ) (s : Step) (old : List View) (before : State) → named_in s ≡ Some t → kept_of t old ≡ Some before → is_taken before.section (own_step s) ≡ false → ShardFollows s old (Refused t other_policies) old
 other_goes_on t s old before name was other = inl (record { whose = rw name (rw was other); outcome_is = rw name (rw was refl); new_is = refl })
 
-pub idle_goes_on : (s : Step) (old : List View) → named_in s ≡ None → IsPick (ready_in old) (moment_of (own_step s).step) None → ShardGoesOn s old Idle old
+pub idle_goes_on : (s : Step) (old : List View) → named_in s ≡ None → IsPick (ready_in old) (moment_of (own_step s).step) None → ShardFollows s old Idle old
 idle_goes_on s old name pick = inl (record { whose = rw name pick; outcome_is = rw name refl; new_is = refl })
 
 -- a step that reaches a pipeline is not nobody's

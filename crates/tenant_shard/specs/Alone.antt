@@ -1,4 +1,4 @@
--- What each tenant is told in a run, in which no other tenant occurs.
+-- What each tenant is told in a run, in which no other tenant occurs. This project's own rule.
 use Rattle.std.specs.Prelude.{◌≡◌, ℕ, true, List, [], ◌∷◌, Some, filter, map, if◌then◌else◌}
 use Rattle.tail_settings.specs.Section.{SectionData}
 use Rattle.tenant_rules.specs.Own.{Own}

@@ -1,12 +1,12 @@
 -- A run: one chain of what is kept, each step from what the one before it left. All that is promised of a run follows
--- from the chain.
+-- from the chain. This project's own rule.
 use Rattle.std.specs.Prelude.{◌≡◌, ℕ, List, [], ◌∷◌}
 use Rattle.tenant_shard.specs.declared.step.Step.{Step}
 use Rattle.tenant_shard.specs.declared.step.Outcome.{Outcome}
 use Rattle.tenant_shard.specs.View.{View, kept_of}
 use Rattle.tenant_shard.specs.Lists.{Lists, ShardStands}
 use Rattle.tenant_shard.specs.Run.{AllKnown, Run, ShardSteps, after_all}
-use Rattle.tenant_shard.specs.GoesOn.{ShardGoesOn}
+use Rattle.tenant_shard.specs.Follows.{ShardFollows}
 
 -- the steps are done one after the other, each as `Does` says, from what the one before it left
 abbrev pub Chain : (Step → List View → Outcome → List View → Type 0)
@@ -21,7 +21,7 @@ Chain Does (step ∷ steps) old [] new = ⊥
 -- before it
 pub record ShardDoes (step : Step) (old : List View) (outcome : Outcome) (new : List View) : Type 0 where
   pub by_own_steps : ShardSteps step old outcome new
-  pub goes_on : ShardGoesOn step old outcome new
+  pub from_state : ShardFollows step old outcome new
 
 -- the shard did these steps
 abbrev pub ShardRuns : List Step → List View → List Outcome → List View → Type 0
@@ -45,5 +45,5 @@ KeepSame views views' = (tenant : ℕ) → kept_of tenant views' ≡ kept_of ten
 -- tenant is told, also a member whose own steps are not known
 abbrev pub KeptDecides : Type 0
 KeptDecides = (steps : List Step) (old old' : List View) (outcomes outcomes' : List Outcome) (new new' : List View)
-    → KeepSame old old' → Chain ShardGoesOn steps old outcomes new → Chain ShardGoesOn steps old' outcomes' new'
+    → KeepSame old old' → Chain ShardFollows steps old outcomes new → Chain ShardFollows steps old' outcomes' new'
     → (outcomes' ≡ outcomes) × KeepSame new new'

@@ -1,4 +1,4 @@
--- When a tenant holds no spans.
+-- When a tenant holds no spans. This project's own rule.
 use Rattle.std.specs.Prelude.{Bool, false, Option, Some, None, ◌==◌, ◌&&◌}
 use Rattle.drop_ledger.specs.declared.places.Places.{Places}
 use Rattle.tenant_rules.specs.State.{State}

@@ -1,4 +1,4 @@
--- When steps are equal.
+-- When steps are equal. This project's own rule.
 use Rattle.std.specs.Prelude.{◌≡◌}
 use Rattle.send_retry.specs.Class.{answer_view}
 use Rattle.tenant_shard.specs.declared.step.Step.{Step}

@@ -4,7 +4,7 @@ pub mod Outcomes
 pub mod Pick
 pub mod Run
 pub mod Refusal
-pub mod GoesOn
+pub mod Follows
 pub mod Chain
 pub mod Alone
 pub mod Stop

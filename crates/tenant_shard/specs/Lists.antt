@@ -1,4 +1,5 @@
 -- The own steps that a shard stands for. They are stored nowhere: a contract speaks of all that the shard stands for.
+-- This project's own rule.
 use Rattle.std.specs.Prelude.{◌≡◌, ℕ, Bool, true, false, List, Option, Some, None}
 use Rattle.tail_settings.specs.Section.{SectionData}
 use Rattle.tenant_rules.specs.Own.{Own}

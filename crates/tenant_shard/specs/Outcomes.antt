@@ -1,10 +1,10 @@
--- Whose a step is, and whom an outcome names.
+-- Whose a step is, and whom an outcome names. This project's own rule.
 use Rattle.std.specs.Prelude.{ℕ, Bool, true, false, List, Option, Some, None, ◌==◌}
 use Rattle.send_retry.specs.Class.{answer_view}
 use Rattle.tail_settings.specs.Policy.{PolicyData}
 use Rattle.tail_settings.specs.Section.{SectionData}
-use Rattle.tenant_rules.specs.declared.told.Told.{Told}
-use Rattle.tenant_rules.specs.declared.told.Told.TheVariants as told
+use Rattle.tenant_rules.specs.declared.reply.StepReply.{StepReply}
+use Rattle.tenant_rules.specs.declared.reply.StepReply.TheVariants as replies
 use Rattle.tenant_rules.specs.Own.{Own}
 use Rattle.tenant_rules.specs.Own as own
 use Rattle.otlp_prepare.specs.Equal.{same_policies}
@@ -62,17 +62,17 @@ other_policies = 23
 
 -- what a tenant is told of a step: what its pipeline answers, or that it was refused, by the refusal's number
 pub data Answer : Type 0 where
-  Answered : Told → Answer
+  Answered : StepReply → Answer
   NotTaken : ℕ → Answer
 
 -- the same with its number
 abbrev pub named : ℕ → Answer → Outcome
-named tenant (Answered (told.Reply reply)) = Reply tenant reply
-named tenant (Answered (told.Job ticket payload)) = Job tenant ticket payload
-named tenant (Answered told.Worked) = Worked tenant
-named tenant (Answered told.Done) = Done tenant
-named tenant (Answered (told.Report text)) = Report tenant text
-named tenant (Answered told.UnknownTicket) = Refused tenant unknown_ticket
+named tenant (Answered (replies.Reply reply)) = Reply tenant reply
+named tenant (Answered (replies.Job ticket payload)) = Job tenant ticket payload
+named tenant (Answered replies.Worked) = Worked tenant
+named tenant (Answered replies.Done) = Done tenant
+named tenant (Answered (replies.Report text)) = Report tenant text
+named tenant (Answered replies.UnknownTicket) = Refused tenant unknown_ticket
 named tenant (NotTaken number) = Refused tenant number
 
 -- the tenant whom an outcome names

@@ -1,4 +1,4 @@
--- When each tenant of a shard is ready. Whom a turn goes to then is `IsPick` of shard_agenda.
+-- When each tenant of a shard is ready. Whom a turn goes to then is `IsPick` of shard_agenda. This project's own rule.
 use Rattle.std.specs.Prelude.{ℕ, Bool, true, false, List, Option, Some, None, option_and_then}
 use Rattle.tail_settings.specs.Section.{SectionData}
 use Rattle.tenant_rules.specs.Own.{Own}

@@ -1,4 +1,4 @@
--- What a shard is after a step was refused memory, and which steps take none.
+-- What a shard is after a step was refused memory, and which steps take none. This project's own rule.
 use Rattle.std.specs.Prelude.{◌≡◌, ◌≢◌, ℕ, true, false, List, Option, Some, None, if◌then◌else◌, ◌==◌}
 use Rattle.tenant_rules.specs.Own.{moment_of}
 use Rattle.tenant_rules.specs.State.{State}

@@ -1,7 +1,7 @@
--- What a shard answers to its steps.
+-- What a shard answers to its steps. This project's own rule.
 use Rattle.std.specs.Prelude.{◌≡◌, ◌≢◌, ℕ, Bool, true, false, List, [], ◌∷◌, Option, Some, None, if◌then◌else◌}
 use Rattle.tail_settings.specs.Section.{SectionData}
-use Rattle.tenant_rules.specs.declared.told.Told.{Told}
+use Rattle.tenant_rules.specs.declared.reply.StepReply.{StepReply}
 use Rattle.tenant_rules.specs.Own.{Own, moment_of}
 use Rattle.tenant_rules.specs.Answers.{answer}
 use Rattle.tenant_shard.specs.declared.step.Step.{Step}
@@ -17,7 +17,7 @@ use Rattle.shard_agenda.specs.Pick.{IsPick}
 -- steps are not known, some answer
 abbrev pub IsPiped : ℕ → SectionData → List Own → Bool → Own → Outcome → Type 0
 IsPiped tenant section past true step outcome = outcome ≡ named tenant (Answered (answer section past step))
-IsPiped tenant section past false step outcome = (said : Told) × (outcome ≡ named tenant (Answered said))
+IsPiped tenant section past false step outcome = (said : StepReply) × (outcome ≡ named tenant (Answered said))
 
 -- the outcome of a step that reaches the pipeline or doesn't
 abbrev pub IsTakenOrNot : Bool → ℕ → SectionData → List Own → Bool → Own → Outcome → Type 0

@@ -1,11 +1,11 @@
--- What a member's own step does to the views.
+-- What a member's own step does to the views. This project's own rule.
 use Rattle.std.specs.Prelude.{◌≡◌, ◌≢◌, ℕ, List, Some}
-use Rattle.tenant_rules.specs.declared.told.Told.{Told}
+use Rattle.tenant_rules.specs.declared.reply.StepReply.{StepReply}
 use Rattle.tenant_rules.specs.Own.{Own}
 use Rattle.tenant_rules.specs.State.{State}
 use Rattle.tenant_rules.specs.Timers.{IsFront}
 use Rattle.tenant_rules.specs.Machine.{effective}
-use Rattle.tenant_pipeline.specs.Steps.{Answers, GoesOnFrom}
+use Rattle.tenant_pipeline.specs.Steps.{Answers, FollowsFromState}
 use Rattle.tenant_shard.specs.declared.step.Outcome.{Outcome}
 use Rattle.tenant_shard.specs.View.{View, kept_of}
 use Rattle.tenant_shard.specs.Outcomes.{Answered, named}
@@ -22,9 +22,9 @@ pub record IsStepOf (tenant : ℕ) (step : Own) (old : List View) (outcome : Out
   pub before : State
   pub after : State
   pub change : IsChangeOf tenant before after old new
-  pub said : Told
+  pub said : StepReply
   pub answers : Answers step before said after
-  pub goes_on : GoesOnFrom step before said after
+  pub from_state : FollowsFromState step before said after
   pub outcome_is : outcome ≡ named tenant (Answered said)
 
 -- the member is refused memory

@@ -1,4 +1,4 @@
--- What a run has done that stopped because memory was refused.
+-- What a run has done that stopped because memory was refused. This project's own rule.
 use Rattle.std.specs.Prelude.{◌≡◌, ℕ, List, [], take, length, Option, Some, None, slice_get}
 use Rattle.tenant_shard.specs.declared.step.Step.{Step}
 use Rattle.tenant_shard.specs.declared.step.Outcome.{Outcome}

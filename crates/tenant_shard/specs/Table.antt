@@ -1,4 +1,5 @@
--- The members of a shard, by the settings and a list of numbers, and which numbers stand in which shard's.
+-- The members of a shard, by the settings and a list of numbers, and which numbers stand in which shard's. This
+-- project's own rule.
 use Rattle.std.specs.Prelude.{◌≡◌, ℕ, zero, suc, ◌%◌, ◌==◌, true, List, [], ◌∷◌, ◌++◌, length, Option, None, if◌then◌else◌, option_map, slice_get}
 use Rattle.std.specs.List.{list_any}
 use Rattle.tail_settings.specs.Section.{SectionData}

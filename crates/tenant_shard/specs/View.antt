@@ -1,4 +1,4 @@
--- What a shard keeps of each member.
+-- What a shard keeps of each member. This project's own rule.
 use Rattle.std.specs.Prelude.{ℕ, List, [], ◌∷◌, Option, Some, None, if◌then◌else◌, ◌==◌}
 use Rattle.tenant_rules.specs.State.{State}
 

@@ -1,15 +1,15 @@
--- What always holds of a shard's stores, agenda and members together.
+-- What always holds of a shard's stores, agenda and members together. This project's own rule.
 use Rattle.std.specs.Prelude.{◌≡◌, ℕ, List, [], ◌∷◌, None, IfSome, is_some}
-use Rattle.shard_agenda.specs.declared.Entry.{Entry}
+use Rattle.shard_agenda.specs.declared.AgendaEntry.{AgendaEntry}
 use Rattle.shard_agenda.specs.Agenda.{ready_of, is_member}
 use Rattle.tail_policy.specs.declared.note.TraceNote.{TraceNote}
 use Rattle.tenant_rules.specs.Sum.{IsCounted}
 use Rattle.tenant_stores.specs.declared.stores.Stores.{Stores}
 use Rattle.tenant_stores.specs.Counts.{no_rows}
 use Rattle.tenant_stores.specs.Part.{part}
-use Rattle.tenant_stores.specs.Sound.{IsSound}
+use Rattle.tenant_stores.specs.Invariant.{StoreInvariant}
 use Rattle.tenant_pipeline.specs.declared.pipeline.Pipeline.{Pipeline}
-use Rattle.tenant_pipeline.specs.Held.{IsHeld, IsSwept}
+use Rattle.tenant_pipeline.specs.Invariant.{PipelineInvariant, IsSwept}
 use Rattle.tenant_shard.specs.View.{View, kept_of}
 use Rattle.tenant_shard.specs.Members.{AreInOrder, views}
 use Rattle.tenant_shard.specs.Pick.{ready_in}
@@ -17,7 +17,7 @@ use Rattle.tenant_shard.specs.Pick.{ready_in}
 -- what always holds of a tenant holds of each of these
 abbrev pub AllHeld : Stores TraceNote → List Pipeline → Type 0
 AllHeld stores [] = Unit
-AllHeld stores (member ∷ members) = IsHeld member stores × AllHeld stores members
+AllHeld stores (member ∷ members) = PipelineInvariant member stores × AllHeld stores members
 
 -- each of them has in the stores no row that isn't present
 abbrev pub AllSwept : List Pipeline → Type 0
@@ -27,12 +27,12 @@ AllSwept (member ∷ members) = IsSwept member × AllSwept members
 -- members stand by number, and what always holds of a tenant holds of each, so each span of its part is named once;
 -- rows that left are gone with their spans; no other tenant has rows or spans; and the agenda has just the members,
 -- each at the moment at which it is ready
-pub record IsWhole (stores : Stores TraceNote) (agenda : List Entry) (members : List Pipeline) : Type 0 where
+pub record IsWhole (stores : Stores TraceNote) (agenda : List AgendaEntry) (members : List Pipeline) : Type 0 where
   pub order : AreInOrder members
   pub held : AllHeld stores members
   pub swept : AllSwept members
   pub strangers : (tenant : ℕ) → kept_of tenant (views stores members) ≡ None →
-      IsSound no_rows [] [] (part tenant stores)
+      StoreInvariant no_rows [] [] (part tenant stores)
   pub listed : (tenant : ℕ) → is_member agenda tenant ≡ is_some (kept_of tenant (views stores members))
   pub ready : (tenant : ℕ) → ready_of agenda tenant ≡ ready_in (views stores members) tenant
 

@@ -6,8 +6,8 @@ ghost use Rattle.tenant_rules.specs.Machine.{effective};
 ghost use Rattle.tenant_rules.specs.Timers.{IsFront};
 ghost use Rattle.tenant_stores.specs.Part.{part};
 ghost use Rattle.tenant_pipeline.specs.StateIn.{state_in};
-ghost use Rattle.tenant_pipeline.specs.Held.{IsHeld, IsSwept};
-ghost use Rattle.tenant_pipeline.specs.Steps.{Answers, GoesOnFrom};
+ghost use Rattle.tenant_pipeline.specs.Invariant.{PipelineInvariant, IsSwept};
+ghost use Rattle.tenant_pipeline.specs.Steps.{Answers, FollowsFromState};
 ghost use Rattle.tenant_shard.specs.Members.{AreInOrder, IsPlaceOf, IsGapFor};
 ghost use Rattle.tenant_shard.specs.Outcomes.{Answered, is_taken, named, own_step};
 
@@ -15,23 +15,23 @@ use crate::step::{Outcome, Step};
 use std::alloc::AllocError;
 use tail_policy::TraceNote;
 use tenant_pipeline::Pipeline;
-use tenant_rules::Told;
+use tenant_rules::StepReply;
 use tenant_stores::Stores;
 
 /// The number of the refusal of an answer to a job that isn't in flight.
 const UNKNOWN_TICKET: u8 = 21;
 
 /// What a pipeline told, with the number of the tenant whose it is.
-pub fn named(tenant: u32, told: Told) -> Outcome
+pub fn named(tenant: u32, told: StepReply) -> Outcome
     ensures { result ≡ named tenant (Answered told) }
 {
     match told {
-        Told::Reply(reply) => Outcome::Reply(tenant, reply),
-        Told::Job { ticket, payload } => Outcome::Job(tenant, ticket, payload),
-        Told::Worked => Outcome::Worked(tenant),
-        Told::Done => Outcome::Done(tenant),
-        Told::Report(text) => Outcome::Report(tenant, text),
-        Told::UnknownTicket => Outcome::Refused(tenant, UNKNOWN_TICKET),
+        StepReply::Reply(reply) => Outcome::Reply(tenant, reply),
+        StepReply::Job { ticket, payload } => Outcome::Job(tenant, ticket, payload),
+        StepReply::Worked => Outcome::Worked(tenant),
+        StepReply::Done => Outcome::Done(tenant),
+        StepReply::Report(text) => Outcome::Report(tenant, text),
+        StepReply::UnknownTicket => Outcome::Refused(tenant, UNKNOWN_TICKET),
     }
 }
 
@@ -55,29 +55,29 @@ pub fn takes(own: &Pipeline, step: &Step) -> bool
 }
 
 /// The member's pipeline does a step that reaches it. A step that names a tenant is taken as this member's.
-pub fn act(
+pub fn apply_step(
     own: &mut Pipeline,
     stores: &mut Stores<TraceNote>,
     step: &Step,
-) -> Result<Told, AllocError>
-    requires held { IsHeld own.old stores.old }
+) -> Result<StepReply, AllocError>
+    requires invariant { PipelineInvariant own.old stores.old }
     requires taken { is_taken (section_view own.old.section) (own_step step.now) ≡ true }
-    ensures ok { IfOk result (λ told.
+    ensures on_success { IfOk result (λ told.
         Answers (own_step step.now).step (state_in own.old stores.old) told (state_in own.new stores.new)) }
-    ensures goes_on { IfOk result (λ told.
-        GoesOnFrom (own_step step.now).step (state_in own.old stores.old) told (state_in own.new stores.new)) }
-    ensures refused { OnErr result (let taken = (own_step step.now).step in let old = state_in own.old stores.old in
+    ensures from_state { IfOk result (λ told.
+        FollowsFromState (own_step step.now).step (state_in own.old stores.old) told (state_in own.new stores.new)) }
+    ensures on_refusal { OnErr result (let taken = (own_step step.now).step in let old = state_in own.old stores.old in
         IsFront (effective taken old) old (state_in own.new stores.new)) }
-    ensures held { IsHeld own.new stores.new }
+    ensures invariant { PipelineInvariant own.new stores.new }
     ensures swept { IsSwept own.old → IsSwept own.new }
-    ensures others { (other : ℕ) → other ≢ own.old.tenant → part other stores.new ≡ part other stores.old }
+    ensures others_unchanged { (other : ℕ) → other ≢ own.old.tenant → part other stores.new ≡ part other stores.old }
     ensures tenant { own.new.tenant ≡ own.old.tenant }
     ensures section { own.new.section ≡ own.old.section }
 {
     match step {
         Step::Post { now, prepared } => {
             let reply = own.post(stores, *now, prepared)?;
-            Ok(Told::Reply(reply))
+            Ok(StepReply::Reply(reply))
         }
         Step::Turn { now } => own.turn(stores, *now),
         Step::Answer {

@@ -11,12 +11,12 @@ ghost use Rattle.tenant_shard.specs.Members.{IsPlaceOf, views};
 ghost use Rattle.tenant_shard.specs.Outcomes.{named_in, own_step};
 ghost use Rattle.tenant_shard.specs.Run.{ShardSteps};
 ghost use Rattle.tenant_shard.specs.Refusal.{Reaches, ShardRefuses, IsNobodys};
-ghost use Rattle.tenant_shard.specs.GoesOn.{ShardGoesOn};
+ghost use Rattle.tenant_shard.specs.Follows.{ShardFollows};
 ghost use Rattle.tenant_shard.specs.Steps.{IsStepOf, IsLossOf};
 ghost use Rattle.tenant_shard.specs.Table.{opened};
 ghost use Rattle.tenant_shard.specs.Whole.{IsWhole};
 
-use crate::member::{act, named, place_of, takes};
+use crate::member::{apply_step, named, place_of, takes};
 use crate::step::{Outcome, Step};
 use shard_agenda::Agenda;
 use std::alloc::{AllocError, Global};
@@ -99,12 +99,12 @@ impl Shard {
     pub fn step(&mut self, step: &Step) -> Result<Outcome, AllocError>
         // The outcome is what the members' own steps say. Where no own steps leave what is kept of the step's tenant,
         // as after refused memory, it follows from that.
-        ensures ok { IfOk result (λ outcome. ShardSteps step.now self.old outcome self.new) }
-        ensures goes_on { IfOk result (λ outcome. ShardGoesOn step.now self.old outcome self.new) }
+        ensures on_success { IfOk result (λ outcome. ShardSteps step.now self.old outcome self.new) }
+        ensures from_state { IfOk result (λ outcome. ShardFollows step.now self.old outcome self.new) }
 
         // What is left where memory is refused. A step of nobody takes none, and changes nothing.
-        ensures refused { OnErr result (ShardRefuses step.now self.old self.new) }
-        ensures nobodys { IsNobodys step.now self.old → (IsOk result) × (self.new ≡ self.old) }
+        ensures on_refusal { OnErr result (ShardRefuses step.now self.old self.new) }
+        ensures on_no_member { IsNobodys step.now self.old → (IsOk result) × (self.new ≡ self.old) }
 
         // In every state each span that was taken is counted once.
         ensures counted { AllCounted self.new }
@@ -116,7 +116,7 @@ impl Shard {
     /// answers to the steps that were its own. An error carries the outcomes so far.
     pub fn run(&mut self, steps: &[Step]) -> Result<Vec<Outcome>, Stopped>
         // Each step goes on from what the one before it left, in one chain.
-        ensures ok { IfOk result (λ outcomes. ShardRuns steps.now self.old outcomes.items self.new) }
+        ensures on_success { IfOk result (λ outcomes. ShardRuns steps.now self.old outcomes.items self.new) }
 
         // What follows from the chain for the own steps that the shard stands for.
         ensures each_alone { IfOk result (λ outcomes. EachAlone steps.now self.old outcomes.items) }
@@ -167,13 +167,13 @@ fn step_in(
     step: &Step,
 ) -> Result<Outcome, AllocError>
     requires { IsWhole stores.old agenda.old members.old.items }
-    ensures ok { IfOk result (λ outcome. ShardSteps step.now
+    ensures on_success { IfOk result (λ outcome. ShardSteps step.now
         (views stores.old members.old.items) outcome (views stores.new members.new.items)) }
-    ensures goes_on { IfOk result (λ outcome. ShardGoesOn step.now
+    ensures from_state { IfOk result (λ outcome. ShardFollows step.now
         (views stores.old members.old.items) outcome (views stores.new members.new.items)) }
-    ensures refused { OnErr result (ShardRefuses step.now
+    ensures on_refusal { OnErr result (ShardRefuses step.now
         (views stores.old members.old.items) (views stores.new members.new.items)) }
-    ensures nobodys { IsNobodys step.now (views stores.old members.old.items) →
+    ensures on_no_member { IsNobodys step.now (views stores.old members.old.items) →
         (IsOk result) × (views stores.new members.new.items ≡ views stores.old members.old.items) }
     ensures whole { IsWhole stores.new agenda.new members.new.items }
 {
@@ -193,13 +193,13 @@ fn step_of(
 ) -> Result<Outcome, AllocError>
     requires whole { IsWhole stores.old agenda.old members.old.items }
     requires whose { named_in step.now ≡ Some tenant }
-    ensures ok { IfOk result (λ outcome. ShardSteps step.now
+    ensures on_success { IfOk result (λ outcome. ShardSteps step.now
         (views stores.old members.old.items) outcome (views stores.new members.new.items)) }
-    ensures goes_on { IfOk result (λ outcome. ShardGoesOn step.now
+    ensures from_state { IfOk result (λ outcome. ShardFollows step.now
         (views stores.old members.old.items) outcome (views stores.new members.new.items)) }
-    ensures refused { OnErr result (ShardRefuses step.now
+    ensures on_refusal { OnErr result (ShardRefuses step.now
         (views stores.old members.old.items) (views stores.new members.new.items)) }
-    ensures nobodys { IsNobodys step.now (views stores.old members.old.items) →
+    ensures on_no_member { IsNobodys step.now (views stores.old members.old.items) →
         (IsOk result) × (views stores.new members.new.items ≡ views stores.old members.old.items) }
     ensures whole { IsWhole stores.new agenda.new members.new.items }
 {
@@ -222,13 +222,13 @@ fn turn(
 ) -> Result<Outcome, AllocError>
     requires whole { IsWhole stores.old agenda.old members.old.items }
     requires whose { named_in step.now ≡ None }
-    ensures ok { IfOk result (λ outcome. ShardSteps step.now
+    ensures on_success { IfOk result (λ outcome. ShardSteps step.now
         (views stores.old members.old.items) outcome (views stores.new members.new.items)) }
-    ensures goes_on { IfOk result (λ outcome. ShardGoesOn step.now
+    ensures from_state { IfOk result (λ outcome. ShardFollows step.now
         (views stores.old members.old.items) outcome (views stores.new members.new.items)) }
-    ensures refused { OnErr result (ShardRefuses step.now
+    ensures on_refusal { OnErr result (ShardRefuses step.now
         (views stores.old members.old.items) (views stores.new members.new.items)) }
-    ensures nobodys { IsNobodys step.now (views stores.old members.old.items) →
+    ensures on_no_member { IsNobodys step.now (views stores.old members.old.items) →
         (IsOk result) × (views stores.new members.new.items ≡ views stores.old members.old.items) }
     ensures whole { IsWhole stores.new agenda.new members.new.items }
 {
@@ -255,14 +255,14 @@ fn step_at(
     requires within { i < length members.old.items }
     requires place { IsPlaceOf tenant members.old.items i }
     requires taken { Reaches (own_step step.now) (kept_of tenant (views stores.old members.old.items)) }
-    ensures ok { IfOk result (λ outcome. IsStepOf tenant (own_step step.now).step
+    ensures on_success { IfOk result (λ outcome. IsStepOf tenant (own_step step.now).step
         (views stores.old members.old.items) outcome (views stores.new members.new.items)) }
-    ensures refused { OnErr result (IsLossOf tenant (own_step step.now).step
+    ensures on_refusal { OnErr result (IsLossOf tenant (own_step step.now).step
         (views stores.old members.old.items) (views stores.new members.new.items)) }
     ensures whole { IsWhole stores.new agenda.new members.new.items }
 {
     let own = &mut members[i];
-    let result = act(own, stores, step);
+    let result = apply_step(own, stores, step);
     let ready = own.ready(stores);
     agenda.set(tenant, ready);
     let told = result?;
@@ -285,7 +285,7 @@ fn open_member(
         ShardStands (opened table (earlier ++ tenant ∷ [])) (views stores.now members.new.items)) }
 
     // Where memory is refused nothing has changed.
-    ensures refused { OnErr result ((members.new.items ≡ members.old.items) × (agenda.new ≡ agenda.old)) }
+    ensures on_refusal { OnErr result ((members.new.items ≡ members.old.items) × (agenda.new ≡ agenda.old)) }
 {
     let Err(at) = place_of(members, tenant) else {
         return Ok(());

@@ -7,15 +7,15 @@ use Rattle.std.specs.Cmp.Lexicographic.{nat_list_eq_equiv}
 use Rattle.std.proofs.Math.Path.{fun_ext}
 use Rattle.span_pool.specs.Stored.{StoredData}
 use Rattle.span_pool.specs.Pool.{with_span, without}
-use Rattle.text_pool.specs.declared.pool.Kept.{Kept}
-use Rattle.trace_rows.specs.Part.{with_at, with_seat, joined, unjoined}
+use Rattle.text_pool.specs.declared.pool.CountedText.{CountedText}
+use Rattle.trace_rows.specs.Part.{with_at, with_latest_row, joined, unjoined}
 use Rattle.trace_rows.specs.declared.table.Row.{Row}
-use Rattle.tenant_stores.specs.declared.placed.Placed.{Placed}
-use Rattle.tenant_stores.specs.declared.placed.Placed.TheVariants.{Joined, Opened, Late}
+use Rattle.tenant_stores.specs.declared.undo.UndoEntry.{UndoEntry}
+use Rattle.tenant_stores.specs.declared.undo.UndoEntry.TheVariants.{Joined, Opened, Late}
 use Rattle.tenant_stores.specs.Part.{Part}
 use Rattle.tenant_stores.specs.View.{text_keys, text_keys_of}
 use Rattle.tenant_stores.specs.Changes.{all_released, texts_without, Joins, Opens, Leaves, new_row}
-use Rattle.tenant_stores.specs.Trail.{HoldsAll, IsPlaced, Trail}
+use Rattle.tenant_stores.specs.Trail.{HoldsAll, IsUndone, Trail}
 use Rattle.tenant_stores.proofs.Parts.{part_by, span_here, span_restored}
 
 module _ {X : Type 0} where
@@ -32,10 +32,10 @@ module _ {X : Type 0} where
 same_bytes : (a b : List ℕ) → bytes_eq a b ≡ true → a ≡ b
 same_bytes a b e = (bytes_eq-Decides a b).0 e
 
-pub seat_here : (trace : List ℕ) (slot : Option ℕ) (f : List ℕ → Option ℕ) → with_seat trace slot f trace ≡ slot
+pub seat_here : (trace : List ℕ) (slot : Option ℕ) (f : List ℕ → Option ℕ) → with_latest_row trace slot f trace ≡ slot
 seat_here trace slot f = let same : bytes_eq trace trace ≡ true = nat_list_eq_equiv.refl trace in rw same refl
 
-pub seat_restored : (f : List ℕ → Option ℕ) (trace : List ℕ) (slot was : Option ℕ) → f trace ≡ was → with_seat trace was (with_seat trace slot f) ≡ f
+pub seat_restored : (f : List ℕ → Option ℕ) (trace : List ℕ) (slot was : Option ℕ) → f trace ≡ was → with_latest_row trace was (with_latest_row trace slot f) ≡ f
 seat_restored f trace slot was had = fun_ext (λ j. one j (bytes_eq j trace) refl)
   where
     one : (j : List ℕ) (b : Bool) → bytes_eq j trace ≡ b → cond (bytes_eq j trace) was (cond (bytes_eq j trace) slot (f j)) ≡ f j
@@ -60,40 +60,40 @@ module _ {N : Type 0} where
         released ∙ (ap (λ (o : Option StoredData). all_released (text_keys_of o) q.texts) there ∙ (ap (all_released (text_keys span.keys)) texts ∙ holds.texts)),
       )
 
-  pub back_joined : (start p q r : Part N) (number key : ℕ) (former : N) → IsPlaced (Joined number key former) start p
-      → q.spans ≡ p.spans → q.texts ≡ p.texts → q.rows ≡ with_at number (unjoined former (p.rows number)) p.rows → q.seats ≡ p.seats
+  pub back_joined : (start p q r : Part N) (number key : ℕ) (former : N) → IsUndone (Joined number key former) start p
+      → q.spans ≡ p.spans → q.texts ≡ p.texts → q.rows ≡ with_at number (unjoined former (p.rows number)) p.rows → q.latest_rows ≡ p.latest_rows
       → Leaves (key ∷ []) q r → r ≡ start
-  back_joined start p q r number key former (span, row, note, middle, had, same, holds, joins) spans texts rows seats leaves =
+  back_joined start p q r number key former (span, row, note, middle, had, same, holds, joins) spans texts rows latest_rows leaves =
       let left = left_again start middle q r key span joins.vacant (spans ∙ joins.spans) (texts ∙ joins.texts) holds leaves.spans leaves.texts in
       let had' : middle.rows number ≡ Some row = ap (λ (f : ℕ → Option (Row N)). f number) holds.rows ∙ had in
       let at_number : p.rows number ≡ joined key note (middle.rows number) = ap (λ (f : ℕ → Option (Row N)). f number) joins.rows ∙ row_here number (joined key note (middle.rows number)) middle.rows in
       let back : unjoined former (p.rows number) ≡ Some row = ap (unjoined former) (at_number ∙ ap (joined key note) had') ∙ unjoin key note former row same in
       let whole : q.rows ≡ middle.rows = rows ∙ (ap (λ (o : Option (Row N)). with_at number o p.rows) back ∙ (ap (with_at number (Some row)) joins.rows ∙ row_restored middle.rows number (joined key note (middle.rows number)) (Some row) had')) in
-      part_by r.spans start.spans r.texts start.texts r.rows start.rows r.seats start.seats left.0 left.1 (leaves.rows ∙ (whole ∙ holds.rows)) (leaves.seats ∙ (seats ∙ (joins.seats ∙ holds.seats)))
+      part_by r.spans start.spans r.texts start.texts r.rows start.rows r.latest_rows start.latest_rows left.0 left.1 (leaves.rows ∙ (whole ∙ holds.rows)) (leaves.latest_rows ∙ (latest_rows ∙ (joins.latest_rows ∙ holds.latest_rows)))
 
-  pub back_opened : (start p q r : Part N) (number key : ℕ) (trace : List ℕ) (earlier : Option ℕ) → IsPlaced (Opened number key trace earlier) start p
-      → q.spans ≡ p.spans → q.texts ≡ p.texts → q.rows ≡ with_at number None p.rows → (p.seats trace ≢ None → q.seats ≡ with_seat trace earlier p.seats)
+  pub back_opened : (start p q r : Part N) (number key : ℕ) (trace : List ℕ) (earlier : Option ℕ) → IsUndone (Opened number key trace earlier) start p
+      → q.spans ≡ p.spans → q.texts ≡ p.texts → q.rows ≡ with_at number None p.rows → (p.latest_rows trace ≢ None → q.latest_rows ≡ with_latest_row trace earlier p.latest_rows)
       → Leaves (key ∷ []) q r → r ≡ start
-  back_opened start p q r number key trace earlier (span, due, note, middle, none, seat, holds, opens) spans texts rows seats leaves =
+  back_opened start p q r number key trace earlier (span, due, note, middle, none, latest_row, holds, opens) spans texts rows latest_rows leaves =
       let left = left_again start middle q r key span opens.vacant (spans ∙ opens.spans) (texts ∙ opens.texts) holds leaves.spans leaves.texts in
       let none' : middle.rows number ≡ None = ap (λ (f : ℕ → Option (Row N)). f number) holds.rows ∙ none in
-      let seat' : middle.seats trace ≡ earlier = ap (λ (f : List ℕ → Option ℕ). f trace) holds.seats ∙ seat in
-      let there : p.seats trace ≡ Some number = ap (λ (f : List ℕ → Option ℕ). f trace) opens.seats ∙ seat_here trace (Some number) middle.seats in
-      let some : p.seats trace ≢ None = λ e. absurd (is_some (sym there ∙ e)) in
+      let seat' : middle.latest_rows trace ≡ earlier = ap (λ (f : List ℕ → Option ℕ). f trace) holds.latest_rows ∙ latest_row in
+      let there : p.latest_rows trace ≡ Some number = ap (λ (f : List ℕ → Option ℕ). f trace) opens.latest_rows ∙ seat_here trace (Some number) middle.latest_rows in
+      let some : p.latest_rows trace ≢ None = λ e. absurd (is_some (sym there ∙ e)) in
       let whole : q.rows ≡ middle.rows = rows ∙ (ap (with_at number None) opens.rows ∙ row_restored middle.rows number (Some (new_row trace due key note)) None none') in
-      let seats_whole : q.seats ≡ middle.seats = seats some ∙ (ap (with_seat trace earlier) opens.seats ∙ seat_restored middle.seats trace (Some number) earlier seat') in
-      part_by r.spans start.spans r.texts start.texts r.rows start.rows r.seats start.seats left.0 left.1 (leaves.rows ∙ (whole ∙ holds.rows)) (leaves.seats ∙ (seats_whole ∙ holds.seats))
+      let seats_whole : q.latest_rows ≡ middle.latest_rows = latest_rows some ∙ (ap (with_latest_row trace earlier) opens.latest_rows ∙ seat_restored middle.latest_rows trace (Some number) earlier seat') in
+      part_by r.spans start.spans r.texts start.texts r.rows start.rows r.latest_rows start.latest_rows left.0 left.1 (leaves.rows ∙ (whole ∙ holds.rows)) (leaves.latest_rows ∙ (seats_whole ∙ holds.latest_rows))
     where
       is_some : {n : ℕ} → Some n ≡ None → ⊥
       is_some e = absurd (cc)
 
-  pub back_late : (start p r : Part N) (key : ℕ) → IsPlaced (Late key) start p → Leaves (key ∷ []) p r → r ≡ start
+  pub back_late : (start p r : Part N) (key : ℕ) → IsUndone (Late key) start p → Leaves (key ∷ []) p r → r ≡ start
   back_late start p r key (span, middle, holds, waits) leaves =
       let left = left_again start middle p r key span waits.vacant waits.spans waits.texts holds leaves.spans leaves.texts in
-      part_by r.spans start.spans r.texts start.texts r.rows start.rows r.seats start.seats left.0 left.1 (leaves.rows ∙ (waits.rows ∙ holds.rows)) (leaves.seats ∙ (waits.seats ∙ holds.seats))
+      part_by r.spans start.spans r.texts start.texts r.rows start.rows r.latest_rows start.latest_rows left.0 left.1 (leaves.rows ∙ (waits.rows ∙ holds.rows)) (leaves.latest_rows ∙ (waits.latest_rows ∙ holds.latest_rows))
 
-  pub Trail_pop : (start end : Part N) (xs : List (Placed N)) (x : Placed N) → Trail start (xs ++ x ∷ []) end → (middle : Part N) × Trail start xs middle × IsPlaced x middle end
-  Trail_pop start end [] x t = (start, refl, subst (IsPlaced x start) (sym t.2) t.1)
+  pub Trail_pop : (start end : Part N) (xs : List (UndoEntry N)) (x : UndoEntry N) → Trail start (xs ++ x ∷ []) end → (middle : Part N) × Trail start xs middle × IsUndone x middle end
+  Trail_pop start end [] x t = (start, refl, subst (IsUndone x start) (sym t.2) t.1)
   Trail_pop start end (y ∷ ys) x t =
       let rest = Trail_pop t.0 end ys x t.2 in
       (rest.0, (t.0, t.1, rest.1), rest.2)

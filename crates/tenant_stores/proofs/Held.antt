@@ -6,17 +6,17 @@ use Rattle.span_pool.specs.Stored.{StoredData, bytes_of}
 use Rattle.span_pool.specs.Stored as keyed
 use Rattle.span_pool.specs.declared.keys.TextKeys.{TextKeys}
 use Rattle.text_pool.specs.Part.{with_text, released, held, text_of}
-use Rattle.text_pool.specs.declared.pool.Kept.{Kept}
+use Rattle.text_pool.specs.declared.pool.CountedText.{CountedText}
 use Rattle.tenant_stores.specs.Part.{Part}
 use Rattle.tenant_stores.specs.Counts.{Counts, count}
 use Rattle.tenant_stores.specs.View.{text_at, text_keys, view}
-use Rattle.tenant_stores.specs.Sound.{uses_of, IsSound}
+use Rattle.tenant_stores.specs.Invariant.{uses_of, StoreInvariant}
 use Rattle.tenant_stores.specs.Changes.{all_released}
 use Rattle.tenant_stores.specs.Trail.{HoldsAll}
 use Rattle.tenant_stores.specs.Shows.{AreAmong, Stay}
-use Rattle.tenant_stores.specs.Held.{AreKept, AreHeld, IsKnown, wanted_text, again_of, origin_of}
-use Rattle.tenant_stores.specs.declared.texts.Wanted.{Wanted}
-use Rattle.tenant_stores.specs.declared.texts.Wanted.TheVariants.{Nothing, New, Again}
+use Rattle.tenant_stores.specs.HeldTexts.{AreKept, AreHeld, IsKnown, wanted_text, again_of, origin_of}
+use Rattle.tenant_stores.specs.declared.texts.TextRequest.{TextRequest}
+use Rattle.tenant_stores.specs.declared.texts.TextRequest.TheVariants.{Nothing, New, Again}
 use Rattle.tenant_stores.proofs.Parts.{part_by, span_here, span_restored, all_released-append, held_text}
 use Rattle.tenant_stores.proofs.Lists.{count-append, count-self}
 use Rattle.tenant_stores.proofs.Uses.{all-released, all-kept, one_held, held_kept}
@@ -31,7 +31,7 @@ on_err (Err error) p = p
 -- ---- one text
 
 -- a use more and a use less
-slot_back : (tenant : ℕ) (text : List ℕ) (o : Option Kept) → IfSome o (λ kept. 0 < kept.uses) → released (held tenant text o) ≡ o
+slot_back : (tenant : ℕ) (text : List ℕ) (o : Option CountedText) → IfSome o (λ kept. 0 < kept.uses) → released (held tenant text o) ≡ o
 slot_back tenant text None kept = refl
 slot_back tenant text (Some slot) kept = by_test (eqb (slot.uses + 1) 1) refl
   where
@@ -39,23 +39,23 @@ slot_back tenant text (Some slot) kept = by_test (eqb (slot.uses + 1) 1) refl
     by_test true e = let same : slot.uses + 1 ≡ 1 = grind (arith, nat_tests, e) in let some : 0 < slot.uses = kept in absurd (omega (arith, same, some))
     by_test false e = let same : slot.uses + 1 - 1 ≡ slot.uses = omega arith in ap (λ (u : ℕ). Some (record slot { uses = u })) same
 
-pub one_is_held : (tenant key : ℕ) (text : List ℕ) (at : ℕ → Option Kept) → AreKept at → AreHeld (key ∷ []) at (with_text key (held tenant text (at key)) at)
+pub one_is_held : (tenant key : ℕ) (text : List ℕ) (at : ℕ → Option CountedText) → AreKept at → AreHeld (key ∷ []) at (with_text key (held tenant text (at key)) at)
 one_is_held tenant key text at kept = record {
   back =
       let slot = held tenant text (at key) in
       let there : with_text key slot at key ≡ slot = span_here key slot at in
-      ap (λ (o : Option Kept). with_text key (released o) (with_text key slot at)) there ∙ span_restored at key slot (released slot) (sym (slot_back tenant text (at key) (kept key)));
+      ap (λ (o : Option CountedText). with_text key (released o) (with_text key slot at)) there ∙ span_restored at key slot (released slot) (sym (slot_back tenant text (at key) (kept key)));
   uses = λ t. one_held tenant key text at t;
   kept = held_kept tenant key text at kept;
   stay = λ t some. held-stays tenant key text at t some;
 }
 
-pub none_is_held : (at : ℕ → Option Kept) → AreKept at → AreHeld [] at at
+pub none_is_held : (at : ℕ → Option CountedText) → AreKept at → AreHeld [] at at
 none_is_held at kept = record { back = refl; uses = λ t. omega arith; kept = kept; stay = λ t some. refl }
 
 -- ---- one after the other
 
-pub more_held : (xs ys : List ℕ) (old middle new : ℕ → Option Kept) → AreHeld ys old middle → AreHeld xs middle new → AreHeld (xs ++ ys) old new
+pub more_held : (xs ys : List ℕ) (old middle new : ℕ → Option CountedText) → AreHeld ys old middle → AreHeld xs middle new → AreHeld (xs ++ ys) old new
 more_held xs ys old middle new first later = record {
   back = all_released-append xs ys new ∙ (ap (all_released ys) later.back ∙ first.back);
   uses = λ t. omega (arith, first.uses t, later.uses t, count-append t xs ys);
@@ -64,52 +64,52 @@ more_held xs ys old middle new first later = record {
 }
 
 -- what is wanted stays what it is
-pub known_later : (w : Wanted) (ks : List ℕ) (old new : ℕ → Option Kept) → AreHeld ks old new → IsKnown w old → IsKnown w new × (wanted_text w new ≡ wanted_text w old)
+pub known_later : (w : TextRequest) (ks : List ℕ) (old new : ℕ → Option CountedText) → AreHeld ks old new → IsKnown w old → IsKnown w new × (wanted_text w new ≡ wanted_text w old)
 known_later Nothing ks old new held known = (tt, refl)
 known_later (New text) ks old new held known = (tt, refl)
 known_later (Again key) ks old new held known = let some : 0 < uses_of (old key) = known in (omega (arith, some, held.uses key), held.stay key some)
 
 -- a text at a key that was held stays
-pub held_later : (key : Option ℕ) (xs ys : List ℕ) (old middle new : ℕ → Option Kept) → AreHeld ys old middle → AreHeld xs middle new → ((t : ℕ) → count t (option_to_list key) ≤ count t ys) → keyed.text_at (text_at new) key ≡ keyed.text_at (text_at middle) key
+pub held_later : (key : Option ℕ) (xs ys : List ℕ) (old middle new : ℕ → Option CountedText) → AreHeld ys old middle → AreHeld xs middle new → ((t : ℕ) → count t (option_to_list key) ≤ count t ys) → keyed.text_at (text_at new) key ≡ keyed.text_at (text_at middle) key
 held_later None xs ys old middle new first later among = refl
 held_later (Some key) xs ys old middle new first later among = later.stay key (omega (arith, first.uses key, among key, count-self key []))
 
 -- ---- a part whose texts are held
 
-module _ {N : Type 0} (keys : List ℕ) (p q : Part N) (spans : q.spans ≡ p.spans) (texts' : AreHeld keys p.texts q.texts) (rows : q.rows ≡ p.rows) (seats : q.seats ≡ p.seats) where
+module _ {N : Type 0} (keys : List ℕ) (p q : Part N) (spans : q.spans ≡ p.spans) (texts' : AreHeld keys p.texts q.texts) (rows : q.rows ≡ p.rows) (latest_rows : q.latest_rows ≡ p.latest_rows) where
   pub holds_all : HoldsAll keys p q
-  holds_all = record { spans = spans; texts = texts'.back; rows = rows; seats = seats }
+  holds_all = record { spans = spans; texts = texts'.back; rows = rows; latest_rows = latest_rows }
 
-  pub held_sound : (n : Counts) (pending held : List ℕ) → IsSound n pending held p → IsSound n pending (keys ++ held) q
+  pub held_sound : (n : Counts) (pending held : List ℕ) → StoreInvariant n pending held p → StoreInvariant n pending (keys ++ held) q
   held_sound n pending held sound =
-      subst (λ (x : Part N). IsSound n pending (keys ++ held) x) (sym (part_by q.spans p.spans q.texts q.texts q.rows p.rows q.seats p.seats spans refl rows seats)) (record {
+      subst (λ (x : Part N). StoreInvariant n pending (keys ++ held) x) (sym (part_by q.spans p.spans q.texts q.texts q.rows p.rows q.latest_rows p.latest_rows spans refl rows latest_rows)) (record {
         order = sound.order;
         named = sound.named;
         bare = sound.bare;
         used = λ t. omega (arith, sound.used t, texts'.uses t, count-append t keys held);
         kept = texts'.kept;
-        seats = sound.seats;
+        latest_rows = sound.latest_rows;
         there = sound.there;
         vacant = sound.vacant;
         left = sound.left;
       })
 
-  pub held_shows : (n : Counts) (pending held : List ℕ) → IsSound n pending held p → (shown : List ℕ) → AreAmong shown pending → view n shown q ≡ view n shown p
+  pub held_shows : (n : Counts) (pending held : List ℕ) → StoreInvariant n pending held p → (shown : List ℕ) → AreAmong shown pending → view n shown q ≡ view n shown p
   held_shows n pending held sound shown among = texts_show p q n pending shown sound.order spans rows (λ t named. texts'.stay t (omega (arith, named, sound.used t))) among
 
-  pub held_stays : (n : Counts) (pending held : List ℕ) → IsSound n pending held p → Stay held p.texts q.texts
+  pub held_stays : (n : Counts) (pending held : List ℕ) → StoreInvariant n pending held p → Stay held p.texts q.texts
   held_stays n pending held sound t some = texts'.stay t (omega (arith, some, sound.used t))
 
 -- several uses are given back
-pub released_sound : {N : Type 0} (gone : List ℕ) (p q : Part N) → q.spans ≡ p.spans → q.texts ≡ all_released gone p.texts → q.rows ≡ p.rows → q.seats ≡ p.seats → (n : Counts) (pending held : List ℕ) → IsSound n pending (gone ++ held) p → IsSound n pending held q
-released_sound {N} gone p q spans texts' rows seats n pending held sound =
-    subst (λ (x : Part N). IsSound n pending held x) (sym (part_by q.spans p.spans q.texts (all_released gone p.texts) q.rows p.rows q.seats p.seats spans texts' rows seats)) (record {
+pub released_sound : {N : Type 0} (gone : List ℕ) (p q : Part N) → q.spans ≡ p.spans → q.texts ≡ all_released gone p.texts → q.rows ≡ p.rows → q.latest_rows ≡ p.latest_rows → (n : Counts) (pending held : List ℕ) → StoreInvariant n pending (gone ++ held) p → StoreInvariant n pending held q
+released_sound {N} gone p q spans texts' rows latest_rows n pending held sound =
+    subst (λ (x : Part N). StoreInvariant n pending held x) (sym (part_by q.spans p.spans q.texts (all_released gone p.texts) q.rows p.rows q.latest_rows p.latest_rows spans texts' rows latest_rows)) (record {
       order = sound.order;
       named = sound.named;
       bare = sound.bare;
       used = λ t. omega (arith, sound.used t, all-released gone p.texts t, count-append t gone held);
       kept = all-kept gone p.texts sound.kept;
-      seats = sound.seats;
+      latest_rows = sound.latest_rows;
       there = sound.there;
       vacant = sound.vacant;
       left = sound.left;
@@ -118,11 +118,11 @@ released_sound {N} gone p q spans texts' rows seats n pending held sound =
 -- ---- four keys
 
 -- keys that are held are known
-pub again_known : (key : Option ℕ) (texts : ℕ → Option Kept) → ((t : ℕ) → 0 < count t (option_to_list key) → 0 < uses_of (texts t)) → IsKnown (again_of key) texts
+pub again_known : (key : Option ℕ) (texts : ℕ → Option CountedText) → ((t : ℕ) → 0 < count t (option_to_list key) → 0 < uses_of (texts t)) → IsKnown (again_of key) texts
 again_known None texts there = tt
 again_known (Some key) texts there = there key (omega (arith, count-self key []))
 
-pub again_text : (key : Option ℕ) (texts : ℕ → Option Kept) → wanted_text (again_of key) texts ≡ keyed.text_at (text_at texts) key
+pub again_text : (key : Option ℕ) (texts : ℕ → Option CountedText) → wanted_text (again_of key) texts ≡ keyed.text_at (text_at texts) key
 again_text None texts = refl
 again_text (Some key) texts = refl
 
@@ -137,51 +137,51 @@ four_parts keys t =
 
 -- ---- a text that is known by its key
 
-text_of_known : (text : List ℕ) (o : Option Kept) → IfSome o (λ kept. Some kept.text ≡ Some text) → IfSome o (λ kept. kept.text ≡ text)
+text_of_known : (text : List ℕ) (o : Option CountedText) → IfSome o (λ kept. Some kept.text ≡ Some text) → IfSome o (λ kept. kept.text ≡ text)
 text_of_known text None same = tt
 text_of_known text (Some kept) same = cc
 
-pub again_is_held : (tenant key again : ℕ) (at new : ℕ → Option Kept) → AreKept at → 0 < uses_of (at key) → IfSome (at key) (λ kept. new ≡ with_text again (held tenant kept.text (at again)) at)
+pub again_is_held : (tenant key again : ℕ) (at new : ℕ → Option CountedText) → AreKept at → 0 < uses_of (at key) → IfSome (at key) (λ kept. new ≡ with_text again (held tenant kept.text (at again)) at)
     → IfSome (at again) (λ kept. Some kept.text ≡ text_of (at key)) → AreHeld (again ∷ []) at new × (text_at new again ≡ text_at at key)
 again_is_held tenant key again at new kept known own same = by_slot (at key) known own same
   where
-    by_slot : (o : Option Kept) → 0 < uses_of o → IfSome o (λ kept. new ≡ with_text again (held tenant kept.text (at again)) at) → IfSome (at again) (λ kept. Some kept.text ≡ text_of o) → AreHeld (again ∷ []) at new × (text_at new again ≡ text_of o)
+    by_slot : (o : Option CountedText) → 0 < uses_of o → IfSome o (λ kept. new ≡ with_text again (held tenant kept.text (at again)) at) → IfSome (at again) (λ kept. Some kept.text ≡ text_of o) → AreHeld (again ∷ []) at new × (text_at new again ≡ text_of o)
     by_slot None known own same = absurd (omega (arith, known))
     by_slot (Some slot) known own same = (
-      subst (λ (f : ℕ → Option Kept). AreHeld (again ∷ []) at f) (sym own) (one_is_held tenant again slot.text at kept),
-      ap (λ (f : ℕ → Option Kept). text_at f again) own ∙ held_text tenant again slot.text at (text_of_known slot.text (at again) same),
+      subst (λ (f : ℕ → Option CountedText). AreHeld (again ∷ []) at f) (sym own) (one_is_held tenant again slot.text at kept),
+      ap (λ (f : ℕ → Option CountedText). text_at f again) own ∙ held_text tenant again slot.text at (text_of_known slot.text (at again) same),
     )
 
 -- a text that comes with its bytes
-pub new_is_held : (tenant key : ℕ) (text : List ℕ) (at new : ℕ → Option Kept) → AreKept at → new ≡ with_text key (held tenant text (at key)) at
+pub new_is_held : (tenant key : ℕ) (text : List ℕ) (at new : ℕ → Option CountedText) → AreKept at → new ≡ with_text key (held tenant text (at key)) at
     → IfSome (at key) (λ kept. kept.text ≡ text) → AreHeld (key ∷ []) at new × (text_at new key ≡ Some text)
 new_is_held tenant key text at new kept own same = (
-  subst (λ (f : ℕ → Option Kept). AreHeld (key ∷ []) at f) (sym own) (one_is_held tenant key text at kept),
-  ap (λ (f : ℕ → Option Kept). text_at f key) own ∙ held_text tenant key text at same,
+  subst (λ (f : ℕ → Option CountedText). AreHeld (key ∷ []) at f) (sym own) (one_is_held tenant key text at kept),
+  ap (λ (f : ℕ → Option CountedText). text_at f key) own ∙ held_text tenant key text at same,
 )
 
 -- ---- two lists of keys
 
 -- of two that are wanted, one after the other
-pub two_held : (w v : Wanted) (key last : Option ℕ) (old middle new : ℕ → Option Kept) → AreHeld (option_to_list last) old middle → (AreKept middle → IsKnown w middle → AreHeld (option_to_list key) middle new)
+pub two_held : (w v : TextRequest) (key last : Option ℕ) (old middle new : ℕ → Option CountedText) → AreHeld (option_to_list last) old middle → (AreKept middle → IsKnown w middle → AreHeld (option_to_list key) middle new)
     → IsKnown w old → AreHeld (option_to_list key ++ option_to_list last) old new
 two_held w v key last old middle new first later known =
     more_held (option_to_list key) (option_to_list last) old middle new first (later first.kept (known_later w (option_to_list last) old middle first known).0)
 
-pub two_first : (w : Wanted) (key last : Option ℕ) (old middle new : ℕ → Option Kept) → AreHeld (option_to_list last) old middle
+pub two_first : (w : TextRequest) (key last : Option ℕ) (old middle new : ℕ → Option CountedText) → AreHeld (option_to_list last) old middle
     → (AreKept middle → IsKnown w middle → keyed.text_at (text_at new) key ≡ wanted_text w middle) → IsKnown w old → keyed.text_at (text_at new) key ≡ wanted_text w old
 two_first w key last old middle new first later known =
     let on = known_later w (option_to_list last) old middle first known in
     later first.kept on.0 ∙ on.1
 
-pub two_last : (w v : Wanted) (key last : Option ℕ) (old middle new : ℕ → Option Kept) → AreHeld (option_to_list last) old middle → keyed.text_at (text_at middle) last ≡ wanted_text v old
+pub two_last : (w v : TextRequest) (key last : Option ℕ) (old middle new : ℕ → Option CountedText) → AreHeld (option_to_list last) old middle → keyed.text_at (text_at middle) last ≡ wanted_text v old
     → (AreKept middle → IsKnown w middle → AreHeld (option_to_list key) middle new) → IsKnown w old → keyed.text_at (text_at new) last ≡ wanted_text v old
 two_last w v key last old middle new first text later known =
     held_later last (option_to_list key) (option_to_list last) old middle new first (later first.kept (known_later w (option_to_list last) old middle first known).0) (λ t. omega arith) ∙ text
 
 -- ---- four of them
 
-module _ (a b c d : Wanted) (keys : TextKeys) (old middle new : ℕ → Option Kept) where
+module _ (a b c d : TextRequest) (keys : TextKeys) (old middle new : ℕ → Option CountedText) where
   abbrev upper : List ℕ
   upper = option_to_list keys.resource ++ option_to_list keys.resource_schema_url
 
@@ -218,7 +218,7 @@ module _ (a b c d : Wanted) (keys : TextKeys) (old middle new : ℕ → Option K
         cc (one, two, three, four)
 
 -- and where the first two of them are refused, the last two are given back
-pub four_refused : (b : Wanted) (s u : Option ℕ) (old middle refused' one new : ℕ → Option Kept) → AreHeld (option_to_list s ++ option_to_list u) old middle → (AreKept middle → IsKnown b middle → refused' ≡ middle) → IsKnown b old
+pub four_refused : (b : TextRequest) (s u : Option ℕ) (old middle refused' one new : ℕ → Option CountedText) → AreHeld (option_to_list s ++ option_to_list u) old middle → (AreKept middle → IsKnown b middle → refused' ≡ middle) → IsKnown b old
     → one ≡ all_released (option_to_list s) refused' → new ≡ all_released (option_to_list u) one → new ≡ old
 four_refused b s u old middle refused' one new first later known first_back last_back =
     let same : refused' ≡ middle = later first.kept (known_later b (option_to_list s ++ option_to_list u) old middle first known).0 in
@@ -226,16 +226,16 @@ four_refused b s u old middle refused' one new first later known first_back last
 
 -- ---- keys that are in hand
 
-pub in_hand : {N : Type 0} (n : Counts) (pending held : List ℕ) (p : Part N) → IsSound n pending held p → (keys : List ℕ) → AreAmong keys held → (t : ℕ) → 0 < count t keys → 0 < uses_of (p.texts t)
+pub in_hand : {N : Type 0} (n : Counts) (pending held : List ℕ) (p : Part N) → StoreInvariant n pending held p → (keys : List ℕ) → AreAmong keys held → (t : ℕ) → 0 < count t keys → 0 < uses_of (p.texts t)
 in_hand n pending held p sound keys among t some = omega (arith, sound.used t, some, among t)
 
-known_by : (w : Wanted) (key : Option ℕ) (texts : ℕ → Option Kept) → w ≡ again_of key → ((t : ℕ) → 0 < count t (option_to_list key) → 0 < uses_of (texts t)) → IsKnown w texts
-known_by w key texts is there = subst (λ (v : Wanted). IsKnown v texts) (sym is) (again_known key texts there)
+known_by : (w : TextRequest) (key : Option ℕ) (texts : ℕ → Option CountedText) → w ≡ again_of key → ((t : ℕ) → 0 < count t (option_to_list key) → 0 < uses_of (texts t)) → IsKnown w texts
+known_by w key texts is there = subst (λ (v : TextRequest). IsKnown v texts) (sym is) (again_known key texts there)
 
-text_by : (w : Wanted) (key : Option ℕ) (texts : ℕ → Option Kept) → w ≡ again_of key → wanted_text w texts ≡ keyed.text_at (text_at texts) key
-text_by w key texts is = ap (λ (v : Wanted). wanted_text v texts) is ∙ again_text key texts
+text_by : (w : TextRequest) (key : Option ℕ) (texts : ℕ → Option CountedText) → w ≡ again_of key → wanted_text w texts ≡ keyed.text_at (text_at texts) key
+text_by w key texts is = ap (λ (v : TextRequest). wanted_text v texts) is ∙ again_text key texts
 
-module _ (a b c d : Wanted) (keys : TextKeys) (texts : ℕ → Option Kept) (is_a : a ≡ again_of keys.resource) (is_b : b ≡ again_of keys.resource_schema_url) (is_c : c ≡ again_of keys.scope) (is_d : d ≡ again_of keys.scope_schema_url) where
+module _ (a b c d : TextRequest) (keys : TextKeys) (texts : ℕ → Option CountedText) (is_a : a ≡ again_of keys.resource) (is_b : b ≡ again_of keys.resource_schema_url) (is_c : c ≡ again_of keys.scope) (is_d : d ≡ again_of keys.scope_schema_url) where
   pub origin_again : origin_of (wanted_text a texts) (wanted_text b texts) (wanted_text c texts) (wanted_text d texts) ≡ keyed.origin_at (text_at texts) keys
   origin_again = cc (text_by a keys.resource texts is_a, text_by b keys.resource_schema_url texts is_b, text_by c keys.scope texts is_c, text_by d keys.scope_schema_url texts is_d)
 

@@ -6,12 +6,12 @@ use Rattle.trace_rows.specs.Part.{keys_of}
 use Rattle.tenant_stores.specs.Part.{Part}
 use Rattle.tenant_stores.specs.Counts.{Counts, in_table, count}
 use Rattle.tenant_stores.specs.View.{shown, spans_at, keys_in}
-use Rattle.tenant_stores.specs.Sound.{one, named_keys, IsSound}
+use Rattle.tenant_stores.specs.Invariant.{one, named_keys, StoreInvariant}
 use Rattle.tenant_stores.specs.Shows.{AreAmong, no_span, shown_or, span_at, KeysShow, KeysAreShown}
 use Rattle.tenant_stores.proofs.Lists.{count-append, count-self}
 use Rattle.tenant_stores.proofs.Rows.{named-replaced}
 
-module _ {N : Type 0} (n : Counts) (pending held : List ℕ) (p : Part N) (sound : IsSound n pending held p) where
+module _ {N : Type 0} (n : Counts) (pending held : List ℕ) (p : Part N) (sound : StoreInvariant n pending held p) where
   key_there : (key : ℕ) → 0 < count key (named_keys n pending p) → (span : StoredData) × (p.spans key ≡ Some span)
   key_there key some = by_span (p.spans key) refl
     where

@@ -8,16 +8,16 @@ use Rattle.span_pool.specs.Stored.{StoredData}
 use Rattle.span_pool.specs.Pool.{with_span, without}
 use Rattle.text_pool.specs.Part.{with_text, text_of}
 use Rattle.text_pool.specs.Part as texts
-use Rattle.text_pool.specs.declared.pool.Kept.{Kept}
+use Rattle.text_pool.specs.declared.pool.CountedText.{CountedText}
 use Rattle.trace_rows.specs.declared.table.Row.{Row}
 use Rattle.tenant_stores.specs.Part.{Part}
 use Rattle.tenant_stores.specs.View.{text_keys_of}
 use Rattle.tenant_stores.specs.Changes.{all_released, texts_without, Leaves}
 
 -- a part from its four
-pub part_by : {N : Type 0} (a a' : ℕ → Option StoredData) (t t' : ℕ → Option Kept) (b b' : ℕ → Option (Row N)) (s s' : List ℕ → Option ℕ) → a ≡ a' → t ≡ t' → b ≡ b' → s ≡ s' →
-    (let left : Part N = record { spans = a; texts = t; rows = b; seats = s } in let right : Part N = record { spans = a'; texts = t'; rows = b'; seats = s' } in left ≡ right)
-part_by a a' t t' b b' s s' p o q r = λ i. record { spans = p i; texts = o i; rows = q i; seats = r i }
+pub part_by : {N : Type 0} (a a' : ℕ → Option StoredData) (t t' : ℕ → Option CountedText) (b b' : ℕ → Option (Row N)) (s s' : List ℕ → Option ℕ) → a ≡ a' → t ≡ t' → b ≡ b' → s ≡ s' →
+    (let left : Part N = record { spans = a; texts = t; rows = b; latest_rows = s } in let right : Part N = record { spans = a'; texts = t'; rows = b'; latest_rows = s' } in left ≡ right)
+part_by a a' t t' b b' s s' p o q r = λ i. record { spans = p i; texts = o i; rows = q i; latest_rows = r i }
 
 module _ {X : Type 0} where
   -- what is at a key once it was put there
@@ -33,11 +33,11 @@ module _ {X : Type 0} where
       one j false e = grind (arith, nat_tests, e)
 
 -- uses that are given back, one list after the other
-pub all_released-append : (xs ys : List ℕ) (at : ℕ → Option Kept) → all_released (xs ++ ys) at ≡ all_released ys (all_released xs at)
+pub all_released-append : (xs ys : List ℕ) (at : ℕ → Option CountedText) → all_released (xs ++ ys) at ≡ all_released ys (all_released xs at)
 all_released-append [] ys at = refl
 all_released-append (x ∷ xs) ys at = all_released-append xs ys (with_text x (texts.released (at x)) at)
 
-pub four_released : (a b c d : List ℕ) (t u v w x : ℕ → Option Kept) → u ≡ all_released a t → v ≡ all_released b u → w ≡ all_released c v → x ≡ all_released d w → x ≡ all_released (a ++ (b ++ (c ++ d))) t
+pub four_released : (a b c d : List ℕ) (t u v w x : ℕ → Option CountedText) → u ≡ all_released a t → v ≡ all_released b u → w ≡ all_released c v → x ≡ all_released d w → x ≡ all_released (a ++ (b ++ (c ++ d))) t
 four_released a b c d t u v w x p q r s =
     let one : all_released (a ++ (b ++ (c ++ d))) t ≡ all_released (b ++ (c ++ d)) u = all_released-append a (b ++ (c ++ d)) t ∙ ap (all_released (b ++ (c ++ d))) (sym p) in
     let two : all_released (b ++ (c ++ d)) u ≡ all_released (c ++ d) v = all_released-append b (c ++ d) u ∙ ap (all_released (c ++ d)) (sym q) in
@@ -45,13 +45,13 @@ four_released a b c d t u v w x p q r s =
     s ∙ sym (one ∙ (two ∙ three))
 
 -- the text of a key that was held
-pub held_text : (tenant key : ℕ) (text : List ℕ) (at : ℕ → Option Kept) → IfSome (at key) (λ kept. kept.text ≡ text) → text_of (with_text key (texts.held tenant text (at key)) at key) ≡ Some text
+pub held_text : (tenant key : ℕ) (text : List ℕ) (at : ℕ → Option CountedText) → IfSome (at key) (λ kept. kept.text ≡ text) → text_of (with_text key (texts.held tenant text (at key)) at key) ≡ Some text
 held_text tenant key text at same = ap text_of (text_here key (texts.held tenant text (at key)) at) ∙ by_slot (at key) same
   where
-    text_here : (k : ℕ) (slot : Option Kept) (f : ℕ → Option Kept) → with_text k slot f k ≡ slot
+    text_here : (k : ℕ) (slot : Option CountedText) (f : ℕ → Option CountedText) → with_text k slot f k ≡ slot
     text_here k slot f = grind (arith, nat_tests)
 
-    by_slot : (o : Option Kept) → IfSome o (λ kept. kept.text ≡ text) → text_of (texts.held tenant text o) ≡ Some text
+    by_slot : (o : Option CountedText) → IfSome o (λ kept. kept.text ≡ text) → text_of (texts.held tenant text o) ≡ Some text
     by_slot None is = refl
     by_slot (Some kept) is = ap Some is
 

@@ -2,20 +2,20 @@
 use Rattle.std.proofs.Common.{◌≡◌, ◌≢◌, ℕ, zero, suc, ◌+◌, ◌-◌, ◌<◌, ◌≤◌, max, List, [], ◌∷◌, ◌++◌, length, refl, sym, ap, ◌∙◌, arith, Bool, true, false, Option, Some, None, ltb, cond, subst, add-one}
 use Rattle.std.proofs.lemmas.Bool.Decides.{nat_tests}
 use Rattle.span_pool.specs.Stored.{StoredData}
-use Rattle.text_pool.specs.declared.pool.Kept.{Kept}
+use Rattle.text_pool.specs.declared.pool.CountedText.{CountedText}
 use Rattle.trace_rows.specs.declared.table.Row.{Row}
 use Rattle.trace_rows.specs.Part.{keys_of}
 use Rattle.tenant_stores.specs.Part.{Part}
 use Rattle.tenant_stores.specs.Counts.{Counts, settled_numbers, waiting_numbers, room_made, range}
 use Rattle.tenant_stores.specs.View.{SettledRow, WaitingRow, View, as_waiting, as_settled, waiting_rows, settled_rows, view}
-use Rattle.tenant_stores.specs.Sound.{IsSound}
+use Rattle.tenant_stores.specs.Invariant.{StoreInvariant}
 use Rattle.tenant_stores.specs.Shows.{settled_in, waiting_in, row_shown, but_first, evicted_by, with_room, RoomShows, RoomIsMade, FirstShows, FirstIsShown, LengthsAre}
 use Rattle.tenant_stores.proofs.Lists.{front_of}
 use Rattle.tenant_stores.proofs.Shown.{view_by}
 
 module _ {N : Type 0} where
   -- a row of the table
-  row_there : (n : Counts) (pending held : List ℕ) (p : Part N) → IsSound n pending held p → (number : ℕ) → n.swept < number → number ≤ n.opened → (row : Row N) × (p.rows number ≡ Some row)
+  row_there : (n : Counts) (pending held : List ℕ) (p : Part N) → StoreInvariant n pending held p → (number : ℕ) → n.swept < number → number ≤ n.opened → (row : Row N) × (p.rows number ≡ Some row)
   row_there n pending held p sound number above below = by_row (p.rows number) refl
     where
       by_row : (o : Option (Row N)) → p.rows number ≡ o → (row : Row N) × (p.rows number ≡ Some row)
@@ -24,7 +24,7 @@ module _ {N : Type 0} where
 
   -- ---- room for one row more
 
-  module _ (most : ℕ) (n : Counts) (pending held : List ℕ) (p : Part N) (some : 0 < most) (first_is : n.first ≡ n.opened - most) (sound : IsSound n pending held p) where
+  module _ (most : ℕ) (n : Counts) (pending held : List ℕ) (p : Part N) (some : 0 < most) (first_is : n.first ≡ n.opened - most) (sound : StoreInvariant n pending held p) where
     abbrev next_first : ℕ
     next_first = n.opened + 1 - most
 
@@ -84,7 +84,7 @@ module _ {N : Type 0} where
         by_test true is = let lt : n.opened < most = grind (arith, nat_tests, is) in room_left lt keys
         by_test false is = let le : most ≤ n.opened = grind (arith, nat_tests, is) in by_first (ltb n.first n.decided) refl le
 
-    room_sound : IsSound (room_made most n) pending held p
+    room_sound : StoreInvariant (room_made most n) pending held p
     room_sound =
         let a = sound.order.swept in
         let b = sound.order.first in
@@ -95,7 +95,7 @@ module _ {N : Type 0} where
           bare = λ number above below. sound.bare number (omega (arith, above, first_is)) (omega (arith, above, below));
           used = sound.used;
           kept = sound.kept;
-          seats = sound.seats;
+          latest_rows = sound.latest_rows;
           there = sound.there;
           vacant = sound.vacant;
           left = sound.left;
@@ -103,7 +103,7 @@ module _ {N : Type 0} where
 
   -- ---- the first row that waits
 
-  first_shows : (n : Counts) (pending held : List ℕ) (p : Part N) → IsSound n pending held p → n.decided < n.opened → FirstShows n p
+  first_shows : (n : Counts) (pending held : List ℕ) (p : Part N) → StoreInvariant n pending held p → n.decided < n.opened → FirstShows n p
   first_shows n pending held p sound lt =
       let a = sound.order.swept in
       let b = sound.order.first in
@@ -118,7 +118,7 @@ module _ {N : Type 0} where
 
   -- ---- how many rows there are
 
-  waiting_length : (s : ℕ → Option StoredData) (t : ℕ → Option Kept) (rows : ℕ → Option (Row N)) (m a : ℕ) → ((k : ℕ) → a < k → k ≤ a + m → rows k ≢ None) → length (waiting_rows s t rows (range a m)) ≡ m
+  waiting_length : (s : ℕ → Option StoredData) (t : ℕ → Option CountedText) (rows : ℕ → Option (Row N)) (m a : ℕ) → ((k : ℕ) → a < k → k ≤ a + m → rows k ≢ None) → length (waiting_rows s t rows (range a m)) ≡ m
   waiting_length s t rows zero a there = refl
   waiting_length s t rows (suc m) a there = by_row (rows (suc a)) (there (suc a) (omega arith) (omega arith)) (waiting_length s t rows m (suc a) (λ k above below. there k (omega (arith, above)) (omega (arith, below))))
     where

@@ -1,13 +1,13 @@
--- What another row at a number does to keys and seats.
+-- What another row at a number does to keys and latest rows.
 use Rattle.std.proofs.Common.{◌≡◌, ◌≢◌, ℕ, zero, suc, ◌+◌, ◌-◌, ◌<◌, ◌≤◌, List, [], ◌∷◌, ◌++◌, refl, sym, ap, ◌∙◌, arith, append_assoc, append-nil, Bool, true, false, Option, Some, None, eqb, bytes_eq, cond}
 use Rattle.std.proofs.lemmas.Bool.Decides.{nat_tests}
 use Rattle.std.proofs.lemmas.Slice.Eq.{bytes_eq-Decides}
 use Rattle.std.specs.Cmp.Lexicographic.{nat_list_eq_equiv}
 use Rattle.trace_rows.specs.declared.table.Row.{Row}
-use Rattle.trace_rows.specs.Part.{with_at, with_seat, joined, settled, keys_of, unseated, is_number, trace_in}
+use Rattle.trace_rows.specs.Part.{with_at, with_latest_row, joined, settled, keys_of, without_latest_row, is_number, trace_in}
 use Rattle.tenant_stores.specs.Counts.{range, count}
 use Rattle.tenant_stores.specs.View.{keys_in}
-use Rattle.tenant_stores.specs.Sound.{if_of, last_of, seat_in}
+use Rattle.tenant_stores.specs.Invariant.{if_of, last_of, latest_row_in}
 use Rattle.tenant_stores.proofs.Lists.{count-append, range-append, AreOther, range-above, range-below, split}
 
 last_of-assoc : (a b c : Option ℕ) → last_of (last_of a b) c ≡ last_of a (last_of b c)
@@ -36,9 +36,9 @@ module _ {N : Type 0} where
   keys_in-append rows [] ys = refl
   keys_in-append rows (x ∷ xs) ys = ap (λ (ks : List ℕ). keys_of (rows x) ++ ks) (keys_in-append rows xs ys) ∙ sym (append_assoc (keys_of (rows x)) (keys_in rows xs) (keys_in rows ys))
 
-  pub seat_in-append : (rows : ℕ → Option (Row N)) (xs ys : List ℕ) (trace : List ℕ) → seat_in rows (xs ++ ys) trace ≡ last_of (seat_in rows xs trace) (seat_in rows ys trace)
-  seat_in-append rows [] ys trace = sym (last_of-none (seat_in rows ys trace))
-  seat_in-append rows (x ∷ xs) ys trace = ap (last_of (if_of trace (rows x) x)) (seat_in-append rows xs ys trace) ∙ sym (last_of-assoc (if_of trace (rows x) x) (seat_in rows xs trace) (seat_in rows ys trace))
+  pub seat_in-append : (rows : ℕ → Option (Row N)) (xs ys : List ℕ) (trace : List ℕ) → latest_row_in rows (xs ++ ys) trace ≡ last_of (latest_row_in rows xs trace) (latest_row_in rows ys trace)
+  seat_in-append rows [] ys trace = sym (last_of-none (latest_row_in rows ys trace))
+  seat_in-append rows (x ∷ xs) ys trace = ap (last_of (if_of trace (rows x) x)) (seat_in-append rows xs ys trace) ∙ sym (last_of-assoc (if_of trace (rows x) x) (latest_row_in rows xs trace) (latest_row_in rows ys trace))
 
   pub keys-other : (k : ℕ) (w : Option (Row N)) (rows : ℕ → Option (Row N)) (js : List ℕ) → AreOther k js → keys_in (with_at k w rows) js ≡ keys_in rows js
   keys-other k w rows [] other = refl
@@ -46,19 +46,19 @@ module _ {N : Type 0} where
       let here : keys_of (with_at k w rows j) ≡ keys_of (rows j) = ap keys_of (row_other k w rows j other.0) in
       cc (here, keys-other k w rows js other.1)
 
-  pub seat-other : (k : ℕ) (w : Option (Row N)) (rows : ℕ → Option (Row N)) (trace : List ℕ) (js : List ℕ) → AreOther k js → seat_in (with_at k w rows) js trace ≡ seat_in rows js trace
+  pub seat-other : (k : ℕ) (w : Option (Row N)) (rows : ℕ → Option (Row N)) (trace : List ℕ) (js : List ℕ) → AreOther k js → latest_row_in (with_at k w rows) js trace ≡ latest_row_in rows js trace
   seat-other k w rows trace [] other = refl
   seat-other k w rows trace (j ∷ js) other =
       let here : if_of trace (with_at k w rows j) j ≡ if_of trace (rows j) j = ap (λ (r : Option (Row N)). if_of trace r j) (row_other k w rows j other.0) in
       cc (here, seat-other k w rows trace js other.1)
 
-  -- the same seats where each number's row is of the same trace
-  seat_in-same : (f g : ℕ → Option (Row N)) (trace : List ℕ) (js : List ℕ) → ((j : ℕ) → if_of trace (f j) j ≡ if_of trace (g j) j) → seat_in f js trace ≡ seat_in g js trace
+  -- the same latest rows where each number's row is of the same trace
+  seat_in-same : (f g : ℕ → Option (Row N)) (trace : List ℕ) (js : List ℕ) → ((j : ℕ) → if_of trace (f j) j ≡ if_of trace (g j) j) → latest_row_in f js trace ≡ latest_row_in g js trace
   seat_in-same f g trace [] same = refl
   seat_in-same f g trace (j ∷ js) same = cc (same j, seat_in-same f g trace js same)
 
   -- another row of the same trace, or none as before
-  pub seat-replaced : (k : ℕ) (w : Option (Row N)) (rows : ℕ → Option (Row N)) → ((trace : List ℕ) (j : ℕ) → if_of trace w j ≡ if_of trace (rows k) j) → (trace : List ℕ) (js : List ℕ) → seat_in (with_at k w rows) js trace ≡ seat_in rows js trace
+  pub seat-replaced : (k : ℕ) (w : Option (Row N)) (rows : ℕ → Option (Row N)) → ((trace : List ℕ) (j : ℕ) → if_of trace w j ≡ if_of trace (rows k) j) → (trace : List ℕ) (js : List ℕ) → latest_row_in (with_at k w rows) js trace ≡ latest_row_in rows js trace
   seat-replaced k w rows same trace js = seat_in-same (with_at k w rows) rows trace js (λ j.
       row_either k w rows (λ o. if_of trace o j ≡ if_of trace (rows j) j) j (λ e. same trace j ∙ ap (λ (i : ℕ). if_of trace (rows i) j) (sym e)) (λ e. refl))
 
@@ -105,40 +105,40 @@ module _ {N : Type 0} where
       let here : count j (keys_of (new (suc d))) ≡ count j (keys_of w) = ap (λ (r : Option (Row N)). count j (keys_of r)) (row_here (suc d) w rows) in
       omega (arith, named_parts new s d o j le lt, named_parts rows s d o j le lt, front, back, here)
 
-  -- the seats once the lowest row has gone
-  pub seat_swept : (k : ℕ) (o : Option (Row N)) (seats f : List ℕ → Option ℕ) → ((t : List ℕ) → seats t ≡ last_of (if_of t o k) (f t)) → ((t : List ℕ) (j : ℕ) → f t ≡ Some j → k < j) → (t : List ℕ) → unseated k (trace_in o) seats t ≡ f t
-  seat_swept k None seats f seat above t = seat t ∙ last_of-none (f t)
-  seat_swept k (Some r) seats f seat above t = by_rest (f r.trace) refl
+  -- the latest rows once the lowest row has gone
+  pub seat_swept : (k : ℕ) (o : Option (Row N)) (latest_rows f : List ℕ → Option ℕ) → ((t : List ℕ) → latest_rows t ≡ last_of (if_of t o k) (f t)) → ((t : List ℕ) (j : ℕ) → f t ≡ Some j → k < j) → (t : List ℕ) → without_latest_row k (trace_in o) latest_rows t ≡ f t
+  seat_swept k None latest_rows f latest_row above t = latest_row t ∙ last_of-none (f t)
+  seat_swept k (Some r) latest_rows f latest_row above t = by_rest (f r.trace) refl
     where
       here : last_of (if_of r.trace (Some r) k) (f r.trace) ≡ last_of (Some k) (f r.trace)
       here = let same : bytes_eq r.trace r.trace ≡ true = nat_list_eq_equiv.refl r.trace in rw same refl
 
-      elsewhere : bytes_eq r.trace t ≡ false → seats t ≡ f t
-      elsewhere other = let e : if_of t (Some r) k ≡ None = rw other refl in seat t ∙ (ap (λ (o : Option ℕ). last_of o (f t)) e ∙ last_of-none (f t))
+      elsewhere : bytes_eq r.trace t ≡ false → latest_rows t ≡ f t
+      elsewhere other = let e : if_of t (Some r) k ≡ None = rw other refl in latest_row t ∙ (ap (λ (o : Option ℕ). last_of o (f t)) e ∙ last_of-none (f t))
 
-      by_rest : (s : Option ℕ) → f r.trace ≡ s → cond (is_number k (seats r.trace)) (with_seat r.trace None seats) seats t ≡ f t
+      by_rest : (s : Option ℕ) → f r.trace ≡ s → cond (is_number k (latest_rows r.trace)) (with_latest_row r.trace None latest_rows) latest_rows t ≡ f t
       by_rest None e =
-          let at : seats r.trace ≡ Some k = seat r.trace ∙ (here ∙ ap (last_of (Some k)) e) in
-          let is : is_number k (seats r.trace) ≡ true = let same : eqb k k ≡ true = grind (arith, nat_tests) in ap (is_number k) at ∙ same in
+          let at : latest_rows r.trace ≡ Some k = latest_row r.trace ∙ (here ∙ ap (last_of (Some k)) e) in
+          let is : is_number k (latest_rows r.trace) ≡ true = let same : eqb k k ≡ true = grind (arith, nat_tests) in ap (is_number k) at ∙ same in
           rw is (by_test (bytes_eq t r.trace) refl)
         where
-          by_test : (b : Bool) → bytes_eq t r.trace ≡ b → cond b None (seats t) ≡ f t
+          by_test : (b : Bool) → bytes_eq t r.trace ≡ b → cond b None (latest_rows t) ≡ f t
           by_test true same = let eq : t ≡ r.trace = (bytes_eq-Decides t r.trace).0 same in sym (ap f eq ∙ e)
           by_test false other = elsewhere (nat_list_eq_equiv.symm r.trace t ∙ other)
       by_rest (Some j) e =
           let lt : k < j = above r.trace j e in
-          let at : seats r.trace ≡ Some j = seat r.trace ∙ (here ∙ ap (last_of (Some k)) e) in
-          let is : is_number k (seats r.trace) ≡ false = let other : eqb j k ≡ false = grind (arith, nat_tests, lt) in ap (is_number k) at ∙ other in
+          let at : latest_rows r.trace ≡ Some j = latest_row r.trace ∙ (here ∙ ap (last_of (Some k)) e) in
+          let is : is_number k (latest_rows r.trace) ≡ false = let other : eqb j k ≡ false = grind (arith, nat_tests, lt) in ap (is_number k) at ∙ other in
           rw is (by_test (bytes_eq r.trace t) refl at)
         where
-          by_test : (b : Bool) → bytes_eq r.trace t ≡ b → seats r.trace ≡ Some j → seats t ≡ f t
-          by_test true same at = let eq : r.trace ≡ t = (bytes_eq-Decides r.trace t).0 same in sym (ap seats eq) ∙ (at ∙ sym (sym (ap f eq) ∙ e))
+          by_test : (b : Bool) → bytes_eq r.trace t ≡ b → latest_rows r.trace ≡ Some j → latest_rows t ≡ f t
+          by_test true same at = let eq : r.trace ≡ t = (bytes_eq-Decides r.trace t).0 same in sym (ap latest_rows eq) ∙ (at ∙ sym (sym (ap f eq) ∙ e))
           by_test false other at = elsewhere other
 
-  -- the seats of rows above a number are above it
-  pub seat_above : (rows : ℕ → Option (Row N)) (m a : ℕ) (trace : List ℕ) (k : ℕ) → seat_in rows (range a m) trace ≡ Some k → a < k
+  -- the latest rows among those above a number are above it
+  pub seat_above : (rows : ℕ → Option (Row N)) (m a : ℕ) (trace : List ℕ) (k : ℕ) → latest_row_in rows (range a m) trace ≡ Some k → a < k
   seat_above rows zero a trace k is = absurd (cc)
-  seat_above rows (suc m) a trace k is = by_rest (seat_in rows (range (suc a) m) trace) refl is (λ e. seat_above rows m (suc a) trace k e)
+  seat_above rows (suc m) a trace k is = by_rest (latest_row_in rows (range (suc a) m) trace) refl is (λ e. seat_above rows m (suc a) trace k e)
     where
       of_here : (r : Option (Row N)) → if_of trace r (suc a) ≡ Some k → a < k
       of_here None is = absurd (cc)
@@ -148,17 +148,17 @@ module _ {N : Type 0} where
           by_test true is = let same : suc a ≡ k = cc in omega (arith, same)
           by_test false is = absurd (cc)
 
-      by_rest : (s : Option ℕ) → seat_in rows (range (suc a) m) trace ≡ s → last_of (if_of trace (rows (suc a)) (suc a)) s ≡ Some k → (seat_in rows (range (suc a) m) trace ≡ Some k → suc a < k) → a < k
+      by_rest : (s : Option ℕ) → latest_row_in rows (range (suc a) m) trace ≡ s → last_of (if_of trace (rows (suc a)) (suc a)) s ≡ Some k → (latest_row_in rows (range (suc a) m) trace ≡ Some k → suc a < k) → a < k
       by_rest None e is ih = of_here (rows (suc a)) is
       by_rest (Some j) e is ih = let above : suc a < k = ih (e ∙ is) in omega (arith, above)
 
   -- a new row is the latest of its trace
-  pub seat_opened : (trace : List ℕ) (number : ℕ) (row : Row N) (seats f : List ℕ → Option ℕ) → row.trace ≡ trace → ((t : List ℕ) → seats t ≡ f t) → (t : List ℕ) → with_seat trace (Some number) seats t ≡ last_of (f t) (if_of t (Some row) number)
-  seat_opened trace number row seats f is seat t = by_test (bytes_eq t trace) refl
+  pub seat_opened : (trace : List ℕ) (number : ℕ) (row : Row N) (latest_rows f : List ℕ → Option ℕ) → row.trace ≡ trace → ((t : List ℕ) → latest_rows t ≡ f t) → (t : List ℕ) → with_latest_row trace (Some number) latest_rows t ≡ last_of (f t) (if_of t (Some row) number)
+  seat_opened trace number row latest_rows f is latest_row t = by_test (bytes_eq t trace) refl
     where
       sides : bytes_eq row.trace t ≡ bytes_eq t trace
       sides = ap (λ (x : List ℕ). bytes_eq x t) is ∙ nat_list_eq_equiv.symm trace t
 
-      by_test : (b : Bool) → bytes_eq t trace ≡ b → cond b (Some number) (seats t) ≡ last_of (f t) (cond (bytes_eq row.trace t) (Some number) None)
+      by_test : (b : Bool) → bytes_eq t trace ≡ b → cond b (Some number) (latest_rows t) ≡ last_of (f t) (cond (bytes_eq row.trace t) (Some number) None)
       by_test true e = let here : bytes_eq row.trace t ≡ true = sides ∙ e in rw here refl
-      by_test false e = let here : bytes_eq row.trace t ≡ false = sides ∙ e in rw here (seat t)
+      by_test false e = let here : bytes_eq row.trace t ≡ false = sides ∙ e in rw here (latest_row t)

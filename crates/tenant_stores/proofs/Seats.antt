@@ -1,17 +1,17 @@
--- What a trace's seat says of the rows that are shown.
+-- What a trace's latest row says of the rows that are shown.
 use Rattle.std.proofs.Common.{◌≡◌, ◌≢◌, ◌⊎◌, inl, inr, ℕ, zero, suc, ◌+◌, ◌-◌, ◌<◌, ◌≤◌, List, [], ◌∷◌, ◌++◌, refl, sym, ap, ◌∙◌, arith, Bool, true, false, Option, Some, None, bytes_eq, cond, subst}
 use Rattle.std.specs.Prelude.{is_some, ◌||◌}
 use Rattle.std.proofs.lemmas.Slice.Eq.{bytes_eq-Decides}
 use Rattle.std.specs.Cmp.Lexicographic.{nat_list_eq_equiv}
 use Rattle.span_pool.specs.Stored.{StoredData, SpanTexts, texts_of}
-use Rattle.text_pool.specs.declared.pool.Kept.{Kept}
+use Rattle.text_pool.specs.declared.pool.CountedText.{CountedText}
 use Rattle.trace_rows.specs.declared.table.Row.{Row}
 use Rattle.trace_rows.specs.Part.{with_at, joined}
 use Rattle.tenant_stores.specs.Part.{Part}
 use Rattle.tenant_stores.specs.Counts.{Counts, AreInOrder, in_table, settled_numbers, waiting_numbers, range}
 use Rattle.tenant_stores.specs.View.{SettledRow, WaitingRow, text_at, spans_at, as_waiting, as_settled, waiting_rows, settled_rows}
-use Rattle.tenant_stores.specs.Sound.{if_of, last_of, seat_in, IsSound}
-use Rattle.tenant_stores.specs.Shows.{settled_in, waiting_in, row_shown, has_row, row_in, sampled_in, joined_rows, ShowsNone, ShowsDecided, ShowsWaiting, SeatShows}
+use Rattle.tenant_stores.specs.Invariant.{if_of, last_of, latest_row_in, StoreInvariant}
+use Rattle.tenant_stores.specs.Shows.{settled_in, waiting_in, row_shown, has_row, row_in, sampled_in, joined_rows, ShowsNone, ShowsDecided, ShowsWaiting, LatestRowShows}
 use Rattle.tenant_stores.proofs.Lists.{range-append, AreOther, range-above}
 use Rattle.tenant_stores.proofs.Rows.{row_here, row_other, seat_in-append, seat_above}
 use Rattle.tenant_stores.proofs.Shown.{table_split, waiting-other}
@@ -37,7 +37,7 @@ pub record IsRowOf {N : Type 0} (rows : ℕ → Option (Row N)) (trace : List �
   pub of_trace : row.trace ≡ trace
 
 -- a row as one that waits
-abbrev pub shown_row : {N : Type 0} → (ℕ → Option StoredData) → (ℕ → Option Kept) → Row N → WaitingRow N
+abbrev pub shown_row : {N : Type 0} → (ℕ → Option StoredData) → (ℕ → Option CountedText) → Row N → WaitingRow N
 shown_row s t row = record { trace = row.trace; due = row.due; spans = spans_at s t row.keys; note = row.note }
 
 abbrev gone_numbers : Counts → List ℕ
@@ -83,25 +83,25 @@ module _ {N : Type 0} where
           by_test true e is = let same : j ≡ number = cc in (same, at_j row had e same)
           by_test false e is = absurd (cc)
 
-  pub seat_row : (rows : ℕ → Option (Row N)) (trace : List ℕ) (js : List ℕ) (number : ℕ) → seat_in rows js trace ≡ Some number → IsRowOf rows trace number
+  pub seat_row : (rows : ℕ → Option (Row N)) (trace : List ℕ) (js : List ℕ) (number : ℕ) → latest_row_in rows js trace ≡ Some number → IsRowOf rows trace number
   seat_row rows trace [] number is = absurd (cc)
-  seat_row rows trace (j ∷ js) number is = by_rest (seat_in rows js trace) refl is (seat_row rows trace js number)
+  seat_row rows trace (j ∷ js) number is = by_rest (latest_row_in rows js trace) refl is (seat_row rows trace js number)
     where
-      by_rest : (s : Option ℕ) → seat_in rows js trace ≡ s → last_of (if_of trace (rows j) j) s ≡ Some number → (seat_in rows js trace ≡ Some number → IsRowOf rows trace number) → IsRowOf rows trace number
+      by_rest : (s : Option ℕ) → latest_row_in rows js trace ≡ s → last_of (if_of trace (rows j) j) s ≡ Some number → (latest_row_in rows js trace ≡ Some number → IsRowOf rows trace number) → IsRowOf rows trace number
       by_rest None e is ih = (of_one rows trace j number is).1
       by_rest (Some k) e is ih = ih (e ∙ is)
 
-  pub seat_below : (rows : ℕ → Option (Row N)) (m a : ℕ) (trace : List ℕ) (number : ℕ) → seat_in rows (range a m) trace ≡ Some number → number ≤ a + m
+  pub seat_below : (rows : ℕ → Option (Row N)) (m a : ℕ) (trace : List ℕ) (number : ℕ) → latest_row_in rows (range a m) trace ≡ Some number → number ≤ a + m
   seat_below rows zero a trace number is = absurd (cc)
-  seat_below rows (suc m) a trace number is = by_rest (seat_in rows (range (suc a) m) trace) refl is (seat_below rows m (suc a) trace number)
+  seat_below rows (suc m) a trace number is = by_rest (latest_row_in rows (range (suc a) m) trace) refl is (seat_below rows m (suc a) trace number)
     where
-      by_rest : (s : Option ℕ) → seat_in rows (range (suc a) m) trace ≡ s → last_of (if_of trace (rows (suc a)) (suc a)) s ≡ Some number → (seat_in rows (range (suc a) m) trace ≡ Some number → number ≤ suc a + m) → number ≤ a + suc m
+      by_rest : (s : Option ℕ) → latest_row_in rows (range (suc a) m) trace ≡ s → last_of (if_of trace (rows (suc a)) (suc a)) s ≡ Some number → (latest_row_in rows (range (suc a) m) trace ≡ Some number → number ≤ suc a + m) → number ≤ a + suc m
       by_rest None e is ih = let same : suc a ≡ number = (of_one rows trace (suc a) number is).0 in omega (arith, same)
       by_rest (Some k) e is ih = let le : number ≤ suc a + m = ih (e ∙ is) in omega (arith, le)
 
-  -- ---- look-ups by trace are look-ups by seat
+  -- ---- look-ups by trace are look-ups by latest row
 
-  pub has-seat : (s : ℕ → Option StoredData) (t : ℕ → Option Kept) (rows : ℕ → Option (Row N)) (trace : List ℕ) (js : List ℕ) → has_row trace (waiting_rows s t rows js) ≡ is_some (seat_in rows js trace)
+  pub has-seat : (s : ℕ → Option StoredData) (t : ℕ → Option CountedText) (rows : ℕ → Option (Row N)) (trace : List ℕ) (js : List ℕ) → has_row trace (waiting_rows s t rows js) ≡ is_some (latest_row_in rows js trace)
   has-seat s t rows trace [] = refl
   has-seat s t rows trace (j ∷ js) = by_row (rows j) (has-seat s t rows trace js)
     where
@@ -110,11 +110,11 @@ module _ {N : Type 0} where
       by_test row true r None e ih = let here = if_of_is trace row j e in rw (ih, here) refl
       by_test row false r None e ih = let here = if_of_not trace row j e in rw (ih, here) refl
 
-      by_row : (o : Option (Row N)) → has_row trace (waiting_rows s t rows js) ≡ is_some (seat_in rows js trace) → has_row trace (as_waiting s t o ++ waiting_rows s t rows js) ≡ is_some (last_of (if_of trace o j) (seat_in rows js trace))
-      by_row None ih = ih ∙ sym (ap (λ (x : Option ℕ). is_some x) (last_none (seat_in rows js trace)))
-      by_row (Some row) ih = by_test row (bytes_eq trace row.trace) (has_row trace (waiting_rows s t rows js)) (seat_in rows js trace) refl ih
+      by_row : (o : Option (Row N)) → has_row trace (waiting_rows s t rows js) ≡ is_some (latest_row_in rows js trace) → has_row trace (as_waiting s t o ++ waiting_rows s t rows js) ≡ is_some (last_of (if_of trace o j) (latest_row_in rows js trace))
+      by_row None ih = ih ∙ sym (ap (λ (x : Option ℕ). is_some x) (last_none (latest_row_in rows js trace)))
+      by_row (Some row) ih = by_test row (bytes_eq trace row.trace) (has_row trace (waiting_rows s t rows js)) (latest_row_in rows js trace) refl ih
 
-  -- what is told of the row of a seat
+  -- what is told of a latest row
   abbrev pub told_of : {X : Type 0} → (Row N → X) → Option (Row N) → Option X
   told_of tell None = None
   told_of tell (Some row) = Some (tell row)
@@ -136,41 +136,41 @@ module _ {N : Type 0} where
       by_test true e = let here = if_of_is trace row j e in rw (ih, here) (sym (ap (told_of tell) had))
       by_test false e = let here = if_of_not trace row j e in rw (ih, here) refl
 
-  pub row-seat : (s : ℕ → Option StoredData) (t : ℕ → Option Kept) (rows : ℕ → Option (Row N)) (trace : List ℕ) (js : List ℕ) → row_in trace (waiting_rows s t rows js)
-      ≡ told_at (shown_row s t) rows (seat_in rows js trace)
+  pub row-seat : (s : ℕ → Option StoredData) (t : ℕ → Option CountedText) (rows : ℕ → Option (Row N)) (trace : List ℕ) (js : List ℕ) → row_in trace (waiting_rows s t rows js)
+      ≡ told_at (shown_row s t) rows (latest_row_in rows js trace)
   row-seat s t rows trace [] = refl
   row-seat s t rows trace (j ∷ js) = by_row (rows j) refl (row-seat s t rows trace js)
     where
-      by_row : (o : Option (Row N)) → rows j ≡ o → row_in trace (waiting_rows s t rows js) ≡ told_at (shown_row s t) rows (seat_in rows js trace) →
-          row_in trace (as_waiting s t o ++ waiting_rows s t rows js) ≡ told_at (shown_row s t) rows (last_of (if_of trace o j) (seat_in rows js trace))
-      by_row None had ih = ih ∙ sym (ap (told_at (shown_row s t) rows) (last_none (seat_in rows js trace)))
-      by_row (Some row) had ih = told_first (shown_row s t) rows trace j row (seat_in rows js trace) (row_in trace (waiting_rows s t rows js)) had ih (λ k is. seat_row rows trace js k is)
+      by_row : (o : Option (Row N)) → rows j ≡ o → row_in trace (waiting_rows s t rows js) ≡ told_at (shown_row s t) rows (latest_row_in rows js trace) →
+          row_in trace (as_waiting s t o ++ waiting_rows s t rows js) ≡ told_at (shown_row s t) rows (last_of (if_of trace o j) (latest_row_in rows js trace))
+      by_row None had ih = ih ∙ sym (ap (told_at (shown_row s t) rows) (last_none (latest_row_in rows js trace)))
+      by_row (Some row) had ih = told_first (shown_row s t) rows trace j row (latest_row_in rows js trace) (row_in trace (waiting_rows s t rows js)) had ih (λ k is. seat_row rows trace js k is)
 
-  pub sampled-seat : (rows : ℕ → Option (Row N)) (trace : List ℕ) (js : List ℕ) → sampled_in trace (settled_rows rows js) ≡ told_at (λ (row : Row N). row.sampled) rows (seat_in rows js trace)
+  pub sampled-seat : (rows : ℕ → Option (Row N)) (trace : List ℕ) (js : List ℕ) → sampled_in trace (settled_rows rows js) ≡ told_at (λ (row : Row N). row.sampled) rows (latest_row_in rows js trace)
   sampled-seat rows trace [] = refl
   sampled-seat rows trace (j ∷ js) = by_row (rows j) refl (sampled-seat rows trace js)
     where
-      by_row : (o : Option (Row N)) → rows j ≡ o → sampled_in trace (settled_rows rows js) ≡ told_at (λ (row : Row N). row.sampled) rows (seat_in rows js trace) →
-          sampled_in trace (as_settled o ++ settled_rows rows js) ≡ told_at (λ (row : Row N). row.sampled) rows (last_of (if_of trace o j) (seat_in rows js trace))
-      by_row None had ih = ih ∙ sym (ap (told_at (λ (row : Row N). row.sampled) rows) (last_none (seat_in rows js trace)))
-      by_row (Some row) had ih = told_first (λ (row : Row N). row.sampled) rows trace j row (seat_in rows js trace) (sampled_in trace (settled_rows rows js)) had ih (λ k is. seat_row rows trace js k is)
+      by_row : (o : Option (Row N)) → rows j ≡ o → sampled_in trace (settled_rows rows js) ≡ told_at (λ (row : Row N). row.sampled) rows (latest_row_in rows js trace) →
+          sampled_in trace (as_settled o ++ settled_rows rows js) ≡ told_at (λ (row : Row N). row.sampled) rows (last_of (if_of trace o j) (latest_row_in rows js trace))
+      by_row None had ih = ih ∙ sym (ap (told_at (λ (row : Row N). row.sampled) rows) (last_none (latest_row_in rows js trace)))
+      by_row (Some row) had ih = told_first (λ (row : Row N). row.sampled) rows trace j row (latest_row_in rows js trace) (sampled_in trace (settled_rows rows js)) had ih (λ k is. seat_row rows trace js k is)
 
-  -- ---- where a seat's row lies: no longer present, decided or waiting
+  -- ---- where a latest row lies: no longer present, decided or waiting
 
-  pub seat_of_three : (n : Counts) (pending held : List ℕ) (p : Part N) (trace : List ℕ) → IsSound n pending held p →
-      p.seats trace ≡ last_of (seat_in p.rows (gone_numbers n) trace) (last_of (seat_in p.rows (settled_numbers n) trace) (seat_in p.rows (waiting_numbers n) trace))
+  pub seat_of_three : (n : Counts) (pending held : List ℕ) (p : Part N) (trace : List ℕ) → StoreInvariant n pending held p →
+      p.latest_rows trace ≡ last_of (latest_row_in p.rows (gone_numbers n) trace) (last_of (latest_row_in p.rows (settled_numbers n) trace) (latest_row_in p.rows (waiting_numbers n) trace))
   seat_of_three n pending held p trace sound =
-      sound.seats trace ∙ (ap (λ (ns : List ℕ). seat_in p.rows ns trace) (three n sound.order) ∙ (seat_in-append p.rows (gone_numbers n) (settled_numbers n ++ waiting_numbers n) trace ∙ ap (last_of (seat_in p.rows (gone_numbers n) trace)) (seat_in-append p.rows (settled_numbers n) (waiting_numbers n) trace)))
+      sound.latest_rows trace ∙ (ap (λ (ns : List ℕ). latest_row_in p.rows ns trace) (three n sound.order) ∙ (seat_in-append p.rows (gone_numbers n) (settled_numbers n ++ waiting_numbers n) trace ∙ ap (last_of (latest_row_in p.rows (gone_numbers n) trace)) (seat_in-append p.rows (settled_numbers n) (waiting_numbers n) trace)))
 
-  module _ (n : Counts) (pending held : List ℕ) (p : Part N) (trace : List ℕ) (sound : IsSound n pending held p) where
+  module _ (n : Counts) (pending held : List ℕ) (p : Part N) (trace : List ℕ) (sound : StoreInvariant n pending held p) where
     abbrev of_gone : Option ℕ
-    of_gone = seat_in p.rows (gone_numbers n) trace
+    of_gone = latest_row_in p.rows (gone_numbers n) trace
 
     abbrev of_settled : Option ℕ
-    of_settled = seat_in p.rows (settled_numbers n) trace
+    of_settled = latest_row_in p.rows (settled_numbers n) trace
 
     abbrev of_waiting : Option ℕ
-    of_waiting = seat_in p.rows (waiting_numbers n) trace
+    of_waiting = latest_row_in p.rows (waiting_numbers n) trace
 
     -- each of the three lies within its numbers
     gone_low : (k : ℕ) → of_gone ≡ Some k → k ≤ n.first
@@ -194,10 +194,10 @@ module _ {N : Type 0} where
       settled = sampled-seat p.rows trace (settled_numbers n) ∙ ap (told_at (λ (row : Row N). row.sampled) p.rows) s;
     }
 
-    three_is : (number : ℕ) → p.seats trace ≡ Some number → Of3 of_gone of_settled of_waiting number
+    three_is : (number : ℕ) → p.latest_rows trace ≡ Some number → Of3 of_gone of_settled of_waiting number
     three_is number is = some_of_three of_gone of_settled of_waiting number (sym (seat_of_three n pending held p trace sound) ∙ is)
 
-    pub waiting_seat : (number : ℕ) → p.seats trace ≡ Some number → n.decided < number → of_waiting ≡ Some number
+    pub waiting_seat : (number : ℕ) → p.latest_rows trace ≡ Some number → n.decided < number → of_waiting ≡ Some number
     waiting_seat number is above = by_three (three_is number is)
       where
         by_three : Of3 of_gone of_settled of_waiting number → of_waiting ≡ Some number
@@ -205,12 +205,12 @@ module _ {N : Type 0} where
         by_three (inr (inl (w, s))) = let le = settled_low number s in absurd (omega (arith, le, above))
         by_three (inr (inr (w, s, g))) = let le = gone_low number g in let b = sound.order.first in absurd (omega (arith, le, b, above))
 
-    seat_none : p.seats trace ≡ None → ShowsNone n trace p
+    seat_none : p.latest_rows trace ≡ None → ShowsNone n trace p
     seat_none is =
         let none = none_of_three of_gone of_settled of_waiting (sym (seat_of_three n pending held p trace sound) ∙ is) in
         shows_none none.0 none.1
 
-    seat_gone : (number : ℕ) → p.seats trace ≡ Some number → number ≤ n.first → ShowsNone n trace p
+    seat_gone : (number : ℕ) → p.latest_rows trace ≡ Some number → number ≤ n.first → ShowsNone n trace p
     seat_gone number is low = by_three (three_is number is)
       where
         by_three : Of3 of_gone of_settled of_waiting number → ShowsNone n trace p
@@ -218,7 +218,7 @@ module _ {N : Type 0} where
         by_three (inr (inl (w, s))) = let gt = settled_high number s in absurd (omega (arith, gt, low))
         by_three (inr (inr (w, s, g))) = shows_none s w
 
-    seat_decided : (number : ℕ) → p.seats trace ≡ Some number → n.first < number → number ≤ n.decided → ShowsDecided n trace number p
+    seat_decided : (number : ℕ) → p.latest_rows trace ≡ Some number → n.first < number → number ≤ n.decided → ShowsDecided n trace number p
     seat_decided number is high low = by_three (three_is number is)
       where
         by_three : Of3 of_gone of_settled of_waiting number → ShowsDecided n trace number p
@@ -233,7 +233,7 @@ module _ {N : Type 0} where
             }
         by_three (inr (inr (w, s, g))) = let le = gone_low number g in absurd (omega (arith, le, high))
 
-    seat_waits : (number : ℕ) → p.seats trace ≡ Some number → n.decided < number → ShowsWaiting n trace number p
+    seat_waits : (number : ℕ) → p.latest_rows trace ≡ Some number → n.decided < number → ShowsWaiting n trace number p
     seat_waits number is high =
         let w = waiting_seat number is high in
         let r = seat_row p.rows trace (waiting_numbers n) number w in
@@ -246,22 +246,22 @@ module _ {N : Type 0} where
           shown = row-seat p.spans p.texts p.rows trace (waiting_numbers n) ∙ (ap (told_at (shown_row p.spans p.texts) p.rows) w ∙ ap (told_of (shown_row p.spans p.texts)) r.there);
         }
 
-    pub seat_shows : SeatShows n trace p
+    pub seat_shows : LatestRowShows n trace p
     seat_shows = record { none = seat_none; gone = seat_gone; decided = seat_decided; waits = seat_waits }
 
-  -- ---- a span joins the row of a seat
+  -- ---- a span joins a latest row
 
-  module _ (s : ℕ → Option StoredData) (t : ℕ → Option Kept) (rows : ℕ → Option (Row N)) (trace : List ℕ) (number key : ℕ) (x : SpanTexts) (note : N)
+  module _ (s : ℕ → Option StoredData) (t : ℕ → Option CountedText) (rows : ℕ → Option (Row N)) (trace : List ℕ) (number key : ℕ) (x : SpanTexts) (note : N)
       (spans : (keys : List ℕ) → spans_at s t (keys ++ key ∷ []) ≡ spans_at s t keys ++ x ∷ []) where
     abbrev grown_rows : ℕ → Option (Row N)
     grown_rows = with_at number (joined key note (rows number)) rows
 
-    pub rows_joined : (m a : ℕ) → seat_in rows (range a m) trace ≡ Some number → waiting_rows s t grown_rows (range a m) ≡ joined_rows trace x note (waiting_rows s t rows (range a m))
+    pub rows_joined : (m a : ℕ) → latest_row_in rows (range a m) trace ≡ Some number → waiting_rows s t grown_rows (range a m) ≡ joined_rows trace x note (waiting_rows s t rows (range a m))
     rows_joined zero a is = absurd (cc)
-    rows_joined (suc m) a is = by_rest (seat_in rows (range (suc a) m) trace) refl is (rows_joined m (suc a))
+    rows_joined (suc m) a is = by_rest (latest_row_in rows (range (suc a) m) trace) refl is (rows_joined m (suc a))
       where
-        by_rest : (o : Option ℕ) → seat_in rows (range (suc a) m) trace ≡ o → last_of (if_of trace (rows (suc a)) (suc a)) o ≡ Some number
-            → (seat_in rows (range (suc a) m) trace ≡ Some number → waiting_rows s t grown_rows (range (suc a) m) ≡ joined_rows trace x note (waiting_rows s t rows (range (suc a) m)))
+        by_rest : (o : Option ℕ) → latest_row_in rows (range (suc a) m) trace ≡ o → last_of (if_of trace (rows (suc a)) (suc a)) o ≡ Some number
+            → (latest_row_in rows (range (suc a) m) trace ≡ Some number → waiting_rows s t grown_rows (range (suc a) m) ≡ joined_rows trace x note (waiting_rows s t rows (range (suc a) m)))
             → as_waiting s t (grown_rows (suc a)) ++ waiting_rows s t grown_rows (range (suc a) m) ≡ joined_rows trace x note (as_waiting s t (rows (suc a)) ++ waiting_rows s t rows (range (suc a) m))
         by_rest None e is ih =
             let found = of_one rows trace (suc a) number is in

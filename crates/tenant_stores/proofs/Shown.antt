@@ -5,27 +5,27 @@ use Rattle.std.proofs.lemmas.Bool.Decides.{nat_tests}
 use Rattle.span_pool.specs.Stored.{StoredData, SpanTexts, texts_of}
 use Rattle.span_pool.specs.Stored as keyed
 use Rattle.span_pool.specs.Pool.{with_span, without}
-use Rattle.text_pool.specs.declared.pool.Kept.{Kept}
+use Rattle.text_pool.specs.declared.pool.CountedText.{CountedText}
 use Rattle.trace_rows.specs.declared.table.Row.{Row}
 use Rattle.trace_rows.specs.Part.{with_at, keys_of}
 use Rattle.tenant_stores.specs.Part.{Part}
 use Rattle.tenant_stores.specs.Counts.{Counts, AreInOrder, in_table, waiting_numbers, range, count}
 use Rattle.tenant_stores.specs.View.{SettledRow, WaitingRow, View, text_at, shown, spans_at, as_waiting, as_settled, waiting_rows, settled_rows, keys_in, text_keys_of, text_keys_at, view}
-use Rattle.tenant_stores.specs.Sound.{named_keys}
+use Rattle.tenant_stores.specs.Invariant.{named_keys}
 use Rattle.tenant_stores.specs.Shows.{AreAmong}
 use Rattle.tenant_stores.proofs.Lists.{count-append, count-self, range-append, AreOther}
 use Rattle.tenant_stores.proofs.Uses.{without-other}
 use Rattle.tenant_stores.proofs.Rows.{row_other, keys_in-append}
 
 -- each of these keys shows what it did
-abbrev pub ShowAlike : List ℕ → (ℕ → Option StoredData) → (ℕ → Option Kept) → (ℕ → Option StoredData) → (ℕ → Option Kept) → Type 0
+abbrev pub ShowAlike : List ℕ → (ℕ → Option StoredData) → (ℕ → Option CountedText) → (ℕ → Option StoredData) → (ℕ → Option CountedText) → Type 0
 ShowAlike ks s t s' t' = (k : ℕ) → 0 < count k ks → shown t' (s' k) ≡ shown t (s k)
 
-pub spans-append : (s : ℕ → Option StoredData) (t : ℕ → Option Kept) (xs ys : List ℕ) → spans_at s t (xs ++ ys) ≡ spans_at s t xs ++ spans_at s t ys
+pub spans-append : (s : ℕ → Option StoredData) (t : ℕ → Option CountedText) (xs ys : List ℕ) → spans_at s t (xs ++ ys) ≡ spans_at s t xs ++ spans_at s t ys
 spans-append s t [] ys = refl
 spans-append s t (x ∷ xs) ys = ap (λ (l : List SpanTexts). shown t (s x) ++ l) (spans-append s t xs ys) ∙ sym (append_assoc (shown t (s x)) (spans_at s t xs) (spans_at s t ys))
 
-module _ (s : ℕ → Option StoredData) (t : ℕ → Option Kept) (s' : ℕ → Option StoredData) (t' : ℕ → Option Kept) where
+module _ (s : ℕ → Option StoredData) (t : ℕ → Option CountedText) (s' : ℕ → Option StoredData) (t' : ℕ → Option CountedText) where
   pub spans-alike : (ks : List ℕ) → ShowAlike ks s t s' t' → spans_at s' t' ks ≡ spans_at s t ks
   spans-alike [] alike = refl
   spans-alike (k ∷ ks) alike =
@@ -55,7 +55,7 @@ table_split n order =
     ap (range n.swept) (sym size) ∙ (range-append (n.decided - n.swept) (n.opened - n.decided) n.swept ∙ ap (λ (d : ℕ). range n.swept (n.decided - n.swept) ++ range d (n.opened - n.decided)) start)
 
 module _ {N : Type 0} where
-  pub waiting-append : (s : ℕ → Option StoredData) (t : ℕ → Option Kept) (rows : ℕ → Option (Row N)) (xs ys : List ℕ) → waiting_rows s t rows (xs ++ ys) ≡ waiting_rows s t rows xs ++ waiting_rows s t rows ys
+  pub waiting-append : (s : ℕ → Option StoredData) (t : ℕ → Option CountedText) (rows : ℕ → Option (Row N)) (xs ys : List ℕ) → waiting_rows s t rows (xs ++ ys) ≡ waiting_rows s t rows xs ++ waiting_rows s t rows ys
   waiting-append s t rows [] ys = refl
   waiting-append s t rows (x ∷ xs) ys = ap (λ (l : List (WaitingRow N)). as_waiting s t (rows x) ++ l) (waiting-append s t rows xs ys) ∙ sym (append_assoc (as_waiting s t (rows x)) (waiting_rows s t rows xs) (waiting_rows s t rows ys))
 
@@ -64,7 +64,7 @@ module _ {N : Type 0} where
   settled-append rows (x ∷ xs) ys = ap (λ (l : List SettledRow). as_settled (rows x) ++ l) (settled-append rows xs ys) ∙ sym (append_assoc (as_settled (rows x)) (settled_rows rows xs) (settled_rows rows ys))
 
   -- another row at a number that isn't among these
-  pub waiting-other : (s : ℕ → Option StoredData) (t : ℕ → Option Kept) (k : ℕ) (w : Option (Row N)) (rows : ℕ → Option (Row N)) (js : List ℕ) → AreOther k js → waiting_rows s t (with_at k w rows) js ≡ waiting_rows s t rows js
+  pub waiting-other : (s : ℕ → Option StoredData) (t : ℕ → Option CountedText) (k : ℕ) (w : Option (Row N)) (rows : ℕ → Option (Row N)) (js : List ℕ) → AreOther k js → waiting_rows s t (with_at k w rows) js ≡ waiting_rows s t rows js
   waiting-other s t k w rows [] other = refl
   waiting-other s t k w rows (j ∷ js) other =
       let here : as_waiting s t (with_at k w rows j) ≡ as_waiting s t (rows j) = ap (as_waiting s t) (row_other k w rows j other.0) in
@@ -101,12 +101,12 @@ module _ {N : Type 0} where
 
 -- ---- texts that are what they were
 
-same_at : (t t' : ℕ → Option Kept) (key : Option ℕ) → ((k : ℕ) → 0 < count k (option_to_list key) → text_at t' k ≡ text_at t k) → keyed.text_at (text_at t') key ≡ keyed.text_at (text_at t) key
+same_at : (t t' : ℕ → Option CountedText) (key : Option ℕ) → ((k : ℕ) → 0 < count k (option_to_list key) → text_at t' k ≡ text_at t k) → keyed.text_at (text_at t') key ≡ keyed.text_at (text_at t) key
 same_at t t' None same = refl
 same_at t t' (Some key) same = same key (omega (arith, count-self key []))
 
 -- a span shows the same where its texts do
-pub shown-texts : (t t' : ℕ → Option Kept) (o : Option StoredData) → ((k : ℕ) → 0 < count k (text_keys_of o) → text_at t' k ≡ text_at t k) → shown t' o ≡ shown t o
+pub shown-texts : (t t' : ℕ → Option CountedText) (o : Option StoredData) → ((k : ℕ) → 0 < count k (text_keys_of o) → text_at t' k ≡ text_at t k) → shown t' o ≡ shown t o
 shown-texts t t' None same = refl
 shown-texts t t' (Some span) same =
     let a = option_to_list span.keys.resource in
@@ -137,13 +137,13 @@ names_of s t k (j ∷ js) some = by_test (eqb j k) refl some (names_of s t k js)
         omega (arith, rest, count-append t (text_keys_of (s j)) (text_keys_at s js))
 
 -- so these keys show the same where the texts do that their spans name
-pub alike-texts : (s : ℕ → Option StoredData) (t t' : ℕ → Option Kept) (ks : List ℕ) → ((k : ℕ) → 0 < count k (text_keys_at s ks) → text_at t' k ≡ text_at t k) → ShowAlike ks s t s t'
+pub alike-texts : (s : ℕ → Option StoredData) (t t' : ℕ → Option CountedText) (ks : List ℕ) → ((k : ℕ) → 0 < count k (text_keys_at s ks) → text_at t' k ≡ text_at t k) → ShowAlike ks s t s t'
 alike-texts s t t' ks same k some = shown-texts t t' (s k) (λ j named. same j (omega (arith, named, names_of s j k ks some)))
 
 -- ---- spans that come and leave
 
 -- a key that isn't named may get any span
-pub alike-put : (key : ℕ) (slot : Option StoredData) (s : ℕ → Option StoredData) (t : ℕ → Option Kept) (ks : List ℕ) → count key ks ≡ 0 → ShowAlike ks s t (with_span key slot s) t
+pub alike-put : (key : ℕ) (slot : Option StoredData) (s : ℕ → Option StoredData) (t : ℕ → Option CountedText) (ks : List ℕ) → count key ks ≡ 0 → ShowAlike ks s t (with_span key slot s) t
 alike-put key slot s t ks none k some = by_test (eqb k key) refl
   where
     by_test : (b : Bool) → eqb k key ≡ b → shown t (cond b slot (s k)) ≡ shown t (s k)
@@ -154,7 +154,7 @@ alike-put key slot s t ks none k some = by_test (eqb k key) refl
     by_test false e = refl
 
 -- and those at other keys may leave, where texts that are named stay
-pub alike-without : (gone : List ℕ) (s : ℕ → Option StoredData) (t t' : ℕ → Option Kept) (ks : List ℕ) → ((j : ℕ) → count j gone + count j ks ≤ 1) → ((k : ℕ) → 0 < count k (text_keys_at s ks) → text_at t' k ≡ text_at t k) → ShowAlike ks s t (without gone s) t'
+pub alike-without : (gone : List ℕ) (s : ℕ → Option StoredData) (t t' : ℕ → Option CountedText) (ks : List ℕ) → ((j : ℕ) → count j gone + count j ks ≤ 1) → ((k : ℕ) → 0 < count k (text_keys_at s ks) → text_at t' k ≡ text_at t k) → ShowAlike ks s t (without gone s) t'
 alike-without gone s t t' ks apart same k some =
     let none : count k gone ≡ 0 = omega (arith, apart k, some) in
     let there : without gone s k ≡ s k = without-other gone s k none in

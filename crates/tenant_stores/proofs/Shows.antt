@@ -4,13 +4,13 @@ use Rattle.span_pool.specs.Stored.{StoredData, SpanTexts, texts_of}
 use Rattle.span_pool.specs.Pool.{with_span, without}
 use Rattle.text_pool.specs.Part.{with_text, released}
 use Rattle.text_pool.specs.Part as texts
-use Rattle.text_pool.specs.declared.pool.Kept.{Kept}
+use Rattle.text_pool.specs.declared.pool.CountedText.{CountedText}
 use Rattle.trace_rows.specs.declared.table.Row.{Row}
 use Rattle.trace_rows.specs.Part.{with_at, joined, settled, keys_of}
 use Rattle.tenant_stores.specs.Part.{Part}
 use Rattle.tenant_stores.specs.Counts.{Counts, AreInOrder, one_opened, one_decided, one_swept, in_table, settled_numbers, waiting_numbers, range, count}
 use Rattle.tenant_stores.specs.View.{SettledRow, WaitingRow, View, text_at, shown, spans_at, as_waiting, as_settled, waiting_rows, settled_rows, keys_in, text_keys, text_keys_of, text_keys_at, view}
-use Rattle.tenant_stores.specs.Sound.{one, uses_of, seat_in, named_keys, IsSound}
+use Rattle.tenant_stores.specs.Invariant.{one, uses_of, latest_row_in, named_keys, StoreInvariant}
 use Rattle.tenant_stores.specs.Changes.{all_released, texts_without, Joins, Opens, Waits, new_row, Settles, Leaves}
 use Rattle.tenant_stores.specs.Shows.{AreAmong, Stay, settled_in, waiting_in, row_shown, joined_rows, with_joined, with_opened, with_late, kept_by, first_kept, dropped_by, first_dropped}
 use Rattle.tenant_stores.proofs.Parts.{span_here}
@@ -32,9 +32,9 @@ module _ {N : Type 0} where
       same_view n pending keys p q order rows alike among
 
   -- several uses are given back
-  module _ (gone : List ℕ) (p q : Part N) (spans : q.spans ≡ p.spans) (texts' : q.texts ≡ all_released gone p.texts) (rows : q.rows ≡ p.rows) (n : Counts) (pending held : List ℕ) (sound : IsSound n pending (gone ++ held) p) where
+  module _ (gone : List ℕ) (p q : Part N) (spans : q.spans ≡ p.spans) (texts' : q.texts ≡ all_released gone p.texts) (rows : q.rows ≡ p.rows) (n : Counts) (pending held : List ℕ) (sound : StoreInvariant n pending (gone ++ held) p) where
     back_same : (t : ℕ) → count t gone < uses_of (p.texts t) → text_at q.texts t ≡ text_at p.texts t
-    back_same t few = ap (λ (f : ℕ → Option Kept). text_at f t) texts' ∙ all-stays gone p.texts t few
+    back_same t few = ap (λ (f : ℕ → Option CountedText). text_at f t) texts' ∙ all-stays gone p.texts t few
 
     pub released_shows : (keys : List ℕ) → AreAmong keys pending → view n keys q ≡ view n keys p
     released_shows keys among = texts_show p q n pending keys sound.order spans rows (λ t named. back_same t (omega (arith, named, sound.used t, count-append t gone held))) among
@@ -44,7 +44,7 @@ module _ {N : Type 0} where
 
   -- ---- spans leave
 
-  module _ (gone : List ℕ) (p q : Part N) (change : Leaves gone p q) (n : Counts) (pending left held : List ℕ) (all : (j : ℕ) → count j gone + count j left ≡ count j pending) (sound : IsSound n pending held p) where
+  module _ (gone : List ℕ) (p q : Part N) (change : Leaves gone p q) (n : Counts) (pending left held : List ℕ) (all : (j : ℕ) → count j gone + count j left ≡ count j pending) (sound : StoreInvariant n pending held p) where
     abbrev named_left : List ℕ
     named_left = named_keys n left p
 
@@ -60,7 +60,7 @@ module _ {N : Type 0} where
         let same : (j : ℕ) → count j (gone ++ named_left) ≡ count j (K ++ pending) = λ j. omega (arith, count-append j gone named_left, count-append j K left, count-append j K pending, all j) in
         let names = names-by_count p.spans t (gone ++ named_left) (K ++ pending) same in
         let few : count t (text_keys_at p.spans gone) < uses_of (p.texts t) = omega (arith, some, names, names-append p.spans t gone named_left, sound.used t) in
-        ap (λ (f : ℕ → Option Kept). text_at f t) change.texts ∙ without-stays gone p.spans p.texts t once few
+        ap (λ (f : ℕ → Option CountedText). text_at f t) change.texts ∙ without-stays gone p.spans p.texts t once few
 
     pub leaves_shows : (keys : List ℕ) → AreAmong keys left → view n keys q ≡ view n keys p
     leaves_shows keys among =
@@ -74,16 +74,16 @@ module _ {N : Type 0} where
   -- ---- spans come
 
   -- a key that is vacant is_not named
-  unnamed : (n : Counts) (pending held : List ℕ) (p : Part N) (key : ℕ) → IsSound n pending held p → p.spans key ≡ None → count key (named_keys n pending p) ≡ 0
+  unnamed : (n : Counts) (pending held : List ℕ) (p : Part N) (key : ℕ) → StoreInvariant n pending held p → p.spans key ≡ None → count key (named_keys n pending p) ≡ 0
   unnamed n pending held p key sound vacant = sound.named key ∙ ap one vacant
 
-  module _ (number key : ℕ) (span : StoredData) (note : N) (p q : Part N) (change : Joins number key span note p q) (n : Counts) (pending held : List ℕ) (sound : IsSound n pending held p) where
+  module _ (number key : ℕ) (span : StoredData) (note : N) (p q : Part N) (change : Joins number key span note p q) (n : Counts) (pending held : List ℕ) (sound : StoreInvariant n pending held p) where
     abbrev at : ℕ → Option StoredData
     at = with_span key (Some span) p.spans
 
     -- one more row, or another one, beside keys that show the same
-    pub joins_shows : (keys : List ℕ) → AreAmong keys pending → (trace : List ℕ) → p.seats trace ≡ Some number → n.decided < number → view n keys q ≡ with_joined trace (texts_of (text_at p.texts) span) note (view n keys p)
-    joins_shows keys among trace seat above =
+    pub joins_shows : (keys : List ℕ) → AreAmong keys pending → (trace : List ℕ) → p.latest_rows trace ≡ Some number → n.decided < number → view n keys q ≡ with_joined trace (texts_of (text_at p.texts) span) note (view n keys p)
+    joins_shows keys among trace latest_row above =
         let K = keys_in p.rows (in_table n) in
         let W = waiting_numbers n in
         let S = settled_numbers n in
@@ -95,18 +95,18 @@ module _ {N : Type 0} where
         let in_keys : count key keys ≡ 0 = omega (arith, none, among key, count-append key K pending) in
         let here : shown p.texts (at key) ≡ x ∷ [] = ap (shown p.texts) (span_here key (Some span) p.spans) in
         let more : (ks : List ℕ) → spans_at at p.texts (ks ++ key ∷ []) ≡ spans_at at p.texts ks ++ x ∷ [] = λ ks. spans-append at p.texts ks (key ∷ []) ∙ ap (λ (l : List SpanTexts). spans_at at p.texts ks ++ (l ++ [])) here in
-        let found : seat_in p.rows W trace ≡ Some number = waiting_seat n pending held p trace sound number seat above in
+        let found : latest_row_in p.rows W trace ≡ Some number = waiting_seat n pending held p trace sound number latest_row above in
         let old : waiting_rows at p.texts p.rows W ≡ waiting_rows p.spans p.texts p.rows W = rows-alike p.spans p.texts at p.texts p.rows W (alike-put key (Some span) p.spans p.texts (keys_in p.rows W) in_rows) in
         let grown : waiting_rows at p.texts new W ≡ joined_rows trace x note (waiting_rows p.spans p.texts p.rows W) = rows_joined at p.texts p.rows trace number key x note more (n.opened - n.decided) n.decided found ∙ ap (joined_rows trace x note) old in
         let others : AreOther number S = range-below (n.decided - n.first) n.first number (let b = sound.order.first in omega (arith, b, above)) in
         let settled' : (view n keys q).settled ≡ (view n keys p).settled = ap (λ (f : ℕ → Option (Row N)). settled_rows f S) change.rows ∙ settled-other number w p.rows S others in
         let waiting' : (view n keys q).waiting ≡ joined_rows trace x note (view n keys p).waiting =
-        ap (λ (f : ℕ → Option (Row N)). waiting_rows q.spans q.texts f W) change.rows ∙ (ap (λ (f : ℕ → Option StoredData). waiting_rows f q.texts new W) change.spans ∙ (ap (λ (f : ℕ → Option Kept). waiting_rows at f new W) change.texts ∙ grown)) in
+        ap (λ (f : ℕ → Option (Row N)). waiting_rows q.spans q.texts f W) change.rows ∙ (ap (λ (f : ℕ → Option StoredData). waiting_rows f q.texts new W) change.spans ∙ (ap (λ (f : ℕ → Option CountedText). waiting_rows at f new W) change.texts ∙ grown)) in
         let pending' : (view n keys q).pending ≡ (view n keys p).pending =
-        ap (λ (f : ℕ → Option StoredData). spans_at f q.texts keys) change.spans ∙ (ap (λ (f : ℕ → Option Kept). spans_at at f keys) change.texts ∙ spans-alike p.spans p.texts at p.texts keys (alike-put key (Some span) p.spans p.texts keys in_keys)) in
+        ap (λ (f : ℕ → Option StoredData). spans_at f q.texts keys) change.spans ∙ (ap (λ (f : ℕ → Option CountedText). spans_at at f keys) change.texts ∙ spans-alike p.spans p.texts at p.texts keys (alike-put key (Some span) p.spans p.texts keys in_keys)) in
         view_by (view n keys q).settled (view n keys p).settled (view n keys q).waiting (joined_rows trace x note (view n keys p).waiting) (view n keys q).pending (view n keys p).pending settled' waiting' pending'
 
-  module _ (key due : ℕ) (trace : List ℕ) (span : StoredData) (note : N) (p q : Part N) (n : Counts) (change : Opens (suc n.opened) key due trace span note p q) (pending held : List ℕ) (sound : IsSound n pending held p) where
+  module _ (key due : ℕ) (trace : List ℕ) (span : StoredData) (note : N) (p q : Part N) (n : Counts) (change : Opens (suc n.opened) key due trace span note p q) (pending held : List ℕ) (sound : StoreInvariant n pending held p) where
     pub opens_shows : (keys : List ℕ) → AreAmong keys pending → view (one_opened n) keys q ≡ with_opened trace due (texts_of (text_at p.texts) span) note (view n keys p)
     opens_shows keys among =
         let at' = with_span key (Some span) p.spans in
@@ -133,13 +133,13 @@ module _ {N : Type 0} where
         let waiting' : (view (one_opened n) keys q).waiting ≡ (view n keys p).waiting ++ opened ∷ [] =
         ap (λ (f : ℕ → Option (Row N)). waiting_rows q.spans q.texts f (waiting_numbers (one_opened n))) change.rows
         ∙ (ap (λ (f : ℕ → Option StoredData). waiting_rows f q.texts new (waiting_numbers (one_opened n))) change.spans
-        ∙ (ap (λ (f : ℕ → Option Kept). waiting_rows at' f new (waiting_numbers (one_opened n))) change.texts
+        ∙ (ap (λ (f : ℕ → Option CountedText). waiting_rows at' f new (waiting_numbers (one_opened n))) change.texts
         ∙ (ap (waiting_rows at' p.texts new) numbers ∙ (waiting-append at' p.texts new W (suc n.opened ∷ []) ∙ cc (front, back))))) in
         let pending' : (view (one_opened n) keys q).pending ≡ (view n keys p).pending =
-        ap (λ (f : ℕ → Option StoredData). spans_at f q.texts keys) change.spans ∙ (ap (λ (f : ℕ → Option Kept). spans_at at' f keys) change.texts ∙ spans-alike p.spans p.texts at' p.texts keys (alike-put key (Some span) p.spans p.texts keys in_keys)) in
+        ap (λ (f : ℕ → Option StoredData). spans_at f q.texts keys) change.spans ∙ (ap (λ (f : ℕ → Option CountedText). spans_at at' f keys) change.texts ∙ spans-alike p.spans p.texts at' p.texts keys (alike-put key (Some span) p.spans p.texts keys in_keys)) in
         view_by (view (one_opened n) keys q).settled (view n keys p).settled (view (one_opened n) keys q).waiting ((view n keys p).waiting ++ opened ∷ []) (view (one_opened n) keys q).pending (view n keys p).pending settled' waiting' pending'
 
-  module _ (key : ℕ) (span : StoredData) (p q : Part N) (change : Waits key span p q) (n : Counts) (pending held : List ℕ) (sound : IsSound n pending held p) where
+  module _ (key : ℕ) (span : StoredData) (p q : Part N) (change : Waits key span p q) (n : Counts) (pending held : List ℕ) (sound : StoreInvariant n pending held p) where
     pub waits_shows : (keys : List ℕ) → AreAmong keys pending → view n (keys ++ key ∷ []) q ≡ with_late (texts_of (text_at p.texts) span) (view n keys p)
     waits_shows keys among =
         let at' = with_span key (Some span) p.spans in
@@ -153,16 +153,16 @@ module _ {N : Type 0} where
         let settled' : (view n (keys ++ key ∷ []) q).settled ≡ (view n keys p).settled = ap (λ (f : ℕ → Option (Row N)). settled_rows f (settled_numbers n)) change.rows in
         let waiting' : (view n (keys ++ key ∷ []) q).waiting ≡ (view n keys p).waiting =
         ap (λ (f : ℕ → Option (Row N)). waiting_rows q.spans q.texts f W) change.rows ∙ (ap (λ (f : ℕ → Option StoredData). waiting_rows f q.texts p.rows W) change.spans
-        ∙ (ap (λ (f : ℕ → Option Kept). waiting_rows at' f p.rows W) change.texts ∙ rows-alike p.spans p.texts at' p.texts p.rows W (alike-put key (Some span) p.spans p.texts (keys_in p.rows W) in_rows))) in
+        ∙ (ap (λ (f : ℕ → Option CountedText). waiting_rows at' f p.rows W) change.texts ∙ rows-alike p.spans p.texts at' p.texts p.rows W (alike-put key (Some span) p.spans p.texts (keys_in p.rows W) in_rows))) in
         let same : spans_at at' p.texts keys ≡ spans_at p.spans p.texts keys = spans-alike p.spans p.texts at' p.texts keys (alike-put key (Some span) p.spans p.texts keys in_keys) in
         let pending' : (view n (keys ++ key ∷ []) q).pending ≡ (view n keys p).pending ++ x ∷ [] =
-        ap (λ (f : ℕ → Option StoredData). spans_at f q.texts (keys ++ key ∷ [])) change.spans ∙ (ap (λ (f : ℕ → Option Kept). spans_at at' f (keys ++ key ∷ [])) change.texts
+        ap (λ (f : ℕ → Option StoredData). spans_at f q.texts (keys ++ key ∷ [])) change.spans ∙ (ap (λ (f : ℕ → Option CountedText). spans_at at' f (keys ++ key ∷ [])) change.texts
         ∙ (spans-append at' p.texts keys (key ∷ []) ∙ cc (same, here))) in
         view_by (view n (keys ++ key ∷ []) q).settled (view n keys p).settled (view n (keys ++ key ∷ []) q).waiting (view n keys p).waiting (view n (keys ++ key ∷ []) q).pending ((view n keys p).pending ++ x ∷ []) settled' waiting' pending'
 
   -- ---- rows are decided and leave the table
 
-  module _ (sampled : Bool) (p q : Part N) (n : Counts) (change : Settles (suc n.decided) sampled p q) (some : n.decided < n.opened) (pending held : List ℕ) (sound : IsSound n pending held p) where
+  module _ (sampled : Bool) (p q : Part N) (n : Counts) (change : Settles (suc n.decided) sampled p q) (some : n.decided < n.opened) (pending held : List ℕ) (sound : StoreInvariant n pending held p) where
     -- what is shown of rows once the next one is decided
     abbrev pub rest_rows : List (WaitingRow N)
     rest_rows = waiting_rows p.spans p.texts p.rows (range (suc n.decided) (n.opened - suc n.decided))
@@ -175,7 +175,7 @@ module _ {N : Type 0} where
         let others : AreOther (suc d) back = range-above (n.opened - suc d) (suc d) (suc d) (omega arith) in
         ap (λ (f : ℕ → Option (Row N)). waiting_rows q.spans q.texts f (waiting_numbers (one_decided n))) change.rows
         ∙ (ap (λ (f : ℕ → Option StoredData). waiting_rows f q.texts (with_at (suc d) w p.rows) (waiting_numbers (one_decided n))) change.spans
-        ∙ (ap (λ (f : ℕ → Option Kept). waiting_rows p.spans f (with_at (suc d) w p.rows) (waiting_numbers (one_decided n))) change.texts
+        ∙ (ap (λ (f : ℕ → Option CountedText). waiting_rows p.spans f (with_at (suc d) w p.rows) (waiting_numbers (one_decided n))) change.texts
         ∙ (ap (λ (k : ℕ). waiting_rows p.spans p.texts (with_at (suc d) w p.rows) (range k (n.opened - k))) (add-one d)
         ∙ waiting-other p.spans p.texts (suc d) w p.rows back others)))
 
@@ -196,7 +196,7 @@ module _ {N : Type 0} where
         ap (λ (f : ℕ → Option (Row N)). settled_rows f (settled_numbers (one_decided n))) change.rows ∙ (ap (settled_rows new) numbers ∙ (settled-append new front (suc d ∷ []) ∙ cc (settled-other (suc d) w p.rows front others, back)))
 
     spans_kept : (keys : List ℕ) → spans_at q.spans q.texts keys ≡ spans_at p.spans p.texts keys
-    spans_kept keys = ap (λ (f : ℕ → Option StoredData). spans_at f q.texts keys) change.spans ∙ ap (λ (f : ℕ → Option Kept). spans_at p.spans f keys) change.texts
+    spans_kept keys = ap (λ (f : ℕ → Option StoredData). spans_at f q.texts keys) change.spans ∙ ap (λ (f : ℕ → Option CountedText). spans_at p.spans f keys) change.texts
 
     next_there : (row : Row N) × (p.rows (suc n.decided) ≡ Some row)
     next_there = by_row (p.rows (suc n.decided)) refl
@@ -242,6 +242,6 @@ module _ {N : Type 0} where
       let settled' : (view (one_swept n) keys q).settled ≡ (view n keys p).settled = ap (λ (f : ℕ → Option (Row N)). settled_rows f S) rows ∙ settled-other (suc s) None p.rows S others in
       let waiting' : (view (one_swept n) keys q).waiting ≡ (view n keys p).waiting =
       ap (λ (f : ℕ → Option (Row N)). waiting_rows q.spans q.texts f W) rows ∙ (ap (λ (f : ℕ → Option StoredData). waiting_rows f q.texts new W) spans
-      ∙ (ap (λ (f : ℕ → Option Kept). waiting_rows p.spans f new W) texts' ∙ waiting-other p.spans p.texts (suc s) None p.rows W apart)) in
-      let pending' : (view (one_swept n) keys q).pending ≡ (view n keys p).pending = ap (λ (f : ℕ → Option StoredData). spans_at f q.texts keys) spans ∙ ap (λ (f : ℕ → Option Kept). spans_at p.spans f keys) texts' in
+      ∙ (ap (λ (f : ℕ → Option CountedText). waiting_rows p.spans f new W) texts' ∙ waiting-other p.spans p.texts (suc s) None p.rows W apart)) in
+      let pending' : (view (one_swept n) keys q).pending ≡ (view n keys p).pending = ap (λ (f : ℕ → Option StoredData). spans_at f q.texts keys) spans ∙ ap (λ (f : ℕ → Option CountedText). spans_at p.spans f keys) texts' in
       view_by (view (one_swept n) keys q).settled (view n keys p).settled (view (one_swept n) keys q).waiting (view n keys p).waiting (view (one_swept n) keys q).pending (view n keys p).pending settled' waiting' pending'

@@ -4,20 +4,20 @@ use Rattle.std.proofs.lemmas.Bool.Decides.{nat_tests}
 use Rattle.span_pool.specs.Stored.{StoredData}
 use Rattle.span_pool.specs.Pool.{with_span}
 use Rattle.text_pool.specs.Part.{with_text, released, held, text_of}
-use Rattle.text_pool.specs.declared.pool.Kept.{Kept}
+use Rattle.text_pool.specs.declared.pool.CountedText.{CountedText}
 use Rattle.tenant_stores.specs.Counts.{count}
 use Rattle.tenant_stores.specs.View.{text_at, text_keys_of, text_keys_at}
-use Rattle.tenant_stores.specs.Sound.{uses_of}
+use Rattle.tenant_stores.specs.Invariant.{uses_of}
 use Rattle.tenant_stores.specs.Changes.{all_released, texts_without}
 use Rattle.tenant_stores.proofs.Lists.{count-append, count-self}
 use Rattle.tenant_stores.proofs.Uses.{one_released, all-released, names-put}
 
 -- a use more
-held_slot : (tenant : ℕ) (text : List ℕ) (o : Option Kept) → 0 < uses_of o → text_of (held tenant text o) ≡ text_of o
+held_slot : (tenant : ℕ) (text : List ℕ) (o : Option CountedText) → 0 < uses_of o → text_of (held tenant text o) ≡ text_of o
 held_slot tenant text None some = absurd (omega (arith, some))
 held_slot tenant text (Some kept) some = refl
 
-pub held-stays : (tenant key : ℕ) (text : List ℕ) (at : ℕ → Option Kept) (t : ℕ) → 0 < uses_of (at t) → text_at (with_text key (held tenant text (at key)) at) t ≡ text_at at t
+pub held-stays : (tenant key : ℕ) (text : List ℕ) (at : ℕ → Option CountedText) (t : ℕ) → 0 < uses_of (at t) → text_at (with_text key (held tenant text (at key)) at) t ≡ text_at at t
 held-stays tenant key text at t some = by_test (eqb t key) refl
   where
     by_test : (b : Bool) → eqb t key ≡ b → text_of (cond b (held tenant text (at key)) (at t)) ≡ text_of (at t)
@@ -28,7 +28,7 @@ held-stays tenant key text at t some = by_test (eqb t key) refl
     by_test false e = refl
 
 -- a use less, of two or more
-released_slot : (o : Option Kept) → 1 < uses_of o → text_of (released o) ≡ text_of o
+released_slot : (o : Option CountedText) → 1 < uses_of o → text_of (released o) ≡ text_of o
 released_slot None some = absurd (omega (arith, some))
 released_slot (Some kept) some = by_test (eqb kept.uses 1) refl
   where
@@ -36,7 +36,7 @@ released_slot (Some kept) some = by_test (eqb kept.uses 1) refl
     by_test true e = let one : kept.uses ≡ 1 = grind (arith, nat_tests, e) in absurd (omega (arith, some, one))
     by_test false e = refl
 
-one-stays : (key : ℕ) (at : ℕ → Option Kept) (t : ℕ) → count t (key ∷ []) < uses_of (at t) → text_at (with_text key (released (at key)) at) t ≡ text_at at t
+one-stays : (key : ℕ) (at : ℕ → Option CountedText) (t : ℕ) → count t (key ∷ []) < uses_of (at t) → text_at (with_text key (released (at key)) at) t ≡ text_at at t
 one-stays key at t few = by_test (eqb t key) refl
   where
     by_test : (b : Bool) → eqb t key ≡ b → text_of (cond b (released (at key)) (at t)) ≡ text_of (at t)
@@ -49,7 +49,7 @@ one-stays key at t few = by_test (eqb t key) refl
     by_test false e = refl
 
 -- uses less, and one is left
-pub all-stays : (ks : List ℕ) (at : ℕ → Option Kept) (t : ℕ) → count t ks < uses_of (at t) → text_at (all_released ks at) t ≡ text_at at t
+pub all-stays : (ks : List ℕ) (at : ℕ → Option CountedText) (t : ℕ) → count t ks < uses_of (at t) → text_at (all_released ks at) t ≡ text_at at t
 all-stays [] at t few = refl
 all-stays (k ∷ ks) at t few =
     let next = with_text k (released (at k)) at in
@@ -60,7 +60,7 @@ all-stays (k ∷ ks) at t few =
     all-stays ks next t rest ∙ one-stays k at t first
 
 -- the same where spans leave
-pub without-stays : (gone : List ℕ) (s : ℕ → Option StoredData) (at : ℕ → Option Kept) (t : ℕ) → ((j : ℕ) → count j gone ≤ 1) → count t (text_keys_at s gone) < uses_of (at t) → text_at (texts_without gone s at) t ≡ text_at at t
+pub without-stays : (gone : List ℕ) (s : ℕ → Option StoredData) (at : ℕ → Option CountedText) (t : ℕ) → ((j : ℕ) → count j gone ≤ 1) → count t (text_keys_at s gone) < uses_of (at t) → text_at (texts_without gone s at) t ≡ text_at at t
 without-stays [] s at t once few = refl
 without-stays (k ∷ ks) s at t once few =
     let a = once k in

@@ -5,10 +5,10 @@ use Rattle.std.proofs.lemmas.Bool.Decides.{nat_tests}
 use Rattle.span_pool.specs.Stored.{StoredData}
 use Rattle.span_pool.specs.Pool.{with_span, without}
 use Rattle.text_pool.specs.Part.{with_text, released, held}
-use Rattle.text_pool.specs.declared.pool.Kept.{Kept}
+use Rattle.text_pool.specs.declared.pool.CountedText.{CountedText}
 use Rattle.tenant_stores.specs.Counts.{count}
 use Rattle.tenant_stores.specs.View.{text_keys_of, text_keys_at}
-use Rattle.tenant_stores.specs.Sound.{one, uses_of}
+use Rattle.tenant_stores.specs.Invariant.{one, uses_of}
 use Rattle.tenant_stores.specs.Changes.{all_released, texts_without}
 use Rattle.tenant_stores.proofs.Lists.{count-append, count-self, drop_one, count-drop_one}
 
@@ -122,10 +122,10 @@ names-without gone s (k ∷ ks) apart =
 -- ---- uses
 
 -- a text that is there is kept for one at least
-abbrev pub IsKept : Option Kept → Type 0
+abbrev pub IsKept : Option CountedText → Type 0
 IsKept o = IfSome o (λ text. 0 < text.uses)
 
-released-uses : (o : Option Kept) → uses_of (released o) ≡ uses_of o - 1
+released-uses : (o : Option CountedText) → uses_of (released o) ≡ uses_of o - 1
 released-uses None = omega arith
 released-uses (Some kept) = by_test (eqb kept.uses 1) refl
   where
@@ -133,7 +133,7 @@ released-uses (Some kept) = by_test (eqb kept.uses 1) refl
     by_test true e = let same : kept.uses ≡ 1 = grind (arith, nat_tests, e) in omega (arith, same)
     by_test false e = refl
 
-released-kept : (o : Option Kept) → IsKept o → IsKept (released o)
+released-kept : (o : Option CountedText) → IsKept o → IsKept (released o)
 released-kept None is = tt
 released-kept (Some kept) is = by_test (eqb kept.uses 1) refl
   where
@@ -141,14 +141,14 @@ released-kept (Some kept) is = by_test (eqb kept.uses 1) refl
     by_test true e = tt
     by_test false e = let more : kept.uses ≢ 1 = grind (arith, nat_tests, e) in let some : 0 < kept.uses = is in grind (arith, more, some)
 
-text_at-either : (key : ℕ) (slot : Option Kept) (at : ℕ → Option Kept) (P : Option Kept → Type 0) (t : ℕ) → P slot → P (at t) → P (with_text key slot at t)
+text_at-either : (key : ℕ) (slot : Option CountedText) (at : ℕ → Option CountedText) (P : Option CountedText → Type 0) (t : ℕ) → P slot → P (at t) → P (with_text key slot at t)
 text_at-either key slot at P t here there = by_test (eqb t key)
   where
     by_test : (b : Bool) → P (cond b slot (at t))
     by_test true = here
     by_test false = there
 
-pub one_released : (key : ℕ) (at : ℕ → Option Kept) (t : ℕ) → uses_of (with_text key (released (at key)) at t) ≡ uses_of (at t) - count t (key ∷ [])
+pub one_released : (key : ℕ) (at : ℕ → Option CountedText) (t : ℕ) → uses_of (with_text key (released (at key)) at t) ≡ uses_of (at t) - count t (key ∷ [])
 one_released key at t = by_test (eqb t key) refl
   where
     by_test : (b : Bool) → eqb t key ≡ b → uses_of (cond b (released (at key)) (at t)) ≡ uses_of (at t) - count t (key ∷ [])
@@ -161,18 +161,18 @@ one_released key at t = by_test (eqb t key) refl
         let back : eqb key t ≡ false = grind (arith, nat_tests, e) in
         rw back (omega arith)
 
-pub one_kept : (key : ℕ) (at : ℕ → Option Kept) → ((t : ℕ) → IsKept (at t)) → (t : ℕ) → IsKept (with_text key (released (at key)) at t)
+pub one_kept : (key : ℕ) (at : ℕ → Option CountedText) → ((t : ℕ) → IsKept (at t)) → (t : ℕ) → IsKept (with_text key (released (at key)) at t)
 one_kept key at kept t = text_at-either key (released (at key)) at IsKept t (released-kept (at key) (kept key)) (kept t)
 
-pub all-released : (ks : List ℕ) (at : ℕ → Option Kept) (t : ℕ) → uses_of (all_released ks at t) ≡ uses_of (at t) - count t ks
+pub all-released : (ks : List ℕ) (at : ℕ → Option CountedText) (t : ℕ) → uses_of (all_released ks at t) ≡ uses_of (at t) - count t ks
 all-released [] at t = omega arith
 all-released (k ∷ ks) at t = omega (arith, all-released ks (with_text k (released (at k)) at) t, one_released k at t)
 
-pub all-kept : (ks : List ℕ) (at : ℕ → Option Kept) → ((t : ℕ) → IsKept (at t)) → (t : ℕ) → IsKept (all_released ks at t)
+pub all-kept : (ks : List ℕ) (at : ℕ → Option CountedText) → ((t : ℕ) → IsKept (at t)) → (t : ℕ) → IsKept (all_released ks at t)
 all-kept [] at kept t = kept t
 all-kept (k ∷ ks) at kept t = all-kept ks (with_text k (released (at k)) at) (one_kept k at kept) t
 
-pub uses-without : (gone : List ℕ) (s : ℕ → Option StoredData) (at : ℕ → Option Kept) (t : ℕ) → ((j : ℕ) → count j gone ≤ 1) → uses_of (texts_without gone s at t) ≡ uses_of (at t) - count t (text_keys_at s gone)
+pub uses-without : (gone : List ℕ) (s : ℕ → Option StoredData) (at : ℕ → Option CountedText) (t : ℕ) → ((j : ℕ) → count j gone ≤ 1) → uses_of (texts_without gone s at t) ≡ uses_of (at t) - count t (text_keys_at s gone)
 uses-without [] s at t once = omega arith
 uses-without (k ∷ ks) s at t once =
     let a = once k in
@@ -182,19 +182,19 @@ uses-without (k ∷ ks) s at t once =
     let same : count t (text_keys_at (with_span k None s) ks) ≡ count t (text_keys_at s ks) = ap (count t) (names-put k None s ks none) in
     omega (arith, ih, same, all-released (text_keys_of (s k)) at t, count-append t (text_keys_of (s k)) (text_keys_at s ks))
 
-pub kept-without : (gone : List ℕ) (s : ℕ → Option StoredData) (at : ℕ → Option Kept) → ((t : ℕ) → IsKept (at t)) → (t : ℕ) → IsKept (texts_without gone s at t)
+pub kept-without : (gone : List ℕ) (s : ℕ → Option StoredData) (at : ℕ → Option CountedText) → ((t : ℕ) → IsKept (at t)) → (t : ℕ) → IsKept (texts_without gone s at t)
 kept-without [] s at kept t = kept t
 kept-without (k ∷ ks) s at kept t = kept-without ks (with_span k None s) (all_released (text_keys_of (s k)) at) (all-kept (text_keys_of (s k)) at kept) t
 
-held-uses : (tenant : ℕ) (text : List ℕ) (o : Option Kept) → uses_of (held tenant text o) ≡ uses_of o + 1
+held-uses : (tenant : ℕ) (text : List ℕ) (o : Option CountedText) → uses_of (held tenant text o) ≡ uses_of o + 1
 held-uses tenant text None = refl
 held-uses tenant text (Some kept) = refl
 
-held-kept : (tenant : ℕ) (text : List ℕ) (o : Option Kept) → IsKept (held tenant text o)
+held-kept : (tenant : ℕ) (text : List ℕ) (o : Option CountedText) → IsKept (held tenant text o)
 held-kept tenant text None = omega arith
 held-kept tenant text (Some kept) = omega arith
 
-pub one_held : (tenant key : ℕ) (text : List ℕ) (at : ℕ → Option Kept) (t : ℕ) → uses_of (with_text key (held tenant text (at key)) at t) ≡ uses_of (at t) + count t (key ∷ [])
+pub one_held : (tenant key : ℕ) (text : List ℕ) (at : ℕ → Option CountedText) (t : ℕ) → uses_of (with_text key (held tenant text (at key)) at t) ≡ uses_of (at t) + count t (key ∷ [])
 one_held tenant key text at t = by_test (eqb t key) refl
   where
     by_test : (b : Bool) → eqb t key ≡ b → uses_of (cond b (held tenant text (at key)) (at t)) ≡ uses_of (at t) + count t (key ∷ [])
@@ -207,5 +207,5 @@ one_held tenant key text at t = by_test (eqb t key) refl
         let back : eqb key t ≡ false = grind (arith, nat_tests, e) in
         rw back (omega arith)
 
-pub held_kept : (tenant key : ℕ) (text : List ℕ) (at : ℕ → Option Kept) → ((t : ℕ) → IsKept (at t)) → (t : ℕ) → IsKept (with_text key (held tenant text (at key)) at t)
+pub held_kept : (tenant key : ℕ) (text : List ℕ) (at : ℕ → Option CountedText) → ((t : ℕ) → IsKept (at t)) → (t : ℕ) → IsKept (with_text key (held tenant text (at key)) at t)
 held_kept tenant key text at kept t = text_at-either key (held tenant text (at key)) at IsKept t (held-kept tenant text (at key)) (kept t)

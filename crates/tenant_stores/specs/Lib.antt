@@ -1,8 +1,8 @@
 pub mod Part
 pub mod Counts
 pub mod View
-pub mod Sound
+pub mod Invariant
 pub mod Changes
 pub mod Trail
 pub mod Shows
-pub mod Held
+pub mod HeldTexts

@@ -1,14 +1,15 @@
--- What the calls make of what a tenant's part shows: functions from view to view. A trace's row is its latest one.
+-- What the calls make of what a tenant's part shows: functions from view to view. A trace's row is its latest one. This
+-- project's own rule.
 use Rattle.std.specs.Prelude.{◌≡◌, ◌<◌, ◌≤◌, ◌+◌, ◌-◌, ◌∷◌, ◌++◌, ◌||◌, ℕ, Bool, true, false, List, [], length, map}
 use Rattle.std.specs.Prelude.{Option, Some, None, if◌then◌else◌, bytes_eq, nat_lt}
 use Rattle.span_pool.specs.Stored.{Origin, StoredData, SpanTexts, texts_of}
-use Rattle.text_pool.specs.declared.pool.Kept.{Kept}
+use Rattle.text_pool.specs.declared.pool.CountedText.{CountedText}
 use Rattle.trace_rows.specs.declared.table.Row.{Row}
 use Rattle.trace_rows.specs.Part.{keys_of}
 use Rattle.tenant_stores.specs.Part.{Part}
 use Rattle.tenant_stores.specs.Counts.{Counts, settled_numbers, waiting_numbers, room_made, count}
 use Rattle.tenant_stores.specs.View.{SettledRow, WaitingRow, View, text_at, spans_at, waiting_rows, settled_rows, view}
-use Rattle.tenant_stores.specs.Sound.{last_of, named_keys, IsSound}
+use Rattle.tenant_stores.specs.Invariant.{last_of, named_keys, StoreInvariant}
 
 -- ---- what is shown
 
@@ -37,7 +38,7 @@ no_span = record {
 }
 
 -- a span by its texts, and this one where there is none
-abbrev pub shown_or : (ℕ → Option Kept) → SpanTexts → Option StoredData → SpanTexts
+abbrev pub shown_or : (ℕ → Option CountedText) → SpanTexts → Option StoredData → SpanTexts
 shown_or texts other None = other
 shown_or texts other (Some span) = texts_of (text_at texts) span
 
@@ -50,7 +51,7 @@ abbrev pub AreAmong : List ℕ → List ℕ → Type 0
 AreAmong keys all = (key : ℕ) → count key keys ≤ count key all
 
 -- the texts at these keys are what they were
-abbrev pub Stay : List ℕ → (ℕ → Option Kept) → (ℕ → Option Kept) → Type 0
+abbrev pub Stay : List ℕ → (ℕ → Option CountedText) → (ℕ → Option CountedText) → Type 0
 Stay keys old new = (key : ℕ) → 0 < count key keys → text_at new key ≡ text_at old key
 
 -- ---- rows by their traces
@@ -92,14 +93,14 @@ pub record ShowsWaiting {N : Type 0} (n : Counts) (trace : List ℕ) (number : �
   pub waiting : has_row trace (waiting_in n p) ≡ true
   pub shown : row_in trace (waiting_in n p) ≡ Some (row_shown p row)
 
--- what a trace's seat says of the rows that are shown: without a seat, and where its row is no longer present, there is
--- none of the trace; else that row is the trace's, decided or waiting
-pub record SeatShows {N : Type 0} (n : Counts) (trace : List ℕ) (p : Part N) : Type 0 where
-  pub none : p.seats trace ≡ None → ShowsNone n trace p
-  pub gone : (number : ℕ) → p.seats trace ≡ Some number → number ≤ n.first → ShowsNone n trace p
-  pub decided : (number : ℕ) → p.seats trace ≡ Some number → n.first < number → number ≤ n.decided
+-- what a trace's latest row says of the rows that are shown: without a latest row, and where its row is no longer
+-- present, there is none of the trace; else that row is the trace's, decided or waiting
+pub record LatestRowShows {N : Type 0} (n : Counts) (trace : List ℕ) (p : Part N) : Type 0 where
+  pub none : p.latest_rows trace ≡ None → ShowsNone n trace p
+  pub gone : (number : ℕ) → p.latest_rows trace ≡ Some number → number ≤ n.first → ShowsNone n trace p
+  pub decided : (number : ℕ) → p.latest_rows trace ≡ Some number → n.first < number → number ≤ n.decided
       → ShowsDecided n trace number p
-  pub waits : (number : ℕ) → p.seats trace ≡ Some number → n.decided < number → ShowsWaiting n trace number p
+  pub waits : (number : ℕ) → p.latest_rows trace ≡ Some number → n.decided < number → ShowsWaiting n trace number p
 
 -- ---- what changes
 
@@ -169,12 +170,13 @@ with_room most opened v = if nat_lt opened most then v else evicted_by v.settled
 -- room for one more where at most so many are present: numbers change, and the first row is no longer shown
 pub record RoomShows {N : Type 0} (most : ℕ) (n : Counts) (p : Part N) : Type 0 where
   pub shows : (keys : List ℕ) → view (room_made most n) keys p ≡ with_room most n.opened (view n keys p)
-  pub sound : (pending held : List ℕ) → IsSound n pending held p → IsSound (room_made most n) pending held p
+  pub sound : (pending held : List ℕ) → StoreInvariant n pending held p
+      → StoreInvariant (room_made most n) pending held p
 
 -- that is so where as many rows are present as may be
 abbrev pub RoomIsMade : Type 0 → Type 0
 RoomIsMade N = (most : ℕ) (n : Counts) (pending held : List ℕ) (p : Part N) → 0 < most →
-    n.first ≡ n.opened - most → IsSound n pending held p → RoomShows most n p
+    n.first ≡ n.opened - most → StoreInvariant n pending held p → RoomShows most n p
 
 -- the first row that waits is the one after those that are decided
 pub record FirstShows {N : Type 0} (n : Counts) (p : Part N) : Type 0 where
@@ -185,12 +187,12 @@ pub record FirstShows {N : Type 0} (n : Counts) (p : Part N) : Type 0 where
 
 -- where rows wait
 abbrev pub FirstIsShown : Type 0 → Type 0
-FirstIsShown N = (n : Counts) (pending held : List ℕ) (p : Part N) → IsSound n pending held p →
+FirstIsShown N = (n : Counts) (pending held : List ℕ) (p : Part N) → StoreInvariant n pending held p →
     n.decided < n.opened → FirstShows n p
 
 -- the first row that is present and waits, or is decided
 abbrev pub LengthsAre : Type 0 → Type 0
-LengthsAre N = (n : Counts) (pending held : List ℕ) (p : Part N) → IsSound n pending held p →
+LengthsAre N = (n : Counts) (pending held : List ℕ) (p : Part N) → StoreInvariant n pending held p →
     (length (waiting_in n p) ≡ n.opened - n.decided) × (length (settled_in n p) ≡ n.decided - n.first)
 
 -- each key that is named has its span: so a list of such keys shows as many
@@ -204,4 +206,5 @@ pub record KeysShow {N : Type 0} (n : Counts) (pending : List ℕ) (p : Part N) 
 
 -- of a sound part
 abbrev pub KeysAreShown : Type 0 → Type 0
-KeysAreShown N = (n : Counts) (pending held : List ℕ) (p : Part N) → IsSound n pending held p → KeysShow n pending p
+KeysAreShown N = (n : Counts) (pending held : List ℕ) (p : Part N) → StoreInvariant n pending held p
+    → KeysShow n pending p

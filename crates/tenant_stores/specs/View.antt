@@ -1,10 +1,10 @@
 -- What a tenant's part shows: its rows with spans in the place of keys, and spans with texts in the place of keys. A
--- key that names nothing shows nothing; of a sound part each names one thing.
+-- key that names nothing shows nothing; of a sound part each names one thing. This project's own rule.
 use Rattle.std.specs.Prelude.{ℕ, Bool, List, [], ◌∷◌, ◌++◌, Option, Some, None, option_to_list}
 use Rattle.span_pool.specs.declared.keys.TextKeys.{TextKeys}
 use Rattle.span_pool.specs.Stored.{StoredData, SpanTexts, texts_of}
 use Rattle.text_pool.specs.Part.{text_of}
-use Rattle.text_pool.specs.declared.pool.Kept.{Kept}
+use Rattle.text_pool.specs.declared.pool.CountedText.{CountedText}
 use Rattle.trace_rows.specs.declared.table.Row.{Row}
 use Rattle.trace_rows.specs.Part.{keys_of}
 use Rattle.tenant_stores.specs.Part.{Part}
@@ -29,21 +29,21 @@ pub record View (N : Type 0) : Type 0 where
   pub pending : List SpanTexts
 
 -- a text's bytes, by its key
-abbrev pub text_at : (ℕ → Option Kept) → ℕ → Option (List ℕ)
+abbrev pub text_at : (ℕ → Option CountedText) → ℕ → Option (List ℕ)
 text_at texts key = text_of (texts key)
 
 -- the span, where there is one, by its texts
-abbrev pub shown : (ℕ → Option Kept) → Option StoredData → List SpanTexts
+abbrev pub shown : (ℕ → Option CountedText) → Option StoredData → List SpanTexts
 shown texts None = []
 shown texts (Some span) = texts_of (text_at texts) span ∷ []
 
 -- the spans at these keys
-abbrev pub spans_at : (ℕ → Option StoredData) → (ℕ → Option Kept) → List ℕ → List SpanTexts
+abbrev pub spans_at : (ℕ → Option StoredData) → (ℕ → Option CountedText) → List ℕ → List SpanTexts
 spans_at spans texts [] = []
 spans_at spans texts (key ∷ keys) = shown texts (spans key) ++ spans_at spans texts keys
 
 -- the row as one that waits
-abbrev pub as_waiting : {N : Type 0} → (ℕ → Option StoredData) → (ℕ → Option Kept) → Option (Row N)
+abbrev pub as_waiting : {N : Type 0} → (ℕ → Option StoredData) → (ℕ → Option CountedText) → Option (Row N)
     → List (WaitingRow N)
 as_waiting spans texts None = []
 as_waiting spans texts (Some row) = record {
@@ -59,7 +59,8 @@ as_settled None = []
 as_settled (Some row) = record { trace = row.trace; sampled = row.sampled } ∷ []
 
 -- the rows of these numbers, as such that wait
-abbrev pub waiting_rows : {N : Type 0} → (ℕ → Option StoredData) → (ℕ → Option Kept) → (ℕ → Option (Row N)) → List ℕ
+abbrev pub waiting_rows : {N : Type 0} → (ℕ → Option StoredData) → (ℕ → Option CountedText) → (ℕ → Option (Row N))
+    → List ℕ
     → List (WaitingRow N)
 waiting_rows spans texts rows [] = []
 waiting_rows spans texts rows (number ∷ numbers) =

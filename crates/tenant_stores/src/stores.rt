@@ -4,23 +4,23 @@ ghost use Rattle.std.specs.Prelude.{◌≡◌, ◌≢◌, ◌<◌, ◌≤◌, �
 ghost use Rattle.std.specs.Prelude.{None, Some, IfOk, OnOk, OnErr, option_copied, true, false};
 ghost use Rattle.span_pool.specs.Stored.{origin_at, texts_of};
 ghost use Rattle.text_pool.specs.Part as text_part;
-ghost use Rattle.trace_rows.specs.Part.{keys_of, note_of, rows_part, seats_part, with_at, with_seat, IsSame};
+ghost use Rattle.trace_rows.specs.Part.{keys_of, note_of, rows_part, latest_rows_part, with_at, with_latest_row, IsSame};
 ghost use Rattle.tenant_stores.specs.Part.{Part, part};
 ghost use Rattle.tenant_stores.specs.Counts.{Counts, no_rows, one_opened, one_decided, one_swept, count};
 ghost use Rattle.tenant_stores.specs.View.{text_at, text_keys, view};
-ghost use Rattle.tenant_stores.specs.Sound.{IsSound};
+ghost use Rattle.tenant_stores.specs.Invariant.{StoreInvariant};
 ghost use Rattle.tenant_stores.specs.Changes.{new_row, Joins, Opens, Settles};
 ghost use Rattle.tenant_stores.specs.Changes.{ReleasesAll, Waits, Leaves, Drops, Sweeps};
-ghost use Rattle.tenant_stores.specs.Shows.{AreAmong, Stay, SeatShows, with_joined, with_opened, with_late};
+ghost use Rattle.tenant_stores.specs.Shows.{AreAmong, Stay, LatestRowShows, with_joined, with_opened, with_late};
 ghost use Rattle.tenant_stores.specs.Shows.{first_kept, first_dropped};
-ghost use Rattle.tenant_stores.specs.Held.{origin_of};
-ghost use Rattle.tenant_stores.specs.Trail.{HoldsAll, IsPlaced, Trail};
+ghost use Rattle.tenant_stores.specs.HeldTexts.{origin_of};
+ghost use Rattle.tenant_stores.specs.Trail.{HoldsAll, IsUndone, Trail};
 
-use crate::placed::{Joining, Opening, Placed};
 use crate::texts::{hold_four, release_all, wanted_again, wanted_new};
+use crate::undo::{Joining, Opening, UndoEntry};
 use span_pool::{Owned, SpanPool, StoredSpan, TextKeys};
 use std::alloc::{AllocError, Global};
-use text_pool::{Text, TextPool};
+use text_pool::{SharedBytes, TextPool};
 use trace_rows::{Keys, Row, TraceRows};
 
 /// The spans, texts and rows of all tenants of a shard. `N` is what is noted of a row's spans.
@@ -35,7 +35,7 @@ pub struct Stores<N> {
 impl<N: Drop> Stores<N> {
     /// Nothing of any tenant, which takes no memory.
     pub fn new(alloc: Global) -> Self
-        ensures { (tenant : ℕ) → IsSound no_rows [] [] (part tenant result) }
+        ensures { (tenant : ℕ) → StoreInvariant no_rows [] [] (part tenant result) }
     {
         Stores {
             alloc,
@@ -46,12 +46,12 @@ impl<N: Drop> Stores<N> {
     }
 
     /// The number of the latest row of the tenant's trace, where the table has one.
-    pub fn seat(&self, tenant: u32, trace: [u8; 16]) -> Option<u64>
-        ensures value { result ≡ (part tenant self.now).seats trace }
-        ensures shows { (n : Counts) (pending held : List ℕ) → IsSound n pending held (part tenant self.now)
-            → SeatShows n trace (part tenant self.now) }
+    pub fn latest_row(&self, tenant: u32, trace: [u8; 16]) -> Option<u64>
+        ensures value { result ≡ (part tenant self.now).latest_rows trace }
+        ensures shows { (n : Counts) (pending held : List ℕ) → StoreInvariant n pending held (part tenant self.now)
+            → LatestRowShows n trace (part tenant self.now) }
     {
-        self.rows.seat(tenant, trace)
+        self.rows.latest_row(tenant, trace)
     }
 
     /// The tenant's row of this number, where the table has it.
@@ -79,33 +79,33 @@ impl<N: Drop> Stores<N> {
     pub fn hold_all(
         &mut self,
         tenant: u32,
-        resource: Option<&Text>,
-        resource_schema_url: Option<&Text>,
-        scope: Option<&Text>,
-        scope_schema_url: Option<&Text>,
+        resource: Option<&SharedBytes>,
+        resource_schema_url: Option<&SharedBytes>,
+        scope: Option<&SharedBytes>,
+        scope_schema_url: Option<&SharedBytes>,
     ) -> Result<TextKeys, AllocError>
-        ensures own { IfOk result (λ keys. (n : Counts) (pending held : List ℕ)
-            → IsSound n pending held (part tenant self.old)
+        ensures uses_added { IfOk result (λ keys. (n : Counts) (pending held : List ℕ)
+            → StoreInvariant n pending held (part tenant self.old)
             → HoldsAll (text_keys keys) (part tenant self.old) (part tenant self.new)) }
         ensures texts { IfOk result (λ keys. (n : Counts) (pending held : List ℕ)
-            → IsSound n pending held (part tenant self.old)
+            → StoreInvariant n pending held (part tenant self.old)
             → origin_at (text_at (part tenant self.new).texts) keys ≡ origin_of
             (option_copied resource.entry) (option_copied resource_schema_url.entry)
             (option_copied scope.entry) (option_copied scope_schema_url.entry)) }
-        ensures sound { IfOk result (λ keys. (n : Counts) (pending held : List ℕ)
-            → IsSound n pending held (part tenant self.old)
-            → IsSound n pending (text_keys keys ++ held) (part tenant self.new)) }
+        ensures store_invariant { IfOk result (λ keys. (n : Counts) (pending held : List ℕ)
+            → StoreInvariant n pending held (part tenant self.old)
+            → StoreInvariant n pending (text_keys keys ++ held) (part tenant self.new)) }
         ensures shows { OnOk result ((n : Counts) (pending held keys : List ℕ)
-            → IsSound n pending held (part tenant self.old) → AreAmong keys pending
+            → StoreInvariant n pending held (part tenant self.old) → AreAmong keys pending
             → view n keys (part tenant self.new) ≡ view n keys (part tenant self.old)) }
         ensures stay { OnOk result ((n : Counts) (pending held : List ℕ)
-            → IsSound n pending held (part tenant self.old)
+            → StoreInvariant n pending held (part tenant self.old)
             → Stay held (part tenant self.old).texts (part tenant self.new).texts) }
 
         // Other tenants' parts stay as they were, and where memory is refused this tenant's too.
-        ensures others { (other : ℕ) → other ≢ tenant → part other self.new ≡ part other self.old }
-        ensures refused { OnErr result ((n : Counts) (pending held : List ℕ)
-            → IsSound n pending held (part tenant self.old)
+        ensures others_unchanged { (other : ℕ) → other ≢ tenant → part other self.new ≡ part other self.old }
+        ensures on_refusal { OnErr result ((n : Counts) (pending held : List ℕ)
+            → StoreInvariant n pending held (part tenant self.old)
             → part tenant self.new ≡ part tenant self.old) }
     {
         let resource = wanted_new(resource);
@@ -126,27 +126,28 @@ impl<N: Drop> Stores<N> {
     /// One use more of each of these keys' texts, which are in hand, for a span to come, or of none. The answer is the
     /// keys of these uses.
     pub fn hold_again(&mut self, tenant: u32, keys: TextKeys) -> Result<TextKeys, AllocError>
-        ensures own { IfOk result (λ again. (n : Counts) (pending held : List ℕ)
-            → AreAmong (text_keys keys) held → IsSound n pending held (part tenant self.old)
+        ensures uses_added { IfOk result (λ again. (n : Counts) (pending held : List ℕ)
+            → AreAmong (text_keys keys) held → StoreInvariant n pending held (part tenant self.old)
             → HoldsAll (text_keys again) (part tenant self.old) (part tenant self.new)) }
         ensures texts { IfOk result (λ again. (n : Counts) (pending held : List ℕ)
-            → AreAmong (text_keys keys) held → IsSound n pending held (part tenant self.old)
+            → AreAmong (text_keys keys) held → StoreInvariant n pending held (part tenant self.old)
             → origin_at (text_at (part tenant self.new).texts) again ≡
             origin_at (text_at (part tenant self.old).texts) keys) }
-        ensures sound { IfOk result (λ again. (n : Counts) (pending held : List ℕ)
-            → AreAmong (text_keys keys) held → IsSound n pending held (part tenant self.old)
-            → IsSound n pending (text_keys again ++ held) (part tenant self.new)) }
+        ensures store_invariant { IfOk result (λ again. (n : Counts) (pending held : List ℕ)
+            → AreAmong (text_keys keys) held → StoreInvariant n pending held (part tenant self.old)
+            → StoreInvariant n pending (text_keys again ++ held) (part tenant self.new)) }
         ensures shows { OnOk result ((n : Counts) (pending held shown : List ℕ)
-            → AreAmong (text_keys keys) held → IsSound n pending held (part tenant self.old) → AreAmong shown pending
+            → AreAmong (text_keys keys) held → StoreInvariant n pending held (part tenant self.old)
+            → AreAmong shown pending
             → view n shown (part tenant self.new) ≡ view n shown (part tenant self.old)) }
         ensures stay { OnOk result ((n : Counts) (pending held : List ℕ)
-            → AreAmong (text_keys keys) held → IsSound n pending held (part tenant self.old)
+            → AreAmong (text_keys keys) held → StoreInvariant n pending held (part tenant self.old)
             → Stay held (part tenant self.old).texts (part tenant self.new).texts) }
 
         // Other tenants' parts stay as they were, and where memory is refused this tenant's too.
-        ensures others { (other : ℕ) → other ≢ tenant → part other self.new ≡ part other self.old }
-        ensures refused { OnErr result ((n : Counts) (pending held : List ℕ)
-            → AreAmong (text_keys keys) held → IsSound n pending held (part tenant self.old)
+        ensures others_unchanged { (other : ℕ) → other ≢ tenant → part other self.new ≡ part other self.old }
+        ensures on_refusal { OnErr result ((n : Counts) (pending held : List ℕ)
+            → AreAmong (text_keys keys) held → StoreInvariant n pending held (part tenant self.old)
             → part tenant self.new ≡ part tenant self.old) }
     {
         let resource = wanted_again(keys.resource);
@@ -166,17 +167,17 @@ impl<N: Drop> Stores<N> {
 
     /// One use less of each of these keys' texts, for which no span came. It takes no memory.
     pub fn release_all(&mut self, tenant: u32, keys: TextKeys)
-        ensures own { ReleasesAll (text_keys keys) (part tenant self.old) (part tenant self.new) }
-        ensures sound { (n : Counts) (pending held : List ℕ)
-            → IsSound n pending (text_keys keys ++ held) (part tenant self.old)
-            → IsSound n pending held (part tenant self.new) }
+        ensures uses_removed { ReleasesAll (text_keys keys) (part tenant self.old) (part tenant self.new) }
+        ensures store_invariant { (n : Counts) (pending held : List ℕ)
+            → StoreInvariant n pending (text_keys keys ++ held) (part tenant self.old)
+            → StoreInvariant n pending held (part tenant self.new) }
         ensures shows { (n : Counts) (pending held shown : List ℕ)
-            → IsSound n pending (text_keys keys ++ held) (part tenant self.old) → AreAmong shown pending
+            → StoreInvariant n pending (text_keys keys ++ held) (part tenant self.old) → AreAmong shown pending
             → view n shown (part tenant self.new) ≡ view n shown (part tenant self.old) }
         ensures stay { (n : Counts) (pending held : List ℕ)
-            → IsSound n pending (text_keys keys ++ held) (part tenant self.old)
+            → StoreInvariant n pending (text_keys keys ++ held) (part tenant self.old)
             → Stay held (part tenant self.old).texts (part tenant self.new).texts }
-        ensures others { (other : ℕ) → other ≢ tenant → part other self.new ≡ part other self.old }
+        ensures others_unchanged { (other : ℕ) → other ≢ tenant → part other self.new ≡ part other self.old }
     {
         release_all(&mut self.texts, tenant, keys);
     }
@@ -184,23 +185,24 @@ impl<N: Drop> Stores<N> {
     /// The span is stored, and its key joins the row of this number, which has this note from now on. The texts that
     /// the span names were held for it. Where memory is refused, span and note are dropped.
     pub fn join(&mut self, number: u64, span: StoredSpan, note: N) -> Result<Joining<N>, AllocError>
-        ensures own { IfOk result (λ joining.
+        ensures own_part { IfOk result (λ joining.
             Joins number joining.key span note (part span.owner self.old) (part span.owner self.new)) }
         ensures former { IfOk result (λ joining.
             joining.former ≡ note_of note ((part span.owner self.old).rows number)) }
-        ensures sound { OnOk result ((n : Counts) (pending held : List ℕ) → n.decided < number → number ≤ n.opened
-            → IsSound n pending (text_keys span.keys ++ held) (part span.owner self.old)
-            → IsSound n pending held (part span.owner self.new)) }
+        ensures store_invariant { OnOk result ((n : Counts) (pending held : List ℕ) → n.decided < number
+            → number ≤ n.opened
+            → StoreInvariant n pending (text_keys span.keys ++ held) (part span.owner self.old)
+            → StoreInvariant n pending held (part span.owner self.new)) }
         ensures shows { OnOk result ((n : Counts) (pending held keys trace : List ℕ)
-            → IsSound n pending held (part span.owner self.old) → AreAmong keys pending
-            → (part span.owner self.old).seats trace ≡ Some number → n.decided < number
+            → StoreInvariant n pending held (part span.owner self.old) → AreAmong keys pending
+            → (part span.owner self.old).latest_rows trace ≡ Some number → n.decided < number
             → view n keys (part span.owner self.new) ≡ with_joined trace
             (texts_of (text_at (part span.owner self.old).texts) span) note
             (view n keys (part span.owner self.old))) }
 
         // Other tenants' parts stay as they were, and where memory is refused this tenant's too.
-        ensures others { (other : ℕ) → other ≢ span.owner → part other self.new ≡ part other self.old }
-        ensures refused { OnErr result (part span.owner self.new ≡ part span.owner self.old) }
+        ensures others_unchanged { (other : ℕ) → other ≢ span.owner → part other self.new ≡ part other self.old }
+        ensures on_refusal { OnErr result (part span.owner self.new ≡ part span.owner self.old) }
     {
         let tenant = span.owner();
         let key = self.spans.put(span)?;
@@ -224,21 +226,21 @@ impl<N: Drop> Stores<N> {
         note: N,
     ) -> Result<Opening, AllocError>
         requires { (part span.owner self.old).rows number ≡ None }
-        ensures own { IfOk result (λ opening.
+        ensures own_part { IfOk result (λ opening.
             Opens number opening.key due trace span note (part span.owner self.old) (part span.owner self.new)) }
-        ensures earlier { IfOk result (λ opening. opening.earlier ≡ (part span.owner self.old).seats trace) }
-        ensures sound { OnOk result ((n : Counts) (pending held : List ℕ) → number ≡ n.opened + 1
-            → IsSound n pending (text_keys span.keys ++ held) (part span.owner self.old)
-            → IsSound (one_opened n) pending held (part span.owner self.new)) }
+        ensures earlier { IfOk result (λ opening. opening.earlier ≡ (part span.owner self.old).latest_rows trace) }
+        ensures store_invariant { OnOk result ((n : Counts) (pending held : List ℕ) → number ≡ n.opened + 1
+            → StoreInvariant n pending (text_keys span.keys ++ held) (part span.owner self.old)
+            → StoreInvariant (one_opened n) pending held (part span.owner self.new)) }
         ensures shows { OnOk result ((n : Counts) (pending held keys : List ℕ) → number ≡ n.opened + 1
-            → IsSound n pending held (part span.owner self.old) → AreAmong keys pending
+            → StoreInvariant n pending held (part span.owner self.old) → AreAmong keys pending
             → view (one_opened n) keys (part span.owner self.new) ≡ with_opened trace due
             (texts_of (text_at (part span.owner self.old).texts) span) note
             (view n keys (part span.owner self.old))) }
 
         // Other tenants' parts stay as they were, and where memory is refused this tenant's too.
-        ensures others { (other : ℕ) → other ≢ span.owner → part other self.new ≡ part other self.old }
-        ensures refused { OnErr result (part span.owner self.new ≡ part span.owner self.old) }
+        ensures others_unchanged { (other : ℕ) → other ≢ span.owner → part other self.new ≡ part other self.old }
+        ensures on_refusal { OnErr result (part span.owner self.new ≡ part span.owner self.old) }
     {
         let tenant = span.owner();
         let key = self.spans.put(span)?;
@@ -263,19 +265,19 @@ impl<N: Drop> Stores<N> {
     /// The span is stored, and waits for a batch: its row was decided and sampled before it came. The texts that the
     /// span names were held for it. The answer is its key.
     pub fn keep_late(&mut self, span: StoredSpan) -> Result<usize, AllocError>
-        ensures own { IfOk result (λ key. Waits key span (part span.owner self.old) (part span.owner self.new)) }
-        ensures sound { IfOk result (λ key. (n : Counts) (pending held : List ℕ)
-            → IsSound n pending (text_keys span.keys ++ held) (part span.owner self.old)
-            → IsSound n (pending ++ key ∷ []) held (part span.owner self.new)) }
+        ensures own_part { IfOk result (λ key. Waits key span (part span.owner self.old) (part span.owner self.new)) }
+        ensures store_invariant { IfOk result (λ key. (n : Counts) (pending held : List ℕ)
+            → StoreInvariant n pending (text_keys span.keys ++ held) (part span.owner self.old)
+            → StoreInvariant n (pending ++ key ∷ []) held (part span.owner self.new)) }
         ensures shows { IfOk result (λ key. (n : Counts) (pending held keys : List ℕ)
-            → IsSound n pending held (part span.owner self.old) → AreAmong keys pending
+            → StoreInvariant n pending held (part span.owner self.old) → AreAmong keys pending
             → view n (keys ++ key ∷ []) (part span.owner self.new) ≡ with_late
             (texts_of (text_at (part span.owner self.old).texts) span)
             (view n keys (part span.owner self.old))) }
 
         // Other tenants' parts stay as they were, and where memory is refused this tenant's too.
-        ensures others { (other : ℕ) → other ≢ span.owner → part other self.new ≡ part other self.old }
-        ensures refused { OnErr result (part span.owner self.new ≡ part span.owner self.old) }
+        ensures others_unchanged { (other : ℕ) → other ≢ span.owner → part other self.new ≡ part other self.old }
+        ensures on_refusal { OnErr result (part span.owner self.new ≡ part span.owner self.old) }
     {
         let late = self.spans.put(span)?;
         Ok(late)
@@ -285,15 +287,15 @@ impl<N: Drop> Stores<N> {
     /// takes no memory.
     pub fn keep_row(&mut self, tenant: u32, number: u64) -> Keys
         ensures keys { result ≡ keys_of ((part tenant self.old).rows number) }
-        ensures own { Settles number true (part tenant self.old) (part tenant self.new) }
-        ensures sound { (n : Counts) (pending held : List ℕ) → number ≡ n.decided + 1 → number ≤ n.opened
-            → IsSound n pending held (part tenant self.old)
-            → IsSound (one_decided n) (pending ++ result) held (part tenant self.new) }
+        ensures own_part { Settles number true (part tenant self.old) (part tenant self.new) }
+        ensures store_invariant { (n : Counts) (pending held : List ℕ) → number ≡ n.decided + 1 → number ≤ n.opened
+            → StoreInvariant n pending held (part tenant self.old)
+            → StoreInvariant (one_decided n) (pending ++ result) held (part tenant self.new) }
         ensures shows { (n : Counts) (pending held keys : List ℕ) → number ≡ n.decided + 1 → number ≤ n.opened
-            → IsSound n pending held (part tenant self.old)
+            → StoreInvariant n pending held (part tenant self.old)
             → view (one_decided n) (keys ++ result) (part tenant self.new) ≡
             first_kept (view n keys (part tenant self.old)) }
-        ensures others { (other : ℕ) → other ≢ tenant → part other self.new ≡ part other self.old }
+        ensures others_unchanged { (other : ℕ) → other ≢ tenant → part other self.new ≡ part other self.old }
     {
         self.rows.settle(self.alloc, tenant, number, true)
     }
@@ -301,18 +303,18 @@ impl<N: Drop> Stores<N> {
     /// The row is decided and not sampled: its spans leave. The answer says how many. It takes no memory.
     pub fn drop_row(&mut self, tenant: u32, number: u64) -> usize
         ensures size { result ≡ length (keys_of ((part tenant self.old).rows number)) }
-        ensures own { Drops number (part tenant self.old) (part tenant self.new) }
-        ensures sound { (n : Counts) (pending held : List ℕ) → number ≡ n.decided + 1 → number ≤ n.opened
-            → IsSound n pending held (part tenant self.old)
-            → IsSound (one_decided n) pending held (part tenant self.new) }
+        ensures own_part { Drops number (part tenant self.old) (part tenant self.new) }
+        ensures store_invariant { (n : Counts) (pending held : List ℕ) → number ≡ n.decided + 1 → number ≤ n.opened
+            → StoreInvariant n pending held (part tenant self.old)
+            → StoreInvariant (one_decided n) pending held (part tenant self.new) }
         ensures shows { (n : Counts) (pending held keys : List ℕ) → number ≡ n.decided + 1 → number ≤ n.opened
-            → IsSound n pending held (part tenant self.old) → AreAmong keys pending
+            → StoreInvariant n pending held (part tenant self.old) → AreAmong keys pending
             → view (one_decided n) keys (part tenant self.new) ≡
             first_dropped (view n keys (part tenant self.old)) }
         ensures stay { (n : Counts) (pending held : List ℕ) → number ≡ n.decided + 1 → number ≤ n.opened
-            → IsSound n pending held (part tenant self.old)
+            → StoreInvariant n pending held (part tenant self.old)
             → Stay held (part tenant self.old).texts (part tenant self.new).texts }
-        ensures others { (other : ℕ) → other ≢ tenant → part other self.new ≡ part other self.old }
+        ensures others_unchanged { (other : ℕ) → other ≢ tenant → part other self.new ≡ part other self.old }
     {
         let keys = self.rows.settle(self.alloc, tenant, number, false);
         self.flush(tenant, keys.as_slice());
@@ -321,19 +323,19 @@ impl<N: Drop> Stores<N> {
 
     /// The tenant's spans at these keys leave, each with its uses of texts. It takes no memory.
     pub fn flush(&mut self, tenant: u32, keys: &[usize])
-        ensures own { Leaves keys.now (part tenant self.old) (part tenant self.new) }
-        ensures sound { (n : Counts) (pending left held : List ℕ)
+        ensures own_part { Leaves keys.now (part tenant self.old) (part tenant self.new) }
+        ensures store_invariant { (n : Counts) (pending left held : List ℕ)
             → ((key : ℕ) → count key keys.now + count key left ≡ count key pending)
-            → IsSound n pending held (part tenant self.old) → IsSound n left held (part tenant self.new) }
+            → StoreInvariant n pending held (part tenant self.old) → StoreInvariant n left held (part tenant self.new) }
         ensures shows { (n : Counts) (pending left held shown : List ℕ)
             → ((key : ℕ) → count key keys.now + count key left ≡ count key pending)
-            → IsSound n pending held (part tenant self.old) → AreAmong shown left
+            → StoreInvariant n pending held (part tenant self.old) → AreAmong shown left
             → view n shown (part tenant self.new) ≡ view n shown (part tenant self.old) }
         ensures stay { (n : Counts) (pending left held : List ℕ)
             → ((key : ℕ) → count key keys.now + count key left ≡ count key pending)
-            → IsSound n pending held (part tenant self.old)
+            → StoreInvariant n pending held (part tenant self.old)
             → Stay held (part tenant self.old).texts (part tenant self.new).texts }
-        ensures others { (other : ℕ) → other ≢ tenant → part other self.new ≡ part other self.old }
+        ensures others_unchanged { (other : ℕ) → other ≢ tenant → part other self.new ≡ part other self.old }
     {
         for key in keys {
             self.leave(tenant, *key);
@@ -341,20 +343,20 @@ impl<N: Drop> Stores<N> {
     }
 
     /// The row, which is no longer present, leaves the table, and its spans with it. A later row of the trace keeps the
-    /// seat. The answer says how many spans left. It takes no memory.
+    /// latest row. The answer says how many spans left. It takes no memory.
     pub fn sweep(&mut self, tenant: u32, number: u64) -> usize
         ensures size { result ≡ length (keys_of ((part tenant self.old).rows number)) }
-        ensures own { Sweeps number (part tenant self.old) (part tenant self.new) }
-        ensures sound { (n : Counts) (pending held : List ℕ) → number ≡ n.swept + 1 → number ≤ n.first
-            → IsSound n pending held (part tenant self.old)
-            → IsSound (one_swept n) pending held (part tenant self.new) }
+        ensures own_part { Sweeps number (part tenant self.old) (part tenant self.new) }
+        ensures store_invariant { (n : Counts) (pending held : List ℕ) → number ≡ n.swept + 1 → number ≤ n.first
+            → StoreInvariant n pending held (part tenant self.old)
+            → StoreInvariant (one_swept n) pending held (part tenant self.new) }
         ensures shows { (n : Counts) (pending held keys : List ℕ) → number ≡ n.swept + 1 → number ≤ n.first
-            → IsSound n pending held (part tenant self.old) → AreAmong keys pending
+            → StoreInvariant n pending held (part tenant self.old) → AreAmong keys pending
             → view (one_swept n) keys (part tenant self.new) ≡ view n keys (part tenant self.old) }
         ensures stay { (n : Counts) (pending held : List ℕ) → number ≡ n.swept + 1 → number ≤ n.first
-            → IsSound n pending held (part tenant self.old)
+            → StoreInvariant n pending held (part tenant self.old)
             → Stay held (part tenant self.old).texts (part tenant self.new).texts }
-        ensures others { (other : ℕ) → other ≢ tenant → part other self.new ≡ part other self.old }
+        ensures others_unchanged { (other : ℕ) → other ≢ tenant → part other self.new ≡ part other self.old }
     {
         let keys = self.rows.sweep(self.alloc, tenant, number);
         self.flush(tenant, keys.as_slice());
@@ -362,32 +364,32 @@ impl<N: Drop> Stores<N> {
     }
 
     /// Takes back what one span changed, and the texts that were held for it. It takes no memory.
-    pub fn take_back(&mut self, tenant: u32, placed: Placed<N>)
-        ensures back { (start : Part N) → IsPlaced placed start (part tenant self.old) → part tenant self.new ≡ start }
-        ensures others { (other : ℕ) → other ≢ tenant → part other self.new ≡ part other self.old }
+    pub fn take_back(&mut self, tenant: u32, placed: UndoEntry<N>)
+        ensures back { (start : Part N) → IsUndone placed start (part tenant self.old) → part tenant self.new ≡ start }
+        ensures others_unchanged { (other : ℕ) → other ≢ tenant → part other self.new ≡ part other self.old }
     {
         match placed {
-            Placed::Left => {}
-            Placed::Joined(number, key, former) => {
+            UndoEntry::Left => {}
+            UndoEntry::Joined(number, key, former) => {
                 self.rows.undo_join(tenant, number, former);
                 self.leave(tenant, key);
             }
-            Placed::Opened(number, key, trace, earlier) => {
+            UndoEntry::Opened(number, key, trace, earlier) => {
                 self.rows.undo_open(tenant, number, trace, earlier);
                 self.leave(tenant, key);
             }
-            Placed::Late(key) => {
+            UndoEntry::Late(key) => {
                 self.leave(tenant, key);
             }
         }
     }
 
     /// Takes back what these spans changed, the latest first. It takes no memory.
-    pub fn take_all_back(&mut self, tenant: u32, journal: &mut Vec<Placed<N>>)
+    pub fn take_all_back(&mut self, tenant: u32, journal: &mut Vec<UndoEntry<N>>)
         ensures back { (start : Part N) → Trail start journal.old.items (part tenant self.old)
             → part tenant self.new ≡ start }
         ensures emptied { journal.new.items ≡ [] }
-        ensures others { (other : ℕ) → other ≢ tenant → part other self.new ≡ part other self.old }
+        ensures others_unchanged { (other : ℕ) → other ≢ tenant → part other self.new ≡ part other self.old }
     {
         while let Some(placed) = journal.pop() {
             self.take_back(tenant, placed);
@@ -396,8 +398,8 @@ impl<N: Drop> Stores<N> {
 
     /// The tenant's span at this key leaves, with its uses of texts.
     fn leave(&mut self, tenant: u32, key: usize)
-        ensures own { Leaves (key ∷ []) (part tenant self.old) (part tenant self.new) }
-        ensures others { (other : ℕ) → other ≢ tenant → part other self.new ≡ part other self.old }
+        ensures own_part { Leaves (key ∷ []) (part tenant self.old) (part tenant self.new) }
+        ensures others_unchanged { (other : ℕ) → other ≢ tenant → part other self.new ≡ part other self.old }
     {
         let Ok(span) = self.spans.take(tenant, key) else {
             return;
@@ -418,13 +420,13 @@ fn open_row<N: Drop>(
     note: N,
 ) -> Result<Option<u64>, AllocError>
     requires { rows_part tenant rows.old number ≡ None }
-    ensures earlier { IfOk result (λ earlier. earlier ≡ seats_part tenant rows.old trace) }
+    ensures earlier { IfOk result (λ earlier. earlier ≡ latest_rows_part tenant rows.old trace) }
     ensures rows { OnOk result (rows_part tenant rows.new ≡
         with_at number (Some (new_row trace due key note)) (rows_part tenant rows.old)) }
-    ensures seats { OnOk result (seats_part tenant rows.new ≡
-        with_seat trace (Some number) (seats_part tenant rows.old)) }
-    ensures others { (other : ℕ) → other ≢ tenant → IsSame other rows.old rows.new }
-    ensures refused { OnErr result (IsSame tenant rows.old rows.new) }
+    ensures latest_rows { OnOk result (latest_rows_part tenant rows.new ≡
+        with_latest_row trace (Some number) (latest_rows_part tenant rows.old)) }
+    ensures others_unchanged { (other : ℕ) → other ≢ tenant → IsSame other rows.old rows.new }
+    ensures on_refusal { OnErr result (IsSame tenant rows.old rows.new) }
 {
     let keys = Keys::one(alloc, key)?;
     rows.open(

@@ -3,44 +3,44 @@
 ghost use Rattle.std.specs.Prelude.{◌≡◌, ◌≢◌, ◌++◌, ℕ, Option, IfOk, OnErr, option_to_list, option_copied};
 ghost use Rattle.span_pool.specs.Stored as keyed;
 ghost use Rattle.text_pool.specs.Part.{part};
-ghost use Rattle.text_pool.specs.declared.pool.Kept.{Kept};
+ghost use Rattle.text_pool.specs.declared.pool.CountedText.{CountedText};
 ghost use Rattle.tenant_stores.specs.View.{text_at, text_keys};
 ghost use Rattle.tenant_stores.specs.Changes.{all_released};
-ghost use Rattle.tenant_stores.specs.Held.{AreKept, AreHeld, IsKnown, wanted_text, again_of, origin_of};
+ghost use Rattle.tenant_stores.specs.HeldTexts.{AreKept, AreHeld, IsKnown, wanted_text, again_of, origin_of};
 
 use span_pool::TextKeys;
 use std::alloc::AllocError;
-use text_pool::{Text, TextPool};
+use text_pool::{SharedBytes, TextPool};
 
 /// A text of which one use more is wanted.
 #[derive(Clone, Copy)]
-pub(crate) enum Wanted<'a> {
+pub(crate) enum TextRequest<'a> {
     /// None.
     Nothing,
     /// This text.
-    New(&'a Text),
+    New(&'a SharedBytes),
     /// The text at this key.
     Again(usize),
 }
 
 /// This text, where there is one.
-pub(crate) fn wanted_new(text: Option<&Text>) -> Wanted<'_>
-    ensures known { (texts : ℕ → Option Kept) → IsKnown result texts }
-    ensures text { (texts : ℕ → Option Kept) → wanted_text result texts ≡ option_copied text.entry }
+pub(crate) fn wanted_new(text: Option<&SharedBytes>) -> TextRequest<'_>
+    ensures known { (texts : ℕ → Option CountedText) → IsKnown result texts }
+    ensures text { (texts : ℕ → Option CountedText) → wanted_text result texts ≡ option_copied text.entry }
 {
     match text {
-        Some(text) => Wanted::New(text),
-        None => Wanted::Nothing,
+        Some(text) => TextRequest::New(text),
+        None => TextRequest::Nothing,
     }
 }
 
 /// The text at this key, where there is one.
-pub(crate) fn wanted_again<'a>(key: Option<usize>) -> Wanted<'a>
+pub(crate) fn wanted_again<'a>(key: Option<usize>) -> TextRequest<'a>
     ensures { result ≡ again_of key }
 {
     match key {
-        Some(key) => Wanted::Again(key),
-        None => Wanted::Nothing,
+        Some(key) => TextRequest::Again(key),
+        None => TextRequest::Nothing,
     }
 }
 
@@ -48,23 +48,24 @@ pub(crate) fn wanted_again<'a>(key: Option<usize>) -> Wanted<'a>
 fn hold_one(
     texts: &mut TextPool,
     tenant: u32,
-    wanted: Wanted<'_>,
+    wanted: TextRequest<'_>,
 ) -> Result<Option<usize>, AllocError>
-    ensures held { IfOk result (λ key. AreKept (part tenant texts.old) → IsKnown wanted.entry (part tenant texts.old)
+    ensures keys_held { IfOk result (λ key. AreKept (part tenant texts.old)
+        → IsKnown wanted.entry (part tenant texts.old)
         → AreHeld (option_to_list key) (part tenant texts.old) (part tenant texts.new)) }
     ensures text { IfOk result (λ key. AreKept (part tenant texts.old) → IsKnown wanted.entry (part tenant texts.old)
         → keyed.text_at (text_at (part tenant texts.new)) key ≡ wanted_text wanted.entry (part tenant texts.old)) }
-    ensures others { (other : ℕ) → other ≢ tenant → part other texts.new ≡ part other texts.old }
-    ensures refused { OnErr result (part tenant texts.new ≡ part tenant texts.old) }
+    ensures others_unchanged { (other : ℕ) → other ≢ tenant → part other texts.new ≡ part other texts.old }
+    ensures on_refusal { OnErr result (part tenant texts.new ≡ part tenant texts.old) }
 {
     match wanted {
-        Wanted::Nothing => Ok(None),
-        Wanted::New(text) => {
+        TextRequest::Nothing => Ok(None),
+        TextRequest::New(text) => {
             let copy = text.shared()?;
             let key = texts.hold(tenant, copy)?;
             Ok(Some(key))
         }
-        Wanted::Again(key) => {
+        TextRequest::Again(key) => {
             let again = texts.hold_again(tenant, key)?;
             Ok(Some(again))
         }
@@ -75,10 +76,10 @@ fn hold_one(
 fn hold_two(
     texts: &mut TextPool,
     tenant: u32,
-    first: Wanted<'_>,
-    second: Wanted<'_>,
+    first: TextRequest<'_>,
+    second: TextRequest<'_>,
 ) -> Result<(Option<usize>, Option<usize>), AllocError>
-    ensures held { IfOk result (λ keys. AreKept (part tenant texts.old)
+    ensures keys_held { IfOk result (λ keys. AreKept (part tenant texts.old)
         → IsKnown first.entry (part tenant texts.old) → IsKnown second.entry (part tenant texts.old)
         → AreHeld (option_to_list keys.0 ++ option_to_list keys.1) (part tenant texts.old) (part tenant texts.new)) }
     ensures first { IfOk result (λ keys. AreKept (part tenant texts.old)
@@ -87,8 +88,8 @@ fn hold_two(
     ensures second { IfOk result (λ keys. AreKept (part tenant texts.old)
         → IsKnown first.entry (part tenant texts.old) → IsKnown second.entry (part tenant texts.old)
         → keyed.text_at (text_at (part tenant texts.new)) keys.1 ≡ wanted_text second.entry (part tenant texts.old)) }
-    ensures others { (other : ℕ) → other ≢ tenant → part other texts.new ≡ part other texts.old }
-    ensures refused { OnErr result (AreKept (part tenant texts.old) → IsKnown second.entry (part tenant texts.old)
+    ensures others_unchanged { (other : ℕ) → other ≢ tenant → part other texts.new ≡ part other texts.old }
+    ensures on_refusal { OnErr result (AreKept (part tenant texts.old) → IsKnown second.entry (part tenant texts.old)
         → part tenant texts.new ≡ part tenant texts.old) }
 {
     let last = hold_one(texts, tenant, second)?;
@@ -105,12 +106,12 @@ fn hold_two(
 pub(crate) fn hold_four(
     texts: &mut TextPool,
     tenant: u32,
-    resource: Wanted<'_>,
-    resource_schema_url: Wanted<'_>,
-    scope: Wanted<'_>,
-    scope_schema_url: Wanted<'_>,
+    resource: TextRequest<'_>,
+    resource_schema_url: TextRequest<'_>,
+    scope: TextRequest<'_>,
+    scope_schema_url: TextRequest<'_>,
 ) -> Result<TextKeys, AllocError>
-    ensures held { IfOk result (λ keys. AreKept (part tenant texts.old)
+    ensures keys_held { IfOk result (λ keys. AreKept (part tenant texts.old)
         → IsKnown resource.entry (part tenant texts.old) → IsKnown resource_schema_url.entry (part tenant texts.old)
         → IsKnown scope.entry (part tenant texts.old) → IsKnown scope_schema_url.entry (part tenant texts.old)
         → AreHeld (text_keys keys) (part tenant texts.old) (part tenant texts.new)) }
@@ -122,8 +123,8 @@ pub(crate) fn hold_four(
         (wanted_text resource_schema_url.entry (part tenant texts.old))
         (wanted_text scope.entry (part tenant texts.old))
         (wanted_text scope_schema_url.entry (part tenant texts.old))) }
-    ensures others { (other : ℕ) → other ≢ tenant → part other texts.new ≡ part other texts.old }
-    ensures refused { OnErr result (AreKept (part tenant texts.old)
+    ensures others_unchanged { (other : ℕ) → other ≢ tenant → part other texts.new ≡ part other texts.old }
+    ensures on_refusal { OnErr result (AreKept (part tenant texts.old)
         → IsKnown resource.entry (part tenant texts.old) → IsKnown resource_schema_url.entry (part tenant texts.old)
         → IsKnown scope.entry (part tenant texts.old) → IsKnown scope_schema_url.entry (part tenant texts.old)
         → part tenant texts.new ≡ part tenant texts.old) }
@@ -146,8 +147,8 @@ pub(crate) fn hold_four(
 
 /// One use less of each of the texts with these keys.
 pub(crate) fn release_all(texts: &mut TextPool, tenant: u32, keys: TextKeys)
-    ensures own { part tenant texts.new ≡ all_released (text_keys keys) (part tenant texts.old) }
-    ensures others { (other : ℕ) → other ≢ tenant → part other texts.new ≡ part other texts.old }
+    ensures uses_removed { part tenant texts.new ≡ all_released (text_keys keys) (part tenant texts.old) }
+    ensures others_unchanged { (other : ℕ) → other ≢ tenant → part other texts.new ≡ part other texts.old }
 {
     release(texts, tenant, keys.resource);
     release(texts, tenant, keys.resource_schema_url);
@@ -157,8 +158,8 @@ pub(crate) fn release_all(texts: &mut TextPool, tenant: u32, keys: TextKeys)
 
 /// One use less of the text with this key, where there is a key.
 fn release(texts: &mut TextPool, tenant: u32, key: Option<usize>)
-    ensures own { part tenant texts.new ≡ all_released (option_to_list key) (part tenant texts.old) }
-    ensures others { (other : ℕ) → other ≢ tenant → part other texts.new ≡ part other texts.old }
+    ensures uses_removed { part tenant texts.new ≡ all_released (option_to_list key) (part tenant texts.old) }
+    ensures others_unchanged { (other : ℕ) → other ≢ tenant → part other texts.new ≡ part other texts.old }
 {
     if let Some(key) = key {
         texts.release(tenant, key);

@@ -7,14 +7,14 @@
 //! digests, and at bytes only where both leave it open. So no length of a text makes it dear, no order in which texts
 //! come does, and nothing is asked of the caller.
 //!
-//! A [`Text`] is made with its SHA-256 (FIPS 180-4), which costs time by its length. That can be done before the pool
-//! is at hand. Equal digests are never taken for equal texts.
+//! A [`SharedBytes`] is made with its SHA-256 (FIPS 180-4), which costs time by its length. That can be done before the
+//! pool is at hand. Equal digests are never taken for equal texts.
 //!
 //! It stands on the library's `bytes`, `sha2` and `slab`.
 #![tactic(auto)]
 
 mod pool;
-mod text;
+mod shared_bytes;
 
-pub use pool::{Kept, TextPool};
-pub use text::Text;
+pub use pool::{CountedText, TextPool};
+pub use shared_bytes::SharedBytes;

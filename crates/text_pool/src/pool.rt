@@ -4,7 +4,7 @@ ghost use Rattle.std.specs.Prelude.{◌≡◌, ◌≢◌, ◌<◌, ◌+◌, ◌^
 ghost use Rattle.slab.specs.Slab.{get, ContainsKey, Updates};
 ghost use Rattle.text_pool.specs.Part.{part, with_text, with_uses, held, released, text_of, same_text};
 
-use crate::text::Text;
+use crate::shared_bytes::SharedBytes;
 use bytes::Bytes;
 use slab::Slab;
 use std::alloc::{AllocError, Global};
@@ -13,11 +13,11 @@ use std::marker::Model;
 
 /// A text that is kept, and how often.
 #[derive(Drop)]
-pub struct Kept {
+pub struct CountedText {
     /// The number of the tenant whose text it is.
     pub owner: u32,
     /// The text.
-    pub text: Text,
+    pub text: SharedBytes,
     /// For how many it is kept, at least one.
     pub uses: u64,
 }
@@ -26,16 +26,16 @@ pub struct Kept {
 /// it was held.
 #[derive(Drop)]
 pub struct TextPool {
-    texts: Slab<Kept>,
+    texts: Slab<CountedText>,
     // By tenant and digest, a key that may have the text. A text is looked at before its key is taken from here.
     keys: BTreeMap<(u32, [u8; 32]), usize>,
 }
 
 impl Model for TextPool {
     ghost use Rattle.slab.specs.Slab.{Slab as Slots, slab_code};
-    ghost use Rattle.text_pool.specs.declared.pool.Kept.{Kept};
+    ghost use Rattle.text_pool.specs.declared.pool.CountedText.{CountedText};
 
-    ghost Value = { Slots Kept };
+    ghost Value = { Slots CountedText };
 
     ghost view = { λ p. p.texts };
 }
@@ -52,14 +52,14 @@ impl TextPool {
     }
 
     /// One use more of a text of the tenant's, which is kept from now on if it wasn't. The answer is its key.
-    pub fn hold(&mut self, tenant: u32, text: Text) -> Result<usize, AllocError>
-        ensures own { IfOk result (λ key. part tenant self.new ≡
+    pub fn hold(&mut self, tenant: u32, text: SharedBytes) -> Result<usize, AllocError>
+        ensures own_part { IfOk result (λ key. part tenant self.new ≡
             with_text key (held tenant text (part tenant self.old key)) (part tenant self.old)) }
         ensures same { IfOk result (λ key. IfSome (part tenant self.old key) (λ kept. kept.text ≡ text)) }
 
         // Other tenants' parts stay as they were, and where memory is refused this tenant's too.
-        ensures others { (other : ℕ) → other ≢ tenant → part other self.new ≡ part other self.old }
-        ensures refused { OnErr result (part tenant self.new ≡ part tenant self.old) }
+        ensures others_unchanged { (other : ℕ) → other ≢ tenant → part other self.new ≡ part other self.old }
+        ensures on_refusal { OnErr result (part tenant self.new ≡ part tenant self.old) }
     {
         let Some((key, uses)) = self.known(tenant, &text) else {
             return self.put(tenant, text);
@@ -72,7 +72,7 @@ impl TextPool {
     /// that use is kept, another one only where this one's uses can't be counted any more. Where the tenant has no text
     /// there, nothing changes.
     pub fn hold_again(&mut self, tenant: u32, key: usize) -> Result<usize, AllocError>
-        ensures own { IfOk result (λ again. IfSome (part tenant self.old key) (λ kept. part tenant self.new ≡
+        ensures own_part { IfOk result (λ again. IfSome (part tenant self.old key) (λ kept. part tenant self.new ≡
             with_text again (held tenant kept.text (part tenant self.old again)) (part tenant self.old))) }
         ensures same { IfOk result (λ again. IfSome (part tenant self.old again) (λ kept.
             Some kept.text ≡ text_of (part tenant self.old key))) }
@@ -80,8 +80,8 @@ impl TextPool {
         ensures room { IfSome (part tenant self.old key) (λ kept. kept.uses + 1 < 2 ^ 64 → result ≡ Ok key) }
 
         // Other tenants' parts stay as they were, and where memory is refused this tenant's too.
-        ensures others { (other : ℕ) → other ≢ tenant → part other self.new ≡ part other self.old }
-        ensures refused { OnErr result (part tenant self.new ≡ part tenant self.old) }
+        ensures others_unchanged { (other : ℕ) → other ≢ tenant → part other self.new ≡ part other self.old }
+        ensures on_refusal { OnErr result (part tenant self.new ≡ part tenant self.old) }
     {
         let Some(kept) = self.owned(tenant, key) else {
             return Ok(key);
@@ -96,10 +96,10 @@ impl TextPool {
     }
 
     /// The key of the tenant's text and its uses, where the key is known and one more use can be counted.
-    fn known(&self, tenant: u32, text: &Text) -> Option<(usize, u64)>
+    fn known(&self, tenant: u32, text: &SharedBytes) -> Option<(usize, u64)>
         ensures known { IfSome result (λ found. part tenant self.now found.0 ≡
             Some (record { owner = tenant; text = text.now; uses = found.1 })) }
-        ensures few { IfSome result (λ found. found.1 + 1 < 2 ^ 64) }
+        ensures uses_bounded { IfSome result (λ found. found.1 + 1 < 2 ^ 64) }
     {
         let key = *self.keys.get(&(tenant, text.digest()))?;
         let kept = self.owned(tenant, key)?;
@@ -113,7 +113,7 @@ impl TextPool {
     /// The text at this key is kept for so many.
     fn set_uses(&mut self, key: usize, uses: u64)
         ensures changed { get self.new key ≡ with_uses uses (get self.old key) }
-        ensures others { (other : ℕ) → other ≢ key → get self.new other ≡ get self.old other }
+        ensures others_unchanged { (other : ℕ) → other ≢ key → get self.new other ≡ get self.old other }
     {
         if let Some(kept) = self.texts.get_mut(key) {
             kept.uses = uses;
@@ -121,18 +121,18 @@ impl TextPool {
     }
 
     /// A text comes under a key that was vacant.
-    fn put(&mut self, tenant: u32, text: Text) -> Result<usize, AllocError>
+    fn put(&mut self, tenant: u32, text: SharedBytes) -> Result<usize, AllocError>
         ensures vacant { IfOk result (λ key. part tenant self.old key ≡ None) }
-        ensures own { IfOk result (λ key. part tenant self.new ≡
+        ensures own_part { IfOk result (λ key. part tenant self.new ≡
             with_text key (held tenant text None) (part tenant self.old)) }
-        ensures others { (other : ℕ) → other ≢ tenant → part other self.new ≡ part other self.old }
-        ensures refused { OnErr result (part tenant self.new ≡ part tenant self.old) }
+        ensures others_unchanged { (other : ℕ) → other ≢ tenant → part other self.new ≡ part other self.old }
+        ensures on_refusal { OnErr result (part tenant self.new ≡ part tenant self.old) }
     {
         self.texts.reserve(1)?;
         self.keys
             .insert((tenant, text.digest()), self.texts.vacant_key())?;
         Ok(
-            self.texts.insert_reserved(Kept {
+            self.texts.insert_reserved(CountedText {
                 owner: tenant,
                 text,
                 uses: 1,
@@ -142,9 +142,9 @@ impl TextPool {
 
     /// One use less of the tenant's text at this key, which leaves with the last one. It takes no memory.
     pub fn release(&mut self, tenant: u32, key: usize)
-        ensures own { part tenant self.new ≡
+        ensures own_part { part tenant self.new ≡
             with_text key (released (part tenant self.old key)) (part tenant self.old) }
-        ensures others { (other : ℕ) → other ≢ tenant → part other self.new ≡ part other self.old }
+        ensures others_unchanged { (other : ℕ) → other ≢ tenant → part other self.new ≡ part other self.old }
     {
         let Some(kept) = self.owned(tenant, key) else {
             return;
@@ -190,7 +190,7 @@ impl TextPool {
         }
     }
 
-    fn owned(&self, tenant: u32, key: usize) -> Option<&Kept>
+    fn owned(&self, tenant: u32, key: usize) -> Option<&CountedText>
         ensures { option_copied result ≡ part tenant self.now key }
     {
         match self.texts.get(key) {

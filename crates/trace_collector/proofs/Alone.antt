@@ -11,8 +11,8 @@ use Rattle.std.proofs.lemmas.Option.{same_Some}
 use Rattle.std.proofs.lemmas.Slice.Eq.{bytes_eq-Decides}
 use Rattle.tail_settings.specs.Section.{SectionData}
 use Rattle.tail_settings.specs.Settings.{SettingsData, TenantData}
-use Rattle.tenant_rules.specs.declared.told.Told.{Told as What}
-use Rattle.tenant_rules.specs.declared.told.Told.TheVariants as says
+use Rattle.tenant_rules.specs.declared.reply.StepReply.{StepReply as What}
+use Rattle.tenant_rules.specs.declared.reply.StepReply.TheVariants as replies
 use Rattle.tenant_rules.specs.Own.{Own}
 use Rattle.tenant_rules.specs.Own as own
 use Rattle.tenant_rules.specs.Ready.{ready}
@@ -28,8 +28,8 @@ use Rattle.tenant_shard.specs.Table.{section_at}
 use Rattle.replay_script.specs.Command.{CommandData, Post, Turn, Answer, Report, Drain}
 use Rattle.replay_script.specs.Line.{Kind, Skipped, Says, Faulty, kind_of, lines_of}
 use Rattle.replay_script.specs.Answer.{reply_text}
-use Rattle.replay_script.specs.Told.{Goes, Told}
-use Rattle.replay_script.specs.Told as script
+use Rattle.replay_script.specs.Transcript.{Goes, Told}
+use Rattle.replay_script.specs.Transcript as script
 use Rattle.replay_script.proofs.Lines.{line_ended}
 use Rattle.replay_script.proofs.Plain.{IsPlain}
 use Rattle.trace_collector.specs.Outcomes.{outcome_text, told_text, bad_protobuf}
@@ -150,12 +150,12 @@ ask_sees settings pasts later (Some number) name command step line are is asked 
     (λ reader apart. stepped_others settings pasts later number (plain step) (Some line) reader apart asked) other seer at_other
 
 pub turned_whom : (number : ℕ) (said : What) → told_whom (named number (Answered said)) ≡ Some number
-turned_whom number (says.Reply reply) = refl
-turned_whom number (says.Job ticket payload) = refl
-turned_whom number says.Worked = refl
-turned_whom number says.Done = refl
-turned_whom number (says.Report report) = refl
-turned_whom number says.UnknownTicket = refl
+turned_whom number (replies.Reply reply) = refl
+turned_whom number (replies.Job ticket payload) = refl
+turned_whom number replies.Worked = refl
+turned_whom number replies.Done = refl
+turned_whom number (replies.Report report) = refl
+turned_whom number replies.UnknownTicket = refl
 
 -- who is ready has a section
 has_section : (found : Option SectionData) (past : List Own) (seen : Option ℕ) (least : ℕ) → ready_after found past true seen ≡ Some least

@@ -4,7 +4,7 @@ use Rattle.std.specs.Str.{bytes_eq}
 use Rattle.std.proofs.lemmas.Option.{same_Some}
 use Rattle.std.proofs.lemmas.Slice.Eq.{bytes_eq-Decides}
 use Rattle.tail_settings.specs.Settings.{SettingsData, TenantData}
-use Rattle.tenant_rules.specs.declared.told.Told.{Told}
+use Rattle.tenant_rules.specs.declared.reply.StepReply.{StepReply}
 use Rattle.tenant_rules.specs.Own.{Own}
 use Rattle.tenant_rules.specs.Own as own
 use Rattle.tenant_rules.specs.Ready.{ready}
@@ -63,7 +63,7 @@ module _ (settings : SettingsData) (tenant : TenantData) where
       let yes : bytes_eq name tenant.name ≡ true = (bytes_eq-Decides name tenant.name).1 is in
       rw yes refl
 
-  outcome_line : (said : Told) → outcome_text (only settings tenant) 0 (named 0 (Answered said)) ≡ told_text tenant.name said
+  outcome_line : (said : StepReply) → outcome_text (only settings tenant) 0 (named 0 (Answered said)) ≡ told_text tenant.name said
   outcome_line said = named_text (only settings tenant) 0 0 said
 
   -- a step that reaches the pipeline of the one tenant

@@ -6,7 +6,7 @@ use Rattle.replay_script.specs.declared.fault.ScriptFault.{ScriptFault}
 use Rattle.replay_script.specs.declared.fault.ScriptFault.TheVariants.{Script, Line, OutOfMemory}
 use Rattle.replay_script.specs.Command.{CommandData}
 use Rattle.replay_script.specs.Line.{lines_of}
-use Rattle.replay_script.specs.Told.{Ends}
+use Rattle.replay_script.specs.Transcript.{Ends}
 use Rattle.trace_collector.specs.declared.shards.Shards.{Shards}
 use Rattle.trace_collector.specs.declared.engine.ReplayFault.{ReplayFault}
 use Rattle.trace_collector.specs.declared.engine.ReplayFault.TheVariants as faults

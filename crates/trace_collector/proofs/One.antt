@@ -17,7 +17,7 @@ use Rattle.tenant_shard.specs.Run.{IsTakenOrNot, IsAnswered, IsTurned, IsOutcome
 use Rattle.tenant_shard.specs.Table.{section_at}
 use Rattle.replay_script.specs.Command.{CommandData, Post, Turn, Answer, Report, Drain}
 use Rattle.replay_script.specs.Line.{Kind, Skipped, Says, Faulty, kind_of}
-use Rattle.replay_script.specs.Told.{Answered, Goes, Told, BeginsTold}
+use Rattle.replay_script.specs.Transcript.{Answered, Goes, Told, BeginsTold}
 use Rattle.trace_collector.specs.Outcomes.{outcome_text}
 use Rattle.trace_collector.specs.Answered.{section_in, lists_of, joined, posted, IsStepped, IsSteppedFor, IsPosted, IsPostedTo, IsAskedOf, number_of}
 use Rattle.trace_collector.specs.Answered as of_script

@@ -5,8 +5,8 @@ use Rattle.std.specs.Fmt.{decimal}
 use Rattle.std.proofs.lemmas.List.{append-nil, append_assoc}
 use Rattle.std.proofs.lemmas.List.Elements.{All-nil, All-append}
 use Rattle.std.proofs.lemmas.List.Splits.{slice_split_at, slice_split_none}
-use Rattle.tenant_rules.specs.declared.told.Told.{Told}
-use Rattle.tenant_rules.specs.declared.told.Told.TheVariants as told
+use Rattle.tenant_rules.specs.declared.reply.StepReply.{StepReply}
+use Rattle.tenant_rules.specs.declared.reply.StepReply.TheVariants as replies
 use Rattle.tenant_shard.specs.Outcomes.{unknown_ticket}
 use Rattle.replay_script.specs.Word.{words_of}
 use Rattle.replay_script.specs.Answer.{hex_text, reply_text, job_text, worked_text, idle_text, done_text, report_text, refused_text}
@@ -109,21 +109,21 @@ refused_line name number is =
     (then_more name (decimal number) is) (one_joined (codes "refused ") name (decimal number))
 
 -- within what a tenant is told there is no line feed
-abbrev pub IsPlainTold : Told → Type 0
-IsPlainTold (told.Report report) = IsPlain report
-IsPlainTold (told.Reply reply) = Unit
-IsPlainTold (told.Job ticket payload) = Unit
-IsPlainTold told.Worked = Unit
-IsPlainTold told.Done = Unit
-IsPlainTold told.UnknownTicket = Unit
+abbrev pub IsPlainTold : StepReply → Type 0
+IsPlainTold (replies.Report report) = IsPlain report
+IsPlainTold (replies.Reply reply) = Unit
+IsPlainTold (replies.Job ticket payload) = Unit
+IsPlainTold replies.Worked = Unit
+IsPlainTold replies.Done = Unit
+IsPlainTold replies.UnknownTicket = Unit
 
-pub told_line : (name : List ℕ) (what : Told) → IsWord name → IsPlainTold what → IsLineOf name (told_text name what)
-told_line name (told.Reply reply) is plain = reply_line name reply.status reply.body is
-told_line name (told.Job ticket payload) is plain = job_line name ticket payload is
-told_line name told.Worked is plain = worked_line name is
-told_line name told.Done is plain = done_line name is
-told_line name (told.Report report) is plain = report_line name report is plain
-told_line name told.UnknownTicket is plain = refused_line name unknown_ticket is
+pub told_line : (name : List ℕ) (what : StepReply) → IsWord name → IsPlainTold what → IsLineOf name (told_text name what)
+told_line name (replies.Reply reply) is plain = reply_line name reply.status reply.body is
+told_line name (replies.Job ticket payload) is plain = job_line name ticket payload is
+told_line name replies.Worked is plain = worked_line name is
+told_line name replies.Done is plain = done_line name is
+told_line name (replies.Report report) is plain = report_line name report is plain
+told_line name replies.UnknownTicket is plain = refused_line name unknown_ticket is
 
 none_named : (other : List ℕ) (words : List (List ℕ)) → is_named_in other (codes "idle" ∷ words) ≡ false
 none_named other [] = refl

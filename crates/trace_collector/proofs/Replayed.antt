@@ -12,7 +12,7 @@ use Rattle.replay_script.specs.declared.fault.ScriptFault.{ScriptFault}
 use Rattle.replay_script.specs.declared.fault.ScriptFault.TheVariants.{Script, Line, OutOfMemory}
 use Rattle.replay_script.specs.Command.{CommandData}
 use Rattle.replay_script.specs.Line.{lines_of}
-use Rattle.replay_script.specs.Told.{Told, BeginsTold, ToldSoFar, Ends}
+use Rattle.replay_script.specs.Transcript.{Told, BeginsTold, ToldSoFar, Ends}
 use Rattle.trace_collector.specs.declared.shards.Shards.{Shards}
 use Rattle.trace_collector.specs.Fault.{script_fault, settings_fault}
 use Rattle.trace_collector.specs.Answered.{IsAnswered}

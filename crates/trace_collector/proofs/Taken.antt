@@ -9,9 +9,9 @@ use Rattle.otlp_parts.specs.Texts.{invalid_in}
 use Rattle.tail_settings.specs.Policy.{PolicyData}
 use Rattle.tail_settings.specs.Section.{SectionData}
 use Rattle.tail_settings.specs.Settings.{SettingsData}
-use Rattle.tenant_rules.specs.declared.told.Reply.{Reply}
-use Rattle.tenant_rules.specs.declared.told.Told.{Told}
-use Rattle.tenant_rules.specs.declared.told.Told.TheVariants as says
+use Rattle.tenant_rules.specs.declared.reply.Reply.{Reply}
+use Rattle.tenant_rules.specs.declared.reply.StepReply.{StepReply}
+use Rattle.tenant_rules.specs.declared.reply.StepReply.TheVariants as replies
 use Rattle.tenant_rules.specs.Arrivals.{Arrival}
 use Rattle.tenant_rules.specs.Own.{Own, clock, drained}
 use Rattle.tenant_rules.specs.Own as own
@@ -52,13 +52,13 @@ pub joins : (section : SectionData) (found : Option SectionData) (past : List Ow
 joins section found past step is taken = rw (is, taken) refl
 
 -- an outcome's line
-pub named_text : (settings : SettingsData) (shard number : ℕ) (said : Told) → outcome_text settings shard (named number (Answered said)) ≡ told_text (name_at settings number) said
-named_text settings shard number (says.Reply reply) = refl
-named_text settings shard number (says.Job ticket payload) = refl
-named_text settings shard number says.Worked = refl
-named_text settings shard number says.Done = refl
-named_text settings shard number (says.Report report) = refl
-named_text settings shard number says.UnknownTicket = refl
+pub named_text : (settings : SettingsData) (shard number : ℕ) (said : StepReply) → outcome_text settings shard (named number (Answered said)) ≡ told_text (name_at settings number) said
+named_text settings shard number (replies.Reply reply) = refl
+named_text settings shard number (replies.Job ticket payload) = refl
+named_text settings shard number replies.Worked = refl
+named_text settings shard number replies.Done = refl
+named_text settings shard number (replies.Report report) = refl
+named_text settings shard number replies.UnknownTicket = refl
 
 pub stepped_told : (settings : SettingsData) (pasts later : ℕ → List Own) (tenant : ℕ) (section : SectionData) (step : OwnStep) (line : Option (List ℕ)) → section_at settings tenant ≡ Some section
     → is_taken section step ≡ true → IsSteppedFor settings pasts tenant step line later
@@ -79,7 +79,7 @@ stepped_others settings pasts later tenant step line other apart stepped =
     ap (λ f. f other) stepped.3 ∙ rw is_not refl
 
 post_reply : (section : SectionData) (past : List Own) (moment : ℕ) (arrivals : List Arrival)
-    → (reply : Reply) × (answer section past (own.Post moment arrivals) ≡ says.Reply reply)
+    → (reply : Reply) × (answer section past (own.Post moment arrivals) ≡ replies.Reply reply)
 unfolding answer
 post_reply section past moment arrivals =
     (reply_of (verdict section (is_some (drained past)) (clock (own.Post moment arrivals ∷ past)) arrivals (intake section past)), refl)

@@ -2,7 +2,7 @@
 use Rattle.std.proofs.Common.{ℕ, ◌+◌, List, [], ◌∷◌, ◌++◌, Option, Some, None}
 use Rattle.replay_script.specs.Command.{CommandData}
 use Rattle.replay_script.specs.Line.{Kind, Skipped, Says, Faulty, kind_of}
-use Rattle.replay_script.specs.Told.{Answered, Goes, Told, BeginsTold, ToldSoFar}
+use Rattle.replay_script.specs.Transcript.{Answered, Goes, Told, BeginsTold, ToldSoFar}
 
 module _ {S H : Type 0} (told_by : S → CommandData → Option (List ℕ) → S → Type 0) (answers : H → CommandData → Option (List ℕ) → H → Type 0) (Along : S → H → Type 0)
     (each : (s t : S) (h : H) (command : CommandData) (line : Option (List ℕ)) → Along s h → told_by s command line t

@@ -1,4 +1,4 @@
--- What each tenant is told in a replay, in which no other tenant occurs.
+-- What each tenant is told in a replay, in which no other tenant occurs. This project's own rule.
 use Rattle.std.specs.Prelude.{◌≡◌, ◌⊎◌, ◌≤◌, ℕ, List, [], ◌∷◌, ◌++◌, Option, Some, Result, Ok, Err, slice_get, codes, replicate}
 use Rattle.otlp_trace.specs.Data.{RequestData}
 use Rattle.otlp_read.specs.Value.{IsValue}

@@ -1,4 +1,5 @@
--- What a script's commands are answered, by the own steps that each tenant has had before, the newest first.
+-- What a script's commands are answered, by the own steps that each tenant has had before, the newest first. This
+-- project's own rule.
 use Rattle.std.specs.Prelude.{◌≡◌, ℕ, ◌%◌, ◌==◌, ◌⊎◌, true, List, [], Option, Some, None, if◌then◌else◌, nat_lt, position, MatchBool}
 use Rattle.std.specs.Str.{bytes_eq}
 use Rattle.otlp_trace.specs.Data.{RequestData}

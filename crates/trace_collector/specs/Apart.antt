@@ -1,8 +1,8 @@
--- A tenant in a collector of its own.
+-- A tenant in a collector of its own. This project's own rule.
 use Rattle.std.specs.Prelude.{◌≡◌, ℕ, List, [], ◌∷◌, ◌++◌, Option, Some, Ok, slice_get, codes}
 use Rattle.tail_settings.specs.Settings.{SettingsData, TenantData, settings_of}
 use Rattle.replay_script.specs.Command.{CommandData}
-use Rattle.replay_script.specs.Told.{AnswersOf}
+use Rattle.replay_script.specs.Transcript.{AnswersOf}
 use Rattle.trace_collector.specs.Answered.{IsAnswered}
 use Rattle.trace_collector.specs.Own.{own_commands, lines_for}
 use Rattle.trace_collector.specs.Script.{no_steps, ScriptText}

@@ -1,4 +1,4 @@
--- A replay's fault, by the fault that it comes from.
+-- A replay's fault, by the fault that it comes from. This project's own rule.
 use Rattle.tail_settings.specs.declared.fault.SettingsFault.{SettingsFault}
 use Rattle.tail_settings.specs.declared.fault.SettingsFault.TheVariants as settings
 use Rattle.replay_script.specs.declared.fault.ScriptFault.{ScriptFault}

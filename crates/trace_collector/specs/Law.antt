@@ -1,12 +1,12 @@
 -- The text that a script is told is one, what was written before a failure is a beginning of it, and each body that
--- has a value is taken.
+-- has a value is taken. This project's own rule.
 use Rattle.std.specs.Prelude.{◌≡◌, ◌⊎◌, ℕ, List, ◌∷◌, ◌++◌, Option, Some}
 use Rattle.otlp_trace.specs.Data.{RequestData}
 use Rattle.otlp_read.specs.Value.{IsValue}
 use Rattle.tail_settings.specs.Settings.{SettingsData}
 use Rattle.tail_settings.specs.Section.{SectionData}
-use Rattle.tenant_rules.specs.declared.told.Reply.{Reply}
-use Rattle.tenant_rules.specs.declared.told.Told.TheVariants as told
+use Rattle.tenant_rules.specs.declared.reply.Reply.{Reply}
+use Rattle.tenant_rules.specs.declared.reply.StepReply.TheVariants as replies
 use Rattle.tenant_rules.specs.Own.{Own}
 use Rattle.tenant_rules.specs.Answers.{answer}
 use Rattle.tenant_shard.specs.Table.{section_at}
@@ -36,7 +36,7 @@ ValuesAreTaken = (settings : SettingsData) (pasts later : ℕ → List Own) (ten
     (moment : ℕ) (body : List ℕ) (line : Option (List ℕ))
     → IsPosted settings pasts tenant name moment body line later
     → ((section : SectionData) × (v : RequestData) × (section_at settings tenant ≡ Some section) × IsValue body v
-    × (reply : Reply) × (answer section (pasts tenant) (post_alone moment v) ≡ told.Reply reply)
+    × (reply : Reply) × (answer section (pasts tenant) (post_alone moment v) ≡ replies.Reply reply)
     × (line ≡ Some (reply_text (name_at settings tenant) reply.status reply.body))
     × (later tenant ≡ post_alone moment v ∷ pasts tenant))
     ⊎ (HasNoValue body × (line ≡ Some (reply_text name 400 bad_protobuf)) × (later ≡ pasts))

@@ -1,10 +1,10 @@
--- The lines that tell a script the outcomes of its steps.
+-- The lines that tell a script the outcomes of its steps. This project's own rule (docs/SCRIPT.md).
 use Rattle.std.specs.Prelude.{ℕ, List, [], codes, option_map, slice_get}
 use Rattle.std.specs.Option.{unwrap_or}
 use Rattle.otlp_trace.specs.Text.{refusal_text}
 use Rattle.tail_settings.specs.Settings.{SettingsData}
-use Rattle.tenant_rules.specs.declared.told.Told.{Told}
-use Rattle.tenant_rules.specs.declared.told.Told.TheVariants as told
+use Rattle.tenant_rules.specs.declared.reply.StepReply.{StepReply}
+use Rattle.tenant_rules.specs.declared.reply.StepReply.TheVariants as replies
 use Rattle.tenant_shard.specs.declared.step.Outcome.{Outcome}
 use Rattle.tenant_shard.specs.declared.step.Outcome.TheVariants.{Reply, Job, Worked, Idle, Done, Report, Refused}
 use Rattle.tenant_shard.specs.Outcomes.{unknown_ticket}
@@ -25,13 +25,13 @@ outcome_text settings shard (Report tenant report) = report_text (name_at settin
 outcome_text settings shard (Refused tenant number) = refused_text (name_at settings tenant) number
 
 -- the line of what a tenant of this name is told
-abbrev pub told_text : List ℕ → Told → List ℕ
-told_text name (told.Reply reply) = reply_text name reply.status reply.body
-told_text name (told.Job ticket payload) = job_text name ticket payload
-told_text name told.Worked = worked_text name
-told_text name told.Done = done_text name
-told_text name (told.Report report) = report_text name report
-told_text name told.UnknownTicket = refused_text name unknown_ticket
+abbrev pub told_text : List ℕ → StepReply → List ℕ
+told_text name (replies.Reply reply) = reply_text name reply.status reply.body
+told_text name (replies.Job ticket payload) = job_text name ticket payload
+told_text name replies.Worked = worked_text name
+told_text name replies.Done = done_text name
+told_text name (replies.Report report) = report_text name report
+told_text name replies.UnknownTicket = refused_text name unknown_ticket
 
 -- what a body without a value is answered: the text of a refusal with this message
 abbrev pub bad_protobuf : List ℕ

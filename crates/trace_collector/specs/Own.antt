@@ -1,5 +1,5 @@
 -- A tenant's part of a replay: its own commands of a script, and its lines of the text that answers the script. A
--- tenant goes by its name here. Neither its number nor a shard's occurs.
+-- tenant goes by its name here. Neither its number nor a shard's occurs. This project's own rule.
 use Rattle.std.specs.Prelude.{ℕ, Bool, false, ◌&&◌, not, if◌then◌else◌, List, [], ◌∷◌, Option, Some, None, filter, codes}
 use Rattle.std.specs.Str.{bytes_eq}
 use Rattle.replay_script.specs.Word.{words_of}

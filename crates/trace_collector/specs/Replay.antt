@@ -1,4 +1,4 @@
--- What a replay writes.
+-- What a replay writes. This project's own rule.
 use Rattle.std.specs.Prelude.{◌≡◌, ℕ, List, [], Option, Some, None, Result, Ok, Err}
 use Rattle.std.specs.Io.KnownBytes.{Appends}
 use Rattle.tail_settings.specs.Fault.{FaultData, fault_view}

@@ -1,9 +1,9 @@
--- The text that a script is told.
+-- The text that a script is told. This project's own rule (docs/SCRIPT.md).
 use Rattle.std.specs.Prelude.{ℕ, List, [], Option}
 use Rattle.tail_settings.specs.Settings.{SettingsData}
 use Rattle.tenant_rules.specs.Own.{Own}
 use Rattle.replay_script.specs.Line.{lines_of}
-use Rattle.replay_script.specs.Told.{Told, BeginsTold, ToldSoFar}
+use Rattle.replay_script.specs.Transcript.{Told, BeginsTold, ToldSoFar}
 use Rattle.trace_collector.specs.Answered.{IsAnswered}
 
 -- before the first step

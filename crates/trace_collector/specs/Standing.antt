@@ -1,4 +1,4 @@
--- The own steps that a session's shards stand for.
+-- The own steps that a session's shards stand for. This project's own rule.
 use Rattle.std.specs.Prelude.{◌≡◌, ℕ, List, ◌++◌, Option, Some, length, slice_get, slice_set}
 use Rattle.tail_settings.specs.Settings.{SettingsData, settings_view}
 use Rattle.tenant_rules.specs.Own.{Own}

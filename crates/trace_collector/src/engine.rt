@@ -43,7 +43,7 @@ pub fn replay<T: Threads + Sync, R: BufRead, W: Write>(
     reader: &mut R,
     writer: &mut W,
 ) -> Result<(), ReplayFault>
-    ensures told { IfSome (R.remaining reader.old) (λ script. (written : List ℕ)
+    ensures output { IfSome (R.remaining reader.old) (λ script. (written : List ℕ)
         × Appends (W.contents writer.old) (W.contents writer.new) written
         × IsReplay settings.now script written result) }
     // Each tenant is told what it would be told alone, whatever the other tenants' settings and commands.

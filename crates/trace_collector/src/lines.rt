@@ -16,8 +16,8 @@ const BAD_REQUEST: u16 = 400;
 
 /// Appends the line of the reply to a body that has no value.
 pub fn put_bad_request(alloc: Global, out: &mut Vec<u8>, name: &str) -> Result<(), AllocError>
-    ensures ok { OnOk result (out.new.items ≡ out.old.items ++ reply_text name.now 400 bad_protobuf) }
-    ensures err { OnErr result (out.new.items ≡ out.old.items) }
+    ensures on_success { OnOk result (out.new.items ≡ out.old.items ++ reply_text name.now 400 bad_protobuf) }
+    ensures on_refusal { OnErr result (out.new.items ≡ out.old.items) }
 {
     let mut body = Vec::new(alloc);
     write_status(alloc, &mut body, "bad protobuf")?;
@@ -32,9 +32,9 @@ pub fn put_outcome(
     shard: u64,
     outcome: &Outcome,
 ) -> Result<(), AllocError>
-    ensures ok { OnOk result
+    ensures on_success { OnOk result
         (out.new.items ≡ out.old.items ++ outcome_text (settings_view settings.now) shard outcome.now) }
-    ensures err { OnErr result (out.new.items ≡ out.old.items) }
+    ensures on_refusal { OnErr result (out.new.items ≡ out.old.items) }
 {
     match outcome {
         Outcome::Reply(tenant, reply) => put_reply(

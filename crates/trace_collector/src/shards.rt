@@ -57,11 +57,11 @@ impl<'a> Shards<'a> {
         body: Vec<u8>,
         out: &mut Vec<u8>,
     ) -> Result<(), AnswerFault>
-        ensures ok { OnOk result ((line : List ℕ) × (out.new.items ≡ out.old.items ++ line)
+        ensures on_success { OnOk result ((line : List ℕ) × (out.new.items ≡ out.old.items ++ line)
             × Answers self.old (data_of.Post name.now moment body.items) (Some line) self.new) }
         ensures unknown { result ≡ Err AnswerFault.Unknown
             → Answers self.old (data_of.Post name.now moment body.items) None self.new }
-        ensures err { OnErr result (out.new.items ≡ out.old.items) }
+        ensures on_error { OnErr result (out.new.items ≡ out.old.items) }
     {
         let settings = self.settings;
         let Some(tenant) = settings.number(name) else {
@@ -97,11 +97,11 @@ impl<'a> Shards<'a> {
         moment: u64,
         out: &mut Vec<u8>,
     ) -> Result<(), AnswerFault>
-        ensures ok { OnOk result ((line : List ℕ) × (out.new.items ≡ out.old.items ++ line)
+        ensures on_success { OnOk result ((line : List ℕ) × (out.new.items ≡ out.old.items ++ line)
             × Answers self.old (data_of.Turn shard moment) (Some line) self.new) }
         ensures unknown { result ≡ Err AnswerFault.Unknown
             → Answers self.old (data_of.Turn shard moment) None self.new }
-        ensures err { OnErr result (out.new.items ≡ out.old.items) }
+        ensures on_error { OnErr result (out.new.items ≡ out.old.items) }
     {
         if shard >= u64::from(self.settings.global.shards) {
             return Err(AnswerFault::Unknown);
@@ -126,11 +126,11 @@ impl<'a> Shards<'a> {
         moment: u64,
         out: &mut Vec<u8>,
     ) -> Result<(), AnswerFault>
-        ensures ok { OnOk result ((line : List ℕ) × (out.new.items ≡ out.old.items ++ line)
+        ensures on_success { OnOk result ((line : List ℕ) × (out.new.items ≡ out.old.items ++ line)
             × Answers self.old (data_of.Report name.now moment) (Some line) self.new) }
         ensures unknown { result ≡ Err AnswerFault.Unknown
             → Answers self.old (data_of.Report name.now moment) None self.new }
-        ensures err { OnErr result (out.new.items ≡ out.old.items) }
+        ensures on_error { OnErr result (out.new.items ≡ out.old.items) }
     {
         let Some(tenant) = self.settings.number(name) else {
             return Err(AnswerFault::Unknown);
@@ -151,11 +151,11 @@ impl<'a> Shards<'a> {
         moment: u64,
         out: &mut Vec<u8>,
     ) -> Result<(), AnswerFault>
-        ensures ok { OnOk result ((line : List ℕ) × (out.new.items ≡ out.old.items ++ line)
+        ensures on_success { OnOk result ((line : List ℕ) × (out.new.items ≡ out.old.items ++ line)
             × Answers self.old (data_of.Drain name.now moment) (Some line) self.new) }
         ensures unknown { result ≡ Err AnswerFault.Unknown
             → Answers self.old (data_of.Drain name.now moment) None self.new }
-        ensures err { OnErr result (out.new.items ≡ out.old.items) }
+        ensures on_error { OnErr result (out.new.items ≡ out.old.items) }
     {
         let Some(tenant) = self.settings.number(name) else {
             return Err(AnswerFault::Unknown);
@@ -176,11 +176,11 @@ impl<'a> Shards<'a> {
         step: &Step,
         out: &mut Vec<u8>,
     ) -> Result<(), AllocError>
-        ensures ok { OnOk result (IsDone (settings_view self.old.settings.now)
+        ensures on_success { OnOk result (IsDone (settings_view self.old.settings.now)
             (tenant % (settings_view self.old.settings.now).global.shards) step.now
             self.old.shards.items self.new.shards.items out.old.items out.new.items) }
         ensures settings { self.new.settings ≡ self.old.settings }
-        ensures err { OnErr result (out.new.items ≡ out.old.items) }
+        ensures on_refusal { OnErr result (out.new.items ≡ out.old.items) }
     {
         let shard = tenant % self.settings.global.shards;
         step_and_put(alloc, self.settings, &mut self.shards, shard, step, out)

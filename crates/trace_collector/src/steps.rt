@@ -21,10 +21,10 @@ pub fn step_and_put(
     out: &mut Vec<u8>,
 ) -> Result<(), AllocError>
     requires { shard < length shards.old.items }
-    ensures ok { OnOk result (IsDone (settings_view settings.now) shard step.now
+    ensures on_success { OnOk result (IsDone (settings_view settings.now) shard step.now
         shards.old.items shards.new.items out.old.items out.new.items) }
     ensures len { length shards.new.items ≡ length shards.old.items }
-    ensures err { OnErr result (out.new.items ≡ out.old.items) }
+    ensures on_refusal { OnErr result (out.new.items ≡ out.old.items) }
 {
     let outcome = step_at(shards, shard as usize, step)?;
     put_outcome(alloc, out, settings, u64::from(shard), &outcome)
@@ -33,7 +33,7 @@ pub fn step_and_put(
 /// One step of the shard at a place.
 fn step_at(shards: &mut Vec<Shard>, place: usize, step: &Step) -> Result<Outcome, AllocError>
     requires { place < length shards.old.items }
-    ensures ok { IfOk result (λ outcome. (old : List View) × (new : List View)
+    ensures on_success { IfOk result (λ outcome. (old : List View) × (new : List View)
         × (slice_get shards.old.items place ≡ Some old)
         × ShardSteps step.now old outcome new × (shards.new.items ≡ slice_set shards.old.items place new)) }
     ensures len { length shards.new.items ≡ length shards.old.items }

@@ -1,4 +1,4 @@
--- How a check of settings ends, and what it writes.
+-- How a check of settings ends, and what it writes. This project's own rule (docs/OPERATING.md).
 use Rattle.std.specs.Prelude.{ℕ, Bool, true, false, List}
 use Rattle.settings_check.specs.Report.{IsFileReport}
 use Rattle.trace_collector_program.specs.declared.check.End.{End}

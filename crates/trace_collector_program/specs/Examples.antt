@@ -1,4 +1,5 @@
--- What the definitions give on small arguments, faults and texts, for the tests, worked out by hand.
+-- What the definitions give on small arguments, faults and texts, for the tests, worked out by hand. This project's own
+-- rules.
 use Rattle.std.specs.Prelude.{◌≡◌, true, false, codes, ℕ, List, [], ◌∷◌, map, Some, None, Ok, Err}
 use Rattle.std.specs.declared.io.ErrorKind.TheVariants as kinds
 use Rattle.tail_settings.specs.declared.fault.SettingsFault.TheVariants as settings

@@ -1,4 +1,4 @@
--- The faults that end the program, by what they come from.
+-- The faults that end the program, by what they come from. This project's own rule.
 use Rattle.std.specs.Prelude.{◌≡◌, ◌≢◌, ℕ, List, Err, Some}
 use Rattle.std.specs.Str.{IsUtf8}
 use Rattle.std.specs.declared.io.ErrorKind.{ErrorKind}

@@ -1,4 +1,4 @@
--- What the program writes, and with what it ends.
+-- What the program writes, and with what it ends. This project's own rule (docs/OPERATING.md).
 use Rattle.std.specs.Prelude.{◌≡◌, ℕ, List, [], Result, Ok, Err}
 use Rattle.std.specs.Str.{IsUtf8}
 use Rattle.tail_settings.specs.declared.fault.SettingsFault.TheVariants as settings

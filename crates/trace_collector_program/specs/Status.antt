@@ -1,4 +1,4 @@
--- The statuses with which the program ends early.
+-- The statuses with which the program ends early. This project's own rule (docs/OPERATING.md).
 use Rattle.std.specs.Prelude.{ℕ, Result, Ok, Err}
 use Rattle.trace_collector.specs.declared.engine.ReplayFault.TheVariants as replay
 use Rattle.trace_collector_program.specs.declared.check.End.{End}

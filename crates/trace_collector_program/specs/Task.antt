@@ -1,4 +1,4 @@
--- What the program's arguments ask for.
+-- What the program's arguments ask for. This project's own rule (docs/OPERATING.md).
 use Rattle.std.specs.Prelude.{ℕ, List, [], ◌∷◌, codes, Bool, true, false, ◌&&◌, ◌||◌, Option, Some, None, if◌then◌else◌}
 use Rattle.std.specs.Str.{bytes_eq}
 use Rattle.trace_collector_program.specs.declared.task.Task.{Task}

@@ -33,7 +33,7 @@ pub fn check_file(
 
 /// Checks the settings in a file's bytes, and writes what is to be said of them.
 fn check_into<W: Write>(alloc: Global, settings: &[u8], writer: &mut W) -> Result<End, ProgramFault>
-    ensures told { IfOk result (λ end. (report : List ℕ)
+    ensures output { IfOk result (λ end. (report : List ℕ)
         × Appends (W.contents writer.old) (W.contents writer.new) report
         × IsChecked settings.now report end) }
     ensures fault { IfErr result IsOutside }

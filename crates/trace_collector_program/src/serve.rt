@@ -104,7 +104,7 @@ where
 
 /// The settings that a text means.
 fn settings_in(alloc: Global, text: &str) -> Result<Settings, ProgramFault>
-    ensures ok { IfOk result (λ settings. settings_of text.now ≡ Ok (settings_view settings)) }
+    ensures on_success { IfOk result (λ settings. settings_of text.now ≡ Ok (settings_view settings)) }
     ensures fault { IfErr result (IsOfSettings text.now) }
 {
     match load(alloc, text) {

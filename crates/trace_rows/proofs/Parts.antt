@@ -8,8 +8,8 @@ use Rattle.std.specs.declared.cmp.Reverse.{Reverse}
 use Rattle.std.specs.Cmp.{unsigned_ties, nat_eq_equiv}
 use Rattle.std.specs.BTreeMap.{BTreeMap}
 use Rattle.std.specs.BTreeMap as tree
-use Rattle.trace_rows.specs.Maps.{pair_cmp, latest_cmp, at, is_id, halves, by_id, seats_of}
-use Rattle.trace_rows.specs.Part.{with_at, with_seat}
+use Rattle.trace_rows.specs.Maps.{pair_cmp, latest_cmp, at, is_id, halves, by_id, latest_rows_of}
+use Rattle.trace_rows.specs.Part.{with_at, with_latest_row}
 use Rattle.trace_rows.proofs.Ids.{both, same_of_halves}
 
 -- a test tells which keys an order takes for equal
@@ -100,10 +100,10 @@ same_id other trace is_other is = decide (same_halves (halves other) (halves tra
         sym one ∙ (ap (λ (bytes : List ℕ). same_halves (halves bytes) (halves trace)) ((bytes_eq-Decides other trace).0 two) ∙ is_same (halves trace))
 
 -- an id is put where its halves are
-by_id_put : (f : ℕ × ℕ → Option ℕ) (trace : List ℕ) (w : Option ℕ) → is_id trace ≡ true → by_id (put same_halves (halves trace) w f) ≡ with_seat trace w (by_id f)
+by_id_put : (f : ℕ × ℕ → Option ℕ) (trace : List ℕ) (w : Option ℕ) → is_id trace ≡ true → by_id (put same_halves (halves trace) w f) ≡ with_latest_row trace w (by_id f)
 by_id_put f trace w is = fun_ext (λ other. one other (is_id other) (bytes_eq other trace) refl refl)
   where
-    one : (other : List ℕ) (a b : Bool) → is_id other ≡ a → bytes_eq other trace ≡ b → by_id (put same_halves (halves trace) w f) other ≡ with_seat trace w (by_id f) other
+    one : (other : List ℕ) (a b : Bool) → is_id other ≡ a → bytes_eq other trace ≡ b → by_id (put same_halves (halves trace) w f) other ≡ with_latest_row trace w (by_id f) other
     one other false false none differs = no_id (put same_halves (halves trace) w f) other none ∙ (sym (no_id f other none) ∙ ap (λ (b : Bool). if b then w else by_id f other) (sym differs))
     one other false true none same =
         let is_other : is_id other ≡ true = ap is_id ((bytes_eq-Decides other trace).0 same) ∙ is in
@@ -119,11 +119,11 @@ here_of entries t u k j slot tenant high low had =
     let id : k ≡ j = λ i. (high i, low i) in
     sym (ap (λ (n : ℕ). at (pair_cmp nat_cmp) n entries j) tenant) ∙ (sym (ap (at (pair_cmp nat_cmp) t entries) id) ∙ had)
 
-pub seats_put : (m n : BTreeMap (ℕ × (ℕ × ℕ)) ℕ) (t : ℕ) (trace : List ℕ) (k : ℕ × ℕ) (w : Option ℕ) → is_id trace ≡ true → k ≡ halves trace → tree.Updates (pair_cmp (pair_cmp nat_cmp)) m n (t, k) w → seats_of t n.entries ≡ with_seat trace w (seats_of t m.entries)
+pub seats_put : (m n : BTreeMap (ℕ × (ℕ × ℕ)) ℕ) (t : ℕ) (trace : List ℕ) (k : ℕ × ℕ) (w : Option ℕ) → is_id trace ≡ true → k ≡ halves trace → tree.Updates (pair_cmp (pair_cmp nat_cmp)) m n (t, k) w → latest_rows_of t n.entries ≡ with_latest_row trace w (latest_rows_of t m.entries)
 seats_put m n t trace k w is number h =
     ap by_id (at_put ids m n t k w h) ∙ (ap (λ (j : ℕ × ℕ). by_id (put same_halves j w (at (pair_cmp nat_cmp) t m.entries))) number ∙ by_id_put (at (pair_cmp nat_cmp) t m.entries) trace w is)
 
-pub seats_put_other : (m n : BTreeMap (ℕ × (ℕ × ℕ)) ℕ) (t : ℕ) (k : ℕ × ℕ) (u : ℕ) (w : Option ℕ) → tree.Updates (pair_cmp (pair_cmp nat_cmp)) m n (t, k) w → u ≢ t → seats_of u n.entries ≡ seats_of u m.entries
+pub seats_put_other : (m n : BTreeMap (ℕ × (ℕ × ℕ)) ℕ) (t : ℕ) (k : ℕ × ℕ) (u : ℕ) (w : Option ℕ) → tree.Updates (pair_cmp (pair_cmp nat_cmp)) m n (t, k) w → u ≢ t → latest_rows_of u n.entries ≡ latest_rows_of u m.entries
 seats_put_other m n t k u w h ne = ap by_id (at_put_other ids m n t k u w h ne)
 
 module _ {X : Type 0} where

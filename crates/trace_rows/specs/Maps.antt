@@ -32,5 +32,5 @@ unfoldable pub by_id : {X : Type 0} → (ℕ × ℕ → Option X) → List ℕ �
 by_id slots trace = if is_id trace then slots (halves trace) else None
 
 -- a tenant's part of the entries of a map by tenant and an id's halves, by the id
-abbrev pub seats_of : ℕ → List ((ℕ × (ℕ × ℕ)) × ℕ) → List ℕ → Option ℕ
-seats_of tenant entries = by_id (at (pair_cmp nat_cmp) tenant entries)
+abbrev pub latest_rows_of : ℕ → List ((ℕ × (ℕ × ℕ)) × ℕ) → List ℕ → Option ℕ
+latest_rows_of tenant entries = by_id (at (pair_cmp nat_cmp) tenant entries)

@@ -1,6 +1,6 @@
 -- One tenant's part of the table, as functions of its own row numbers and traces: this project's own rule.
 use Rattle.std.specs.Prelude.{◌≡◌, ℕ, Bool, false, take, length, ◌-◌, List, [], ◌∷◌, ◌++◌, Option, Some, None, if◌then◌else◌, ◌==◌, bytes_eq}
-use Rattle.trace_rows.specs.Maps.{at, latest_cmp, seats_of}
+use Rattle.trace_rows.specs.Maps.{at, latest_cmp, latest_rows_of}
 use Rattle.trace_rows.specs.declared.table.Row.{Row}
 use Rattle.trace_rows.specs.declared.table.TraceRows.{TraceRows}
 
@@ -9,16 +9,16 @@ abbrev pub rows_part : {N : Type 0} → ℕ → TraceRows N → ℕ → Option (
 rows_part tenant table = λ number. at latest_cmp tenant table.rows.entries (record { 0 = number })
 
 -- the number of the latest row of each of a tenant's traces, by the trace's id
-abbrev pub seats_part : {N : Type 0} → ℕ → TraceRows N → List ℕ → Option ℕ
-seats_part tenant table = seats_of tenant table.seats
+abbrev pub latest_rows_part : {N : Type 0} → ℕ → TraceRows N → List ℕ → Option ℕ
+latest_rows_part tenant table = latest_rows_of tenant table.latest_rows
 
 -- the same rows with another one, or none, at one number
 abbrev pub with_at : {X : Type 0} → ℕ → Option X → (ℕ → Option X) → ℕ → Option X
 with_at {X} number slot rows other = if other == number then slot else rows other
 
--- the same seats with another one, or none, at one trace
-abbrev pub with_seat : List ℕ → Option ℕ → (List ℕ → Option ℕ) → List ℕ → Option ℕ
-with_seat trace slot seats other = if bytes_eq other trace then slot else seats other
+-- the same latest rows with another one, or none, at one trace
+abbrev pub with_latest_row : List ℕ → Option ℕ → (List ℕ → Option ℕ) → List ℕ → Option ℕ
+with_latest_row trace slot latest_rows other = if bytes_eq other trace then slot else latest_rows other
 
 -- the row with one more key, and another note
 abbrev pub joined : {N : Type 0} → ℕ → N → Option (Row N) → Option (Row N)
@@ -40,15 +40,16 @@ abbrev pub trace_in : {N : Type 0} → Option (Row N) → Option (List ℕ)
 trace_in None = None
 trace_in (Some row) = Some row.trace
 
--- a seat is this row
+-- a trace's latest row is this one
 abbrev pub is_number : ℕ → Option ℕ → Bool
 is_number number None = false
 is_number number (Some other) = other == number
 
--- the seats without a trace's, where it is this row; a later row keeps it
-abbrev pub unseated : ℕ → Option (List ℕ) → (List ℕ → Option ℕ) → List ℕ → Option ℕ
-unseated number None seats = seats
-unseated number (Some trace) seats = if is_number number (seats trace) then with_seat trace None seats else seats
+-- the latest rows without a trace's, where it is this row; a later one stays
+abbrev pub without_latest_row : ℕ → Option (List ℕ) → (List ℕ → Option ℕ) → List ℕ → Option ℕ
+without_latest_row number None latest_rows = latest_rows
+without_latest_row number (Some trace) latest_rows = if is_number number (latest_rows trace)
+    then with_latest_row trace None latest_rows else latest_rows
 
 -- the keys of a row; none where there is no row
 abbrev pub keys_of : {N : Type 0} → Option (Row N) → List ℕ
@@ -60,7 +61,7 @@ abbrev pub note_of : {N : Type 0} → N → Option (Row N) → N
 note_of note None = note
 note_of note (Some row) = row.note
 
--- a tenant's part of two tables is one: its rows and its seats
+-- a tenant's part of two tables is one: its rows and its latest rows
 pub record IsSame {N : Type 0} (tenant : ℕ) (old new : TraceRows N) : Type 0 where
   pub rows : rows_part tenant new ≡ rows_part tenant old
-  pub seats : seats_part tenant new ≡ seats_part tenant old
+  pub latest_rows : latest_rows_part tenant new ≡ latest_rows_part tenant old

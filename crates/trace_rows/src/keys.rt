@@ -47,8 +47,8 @@ impl Keys {
 
     /// One more key, behind the others.
     pub fn push(&mut self, key: usize) -> Result<(), AllocError>
-        ensures ok { OnOk result (self.new ≡ self.old ++ key ∷ []) }
-        ensures refused { OnErr result (self.new ≡ self.old) }
+        ensures on_success { OnOk result (self.new ≡ self.old ++ key ∷ []) }
+        ensures on_refusal { OnErr result (self.new ≡ self.old) }
     {
         self.items.push(key)?;
         Ok(())

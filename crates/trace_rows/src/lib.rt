@@ -16,7 +16,7 @@
 #![tactic(auto)]
 
 mod keys;
-mod seats;
+mod latest_rows;
 mod table;
 
 pub use keys::Keys;

@@ -1,10 +1,10 @@
 //! The table of rows.
 
 ghost use Rattle.std.specs.Prelude.{◌≡◌, ◌≢◌, ℕ, IfOk, OnOk, OnErr, Some, None, true, option_copied};
-ghost use Rattle.trace_rows.specs.Part.{rows_part, seats_part, with_at, with_seat, joined, unjoined, settled, unseated, keys_of, note_of, trace_in, IsSame};
+ghost use Rattle.trace_rows.specs.Part.{rows_part, latest_rows_part, with_at, with_latest_row, joined, unjoined, settled, without_latest_row, keys_of, note_of, trace_in, IsSame};
 
 use crate::keys::Keys;
-use crate::seats::Seats;
+use crate::latest_rows::LatestRows;
 use std::alloc::{AllocError, Global};
 use std::cmp::Reverse;
 use std::collections::BTreeMap;
@@ -30,26 +30,26 @@ pub struct TraceRows<N> {
     // By tenant and row number, the latest first: a look-up goes through the keys of a node from the first one on, and
     // most are for the latest rows.
     rows: BTreeMap<(u32, Reverse<u64>), Row<N>>,
-    seats: Seats,
+    latest_rows: LatestRows,
 }
 
 impl<N: Drop> TraceRows<N> {
     /// No rows of any tenant, which take no memory.
     pub fn new(alloc: Global) -> Self
         ensures rows { (tenant : ℕ) → rows_part tenant result ≡ λ _. None }
-        ensures seats { (tenant : ℕ) → seats_part tenant result ≡ λ _. None }
+        ensures latest_rows { (tenant : ℕ) → latest_rows_part tenant result ≡ λ _. None }
     {
         TraceRows {
             rows: BTreeMap::new(alloc),
-            seats: Seats::new(alloc),
+            latest_rows: LatestRows::new(alloc),
         }
     }
 
     /// The number of the latest row of the tenant's trace, where it has one.
-    pub fn seat(&self, tenant: u32, trace: [u8; 16]) -> Option<u64>
-        ensures { result ≡ seats_part tenant self.now trace }
+    pub fn latest_row(&self, tenant: u32, trace: [u8; 16]) -> Option<u64>
+        ensures { result ≡ latest_rows_part tenant self.now trace }
     {
-        self.seats.get(tenant, trace)
+        self.latest_rows.get(tenant, trace)
     }
 
     /// The tenant's row of this number, where there is one.
@@ -63,19 +63,19 @@ impl<N: Drop> TraceRows<N> {
     /// now, which `undo_open` wants.
     pub fn open(&mut self, tenant: u32, number: u64, row: Row<N>) -> Result<Option<u64>, AllocError>
         requires { rows_part tenant self.old number ≡ None }
-        ensures earlier { IfOk result (λ earlier. earlier ≡ seats_part tenant self.old row.trace) }
+        ensures earlier { IfOk result (λ earlier. earlier ≡ latest_rows_part tenant self.old row.trace) }
         ensures rows { OnOk result (rows_part tenant self.new ≡
             with_at number (Some row) (rows_part tenant self.old)) }
-        ensures seats { OnOk result (seats_part tenant self.new ≡
-            with_seat row.trace (Some number) (seats_part tenant self.old)) }
+        ensures latest_rows { OnOk result (latest_rows_part tenant self.new ≡
+            with_latest_row row.trace (Some number) (latest_rows_part tenant self.old)) }
 
         // Other tenants' parts stay as they were, and where memory is refused this tenant's too.
-        ensures others { (other : ℕ) → other ≢ tenant → IsSame other self.old self.new }
-        ensures refused { OnErr result (IsSame tenant self.old self.new) }
+        ensures others_unchanged { (other : ℕ) → other ≢ tenant → IsSame other self.old self.new }
+        ensures on_refusal { OnErr result (IsSame tenant self.old self.new) }
     {
         let trace = row.trace;
         self.rows.insert((tenant, Reverse(number)), row)?;
-        match self.seats.put(tenant, trace, number) {
+        match self.latest_rows.put(tenant, trace, number) {
             Ok(earlier) => Ok(earlier),
             Err(refused) => {
                 self.rows.remove(&(tenant, Reverse(number)));
@@ -90,11 +90,11 @@ impl<N: Drop> TraceRows<N> {
         ensures former { IfOk result (λ former. former ≡ note_of note (rows_part tenant self.old number)) }
         ensures rows { OnOk result (rows_part tenant self.new ≡
             with_at number (joined key note (rows_part tenant self.old number)) (rows_part tenant self.old)) }
-        ensures seats { seats_part tenant self.new ≡ seats_part tenant self.old }
+        ensures latest_rows { latest_rows_part tenant self.new ≡ latest_rows_part tenant self.old }
 
         // Other tenants' parts stay as they were, and where memory is refused this tenant's too.
-        ensures others { (other : ℕ) → other ≢ tenant → IsSame other self.old self.new }
-        ensures refused { OnErr result (IsSame tenant self.old self.new) }
+        ensures others_unchanged { (other : ℕ) → other ≢ tenant → IsSame other self.old self.new }
+        ensures on_refusal { OnErr result (IsSame tenant self.old self.new) }
     {
         let Some(row) = self.rows.get_mut(&(tenant, Reverse(number))) else {
             return Ok(note);
@@ -107,8 +107,8 @@ impl<N: Drop> TraceRows<N> {
     pub fn undo_join(&mut self, tenant: u32, number: u64, former: N)
         ensures rows { rows_part tenant self.new ≡
             with_at number (unjoined former (rows_part tenant self.old number)) (rows_part tenant self.old) }
-        ensures seats { seats_part tenant self.new ≡ seats_part tenant self.old }
-        ensures others { (other : ℕ) → other ≢ tenant → IsSame other self.old self.new }
+        ensures latest_rows { latest_rows_part tenant self.new ≡ latest_rows_part tenant self.old }
+        ensures others_unchanged { (other : ℕ) → other ≢ tenant → IsSame other self.old self.new }
     {
         let Some(row) = self.rows.get_mut(&(tenant, Reverse(number))) else {
             return;
@@ -121,12 +121,12 @@ impl<N: Drop> TraceRows<N> {
     /// `open` answered.
     pub fn undo_open(&mut self, tenant: u32, number: u64, trace: [u8; 16], earlier: Option<u64>)
         ensures rows { rows_part tenant self.new ≡ with_at number None (rows_part tenant self.old) }
-        ensures seats { seats_part tenant self.old trace ≢ None →
-            seats_part tenant self.new ≡ with_seat trace earlier (seats_part tenant self.old) }
-        ensures others { (other : ℕ) → other ≢ tenant → IsSame other self.old self.new }
+        ensures latest_rows { latest_rows_part tenant self.old trace ≢ None →
+            latest_rows_part tenant self.new ≡ with_latest_row trace earlier (latest_rows_part tenant self.old) }
+        ensures others_unchanged { (other : ℕ) → other ≢ tenant → IsSame other self.old self.new }
     {
         self.rows.remove(&(tenant, Reverse(number)));
-        self.seats.restore(tenant, trace, earlier);
+        self.latest_rows.restore(tenant, trace, earlier);
     }
 
     /// The row is decided: it keeps the verdict, and the answer is the keys that it had. It takes no memory.
@@ -134,8 +134,8 @@ impl<N: Drop> TraceRows<N> {
         ensures keys { result ≡ keys_of (rows_part tenant self.old number) }
         ensures rows { rows_part tenant self.new ≡
             with_at number (settled sampled (rows_part tenant self.old number)) (rows_part tenant self.old) }
-        ensures seats { seats_part tenant self.new ≡ seats_part tenant self.old }
-        ensures others { (other : ℕ) → other ≢ tenant → IsSame other self.old self.new }
+        ensures latest_rows { latest_rows_part tenant self.new ≡ latest_rows_part tenant self.old }
+        ensures others_unchanged { (other : ℕ) → other ≢ tenant → IsSame other self.old self.new }
     {
         let Some(row) = self.rows.get_mut(&(tenant, Reverse(number))) else {
             return Keys::new(alloc);
@@ -144,31 +144,32 @@ impl<N: Drop> TraceRows<N> {
         std::mem::replace(&mut row.keys, Keys::new(alloc))
     }
 
-    /// The row leaves, and its trace's seat with it, unless a later row has the seat. The answer is the keys that it
+    /// The row leaves, and is its trace's latest no more, unless a later row is. The answer is the keys that it
     /// had. It takes no memory.
     pub fn sweep(&mut self, alloc: Global, tenant: u32, number: u64) -> Keys
         ensures keys { result ≡ keys_of (rows_part tenant self.old number) }
         ensures rows { rows_part tenant self.new ≡ with_at number None (rows_part tenant self.old) }
-        ensures seats { seats_part tenant self.new ≡
-            unseated number (trace_in (rows_part tenant self.old number)) (seats_part tenant self.old) }
-        ensures others { (other : ℕ) → other ≢ tenant → IsSame other self.old self.new }
+        ensures latest_rows { latest_rows_part tenant self.new ≡
+            without_latest_row number (trace_in (rows_part tenant self.old number)) (latest_rows_part tenant self.old) }
+        ensures others_unchanged { (other : ℕ) → other ≢ tenant → IsSame other self.old self.new }
     {
         let Some(row) = self.rows.remove(&(tenant, Reverse(number))) else {
             return Keys::new(alloc);
         };
-        self.unseat(tenant, number, row.trace);
+        self.remove_latest(tenant, number, row.trace);
         row.keys
     }
 
-    /// The seat of a trace goes, where it is this row.
-    fn unseat(&mut self, tenant: u32, number: u64, trace: [u8; 16])
+    /// A trace has no latest row any more, where it is this row.
+    fn remove_latest(&mut self, tenant: u32, number: u64, trace: [u8; 16])
         ensures rows { (other : ℕ) → rows_part other self.new ≡ rows_part other self.old }
-        ensures seats { seats_part tenant self.new ≡
-            unseated number (Some trace) (seats_part tenant self.old) }
-        ensures others { (other : ℕ) → other ≢ tenant → seats_part other self.new ≡ seats_part other self.old }
+        ensures latest_rows { latest_rows_part tenant self.new ≡
+            without_latest_row number (Some trace) (latest_rows_part tenant self.old) }
+        ensures others_unchanged { (other : ℕ) → other ≢ tenant
+            → latest_rows_part other self.new ≡ latest_rows_part other self.old }
     {
-        if self.seat(tenant, trace) == Some(number) {
-            self.seats.remove(tenant, trace);
+        if self.latest_row(tenant, trace) == Some(number) {
+            self.latest_rows.remove(tenant, trace);
         }
     }
 }

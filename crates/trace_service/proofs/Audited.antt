@@ -6,17 +6,17 @@ use Rattle.tail_settings.specs.Settings.{SettingsData}
 use Rattle.machine_hub.specs.declared.view.Home.{Home}
 use Rattle.machine_hub.specs.Hub.{AreShardRuns}
 use Rattle.machine_hub.proofs.Ended.{shard_run}
-use Rattle.shard_machine.specs.Worded.{Worded, WordedDoes}
-use Rattle.shared_hub.specs.Logs.{Seats, LoggedShard}
+use Rattle.shard_machine.specs.MachineState.{MachineState, MachineDoes}
+use Rattle.shared_hub.specs.Logs.{CallerState, LoggedShard}
 use Rattle.shared_hub.specs.Shards.{AreOpened, kept}
 
-keeps_at : (homes : List (Home Worded)) (n k : ℕ) (home : Home Worded) → kept homes ≡ replicate n true → slice_get homes k ≡ Some home → home.keeps ≡ true
+keeps_at : (homes : List (Home MachineState)) (n k : ℕ) (home : Home MachineState) → kept homes ≡ replicate n true → slice_get homes k ≡ Some home → home.keeps ≡ true
 keeps_at [] n k home all at = absurd (cc)
 keeps_at (x ∷ homes) zero k home all at = absurd (cc)
 keeps_at (x ∷ homes) (suc n) zero home all at =
     let own : x.keeps ≡ true = cc in
     let is : x ≡ home = cc in
-    ap (λ (h : Home Worded). h.keeps) (sym is) ∙ own
+    ap (λ (h : Home MachineState). h.keeps) (sym is) ∙ own
 keeps_at (x ∷ homes) (suc n) (suc k) home all at =
     let rest : kept homes ≡ replicate n true = cc in
     keeps_at homes n k home rest at
@@ -25,13 +25,13 @@ all_from_each : {X : Type 0} (P : X → Type 0) (xs : List X) → ((k : ℕ) (x 
 all_from_each P [] each = All-nil P
 all_from_each P (x ∷ xs) each = All-cons P x xs (each zero x refl) (all_from_each P xs (λ k y at. each (suc k) y at))
 
-module _ (table : SettingsData) (homes : List (Home Worded)) (callers : List Seats) (shards : List LoggedShard) (runs : AreShardRuns WordedDoes homes callers shards) where
+module _ (table : SettingsData) (homes : List (Home MachineState)) (callers : List CallerState) (shards : List LoggedShard) (runs : AreShardRuns MachineDoes homes callers shards) where
   pub are_numbered : AreOpened table homes → (k : ℕ) (s : LoggedShard) → slice_get shards k ≡ Some s → s.number ≡ k
   are_numbered opens k s at =
-      let here = shard_run WordedDoes homes callers shards runs k s at in
+      let here = shard_run MachineDoes homes callers shards runs k s at in
       here.2.run.0 ∙ (opens.each k here.0 here.1).0
 
   pub are_kept : (n : ℕ) → kept homes ≡ replicate n true → All (λ s. s.keeps ≡ true) shards
   are_kept n all = all_from_each (λ s. s.keeps ≡ true) shards (λ k s at.
-      let here = shard_run WordedDoes homes callers shards runs k s at in
+      let here = shard_run MachineDoes homes callers shards runs k s at in
       here.2.run.1 ∙ keeps_at homes n k here.0 all here.1)

@@ -1,15 +1,15 @@
 -- Lines that were heard, one more at a time.
 use Rattle.std.proofs.Common.{◌≡◌, ℕ, Bool, true, false, List, [], ◌∷◌, ◌++◌, Option, Some, None, IfSome, refl, sym, subst, ◌∙◌}
-use Rattle.shared_hub.specs.Logs.{Seats}
+use Rattle.shared_hub.specs.Logs.{CallerState}
 use Rattle.tail_settings.specs.Settings.{SettingsData}
-use Rattle.trace_service.specs.Told.{TakesLine, IsAnswered, AreAnswered, no_answer, answer_more, AreFirst, no_line, line_more, IsHeard}
+use Rattle.trace_service.specs.Commands.{TakesLine, IsAnswered, AreAnswered, no_answer, answer_more, AreFirst, no_line, line_more, AreCommandsRead}
 
 -- of a known text these are the first lines, and what stands behind them is left
 abbrev pub Taken : Option (List ℕ) → Option (List ℕ) → List (List ℕ) → Type 0
 Taken before after lines = IfSome before (λ text. (rest : List ℕ) × (after ≡ Some rest) × AreFirst text lines rest)
 
-pub record HeardSoFar (settings : SettingsData) (shards : ℕ) (before after : Option (List ℕ)) (old : Seats) (first : ℕ)
-    (so_far : Option (List ℕ)) (new : Seats) (last : ℕ) (written : Option (List ℕ)) : Type 0 where
+pub record HeardSoFar (settings : SettingsData) (shards : ℕ) (before after : Option (List ℕ)) (old : CallerState) (first : ℕ)
+    (so_far : Option (List ℕ)) (new : CallerState) (last : ℕ) (written : Option (List ℕ)) : Type 0 where
   pub lines : List (List ℕ)
   pub taken : Taken before after lines
   pub answered : AreAnswered settings shards old first so_far lines new last written
@@ -31,11 +31,11 @@ taken_all (Some text) mid after lines line t l =
     let none : t.0 ≡ [] = subst (λ (m : Option (List ℕ)). IfSome m (λ rest. TakesLine rest after line false)) t.1 l in
     subst (λ r. AreFirst text lines r) none t.2
 
-module _ (settings : SettingsData) (shards : ℕ) (before : Option (List ℕ)) (old : Seats) (first : ℕ) (so_far : Option (List ℕ)) where
+module _ (settings : SettingsData) (shards : ℕ) (before : Option (List ℕ)) (old : CallerState) (first : ℕ) (so_far : Option (List ℕ)) where
   pub heard_none : HeardSoFar settings shards before before old first so_far old first so_far
   heard_none = record { lines = []; taken = taken_none before; answered = no_answer }
 
-  pub heard_more : (mid after : Option (List ℕ)) (now new : Seats) (then_last last : ℕ) (text written : Option (List ℕ)) (line : List ℕ)
+  pub heard_more : (mid after : Option (List ℕ)) (now new : CallerState) (then_last last : ℕ) (text written : Option (List ℕ)) (line : List ℕ)
       → HeardSoFar settings shards before mid old first so_far now then_last text
       → IfSome mid (λ rest. TakesLine rest after line true) → IsAnswered settings shards line now then_last text new last written
       → HeardSoFar settings shards before after old first so_far new last written
@@ -45,10 +45,10 @@ module _ (settings : SettingsData) (shards : ℕ) (before : Option (List ℕ)) (
     answered = answer_more h.lines now then_last text line new last written h.answered answer;
   }
 
-  pub heard_all : (mid after : Option (List ℕ)) (new : Seats) (last : ℕ) (written : Option (List ℕ)) (line : List ℕ)
+  pub heard_all : (mid after : Option (List ℕ)) (new : CallerState) (last : ℕ) (written : Option (List ℕ)) (line : List ℕ)
       → HeardSoFar settings shards before mid old first so_far new last written
       → IfSome mid (λ rest. TakesLine rest after line false)
-      → IsHeard settings shards before old first so_far new last written
+      → AreCommandsRead settings shards before old first so_far new last written
   heard_all mid after new last written line h takes = record {
     lines = h.lines;
     known = taken_all before mid after h.lines line h.taken takes;

@@ -4,8 +4,8 @@ use Rattle.std.specs.Io.BufRead.{drop_through}
 use Rattle.std.proofs.Math.Seq.{take-nil}
 use Rattle.std.proofs.lemmas.Bool.Decides.{nat_tests}
 use Rattle.std.proofs.lemmas.List.{take-append-drop, take-append-le, take_all, length-drop, nil_from_length}
-use Rattle.trace_service.specs.Told.{line_in, line_room, TakesLine, Comes}
-use Rattle.trace_service.specs.declared.input.Came.TheVariants.{Byte, Nothing, End}
+use Rattle.trace_service.specs.Commands.{line_in, line_room, TakesLine, Comes}
+use Rattle.trace_service.specs.declared.input.ReadResult.TheVariants.{Byte, Nothing, End}
 
 -- of a known text these bytes of its first line were read, of which the first are kept, and the rest is left
 pub record Part (text : List ℕ) (now : Option (List ℕ)) (kept : List ℕ) : Type 0 where

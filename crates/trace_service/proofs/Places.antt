@@ -1,8 +1,8 @@
 -- Places of threads, one more at a time.
 use Rattle.std.proofs.Common.{◌≡◌, ℕ, List, [], ◌∷◌, ◌++◌, ◌+◌, map, ap, ◌∙◌, add-one}
 use Rattle.std.proofs.lemmas.List.{map-append}
-use Rattle.trace_service.specs.declared.crew.Role.{Role}
-use Rattle.trace_service.specs.Staff.{place_of, places}
+use Rattle.trace_service.specs.declared.workers.Role.{Role}
+use Rattle.trace_service.specs.Assignment.{place_of, places}
 
 pub one_more : {X : Type 0} (f : X → Role × ℕ) (shards senders n m number : ℕ) (xs ys : List X) (x : X) (place : Role × ℕ) → map f xs ≡ places shards senders n → ys ≡ xs ++ x ∷ [] → m ≡ n + 1 → number ≡ n → place ≡ place_of shards senders number → f x ≡ place → map f ys ≡ places shards senders m
 one_more f shards senders n m number xs ys x place is more next last at it =

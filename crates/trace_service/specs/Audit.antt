@@ -1,11 +1,11 @@
--- What the service prints of its shards' logs.
+-- What the service prints of its shards' logs. This project's own rule.
 use Rattle.std.specs.Prelude.{◌≡◌, ℕ, List, [], ◌∷◌, ◌++◌, codes, length, true, Option, Some, slice_get, All}
 use Rattle.std.specs.Fmt.{decimal}
 use Rattle.std.specs.Io.KnownBytes.{Appends}
 use Rattle.machine_hub.specs.declared.view.Home.{Home}
 use Rattle.machine_hub.specs.Hub.{AreShardRuns}
-use Rattle.shard_machine.specs.Worded.{Worded, WordedDoes}
-use Rattle.shared_hub.specs.Logs.{Seats, LoggedShard, AreLogged}
+use Rattle.shard_machine.specs.MachineState.{MachineState, MachineDoes}
+use Rattle.shared_hub.specs.Logs.{CallerState, LoggedShard, AreLogged}
 use Rattle.shared_hub.specs.Shards.{AreOpened}
 use Rattle.tail_settings.specs.Settings.{SettingsData}
 
@@ -21,11 +21,11 @@ audit_text (s ∷ ss) = audit_line s.number (length s.entries) ++ audit_text ss
 -- what was written last are the lines of the logs of all shards, each under its place among them; all logs keep, each
 -- is a run of that shard's tenants, and its entries are the calls that the callers made at it, each once
 pub record IsAudited (table : SettingsData) (written : Option (List ℕ)) : Type 0 where
-  pub homes : List (Home Worded)
-  pub callers : List Seats
+  pub homes : List (Home MachineState)
+  pub callers : List CallerState
   pub shards : List LoggedShard
   pub opened : AreOpened table homes
-  pub calls : AreShardRuns WordedDoes homes callers shards
+  pub calls : AreShardRuns MachineDoes homes callers shards
   pub count : length shards ≡ table.global.shards
   pub numbered : (k : ℕ) (s : LoggedShard) → slice_get shards k ≡ Some s → s.number ≡ k
   pub kept : All (λ s. s.keeps ≡ true) shards

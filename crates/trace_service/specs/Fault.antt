@@ -1,4 +1,4 @@
--- How the service's faults come of others.
+-- How the service's faults come of others. This project's own rule.
 use Rattle.std.specs.Prelude.{◌≡◌, ◌≢◌}
 use Rattle.std.specs.declared.io.ErrorKind.{ErrorKind}
 use Rattle.std.specs.declared.io.ErrorKind.TheVariants as kinds

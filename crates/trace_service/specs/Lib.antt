@@ -1,8 +1,8 @@
 pub mod Moments
 pub mod Post
 pub mod Work
-pub mod Staff
-pub mod Told
+pub mod Assignment
+pub mod Commands
 pub mod Audit
 pub mod Fault
 pub mod Receiving

@@ -1,13 +1,13 @@
 -- What becomes of a body that is posted, and what its sender is told (OTLP/HTTP).
 use Rattle.std.specs.Prelude.{◌≡◌, ℕ, ◌%◌, List, [], ◌⊎◌, codes, ◌∷◌, Option, Some, None}
-use Rattle.http_edge.specs.Message.{Request, Answer}
+use Rattle.http_edge.specs.Message.{Request, Response}
 use Rattle.machine_hub.specs.declared.receipt.Receipt.{Receipt}
 use Rattle.machine_hub.specs.Hub.{IsRefusedOn}
 use Rattle.otlp_front.specs.Route.{Route, names_in, route_of, post, refuse, unknown_tenant}
 use Rattle.otlp_prepare.specs.Prepared.{PreparedData, prepared_of}
 use Rattle.otlp_read.specs.Value.{IsValue}
 use Rattle.otlp_trace.specs.Data.{RequestData}
-use Rattle.shared_hub.specs.Logs.{Seats, IsStepOn}
+use Rattle.shared_hub.specs.Logs.{CallerState, IsStepOn}
 use Rattle.tail_settings.specs.Section.{SectionData}
 use Rattle.tail_settings.specs.Settings.{SettingsData}
 use Rattle.tenant_shard.specs.Table.{section_at}
@@ -17,29 +17,29 @@ use Rattle.tenant_shard.specs.declared.step.Outcome.TheVariants as outcomes
 use Rattle.trace_service.specs.Moments.{Rises}
 
 -- an answer of this status and content
-abbrev pub answer : ℕ → List ℕ → Answer
+abbrev pub answer : ℕ → List ℕ → Response
 answer status body = record { status = status; body = body }
 
 -- the body has no value: a `google.rpc.Status` with this message alone
-abbrev pub bad_request : Answer
+abbrev pub bad_request : Response
 bad_request = answer 400 (18 ∷ 12 ∷ codes "bad protobuf")
 
 -- memory was refused
-abbrev pub no_memory : Answer
+abbrev pub no_memory : Response
 no_memory = answer 503 []
 
 -- the sender is told so, or that memory was refused
-abbrev pub MayTell : Answer → Answer → Type 0
+abbrev pub MayTell : Response → Response → Type 0
 MayTell due told = (told ≡ due) ⊎ (told ≡ no_memory)
 
 -- what the sender of a body is told of its outcome: the shard's reply; or that there is no such tenant, where the shard
 -- refused the step
-abbrev pub Tells : Outcome → Answer → Type 0
+abbrev pub Tells : Outcome → Response → Type 0
 Tells (outcomes.Reply tenant reply) told = told ≡ answer reply.status reply.body
 Tells _ told = MayTell unknown_tenant told
 
 -- one post of what was prepared was made at a shard, and its outcome told; or it was refused memory
-pub data IsStepped (old new : Seats) (shard now : ℕ) (prepared : PreparedData) (told : Answer) : Type 0 where
+pub data IsStepped (old new : CallerState) (shard now : ℕ) (prepared : PreparedData) (told : Response) : Type 0 where
   made : (outcome : Outcome) (receipt : Option Receipt)
       → IsStepOn old new shard (steps.Post now prepared) outcome receipt → Tells outcome told
       → IsStepped old new shard now prepared told
@@ -47,7 +47,8 @@ pub data IsStepped (old new : Seats) (shard now : ℕ) (prepared : PreparedData)
 
 -- a body that has no value is answered so, and is no step; of one that has one, one post is made at its tenant's shard;
 -- or memory was refused before any step
-pub data IsPosted (old new : Seats) (shards now tenant : ℕ) (section : SectionData) (body : List ℕ) (told : Answer)
+pub data IsPosted (old new : CallerState) (shards now tenant : ℕ) (section : SectionData) (body : List ℕ)
+    (told : Response)
     : Type 0 where
   bad : ((v : RequestData) → IsValue body v → ⊥) → new ≡ old → MayTell bad_request told
       → IsPosted old new shards now tenant section body told
@@ -58,18 +59,18 @@ pub data IsPosted (old new : Seats) (shards now tenant : ℕ) (section : Section
 
 -- the body of a tenant with this section is posted, at the moment that the beat gave, which is its last one then and
 -- not below the one before; where there is no such tenant, nothing is done
-abbrev pub IsSent : Option SectionData → ℕ → ℕ → Seats → Seats → ℕ → ℕ → List ℕ → Answer → Type 0
+abbrev pub IsSent : Option SectionData → ℕ → ℕ → CallerState → CallerState → ℕ → ℕ → List ℕ → Response → Type 0
 IsSent (Some section) before last old new shards tenant body told =
     (now : ℕ) × Rises before (now ∷ []) last × IsPosted old new shards now tenant section body told
 IsSent None before last old new shards tenant body told = (new ≡ old) × MayTell unknown_tenant told
 
 -- a message that goes to no tenant is refused, and makes no step; the body of one that goes to a tenant is posted
-abbrev pub IsSentBy : Route → SettingsData → ℕ → ℕ → Seats → Seats → ℕ → List ℕ → Answer → Type 0
+abbrev pub IsSentBy : Route → SettingsData → ℕ → ℕ → CallerState → CallerState → ℕ → List ℕ → Response → Type 0
 IsSentBy (refuse due) settings before last old new shards body told = (new ≡ old) × MayTell due told
 IsSentBy (post tenant) settings before last old new shards body told =
     IsSent (section_at settings tenant) before last old new shards tenant body told
 
 -- a message is handled so, by who has a beat whose last moments these are, before and after
-abbrev pub IsHandled : SettingsData → ℕ → ℕ → Seats → Seats → ℕ → Request → Answer → Type 0
+abbrev pub IsHandled : SettingsData → ℕ → ℕ → CallerState → CallerState → ℕ → Request → Response → Type 0
 IsHandled settings before last old new shards request told =
     IsSentBy (route_of (names_in settings) request) settings before last old new shards request.body told

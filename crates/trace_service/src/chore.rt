@@ -1,7 +1,7 @@
 //! What who reads the input has a tenant do.
 
 ghost use Rattle.std.specs.Prelude.{◌≡◌};
-ghost use Rattle.trace_service.specs.Told.{step_of};
+ghost use Rattle.trace_service.specs.Commands.{step_of};
 
 use tenant_shard::Step;
 

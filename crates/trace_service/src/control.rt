@@ -2,17 +2,17 @@
 
 ghost use Rattle.std.specs.Prelude.{◌≡◌, length, OnOk, IfNone, option_map};
 ghost use Rattle.tail_settings.specs.Settings.{settings_view};
-ghost use Rattle.trace_service.specs.Told.{AreDrained, AreEmptyOn, AreReported, IsAnswered, IsHeard, IsMade, IsReported, report_line, step_of};
+ghost use Rattle.trace_service.specs.Commands.{AreDrained, AreEmptyOn, AreReported, IsAnswered, AreCommandsRead, IsMade, IsReported, report_line, step_of};
 
 use crate::beat::ServiceBeat;
 use crate::chore::Chore;
+use crate::context::WorkerContext;
 use crate::course::{Observer, Stage};
-use crate::crew::all_arrive;
 use crate::input::{Line, asked_report, next_line};
 use crate::naming::Naming;
 use crate::reports::{line_of, write_text};
 use crate::service::ServiceFault;
-use crate::station::Station;
+use crate::workers::all_arrive;
 use export_edge::Beat;
 use std::alloc::{AllocError, Global};
 use std::io::{BufRead, Write};
@@ -25,14 +25,14 @@ use tenant_shard::Outcome;
 /// So many milliseconds a connection that wakes a receiver may take.
 const LONGEST_WAKE: u64 = 100;
 
-/// Who reads the input: its station, and how it reaches the listener.
+/// Who reads the input: its context, and how it reaches the listener.
 #[derive(Drop)]
 pub(crate) struct Control<'h, J: Naming, R> {
     pub rt: &'h R,
     pub alloc: Global,
     pub settings: &'h Settings,
     pub listener: &'h TcpListener,
-    pub station: Station<'h, J, R>,
+    pub context: WorkerContext<'h, J, R>,
     pub beat: ServiceBeat<'h, R>,
 }
 
@@ -54,13 +54,13 @@ where
             return Err(ServiceFault::NoThread);
         }
         observer.observe(Stage::Serving);
-        let heard = self.hear(input, output);
+        let heard = self.read_commands(input, output);
         observer.observe(Stage::Draining);
         self.drain_all();
         self.beat.signals().close();
         self.wake_receivers();
         self.await_empty(observer);
-        let told = self.tell_all(output);
+        let told = self.print_reports(output);
         observer.observe(Stage::Closing);
         self.beat.signals().end();
         heard?;
@@ -68,36 +68,36 @@ where
     }
 
     /// Answers the lines of the input, to its end.
-    fn hear<I: BufRead, O: Write>(
+    fn read_commands<I: BufRead, O: Write>(
         &mut self,
         input: &mut I,
         output: &mut O,
     ) -> Result<(), ServiceFault>
-        ensures heard { OnOk result (IsHeard (settings_view self.old.settings.now)
-            (length self.old.station.hub.now) (I.remaining input.old) self.old.station.caller self.old.beat.last
-            (O.contents output.old) self.new.station.caller self.new.beat.last (O.contents output.new)) }
+        ensures commands_read { OnOk result (AreCommandsRead (settings_view self.old.settings.now)
+            (length self.old.context.hub.now) (I.remaining input.old) self.old.context.caller self.old.beat.last
+            (O.contents output.old) self.new.context.caller self.new.beat.last (O.contents output.new)) }
     {
         let mut line = Line::new();
         'lines: for _ in self.rt.forever() {
             if !next_line(self.rt, input, &mut line)? {
                 return Ok(());
             }
-            self.answer(output, line.as_slice())?;
+            self.run_command(output, line.as_slice())?;
         }
         unreachable!()
     }
 
     /// Answers a line: by a report where it asks for one, and any other by nothing.
-    fn answer<O: Write>(&mut self, output: &mut O, line: &[u8]) -> Result<(), ServiceFault>
+    fn run_command<O: Write>(&mut self, output: &mut O, line: &[u8]) -> Result<(), ServiceFault>
         ensures answered { OnOk result (IsAnswered (settings_view self.old.settings.now)
-            (length self.old.station.hub.now) line.now self.old.station.caller self.old.beat.last
-            (O.contents output.old) self.new.station.caller self.new.beat.last (O.contents output.new)) }
+            (length self.old.context.hub.now) line.now self.old.context.caller self.old.beat.last
+            (O.contents output.old) self.new.context.caller self.new.beat.last (O.contents output.new)) }
         ensures settings { self.new.settings ≡ self.old.settings }
-        ensures hub { self.new.station.hub ≡ self.old.station.hub }
+        ensures hub { self.new.context.hub ≡ self.old.context.hub }
     {
         match asked_report(self.settings, line) {
             Some(tenant) => {
-                self.tell(output, tenant)?;
+                self.print_report(output, tenant)?;
                 Ok(())
             }
             None => Ok(()),
@@ -105,12 +105,12 @@ where
     }
 
     /// Prints a tenant's report.
-    fn tell<O: Write>(&mut self, output: &mut O, tenant: u32) -> Result<(), ServiceFault>
-        ensures told { OnOk result (IsReported (settings_view self.old.settings.now) self.old.station.caller
-            self.new.station.caller (length self.old.station.hub.now) tenant self.old.beat.last self.new.beat.last
+    fn print_report<O: Write>(&mut self, output: &mut O, tenant: u32) -> Result<(), ServiceFault>
+        ensures reported { OnOk result (IsReported (settings_view self.old.settings.now) self.old.context.caller
+            self.new.context.caller (length self.old.context.hub.now) tenant self.old.beat.last self.new.beat.last
             (O.contents output.old) (O.contents output.new)) }
         ensures settings { self.new.settings ≡ self.old.settings }
-        ensures hub { self.new.station.hub ≡ self.old.station.hub }
+        ensures hub { self.new.context.hub ≡ self.old.context.hub }
     {
         let settings = self.settings;
         let outcome = self.make(tenant, Chore::Report);
@@ -121,22 +121,22 @@ where
     }
 
     /// Prints the reports of all tenants, in their order.
-    fn tell_all<O: Write>(&mut self, output: &mut O) -> Result<(), ServiceFault>
-        ensures told { OnOk result (AreReported (settings_view self.old.settings.now) self.old.station.caller
-            self.new.station.caller (length self.old.station.hub.now) self.old.beat.last self.new.beat.last
+    fn print_reports<O: Write>(&mut self, output: &mut O) -> Result<(), ServiceFault>
+        ensures reported { OnOk result (AreReported (settings_view self.old.settings.now) self.old.context.caller
+            self.new.context.caller (length self.old.context.hub.now) self.old.beat.last self.new.beat.last
             (O.contents output.old) (O.contents output.new)
             (length (settings_view self.old.settings.now).tenants)) }
     {
         for tenant in 0..self.settings.tenants_len() {
-            self.tell(output, tenant)?;
+            self.print_report(output, tenant)?;
         }
         Ok(())
     }
 
     /// No tenant takes spans any more, and all send what they hold.
     fn drain_all(&mut self)
-        ensures drained { AreDrained self.old.station.caller self.new.station.caller
-            (length self.old.station.hub.now) self.old.beat.last self.new.beat.last
+        ensures drained { AreDrained self.old.context.caller self.new.context.caller
+            (length self.old.context.hub.now) self.old.beat.last self.new.beat.last
             (length (settings_view self.old.settings.now).tenants) }
     {
         for tenant in 0..self.settings.tenants_len() {
@@ -146,15 +146,15 @@ where
 
     /// Makes a step of a tenant, at the moment that it now is: again, after a pause, where memory was refused.
     fn make(&mut self, tenant: u32, chore: Chore) -> Outcome
-        ensures made { IsMade self.old.station.caller self.new.station.caller (length self.old.station.hub.now)
+        ensures made { IsMade self.old.context.caller self.new.context.caller (length self.old.context.hub.now)
             tenant self.old.beat.last self.new.beat.last (step_of chore tenant) result }
         ensures settings { self.new.settings ≡ self.old.settings }
-        ensures hub { self.new.station.hub ≡ self.old.station.hub }
+        ensures hub { self.new.context.hub ≡ self.old.context.hub }
     {
         'attempts: for _ in self.rt.forever() {
             let now = self.beat.now();
             let step = chore.at(tenant, now);
-            match self.station.step(tenant, step) {
+            match self.context.step(tenant, step) {
                 Ok(outcome) => return outcome,
                 Err(_) => self.beat.pause(),
             }
@@ -191,11 +191,11 @@ where
 
     /// The first tenant that holds a span, or None where none does.
     fn first_held(&mut self) -> Option<u32>
-        ensures none { IfNone result (AreEmptyOn self.old.station.caller (length self.old.station.hub.now)
+        ensures none { IfNone result (AreEmptyOn self.old.context.caller (length self.old.context.hub.now)
             (length (settings_view self.old.settings.now).tenants)) }
     {
         for tenant in 0..self.settings.tenants_len() {
-            if !self.station.is_empty(tenant) {
+            if !self.context.is_empty(tenant) {
                 return Some(tenant);
             }
         }

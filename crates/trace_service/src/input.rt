@@ -2,7 +2,7 @@
 
 ghost use Rattle.std.specs.Prelude.{◌≡◌, List, ℕ, [], ◌∷◌, ◌++◌, take, IfSome, IfNone, IfOk};
 ghost use Rattle.tail_settings.specs.Settings.{settings_view};
-ghost use Rattle.trace_service.specs.Told.{Asks, AsksNobody, Comes, TakesLine, line_room};
+ghost use Rattle.trace_service.specs.Commands.{Asks, AsksNobody, Comes, TakesLine, line_room};
 
 use arrayvec::ArrayVec;
 use std::io::{BufRead, ErrorKind};
@@ -18,7 +18,7 @@ pub(crate) type Line = ArrayVec<u8, LINE_ROOM>;
 
 /// What came of one read.
 #[derive(Clone, Copy, PartialEq, Eq, Debug)]
-pub(crate) enum Came {
+pub(crate) enum ReadResult {
     /// The next byte.
     Byte(u8),
     /// Nothing, since the read was interrupted.
@@ -52,14 +52,14 @@ pub(crate) fn next_line<I: BufRead, R: Wait>(
     line.clear();
     'bytes: for _ in rt.forever() {
         match next_byte(input)? {
-            Came::Byte(byte) => {
+            ReadResult::Byte(byte) => {
                 if byte == b'\n' {
                     return Ok(true);
                 }
                 keep(line, byte);
             }
-            Came::Nothing => {}
-            Came::End => return Ok(!line.is_empty()),
+            ReadResult::Nothing => {}
+            ReadResult::End => return Ok(!line.is_empty()),
         }
     }
     unreachable!()
@@ -77,20 +77,20 @@ fn keep(line: &mut Line, byte: u8)
 }
 
 /// Reads one byte.
-fn next_byte<I: BufRead>(input: &mut I) -> io::Result<Came>
+fn next_byte<I: BufRead>(input: &mut I) -> io::Result<ReadResult>
     ensures { IfOk result (λ came. Comes (I.remaining input.old) (I.remaining input.new) came) }
 {
     let mut room = [0; 1];
     match input.read(&mut room) {
         Ok(count) => {
             if count == 0 {
-                return Ok(Came::End);
+                return Ok(ReadResult::End);
             }
-            Ok(Came::Byte(room[0]))
+            Ok(ReadResult::Byte(room[0]))
         }
         Err(error) => {
             if error.kind() == ErrorKind::Interrupted {
-                return Ok(Came::Nothing);
+                return Ok(ReadResult::Nothing);
             }
             Err(error)
         }

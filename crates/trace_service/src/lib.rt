@@ -2,7 +2,7 @@
 //! they share.
 //!
 //! [`post_body`] posts one body to its tenant's shard. [`run_service`] has as many threads as the settings say, until
-//! the input ends and all tenants have sent what they held. A thread works at a station, which makes turns of one
+//! the input ends and all tenants have sent what they held. A thread works with a context, which makes turns of one
 //! shard, takes answers and handles messages; what its calls did to the hub its caller knows, and no lock is held while
 //! bytes are read, bodies are read, notes are made or payloads are sent.
 //!
@@ -11,11 +11,12 @@
 //! `replay_script` for how a report is spelled. How it starts and ends is this project's own.
 #![tactic(auto)]
 
+mod assignment;
 mod beat;
 mod chore;
+mod context;
 mod control;
 mod course;
-mod crew;
 mod input;
 mod lingering;
 mod naming;
@@ -24,8 +25,7 @@ mod receiving;
 mod reports;
 mod service;
 mod shared;
-mod staff;
-mod station;
+mod workers;
 
 pub use crate::course::{Observer, Stage};
 pub use crate::post::post_body;

@@ -1,9 +1,9 @@
 //! One body, posted to its tenant's shard.
 
 ghost use Rattle.std.specs.Prelude.{◌≡◌, ◌<◌, ◌≤◌, ◌%◌, length, IfOk};
-ghost use Rattle.http_edge.specs.Seen.{answer_of};
+ghost use Rattle.http_edge.specs.Seen.{response_of};
 ghost use Rattle.machine_hub.specs.Hub.{slots_of};
-ghost use Rattle.otlp_front.specs.Seen.{answer_for};
+ghost use Rattle.otlp_front.specs.Seen.{response_for};
 ghost use Rattle.tail_settings.specs.Section.{section_view};
 ghost use Rattle.trace_service.specs.Post.{IsPosted, IsStepped, MayTell, Tells, bad_request, no_memory};
 
@@ -35,10 +35,10 @@ pub fn post_body<T: Threads + Sync, R: Wait>(
     parts: u32,
 ) -> Reply
     requires parts { (0 < parts) × (parts ≤ 16) }
-    requires mine { slots_of me.old ≡ hub.now }
-    ensures mine { slots_of me.new ≡ hub.now }
+    requires same_hub { slots_of me.old ≡ hub.now }
+    ensures same_hub { slots_of me.new ≡ hub.now }
     ensures posted { IsPosted me.old me.new (length hub.now) now tenant (section_view section.now) body
-        (answer_of result) }
+        (response_of result) }
 {
     match prepare(threads, alloc, tenant, section, body, parts) {
         Ok(prepared) => post_prepared(rt, alloc, hub, me, now, tenant, prepared),
@@ -57,21 +57,21 @@ fn post_prepared<R: Wait>(
     tenant: u32,
     prepared: Prepared,
 ) -> Reply
-    requires mine { slots_of me.old ≡ hub.now }
-    ensures mine { slots_of me.new ≡ hub.now }
-    ensures stepped { IsStepped me.old me.new (tenant % length hub.now) now prepared (answer_of result) }
+    requires same_hub { slots_of me.old ≡ hub.now }
+    ensures same_hub { slots_of me.new ≡ hub.now }
+    ensures stepped { IsStepped me.old me.new (tenant % length hub.now) now prepared (response_of result) }
 {
     let shard = tenant as usize % hub.shards();
     match hub.step(rt, alloc, me, shard, Step::Post { now, prepared }) {
-        Ok((outcome, _receipt)) => told(alloc, outcome),
+        Ok((outcome, _receipt)) => http_reply(alloc, outcome),
         Err(HubFault::OutOfMemory) => without_memory(alloc),
         Err(HubFault::Behind { .. } | HubFault::OtherEntry { .. }) => unreachable!(),
     }
 }
 
 /// What a sender is told of its body's outcome.
-fn told(alloc: Global, outcome: Outcome) -> Reply
-    ensures { Tells outcome (answer_of result) }
+fn http_reply(alloc: Global, outcome: Outcome) -> Reply
+    ensures { Tells outcome (response_of result) }
 {
     match outcome {
         Outcome::Reply(_, reply) => Reply {
@@ -84,7 +84,7 @@ fn told(alloc: Global, outcome: Outcome) -> Reply
 
 /// The reply to who is refused so.
 pub(crate) fn refused(alloc: Global, refusal: RouteRefusal) -> Reply
-    ensures { MayTell (answer_for refusal) (answer_of result) }
+    ensures { MayTell (response_for refusal) (response_of result) }
 {
     match refusal.reply(alloc) {
         Ok(reply) => reply,
@@ -94,7 +94,7 @@ pub(crate) fn refused(alloc: Global, refusal: RouteRefusal) -> Reply
 
 /// The reply to a body that has no value.
 fn bad_protobuf(alloc: Global) -> Reply
-    ensures { MayTell bad_request (answer_of result) }
+    ensures { MayTell bad_request (response_of result) }
 {
     match bad_protobuf_reply(alloc) {
         Ok(reply) => reply,
@@ -103,7 +103,7 @@ fn bad_protobuf(alloc: Global) -> Reply
 }
 
 fn bad_protobuf_reply(alloc: Global) -> Result<Reply, AllocError>
-    ensures { IfOk result (λ reply. answer_of reply ≡ bad_request) }
+    ensures { IfOk result (λ reply. response_of reply ≡ bad_request) }
 {
     Ok(Reply {
         status: 400,
@@ -113,7 +113,7 @@ fn bad_protobuf_reply(alloc: Global) -> Result<Reply, AllocError>
 
 /// The reply that takes no memory.
 pub(crate) fn without_memory(alloc: Global) -> Reply
-    ensures { answer_of result ≡ no_memory }
+    ensures { response_of result ≡ no_memory }
 {
     Reply {
         status: 503,

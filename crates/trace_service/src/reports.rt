@@ -3,7 +3,7 @@
 ghost use Rattle.std.specs.Prelude.{◌≡◌, ◌++◌, IfOk, OnOk, option_map};
 ghost use Rattle.std.specs.Io.KnownBytes.{Appends};
 ghost use Rattle.trace_service.specs.Audit.{audit_line, audit_text};
-ghost use Rattle.trace_service.specs.Told.{report_line};
+ghost use Rattle.trace_service.specs.Commands.{report_line};
 
 use replay_script::put_report;
 use shared_hub::ShardLog;

@@ -8,20 +8,20 @@ ghost use Rattle.machine_hub.specs.Hub.{AreCallersOf, AreShardRuns};
 ghost use Rattle.shared_hub.specs.Logs.{LoggedShard};
 ghost use Rattle.shared_hub.specs.Shards.{AreOpened, kept};
 ghost use Rattle.tail_settings.specs.Settings.{SettingsData, settings_view};
-ghost use Rattle.shard_machine.specs.Worded.{WordedDoes};
+ghost use Rattle.shard_machine.specs.MachineState.{MachineDoes};
 ghost use Rattle.shared_hub.specs.declared.fault.HubFault.TheVariants as hub_faults;
 ghost use Rattle.trace_service.specs.Audit.{audit_text, IsAudited};
 ghost use Rattle.trace_service.specs.Fault.{IsOfLine};
 ghost use Rattle.trace_service.specs.declared.service.ServiceFault.TheVariants as faults;
 
+use crate::assignment::{assign_threads, collect_callers};
 use crate::beat::{ServiceBeat, Signals};
 use crate::control::Control;
 use crate::course::{Observer, Stage};
-use crate::crew::{Worker, work_all};
 use crate::naming::Naming;
 use crate::reports::write_audit;
 use crate::shared::Shared;
-use crate::staff::{dismiss, staff};
+use crate::workers::{Worker, work_all};
 use job_lane::{Lane, LaneSeat};
 use shared_hub::{Caller, HubFault, HubKeeper, SharedHub};
 use std::alloc::{AllocError, Global};
@@ -142,7 +142,7 @@ where
     requires seats { All (λ s. s.lane ≡ J.lane) seats.items }
     requires opened { AreOpened (settings_view settings.now) keeper.homes }
     requires keeps { kept keeper.homes ≡ replicate settings.now.global.shards audit }
-    requires some { 0 < vec_len callers }
+    requires not_empty { 0 < vec_len callers }
     requires all { vec_len callers ≡ keeper.callers }
     requires enough { vec_len callers ≤ vec_len seats }
     ensures audit { OnOk result (IsTrue audit → IsAudited (settings_view settings.now) (O.contents output.new)) }
@@ -170,7 +170,7 @@ fn write_logs<R: Wait, O: Write>(
     requires callers { AreCallersOf hub callers.items }
     requires all { vec_len callers ≡ keeper.callers }
     ensures lines { OnOk result ((shards : List LoggedShard)
-        × AreShardRuns WordedDoes keeper.homes callers.items shards
+        × AreShardRuns MachineDoes keeper.homes callers.items shards
         × Appends (O.contents output.old) (O.contents output.new) (audit_text shards)) }
     ensures audit { OnOk result ((table : SettingsData) → AreOpened table keeper.homes →
         kept keeper.homes ≡ replicate table.global.shards true → IsAudited table (O.contents output.new)) }
@@ -206,9 +206,9 @@ where
     requires callers { AreCallersOf J.slots callers.items }
     requires lane { lane.now.name ≡ J.lane }
     requires seats { All (λ s. s.lane ≡ J.lane) seats.items }
-    requires some { 0 < vec_len callers }
+    requires not_empty { 0 < vec_len callers }
     requires enough { vec_len callers ≤ vec_len seats }
-    ensures theirs { IfOk result (λ r. AreCallersOf J.slots r.0.items) }
+    ensures same_hub { IfOk result (λ r. AreCallersOf J.slots r.0.items) }
     ensures all { IfOk result (λ r. vec_len r.0 ≡ vec_len callers) }
 {
     let signals = Signals::new();
@@ -256,9 +256,9 @@ where
     requires callers { AreCallersOf J.slots callers.items }
     requires lane { lane.now.name ≡ J.lane }
     requires seats { All (λ s. s.lane ≡ J.lane) seats.items }
-    requires some { 0 < vec_len callers }
+    requires not_empty { 0 < vec_len callers }
     requires enough { vec_len callers ≤ vec_len seats }
-    ensures theirs { IfOk result (λ r. AreCallersOf J.slots r.0.items) }
+    ensures same_hub { IfOk result (λ r. AreCallersOf J.slots r.0.items) }
     ensures all { IfOk result (λ r. vec_len r.0 ≡ vec_len callers) }
 {
     let start = Instant::now(rt)?;
@@ -295,9 +295,9 @@ where
     requires callers { AreCallersOf J.slots callers.items }
     requires lane { shared.now.lane.now.name ≡ J.lane }
     requires seats { All (λ s. s.lane ≡ J.lane) seats.items }
-    requires some { 0 < vec_len callers }
+    requires not_empty { 0 < vec_len callers }
     requires enough { vec_len callers ≤ vec_len seats }
-    ensures theirs { IfOk result (λ r. AreCallersOf J.slots r.0.items) }
+    ensures same_hub { IfOk result (λ r. AreCallersOf J.slots r.0.items) }
     ensures all { IfOk result (λ r. vec_len r.0 ≡ vec_len callers) }
 {
     let shards = shared.hub.shards();
@@ -310,26 +310,26 @@ where
         alloc: shared.alloc,
         settings: shared.settings,
         listener: shared.listener,
-        station: shared.station::<J>(own, 0),
+        context: shared.context::<J>(own, 0),
         beat: shared.beat.again(),
     };
-    let mut crew = staff::<J, R>(shared, callers, seats)?;
+    let mut workers = assign_threads::<J, R>(shared, callers, seats)?;
     let ended = work_beside(
         shared,
-        crew.as_mut_slice(),
+        workers.as_mut_slice(),
         &mut control,
         input,
         output,
         observer,
     );
-    let own = control.station.into_caller();
-    Ok((dismiss(shared.alloc, crew, own)?, ended))
+    let own = control.context.into_caller();
+    Ok((collect_callers(shared.alloc, workers, own)?, ended))
 }
 
-/// The crew's work, with that of who reads the input beside it: how the input and the output fared.
+/// The workers' work, with that of who reads the input beside it: how the input and the output fared.
 fn work_beside<'h, J, R, I, O, L>(
     shared: &Shared<'h, R>,
-    crew: &mut [Worker<'h, J, R>],
+    workers: &mut [Worker<'h, J, R>],
     control: &mut Control<'h, J, R>,
     input: &mut I,
     output: &mut O,
@@ -347,7 +347,7 @@ where
         shared.rt,
         ||
             requires { IsSync R.row × (shared.now.lane.now.name ≡ J.lane) }
-        { work_all(shared, crew) },
+        { work_all(shared, workers) },
         || control.direct(input, output, observer, shared.threads),
     );
     ended

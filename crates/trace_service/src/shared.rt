@@ -4,8 +4,8 @@ ghost use Rattle.std.specs.Prelude.{◌≡◌, ◌<◌, length};
 ghost use Rattle.machine_hub.specs.Hub.{slots_of};
 
 use crate::beat::ServiceBeat;
+use crate::context::WorkerContext;
 use crate::naming::Naming;
-use crate::station::Station;
 use job_lane::Lane;
 use shared_hub::{Caller, SharedHub};
 use std::alloc::Global;
@@ -33,14 +33,14 @@ pub(crate) struct Shared<'h, R> {
 impl<'h, R: Wait + Clock> Shared<'h, R> {
     ghost use Rattle.std.specs.Prelude.{◌≡◌, ◌<◌, length};
 
-    /// A station here, for who makes turns of this shard.
-    pub fn station<J: Naming>(&self, caller: Caller, shard: usize) -> Station<'h, J, R>
+    /// A context for who makes turns of this shard.
+    pub fn context<J: Naming>(&self, caller: Caller, shard: usize) -> WorkerContext<'h, J, R>
         requires hub { self.now.hub.now ≡ J.slots }
-        requires mine { slots_of caller ≡ J.slots }
+        requires same_hub { slots_of caller ≡ J.slots }
         requires shard { shard < length J.slots }
         ensures shard { result.shard ≡ shard }
     {
-        Station::new(
+        WorkerContext::new(
             self.rt,
             self.alloc,
             self.settings,

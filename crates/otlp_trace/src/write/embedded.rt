@@ -15,14 +15,15 @@ pub trait Message {
     ghost text: { Data → List ℕ };
 
     fn put(&self, out: &mut Vec<u8>) -> Result<(), AllocError>
-        ensures ok { OnOk result (out.new.items ≡ out.old.items ++ text (view self.now)) };
+        ensures on_success { OnOk result (out.new.items ≡ out.old.items ++ text (view self.now)) };
 }
 
 /// An embedded message, an empty one too.
 fn put_message<M: Message>(out: &mut Vec<u8>, number: u32, message: &M) -> Result<(), AllocError>
-    requires some { 0 < number }
+    requires number_not_zero { 0 < number }
     requires fits { number < 2 ^ 29 }
-    ensures ok { OnOk result (out.new.items ≡ out.old.items ++ bytes_field number (M.text (M.view message.now))) }
+    ensures on_success { OnOk result (out.new.items ≡ out.old.items
+        ++ bytes_field number (M.text (M.view message.now))) }
 {
     let start = out.len();
     message.put(out)?;
@@ -35,9 +36,9 @@ pub fn put_embedded<M: Message>(
     number: u32,
     message: &Option<M>,
 ) -> Result<(), AllocError>
-    requires some { 0 < number }
+    requires number_not_zero { 0 < number }
     requires fits { number < 2 ^ 29 }
-    ensures ok { OnOk result (out.new.items
+    ensures on_success { OnOk result (out.new.items
         ≡ out.old.items ++ embedded number (option_map M.text (option_map M.view message.now))) }
 {
     match message {
@@ -53,9 +54,10 @@ pub fn put_each<M: Message>(
     number: u32,
     messages: &[M],
 ) -> Result<(), AllocError>
-    requires some { 0 < number }
+    requires number_not_zero { 0 < number }
     requires fits { number < 2 ^ 29 }
-    ensures ok { OnOk result (out.new.items ≡ out.old.items ++ repeated number M.text (map M.view messages.now)) }
+    ensures on_success { OnOk result (out.new.items ≡ out.old.items
+        ++ repeated number M.text (map M.view messages.now)) }
 {
     'messages: for message in messages {
         put_message(out, number, message)?;

@@ -8,9 +8,9 @@ use std::alloc::AllocError;
 
 /// A number, 0 too.
 pub fn put_number_field(out: &mut Vec<u8>, number: u32, value: u64) -> Result<(), AllocError>
-    requires some { 0 < number }
+    requires number_not_zero { 0 < number }
     requires fits { number < 2 ^ 29 }
-    ensures ok { OnOk result (out.new.items ≡ out.old.items ++ number_field number value) }
+    ensures on_success { OnOk result (out.new.items ≡ out.old.items ++ number_field number value) }
 {
     put_tag(out, number, WireType::Varint)?;
     put_varint(out, value)
@@ -19,10 +19,10 @@ pub fn put_number_field(out: &mut Vec<u8>, number: u32, value: u64) -> Result<()
 /// Appends a field of these bytes: its tag, their length and the bytes themselves, none of them too; or nothing, where
 /// memory is refused. The field's number is 1 to 2^29 - 1.
 pub fn put_bytes_field(out: &mut Vec<u8>, number: u32, bytes: &[u8]) -> Result<(), AllocError>
-    requires some { 0 < number }
+    requires number_not_zero { 0 < number }
     requires fits { number < 2 ^ 29 }
-    ensures ok { OnOk result (out.new.items ≡ out.old.items ++ bytes_field number bytes.now) }
-    ensures err { OnErr result (out.new.items ≡ out.old.items) }
+    ensures on_success { OnOk result (out.new.items ≡ out.old.items ++ bytes_field number bytes.now) }
+    ensures on_refusal { OnErr result (out.new.items ≡ out.old.items) }
 
     // Memory is refused only where the vector had too little room.
     ensures full { OnErr result (vec_capacity out.old < vec_len out.old + length (bytes_field number bytes.now)) }
@@ -38,9 +38,9 @@ pub fn put_bytes_field(out: &mut Vec<u8>, number: u32, bytes: &[u8]) -> Result<(
 
 /// Eight bytes, as they are.
 pub fn put_eight_field(out: &mut Vec<u8>, number: u32, bytes: [u8; 8]) -> Result<(), AllocError>
-    requires some { 0 < number }
+    requires number_not_zero { 0 < number }
     requires fits { number < 2 ^ 29 }
-    ensures ok { OnOk result (out.new.items ≡ out.old.items ++ eight_field number bytes) }
+    ensures on_success { OnOk result (out.new.items ≡ out.old.items ++ eight_field number bytes) }
 {
     put_tag(out, number, WireType::Eight)?;
     out.extend_from_slice(&bytes)
@@ -49,10 +49,10 @@ pub fn put_eight_field(out: &mut Vec<u8>, number: u32, bytes: [u8; 8]) -> Result
 /// Appends a field of these bytes, a string's too, or nothing where there are none or memory is refused. The field's
 /// number is 1 to 2^29 - 1.
 pub fn put_some_bytes(out: &mut Vec<u8>, number: u32, bytes: &[u8]) -> Result<(), AllocError>
-    requires some { 0 < number }
+    requires number_not_zero { 0 < number }
     requires fits { number < 2 ^ 29 }
-    ensures ok { OnOk result (out.new.items ≡ out.old.items ++ some_bytes number bytes.now) }
-    ensures err { OnErr result (out.new.items ≡ out.old.items) }
+    ensures on_success { OnOk result (out.new.items ≡ out.old.items ++ some_bytes number bytes.now) }
+    ensures on_refusal { OnErr result (out.new.items ≡ out.old.items) }
 
     // Memory is refused only where the vector had too little room, so never for no bytes.
     ensures full { OnErr result (vec_capacity out.old < vec_len out.old + length (some_bytes number bytes.now)) }
@@ -65,9 +65,9 @@ pub fn put_some_bytes(out: &mut Vec<u8>, number: u32, bytes: &[u8]) -> Result<()
 
 /// A number with no sign.
 pub fn put_some_number(out: &mut Vec<u8>, number: u32, value: u64) -> Result<(), AllocError>
-    requires some { 0 < number }
+    requires number_not_zero { 0 < number }
     requires fits { number < 2 ^ 29 }
-    ensures ok { OnOk result (out.new.items ≡ out.old.items ++ some_number number value) }
+    ensures on_success { OnOk result (out.new.items ≡ out.old.items ++ some_number number value) }
 {
     if value == 0 {
         return Ok(());
@@ -77,18 +77,18 @@ pub fn put_some_number(out: &mut Vec<u8>, number: u32, value: u64) -> Result<(),
 
 /// A number with a sign, a negative one in ten bytes.
 pub fn put_some_signed(out: &mut Vec<u8>, number: u32, value: i64) -> Result<(), AllocError>
-    requires some { 0 < number }
+    requires number_not_zero { 0 < number }
     requires fits { number < 2 ^ 29 }
-    ensures ok { OnOk result (out.new.items ≡ out.old.items ++ some_signed number value) }
+    ensures on_success { OnOk result (out.new.items ≡ out.old.items ++ some_signed number value) }
 {
     put_some_number(out, number, value.cast_unsigned())
 }
 
 /// A number in eight bytes.
 pub fn put_some_eight(out: &mut Vec<u8>, number: u32, value: u64) -> Result<(), AllocError>
-    requires some { 0 < number }
+    requires number_not_zero { 0 < number }
     requires fits { number < 2 ^ 29 }
-    ensures ok { OnOk result (out.new.items ≡ out.old.items ++ some_eight number value) }
+    ensures on_success { OnOk result (out.new.items ≡ out.old.items ++ some_eight number value) }
 {
     if value == 0 {
         return Ok(());
@@ -98,9 +98,9 @@ pub fn put_some_eight(out: &mut Vec<u8>, number: u32, value: u64) -> Result<(), 
 
 /// A number in four bytes.
 pub fn put_some_four(out: &mut Vec<u8>, number: u32, value: u32) -> Result<(), AllocError>
-    requires some { 0 < number }
+    requires number_not_zero { 0 < number }
     requires fits { number < 2 ^ 29 }
-    ensures ok { OnOk result (out.new.items ≡ out.old.items ++ some_four number value) }
+    ensures on_success { OnOk result (out.new.items ≡ out.old.items ++ some_four number value) }
 {
     if value == 0 {
         return Ok(());
@@ -113,11 +113,11 @@ pub fn put_some_four(out: &mut Vec<u8>, number: u32, value: u32) -> Result<(), A
 /// put before them. Where memory is refused, nothing changes.
 pub fn wrap_in_field(out: &mut Vec<u8>, start: usize, number: u32) -> Result<(), AllocError>
     requires within { start ≤ length out.old.items }
-    requires some { 0 < number }
+    requires number_not_zero { 0 < number }
     requires fits { number < 2 ^ 29 }
-    ensures ok { OnOk result (out.new.items
+    ensures on_success { OnOk result (out.new.items
         ≡ take start out.old.items ++ bytes_field number (drop start out.old.items)) }
-    ensures err { OnErr result (out.new.items ≡ out.old.items) }
+    ensures on_refusal { OnErr result (out.new.items ≡ out.old.items) }
 
     // Memory is refused only where the vector had too little room.
     ensures full { OnErr result (vec_capacity out.old
@@ -140,7 +140,7 @@ const LONGEST_HEADER: usize = 20;
 fn move_forward(out: &mut [u8], start: usize, end: usize)
     requires order { start ≤ end }
     requires within { end ≤ length out.old }
-    requires few { length out.old ≤ end + 20 }
+    requires move_bounded { length out.old ≤ end + 20 }
     ensures { out.new ≡ take start out.old ++ (drop end out.old ++ drop start (take end out.old)) }
 {
     let added = out.len() - end;

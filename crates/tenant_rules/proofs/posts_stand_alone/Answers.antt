@@ -2,4 +2,4 @@ use Rattle.tenant_rules.proofs.Others.{moments_count, others_dont_count, replies
 use Rattle.tenant_rules.proofs.posts_stand_alone.Goals as goal
 
 pub returns : goal.returns
-returns c = record { moments = moments_count; others = others_dont_count; replies = replies_dont_change }
+returns c = record { moments = moments_count; others_unchanged = others_dont_count; replies = replies_dont_change }

@@ -7,7 +7,7 @@ pub returns-in_err-rounds-in-len2-clause-usage : goal.returns-in_err-rounds-in-l
 returns-in_err-rounds-in-len2-clause-usage c = λ _ asked asks.
     let two : length c.args.args.now ≡ 2 = omega (arith, c.in-len2.len_at_least, c.in-len2.len_below) in
     let words = ap (map string_bytes) (two_words c.args.args.now c.path-item.result c.word-item.result two c.path-item.is c.word-item.is) in
-    not_named asks (string_bytes c.path-item.result) (string_bytes c.word-item.result) words (λ is. let same : false ≡ true = c.in_err-rounds-in-len2.ensures.some.1 (subst IsRounds (sym c.as_str.ensures.value) is) in absurd (cc))
+    not_named asks (string_bytes c.path-item.result) (string_bytes c.word-item.result) words (λ is. let same : false ≡ true = c.in_err-rounds-in-len2.ensures.valid.1 (subst IsRounds (sym c.as_str.ensures.value) is) in absurd (cc))
 
 pub returns-in-empty-clause-asked : goal.returns-in-empty-clause-asked
 returns-in-empty-clause-asked c = no_words string_bytes c.args.args.now (omega (arith, c.in-empty.len_below))

@@ -5,7 +5,7 @@ use Rattle.replay_script.specs.Word.{number_of}
 use Rattle.replay_script.specs.Command.{turn_of, command_from, command_of}
 use Rattle.replay_script.specs.Line.{kind_of}
 use Rattle.replay_script.specs.Answer.{idle_text}
-use Rattle.replay_script.specs.Told.{Told, Goes, Answered, BeginsTold}
+use Rattle.replay_script.specs.Transcript.{Told, Goes, Answered, BeginsTold}
 use Rattle.collector_tests.specs.ScriptExamples.{Counts, two_answers, third_faulty}
 use Rattle.collector_tests.proofs.definitions.answers_of_scripts.Goals as goal
 

@@ -16,7 +16,7 @@ attempts-preserved g c =
     c.now-now.result inv.2 c.now-now.ensures in (
       inv.0 ++ c.now-now.result ∷ [],
       through_more (λ (s : g.row.S.Denot) (now : ℕ) (t : g.row.S.Denot). g.S.AnswerSink.refuses s (given_for p now) t)
-          c.args.sink.now c.attempts.sink c.answer.new.self inv.0 c.now-now.result inv.1 c.in-Err.ensures.refused,
+          c.args.sink.now c.attempts.sink c.answer.new.self inv.0 c.now-now.result inv.1 c.in-Err.ensures.on_refusal,
       rested g.T.Beat.gives g.T.Beat.rests c.args.beat.now c.now-now.new.self c.pause.new.self
           (inv.0 ++ c.now-now.result ∷ []) more c.pause.ensures,
     )

@@ -17,9 +17,9 @@ rounds-preserved g c =
     c.args.back_end.now c.rounds.back_end c.args.sink.now c.rounds.sink c.args.beat.now c.rounds.beat
     c.is_over.new.self c.args.seat.now.pops c.rounds.seat.pops c.if-is_over.ensures before.work in
     record {
-      lane = c.go_on.ensures.same.0 ∙ before.lane;
-      pushes = c.go_on.ensures.same.1 ∙ before.pushes;
-      work = c.go_on.ensures.work c.args.back_end.now c.args.sink.now c.args.beat.now c.args.seat.now.pops rested;
+      lane = c.send_once.ensures.same.0 ∙ before.lane;
+      pushes = c.send_once.ensures.same.1 ∙ before.pushes;
+      work = c.send_once.ensures.work c.args.back_end.now c.args.sink.now c.args.beat.now c.args.seat.now.pops rested;
     }
 
 pub returns-then-is_over-clause-work : goal.returns-then-is_over-clause-work

@@ -16,9 +16,9 @@ rounds-preserved g c =
     c.args.beat.now c.rounds.beat c.is_over.new.self c.args.seat.now.pushes c.rounds.seat.pushes c.rounds.held
     c.if-is_over.ensures before.work in
     record {
-      lane = c.go_on-held.ensures.same.0 ∙ before.lane;
-      pops = c.go_on-held.ensures.same.1 ∙ before.pops;
-      work = c.go_on-held.ensures.work c.args.source.now c.args.beat.now c.args.seat.now.pushes rested;
+      lane = c.turn_once-held.ensures.same.0 ∙ before.lane;
+      pops = c.turn_once-held.ensures.same.1 ∙ before.pops;
+      work = c.turn_once-held.ensures.work c.args.source.now c.args.beat.now c.args.seat.now.pushes rested;
     }
 
 pub returns-then-is_over-clause-work : goal.returns-then-is_over-clause-work

@@ -1,25 +1,25 @@
 use Rattle.std.proofs.Common.{◌≡◌, ◌++◌, ◌∙◌, suc, Ok, sym, ap, subst, drop, arith, [], refl, rules}
 use Rattle.std.proofs.lemmas.Result.{err_from_is_err_and}
 use Rattle.std.proofs.lemmas.Bool.{lt-ltb}
-use Rattle.http_edge.specs.declared.answer_head.AnswerBegin.TheVariants.{Whole, More, Bad}
+use Rattle.http_edge.specs.declared.answer_head.AnswerHeadProgress.TheVariants.{Whole, More, Bad}
 use Rattle.http_edge.specs.Post.{SkipsInterims, many_interims, bad_head, cut_head}
-use Rattle.http_edge.specs.Kept.{IsAnswerBegin}
+use Rattle.http_edge.specs.AnswerBody.{IsAnswerHeadProgress}
 use Rattle.http_line.proofs.Moved.{then}
 use Rattle.http_edge.proofs.Answered.{skips_read, skips_more, skips_next, answer_within, status_interim}
 use Rattle.http_line.specs.Line.{no_call}
 use Rattle.http_edge.proofs.answer.read_final_head.Goals as goal
 
-pub returns-in_err-read_answer_head-clause-err : goal.returns-in_err-read_answer_head-clause-err
-returns-in_err-read_answer_head-clause-err g c =
-    let e = c.in_err-read_answer_head.ensures.err in
+pub returns-in_err-read_answer_head-clause-on_error : goal.returns-in_err-read_answer_head-clause-on_error
+returns-in_err-read_answer_head-clause-on_error g c =
+    let e = c.in_err-read_answer_head.ensures.on_error in
     let p = err_from_is_err_and c.from_residual.result c.from_residual.ensures.1 in
     rw p.1 (c.heads.invariant.read ++ e.0, then c.heads.invariant.so_far.0 e.1)
 
-pub returns-in-More-clause-ok : goal.returns-in-More-clause-ok
-returns-in-More-clause-ok g c =
+pub returns-in-More-clause-on_success : goal.returns-in-More-clause-on_success
+returns-in-More-clause-on_success g c =
     let inv = c.heads.invariant in
-    let e = c.in_ok-read_answer_head.ensures.ok in
-    let begin : IsAnswerBegin c.read_answer_head.new.buffer.items More = rw c.in-More.is at e.3 in
+    let e = c.in_ok-read_answer_head.ensures.on_success in
+    let begin : IsAnswerHeadProgress c.read_answer_head.new.buffer.items More = rw c.in-More.is at e.3 in
     let skips = skips_read c.heads.interims inv.read c.heads.buffer.items e.0 inv.so_far.1 in
     let met = c.in_ok-read_answer_head.ensures.end (ap Ok c.in-More.is) in (
       inv.read ++ e.0,
@@ -28,11 +28,11 @@ returns-in-More-clause-ok g c =
           (rw (← e.2) at skips) begin (lt-ltb _ _ (omega (arith, met, inv.ends))),
     )
 
-pub returns-in-Bad-clause-ok : goal.returns-in-Bad-clause-ok
-returns-in-Bad-clause-ok g c =
+pub returns-in-Bad-clause-on_success : goal.returns-in-Bad-clause-on_success
+returns-in-Bad-clause-on_success g c =
     let inv = c.heads.invariant in
-    let e = c.in_ok-read_answer_head.ensures.ok in
-    let begin : IsAnswerBegin c.read_answer_head.new.buffer.items Bad = rw c.in-Bad.is at e.3 in
+    let e = c.in_ok-read_answer_head.ensures.on_success in
+    let begin : IsAnswerHeadProgress c.read_answer_head.new.buffer.items Bad = rw c.in-Bad.is at e.3 in
     let skips = skips_read c.heads.interims inv.read c.heads.buffer.items e.0 inv.so_far.1 in (
       inv.read ++ e.0,
       then inv.so_far.0 e.1,
@@ -40,11 +40,11 @@ returns-in-Bad-clause-ok g c =
           (rw (← e.2) at skips) begin,
     )
 
-pub returns-then-not-is_interim-clause-ok : goal.returns-then-not-is_interim-clause-ok
-returns-then-not-is_interim-clause-ok g c =
+pub returns-then-not-is_interim-clause-on_success : goal.returns-then-not-is_interim-clause-on_success
+returns-then-not-is_interim-clause-on_success g c =
     let inv = c.heads.invariant in
-    let e = c.in_ok-read_answer_head.ensures.ok in
-    let begin : IsAnswerBegin c.read_answer_head.new.buffer.items (Whole c.in-Whole.head) = rw c.in-Whole.is at e.3 in
+    let e = c.in_ok-read_answer_head.ensures.on_success in
+    let begin : IsAnswerHeadProgress c.read_answer_head.new.buffer.items (Whole c.in-Whole.head) = rw c.in-Whole.is at e.3 in
     let skips = skips_read c.heads.interims inv.read c.heads.buffer.items e.0 inv.so_far.1 in
     let final = sym (status_interim c.is_interim.result begin.1 c.is_interim.ensures) ∙ c.if-not-is_interim.true in (
       inv.read ++ e.0,
@@ -63,13 +63,13 @@ returns-then-not-is_interim-clause-ok g c =
       ),
     )
 
-pub returns-then-interims-eq-MOST_INTERIMS-clause-ok : goal.returns-then-interims-eq-MOST_INTERIMS-clause-ok
-returns-then-interims-eq-MOST_INTERIMS-clause-ok g c =
+pub returns-then-interims-eq-MOST_INTERIMS-clause-on_success : goal.returns-then-interims-eq-MOST_INTERIMS-clause-on_success
+returns-then-interims-eq-MOST_INTERIMS-clause-on_success g c =
     let inv = c.heads.invariant in
-    let e = c.in_ok-read_answer_head.ensures.ok in
+    let e = c.in_ok-read_answer_head.ensures.on_success in
     let buffer = c.read_answer_head.new.buffer.items in
     let after = drop c.in-Whole.head.len buffer in
-    let begin : IsAnswerBegin buffer (Whole c.in-Whole.head) = rw c.in-Whole.is at e.3 in
+    let begin : IsAnswerHeadProgress buffer (Whole c.in-Whole.head) = rw c.in-Whole.is at e.3 in
     let skips = rw (← e.2) at (skips_read c.heads.interims inv.read c.heads.buffer.items e.0 inv.so_far.1) in
     let interim = sym (status_interim c.is_interim.result begin.1 c.is_interim.ensures) ∙ c.if-not-is_interim.false in
     let all : c.heads.interims ≡ 16 = omega arith in
@@ -81,14 +81,14 @@ returns-then-interims-eq-MOST_INTERIMS-clause-ok g c =
 
 pub drop_front-requires : goal.drop_front-requires
 drop_front-requires g c =
-    let e = c.in_ok-read_answer_head.ensures.ok in
-    let begin : IsAnswerBegin c.read_answer_head.new.buffer.items (Whole c.in-Whole.head) = rw c.in-Whole.is at e.3 in
+    let e = c.in_ok-read_answer_head.ensures.on_success in
+    let begin : IsAnswerHeadProgress c.read_answer_head.new.buffer.items (Whole c.in-Whole.head) = rw c.in-Whole.is at e.3 in
     answer_within begin.1
 
-pub returns-in_err-drop_front-in-Whole-clause-err : goal.returns-in_err-drop_front-in-Whole-clause-err
-returns-in_err-drop_front-in-Whole-clause-err g c =
+pub returns-in_err-drop_front-in-Whole-clause-on_error : goal.returns-in_err-drop_front-in-Whole-clause-on_error
+returns-in_err-drop_front-in-Whole-clause-on_error g c =
     let inv = c.heads.invariant in
-    let e = c.in_ok-read_answer_head.ensures.ok in
+    let e = c.in_ok-read_answer_head.ensures.on_success in
     let p = err_from_is_err_and c.from_residual-in_err-drop_front-in-Whole.result
     c.from_residual-in_err-drop_front-in-Whole.ensures.1 in
     rw p.1 (inv.read ++ e.0, then inv.so_far.0 e.1)
@@ -96,8 +96,8 @@ returns-in_err-drop_front-in-Whole-clause-err g c =
 pub heads-preserved : goal.heads-preserved
 heads-preserved g c =
     let inv = c.heads.invariant in
-    let e = c.in_ok-read_answer_head.ensures.ok in
-    let begin : IsAnswerBegin c.read_answer_head.new.buffer.items (Whole c.in-Whole.head) = rw c.in-Whole.is at e.3 in
+    let e = c.in_ok-read_answer_head.ensures.on_success in
+    let begin : IsAnswerHeadProgress c.read_answer_head.new.buffer.items (Whole c.in-Whole.head) = rw c.in-Whole.is at e.3 in
     let skips = rw (← e.2) at (skips_read c.heads.interims inv.read c.heads.buffer.items e.0 inv.so_far.1) in
     let interim = sym (status_interim c.is_interim.result begin.1 c.is_interim.ensures) ∙ c.if-not-is_interim.false in
     let buffer = c.read_answer_head.new.buffer.items in

@@ -5,17 +5,17 @@ use Rattle.http_edge.proofs.Pieces.{at_more, ended_by}
 use Rattle.http_line.specs.Line.{no_call}
 use Rattle.http_edge.proofs.answer_body.read_answer_chunks.Goals as goal
 
-pub returns-then-ended-clause-ok : goal.returns-then-ended-clause-ok
-returns-then-ended-clause-ok g c =
+pub returns-then-ended-clause-on_success : goal.returns-then-ended-clause-on_success
+returns-then-ended-clause-on_success g c =
     let inv = c.reads.invariant in
     let p = c.in_ok-taken.ensures.pieces (c.args.buffer.now.items ++ inv.read) inv.body (rw c.deref-in-reads.ensures.value
     inv.so_far.1) inv.so_far.2 in
     let q = rw c.in-More.is at p in
     (inv.read, inv.so_far.0, inr (q.3 (c.is_due-due.ensures.end c.if-ended.true), inv.met c.if-ended.true))
 
-pub returns-in_err-more-clause-err : goal.returns-in_err-more-clause-err
-returns-in_err-more-clause-err g c =
-    let e = c.in_err-more.ensures.err in
+pub returns-in_err-more-clause-on_error : goal.returns-in_err-more-clause-on_error
+returns-in_err-more-clause-on_error g c =
+    let e = c.in_err-more.ensures.on_error in
     let p = err_from_is_err_and c.from_residual-in_err-more.result c.from_residual-in_err-more.ensures.1 in
     rw p.1 (c.reads.invariant.read ++ e.0, then c.reads.invariant.so_far.0 e.1)
 
@@ -25,7 +25,7 @@ reads-preserved g c =
     let p = c.in_ok-taken.ensures.pieces (c.args.buffer.now.items ++ inv.read) inv.body (rw c.deref-in-reads.ensures.value
     inv.so_far.1) inv.so_far.2 in
     let q = rw (c.in-More.is, c.deref-in-reads.ensures.value) at p in
-    let e = c.in_ok-more.ensures.ok in
+    let e = c.in_ok-more.ensures.on_success in
     record {
       read = inv.read ++ e.0;
       body = q.0;

@@ -2,7 +2,7 @@ use Rattle.std.proofs.Common.{◌≡◌, ◌<◌, ◌≤◌, true, List, ℕ, []
 use Rattle.http_line.specs.Line.{Moves}
 use Rattle.http_edge.specs.Steps.{work}
 use Rattle.http_edge.specs.Stages.{IsAt}
-use Rattle.http_edge.specs.Kept.{Keeps}
+use Rattle.http_edge.specs.AnswerBody.{Keeps}
 use Rattle.http_edge.proofs.answer_body.read_answer_chunks.Given as goal
 
 pub record Reads (P : List ℕ → List ℕ → Type 0) (Q S E : Type 0) : Type 0 where

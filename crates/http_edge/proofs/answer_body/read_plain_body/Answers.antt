@@ -6,8 +6,8 @@ use Rattle.http_edge.proofs.Come.{come_read, come_to_end}
 use Rattle.http_line.specs.Line.{no_call}
 use Rattle.http_edge.proofs.answer_body.read_plain_body.Goals as goal
 
-pub returns-in-End-clause-ok : goal.returns-in-End-clause-ok
-returns-in-End-clause-ok g c =
+pub returns-in-End-clause-on_success : goal.returns-in-End-clause-on_success
+returns-in-End-clause-on_success g c =
     let inv = c.reads.invariant in
     let p = c.in_ok-taken.ensures.pieces c.args.framing (c.args.buffer.now.items
     ++ inv.read) inv.body (rw c.deref.ensures.value inv.so_far.1) inv.so_far.2 in
@@ -24,22 +24,22 @@ returns-in-End-clause-ok g c =
       ),
     )
 
-pub returns-in-Bad-clause-ok : goal.returns-in-Bad-clause-ok
-returns-in-Bad-clause-ok g c =
+pub returns-in-Bad-clause-on_success : goal.returns-in-Bad-clause-on_success
+returns-in-Bad-clause-on_success g c =
     let inv = c.reads.invariant in
     let p = c.in_ok-taken.ensures.pieces c.args.framing (c.args.buffer.now.items
     ++ inv.read) inv.body (rw c.deref.ensures.value inv.so_far.1) inv.so_far.2 in
     let q = rw c.in-Bad.is at p in
     (inv.read, inv.so_far.0, inl q)
 
-pub returns-in_err-fill-clause-err : goal.returns-in_err-fill-clause-err
-returns-in_err-fill-clause-err g c =
-    let e = c.in_err-fill.ensures.err in
+pub returns-in_err-fill-clause-on_error : goal.returns-in_err-fill-clause-on_error
+returns-in_err-fill-clause-on_error g c =
+    let e = c.in_err-fill.ensures.on_error in
     let p = err_from_is_err_and c.from_residual-in_err-fill.result c.from_residual-in_err-fill.ensures.1 in
     rw p.1 (c.reads.invariant.read ++ e.0, then c.reads.invariant.so_far.0 e.1)
 
-pub returns-in-UntilClose-clause-ok : goal.returns-in-UntilClose-clause-ok
-returns-in-UntilClose-clause-ok g c =
+pub returns-in-UntilClose-clause-on_success : goal.returns-in-UntilClose-clause-on_success
+returns-in-UntilClose-clause-on_success g c =
     let inv = c.reads.invariant in
     let p = c.in_ok-taken.ensures.pieces c.args.framing (c.args.buffer.now.items
     ++ inv.read) inv.body (rw c.deref.ensures.value inv.so_far.1) inv.so_far.2 in
@@ -59,8 +59,8 @@ returns-in-UntilClose-clause-ok g c =
       ),
     )
 
-pub returns-in-NoBody-clause-ok : goal.returns-in-NoBody-clause-ok
-returns-in-NoBody-clause-ok g c =
+pub returns-in-NoBody-clause-on_success : goal.returns-in-NoBody-clause-on_success
+returns-in-NoBody-clause-on_success g c =
     let inv = c.reads.invariant in
     let p = c.in_ok-taken.ensures.pieces c.args.framing (c.args.buffer.now.items
     ++ inv.read) inv.body (rw c.deref.ensures.value inv.so_far.1) inv.so_far.2 in
@@ -70,8 +70,8 @@ returns-in-NoBody-clause-ok g c =
     let other : c.args.framing ≢ Framed.UntilClose = λ e. let f = sym c.in-NoBody.is ∙ e in cc in
     (inv.read, then_to inv.so_far.0 quiet (append-nil inv.read) refl, inr (q.3 other, omega (arith, end.1, inv.ends)))
 
-pub returns-in-Length-clause-ok : goal.returns-in-Length-clause-ok
-returns-in-Length-clause-ok g c =
+pub returns-in-Length-clause-on_success : goal.returns-in-Length-clause-on_success
+returns-in-Length-clause-on_success g c =
     let inv = c.reads.invariant in
     let p = c.in_ok-taken.ensures.pieces c.args.framing (c.args.buffer.now.items
     ++ inv.read) inv.body (rw c.deref.ensures.value inv.so_far.1) inv.so_far.2 in
@@ -81,8 +81,8 @@ returns-in-Length-clause-ok g c =
     let other : c.args.framing ≢ Framed.UntilClose = λ e. let f = sym c.in-Length.is ∙ e in cc in
     (inv.read, then_to inv.so_far.0 quiet (append-nil inv.read) refl, inr (q.3 other, omega (arith, end.1, inv.ends)))
 
-pub returns-in-Chunked-clause-ok : goal.returns-in-Chunked-clause-ok
-returns-in-Chunked-clause-ok g c =
+pub returns-in-Chunked-clause-on_success : goal.returns-in-Chunked-clause-on_success
+returns-in-Chunked-clause-on_success g c =
     let inv = c.reads.invariant in
     let p = c.in_ok-taken.ensures.pieces c.args.framing (c.args.buffer.now.items
     ++ inv.read) inv.body (rw c.deref.ensures.value inv.so_far.1) inv.so_far.2 in
@@ -98,7 +98,7 @@ reads-preserved g c =
     let p = c.in_ok-taken.ensures.pieces c.args.framing (c.args.buffer.now.items
     ++ inv.read) inv.body (rw c.deref.ensures.value inv.so_far.1) inv.so_far.2 in
     let q = rw (c.in-More.is, c.deref.ensures.value) at p in
-    let e = c.in_ok-fill.ensures.ok in
+    let e = c.in_ok-fill.ensures.on_success in
     record {
       read = inv.read ++ e.0;
       body = q.0;

@@ -1,7 +1,7 @@
 use Rattle.std.proofs.Common.{◌≡◌, ◌≤◌, List, ℕ, [], ◌++◌}
 use Rattle.http_line.specs.Line.{Moves}
 use Rattle.http_edge.specs.Steps.{work}
-use Rattle.http_edge.specs.Kept.{HasCome, Keeps}
+use Rattle.http_edge.specs.AnswerBody.{HasCome, Keeps}
 use Rattle.http_edge.proofs.answer_body.read_plain_body.Given as goal
 
 pub record Reads (P : List ℕ → List ℕ → Type 0) (Q S : Type 0) : Type 0 where

@@ -1,5 +1,5 @@
 use Rattle.std.proofs.Common.{◌≤◌, ◌-◌, ℕ, List, length, drop}
-use Rattle.http_edge.specs.Kept.{Keeps}
+use Rattle.http_edge.specs.AnswerBody.{Keeps}
 use Rattle.http_edge.specs.Stages.{IsAt}
 use Rattle.http_edge.proofs.answer_body.take_chunks.Given as goal
 

@@ -1,6 +1,6 @@
 use Rattle.std.proofs.Common.{◌≤◌, ◌-◌, ℕ, List, length, drop}
 use Rattle.http1.specs.declared.framing.Framing.{Framing}
-use Rattle.http_edge.specs.Kept.{HasCome, Keeps}
+use Rattle.http_edge.specs.AnswerBody.{HasCome, Keeps}
 use Rattle.http_edge.proofs.answer_body.take_plain.Given as goal
 
 pub record Takes (P Q : Type 0) : Type 0 where

@@ -4,16 +4,16 @@ use Rattle.http_line.proofs.Moved.{then}
 use Rattle.http_line.specs.Line.{no_call}
 use Rattle.http_edge.proofs.answer_head.read_answer_head.Goals as goal
 
-pub returns-in_err-fill-clause-err : goal.returns-in_err-fill-clause-err
-returns-in_err-fill-clause-err g c =
-    let e = c.in_err-fill.ensures.err in
+pub returns-in_err-fill-clause-on_error : goal.returns-in_err-fill-clause-on_error
+returns-in_err-fill-clause-on_error g c =
+    let e = c.in_err-fill.ensures.on_error in
     let p = err_from_is_err_and c.from_residual.result c.from_residual.ensures.1 in
     rw p.1 (c.looks.invariant.read ++ e.0, then c.looks.invariant.moves.0 e.1)
 
 pub looks-preserved : goal.looks-preserved
 looks-preserved g c =
     let inv = c.looks.invariant in
-    let e = c.in_ok-fill.ensures.ok in
+    let e = c.in_ok-fill.ensures.on_success in
     record {
       read = inv.read ++ e.0;
       moves = (
@@ -33,10 +33,10 @@ looks-init g c = record {
   ends = search rules;
 }
 
-pub returns-then-not-branch-clause-ok : goal.returns-then-not-branch-clause-ok
-returns-then-not-branch-clause-ok g c =
+pub returns-then-not-branch-clause-on_success : goal.returns-then-not-branch-clause-on_success
+returns-then-not-branch-clause-on_success g c =
     let inv = c.looks.invariant in
-    let e = c.in_ok-fill.ensures.ok in (
+    let e = c.in_ok-fill.ensures.on_success in (
       inv.read ++ e.0,
       then inv.moves.0 e.1,
       e.2 ∙ (ap (λ v. v ++ e.0) inv.moves.1

@@ -5,9 +5,9 @@ use Rattle.http_edge.proofs.Pieces.{at_more, ended_by}
 use Rattle.http_line.specs.Line.{no_call}
 use Rattle.http_edge.proofs.body.read_chunks.Goals as goal
 
-pub returns-in_err-more-clause-err : goal.returns-in_err-more-clause-err
-returns-in_err-more-clause-err g c =
-    let e = c.in_err-more.ensures.err in
+pub returns-in_err-more-clause-on_error : goal.returns-in_err-more-clause-on_error
+returns-in_err-more-clause-on_error g c =
+    let e = c.in_err-more.ensures.on_error in
     let p = err_from_is_err_and c.from_residual-in_err-more.result c.from_residual-in_err-more.ensures.1 in
     rw p.1 (c.reads.invariant.read ++ e.0, then c.reads.invariant.so_far.0 e.1)
 
@@ -17,7 +17,7 @@ reads-preserved g c =
     let p = c.in_ok-taken.ensures.pieces (c.args.buffer.now.items ++ inv.read) (rw c.deref-in-reads.ensures.value inv.so_far.1)
     in
     let q = rw (c.in-More.is, c.deref-in-reads.ensures.value) at p in
-    let e = c.in_ok-more.ensures.ok in
+    let e = c.in_ok-more.ensures.on_success in
     record {
       read = inv.read ++ e.0;
       so_far = (

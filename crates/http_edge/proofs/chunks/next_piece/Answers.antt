@@ -1,5 +1,5 @@
 use Rattle.std.proofs.Common.{◌≡◌, sym, ap, subst, ◌∙◌, arith}
-use Rattle.http_edge.specs.declared.chunks.Part.TheVariants.{Bytes}
+use Rattle.http_edge.specs.declared.chunks.ChunkedState.TheVariants.{Bytes}
 use Rattle.http_edge.specs.Stages.{IsAt, IsPiece}
 use Rattle.http_edge.proofs.chunks.next_piece.Goals as goal
 

@@ -6,9 +6,9 @@ use Rattle.http_edge.proofs.Served.{cut_text}
 use Rattle.http_line.specs.Line.{no_call}
 use Rattle.http_edge.proofs.post.write_post.Goals as goal
 
-pub returns-in_err-send-clause-err : goal.returns-in_err-send-clause-err
-returns-in_err-send-clause-err g c =
-    let e = c.in_err-send.ensures.err in
+pub returns-in_err-send-clause-on_error : goal.returns-in_err-send-clause-on_error
+returns-in_err-send-clause-on_error g c =
+    let e = c.in_err-send.ensures.on_error in
     let head : c.as_slice.result.now ≡ post_head c.args.host.now (length c.args.payload.now) = c.as_slice.ensures.value
     ∙ c.in_ok-head.ensures in
     let p = err_from_is_err_and c.from_residual-in_err-send.result c.from_residual-in_err-send.ensures.1 in
@@ -20,9 +20,9 @@ returns-in_err-send-clause-err g c =
       e.3,
     )
 
-pub returns-in_err-send-2-clause-err : goal.returns-in_err-send-2-clause-err
-returns-in_err-send-2-clause-err g c =
-    let e = c.in_err-send-2.ensures.err in
+pub returns-in_err-send-2-clause-on_error : goal.returns-in_err-send-2-clause-on_error
+returns-in_err-send-2-clause-on_error g c =
+    let e = c.in_err-send-2.ensures.on_error in
     let head : c.as_slice.result.now ≡ post_head c.args.host.now (length c.args.payload.now) = c.as_slice.ensures.value
     ∙ c.in_ok-head.ensures in
     let p = err_from_is_err_and c.from_residual-in_err-send-2.result c.from_residual-in_err-send-2.ensures.1 in
@@ -30,16 +30,16 @@ returns-in_err-send-2-clause-err g c =
       post_head c.args.host.now (length c.args.payload.now) ++ e.0,
       e.1,
       cut_text (post_head c.args.host.now (length c.args.payload.now)) e.0 e.1 e.2,
-      then_to c.in_ok-send.ensures.ok e.3 refl (ap (λ v. v ++ e.0) head),
+      then_to c.in_ok-send.ensures.on_success e.3 refl (ap (λ v. v ++ e.0) head),
     )
 
-pub returns-clause-ok : goal.returns-clause-ok
-returns-clause-ok g c =
+pub returns-clause-on_success : goal.returns-clause-on_success
+returns-clause-on_success g c =
     let head : c.as_slice.result.now ≡ post_head c.args.host.now (length c.args.payload.now) = c.as_slice.ensures.value
     ∙ c.in_ok-head.ensures in
-    then_to c.in_ok-send.ensures.ok c.in_ok-send-2.ensures.ok refl (ap (λ v. v ++ c.args.payload.now) head)
+    then_to c.in_ok-send.ensures.on_success c.in_ok-send-2.ensures.on_success refl (ap (λ v. v ++ c.args.payload.now) head)
 
-pub returns-in_err-head-clause-err : goal.returns-in_err-head-clause-err
-returns-in_err-head-clause-err g c =
+pub returns-in_err-head-clause-on_error : goal.returns-in_err-head-clause-on_error
+returns-in_err-head-clause-on_error g c =
     let p = err_from_is_err_and c.from_residual.result c.from_residual.ensures.1 in
     rw p.1 ([], _, refl, no_call)

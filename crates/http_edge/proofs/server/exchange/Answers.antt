@@ -2,24 +2,24 @@ use Rattle.std.proofs.Common.{Ok, [], refl, ap, append-nil, true, false, arith}
 use Rattle.std.proofs.lemmas.Result.{err_from_is_err_and}
 use Rattle.http_edge.specs.Talk.{RefusesHead, at_head, many_lines, nothing, refusing, waits, refuses, in_head}
 use Rattle.http_edge.specs.Reply.{refusal_text}
-use Rattle.http_edge.specs.Stages.{IsBegin}
-use Rattle.http_edge.specs.declared.head.Begin.TheVariants.{More, TooMany}
+use Rattle.http_edge.specs.Stages.{IsHeadProgress}
+use Rattle.http_edge.specs.declared.head.HeadProgress.TheVariants.{More, TooMany}
 use Rattle.http_line.proofs.Moved.{then_to}
 use Rattle.http_edge.proofs.Served.{goes_after, over_after, cut_after, cut_by}
 use Rattle.http_edge.proofs.server.exchange.Goals as goal
 
-pub returns-in_err-read_head-clause-cut : goal.returns-in_err-read_head-clause-cut
-returns-in_err-read_head-clause-cut g c =
-    let e = c.in_err-read_head.ensures.err in
+pub returns-in_err-read_head-clause-on_error : goal.returns-in_err-read_head-clause-on_error
+returns-in_err-read_head-clause-on_error g c =
+    let e = c.in_err-read_head.ensures.on_error in
     let p = err_from_is_err_and c.from_residual.result c.from_residual.ensures.1 in
     rw p.1 (record { read = e.0; written = []; moves = e.1; missing = []; due = nothing refl })
 
-pub returns-in_err-refuse-in-Refuse-clause-cut : goal.returns-in_err-refuse-in-Refuse-clause-cut
-returns-in_err-refuse-in-Refuse-clause-cut g c =
-    let e = c.in_ok-read_head.ensures.ok in
+pub returns-in_err-refuse-in-Refuse-clause-on_error : goal.returns-in_err-refuse-in-Refuse-clause-on_error
+returns-in_err-refuse-in-Refuse-clause-on_error g c =
+    let e = c.in_ok-read_head.ensures.on_success in
     let begin : RefusesHead c.read_head.new.buffer.items (refusal_text c.in-Refuse.bodiless
     c.in-Refuse.status) = rw c.in-Refuse.is at e.3 in
-    let f = c.in_err-refuse-in-Refuse.ensures.err in
+    let f = c.in_err-refuse-in-Refuse.ensures.on_error in
     let p = err_from_is_err_and c.from_residual-in_err-refuse-in-Refuse.result
     c.from_residual-in_err-refuse-in-Refuse.ensures.1 in
     rw p.1 (record {
@@ -30,11 +30,11 @@ returns-in_err-refuse-in-Refuse-clause-cut g c =
       due = rw (← e.2, ← f.2) (refusing _ (at_head _ begin) refl);
     })
 
-pub returns-in_err-refuse-in-TooMany-clause-cut : goal.returns-in_err-refuse-in-TooMany-clause-cut
-returns-in_err-refuse-in-TooMany-clause-cut g c =
-    let e = c.in_ok-read_head.ensures.ok in
-    let begin : IsBegin c.read_head.new.buffer.items TooMany = rw c.in-TooMany.is at e.3 in
-    let f = c.in_err-refuse-in-TooMany.ensures.err in
+pub returns-in_err-refuse-in-TooMany-clause-on_error : goal.returns-in_err-refuse-in-TooMany-clause-on_error
+returns-in_err-refuse-in-TooMany-clause-on_error g c =
+    let e = c.in_ok-read_head.ensures.on_success in
+    let begin : IsHeadProgress c.read_head.new.buffer.items TooMany = rw c.in-TooMany.is at e.3 in
+    let f = c.in_err-refuse-in-TooMany.ensures.on_error in
     let p = err_from_is_err_and c.from_residual-in_err-refuse-in-TooMany.result
     c.from_residual-in_err-refuse-in-TooMany.ensures.1 in
     rw p.1 (record {
@@ -45,60 +45,60 @@ returns-in_err-refuse-in-TooMany-clause-cut g c =
       due = rw (← e.2, ← f.2) (refusing _ (many_lines begin.0 begin.1 begin.2) refl);
     })
 
-pub returns-in_ok-refuse-in-TooMany-clause-over : goal.returns-in_ok-refuse-in-TooMany-clause-over
-returns-in_ok-refuse-in-TooMany-clause-over g c = λ _.
-    let e = c.in_ok-read_head.ensures.ok in
-    let begin : IsBegin c.read_head.new.buffer.items TooMany = rw c.in-TooMany.is at e.3 in
+pub returns-in_ok-refuse-in-TooMany-clause-closes : goal.returns-in_ok-refuse-in-TooMany-clause-closes
+returns-in_ok-refuse-in-TooMany-clause-closes g c = λ _.
+    let e = c.in_ok-read_head.ensures.on_success in
+    let begin : IsHeadProgress c.read_head.new.buffer.items TooMany = rw c.in-TooMany.is at e.3 in
     record {
       read = e.0;
       text = refusal_text false 431;
       over = true;
-      moves = then_to e.1 c.in_ok-refuse-in-TooMany.ensures.ok (append-nil _) refl;
+      moves = then_to e.1 c.in_ok-refuse-in-TooMany.ensures.on_success (append-nil _) refl;
       ends = rw (← e.2) (refuses _ (many_lines begin.0 begin.1 begin.2) refl);
       end = λ f. cc;
     }
 
-pub returns-in-More-clause-over : goal.returns-in-More-clause-over
-returns-in-More-clause-over g c = λ _.
-    let e = c.in_ok-read_head.ensures.ok in
-    let begin : IsBegin c.read_head.new.buffer.items More = rw c.in-More.is at e.3 in
+pub returns-in-More-clause-closes : goal.returns-in-More-clause-closes
+returns-in-More-clause-closes g c = λ _.
+    let e = c.in_ok-read_head.ensures.on_success in
+    let begin : IsHeadProgress c.read_head.new.buffer.items More = rw c.in-More.is at e.3 in
     record {
       read = e.0;
       text = [];
       over = false;
       moves = e.1;
       ends = rw (← e.2) (waits [] (in_head (c.in_ok-read_head.ensures.short (ap Ok c.in-More.is))
-          (c.in_ok-read_head.ensures.few (ap Ok c.in-More.is)) begin.0 begin.1) refl);
+          (c.in_ok-read_head.ensures.lines_bounded (ap Ok c.in-More.is)) begin.0 begin.1) refl);
       end = λ _. c.in_ok-read_head.ensures.end (ap Ok c.in-More.is);
     }
 
-pub returns-in_ok-refuse-in-Refuse-clause-over : goal.returns-in_ok-refuse-in-Refuse-clause-over
-returns-in_ok-refuse-in-Refuse-clause-over g c = λ _.
-    let e = c.in_ok-read_head.ensures.ok in
+pub returns-in_ok-refuse-in-Refuse-clause-closes : goal.returns-in_ok-refuse-in-Refuse-clause-closes
+returns-in_ok-refuse-in-Refuse-clause-closes g c = λ _.
+    let e = c.in_ok-read_head.ensures.on_success in
     let begin : RefusesHead c.read_head.new.buffer.items (refusal_text c.in-Refuse.bodiless
     c.in-Refuse.status) = rw c.in-Refuse.is at e.3 in
     record {
       read = e.0;
       text = refusal_text c.in-Refuse.bodiless c.in-Refuse.status;
       over = true;
-      moves = then_to e.1 c.in_ok-refuse-in-Refuse.ensures.ok (append-nil _) refl;
+      moves = then_to e.1 c.in_ok-refuse-in-Refuse.ensures.on_success (append-nil _) refl;
       ends = rw (← e.2) (refuses _ (at_head _ begin) refl);
       end = λ f. cc;
     }
 
-pub returns-in_ok-goes-in-Whole-clause-on : goal.returns-in_ok-goes-in-Whole-clause-on
-returns-in_ok-goes-in-Whole-clause-on g c = λ eq.
-    let e = c.in_ok-read_head.ensures.ok in goes_after e.1 e.2 (c.in_ok-goes-in-Whole.ensures.on eq)
+pub returns-in_ok-goes-in-Whole-clause-stays_open : goal.returns-in_ok-goes-in-Whole-clause-stays_open
+returns-in_ok-goes-in-Whole-clause-stays_open g c = λ eq.
+    let e = c.in_ok-read_head.ensures.on_success in goes_after e.1 e.2 (c.in_ok-goes-in-Whole.ensures.stays_open eq)
 
-pub returns-in_ok-goes-in-Whole-clause-over : goal.returns-in_ok-goes-in-Whole-clause-over
-returns-in_ok-goes-in-Whole-clause-over g c = λ eq.
-    let e = c.in_ok-read_head.ensures.ok in over_after (λ w. omega (arith, w, c.in_ok-read_head.ensures.ends)) e.1 e.2
-    (c.in_ok-goes-in-Whole.ensures.over eq)
+pub returns-in_ok-goes-in-Whole-clause-closes : goal.returns-in_ok-goes-in-Whole-clause-closes
+returns-in_ok-goes-in-Whole-clause-closes g c = λ eq.
+    let e = c.in_ok-read_head.ensures.on_success in over_after (λ w. omega (arith, w, c.in_ok-read_head.ensures.ends)) e.1 e.2
+    (c.in_ok-goes-in-Whole.ensures.closes eq)
 
-pub returns-in_err-goes-in-Whole-clause-cut : goal.returns-in_err-goes-in-Whole-clause-cut
-returns-in_err-goes-in-Whole-clause-cut g c =
-    let e = c.in_ok-read_head.ensures.ok in
+pub returns-in_err-goes-in-Whole-clause-on_error : goal.returns-in_err-goes-in-Whole-clause-on_error
+returns-in_err-goes-in-Whole-clause-on_error g c =
+    let e = c.in_ok-read_head.ensures.on_success in
     let p = err_from_is_err_and c.from_residual-in_err-goes-in-Whole.result
     c.from_residual-in_err-goes-in-Whole.ensures.1 in
     let same = p.2 in
-    rw p.1 (cut_by (cut_after e.1 e.2 c.in_err-goes-in-Whole.ensures.cut) (cc))
+    rw p.1 (cut_by (cut_after e.1 e.2 c.in_err-goes-in-Whole.ensures.on_error) (cc))

@@ -9,7 +9,7 @@ use Rattle.http_edge.proofs.server.serve.Goals as goal
 pub messages-preserved : goal.messages-preserved
 messages-preserved g c =
     let inv = c.messages.invariant in
-    let on = c.in_ok-exchange.ensures.on (ap Ok c.if-branch.true) in
+    let on = c.in_ok-exchange.ensures.stays_open (ap Ok c.if-branch.true) in
     record {
       read = inv.read ++ on.read;
       exchanges = inv.exchanges ++ on.exchange ∷ [];
@@ -28,7 +28,7 @@ messages-preserved g c =
 pub returns-clause-talk : goal.returns-clause-talk
 returns-clause-talk g c =
     let inv = c.messages.invariant in
-    let over = c.in_ok-exchange.ensures.over (ap Ok c.if-branch.false) in (
+    let over = c.in_ok-exchange.ensures.closes (ap Ok c.if-branch.false) in (
       inv.read ++ over.read,
       told inv.exchanges ++ over.text,
       over.over,
@@ -51,7 +51,7 @@ returns-in_err-exchange-clause-fault g c =
     let inv = c.messages.invariant in
     let p = err_from_is_err_and c.from_residual.result c.from_residual.ensures.1 in
     let same = p.2 in
-    let cut = cut_by {other = p.0} c.in_err-exchange.ensures.cut (cc) in
+    let cut = cut_by {other = p.0} c.in_err-exchange.ensures.on_error (cc) in
     rw p.1 (
       inv.read ++ cut.read,
       told inv.exchanges ++ cut.written,

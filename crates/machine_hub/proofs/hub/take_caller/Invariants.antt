@@ -1,4 +1,4 @@
-use Rattle.numbered_items.specs.Numbered.{AreRising}
+use Rattle.log_positions.specs.Numbered.{AreRising}
 use Rattle.machine_hub.proofs.Lists.{IsDone}
 use Rattle.machine_hub.proofs.Closing.{IsTaking}
 use Rattle.machine_hub.proofs.hub.take_caller.Given as goal

@@ -19,11 +19,11 @@ invariant_of-result c =
     let bytes = c.args.bytes.now in
     let short : length bytes < 2 ^ 64 = omega arith in
     let sound : is_ok (resource_in bytes) ≡ true = ok_of _ _ c.in_ok-_sound.ensures.exact in
-    record { are = rw c.in_ok-put_bytes_field.ensures.ok (resource_again_is c.args.several.fields.items bytes short c.args.several.are sound) }
+    record { are = rw c.in_ok-put_bytes_field.ensures.on_success (resource_again_is c.args.several.fields.items bytes short c.args.several.are sound) }
 
 pub returns : goal.returns
 returns c =
     let bytes = c.args.bytes.now in
     let short : length bytes < 2 ^ 64 = omega arith in
     let sound : is_ok (resource_in bytes) ≡ true = ok_of _ _ c.in_ok-_sound.ensures.exact in
-    record { exact = rw c.in_ok-put_bytes_field.ensures.ok (resource_again c.args.several.fields.items bytes short c.args.several.are sound) }
+    record { exact = rw c.in_ok-put_bytes_field.ensures.on_success (resource_again c.args.several.fields.items bytes short c.args.several.are sound) }

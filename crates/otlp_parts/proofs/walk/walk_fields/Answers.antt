@@ -50,7 +50,7 @@ fields-preserved g c =
         taken = c.fields.invariant.read.taken ++ begins.front;
         parts = c.fields.invariant.read.parts ∙ ap (λ (t : List ℕ). c.fields.invariant.read.taken ++ t) begins.parts ∙ sym (append_assoc c.fields.invariant.read.taken begins.front c.in-Some.rest.now);
       };
-      held = let more = c.in_ok-value.ensures.held in let before = c.fields.invariant.held in omega (arith, more, before);
+      held = let more = c.in_ok-value.ensures.sliced_within in let before = c.fields.invariant.held in omega (arith, more, before);
     }
 
 pub returns-clause-exact : goal.returns-clause-exact

@@ -7,7 +7,7 @@ use Rattle.otlp_read.specs.Value.{IsValue}
 use Rattle.otlp_parts.specs.declared.parts.BodyParts.{BodyParts}
 use Rattle.otlp_parts.specs.Parts.{body_parts_view}
 use Rattle.otlp_parts.specs.Texts.{ArePartsOf, BodyTexts}
-use Rattle.otlp_prepare.specs.Found.{AreRead}
+use Rattle.otlp_prepare.specs.BodySpans.{AreRead}
 use Rattle.otlp_prepare.proofs.Valued.{body_read}
 use Rattle.otlp_prepare.proofs.body.read_body.Goals as goal
 

@@ -13,8 +13,8 @@ loop-left-preserved c =
       capacity = c.loop-left.invariant.capacity;
     }
 
-pub returns-clause-ok : goal.returns-clause-ok
-returns-clause-ok c =
+pub returns-clause-on_success : goal.returns-clause-on_success
+returns-clause-on_success c =
     appended c.extend_from_slice.result _ _ _ _ c.extend_from_slice.ensures.items (writing_last c.args.value c.loop-left.text c.loop-left.len c.loop-left.left c.loop-left.invariant.written c.loop-left-test.false)
 
 pub returns-clause-full : goal.returns-clause-full

@@ -8,7 +8,7 @@ use Rattle.replay_script.proofs.input.next_line.Goals as goal
 
 pub parts-preserved : goal.parts-preserved
 parts-preserved g c =
-    let part = taken c.take_part.result _ _ c.take_part.ensures.part (c.in_ok-take_part.was ∙ ap Ok c.in-More.is) in
+    let part = taken c.take_fragment.result _ _ c.take_fragment.ensures.part (c.in_ok-take_fragment.was ∙ ap Ok c.in-More.is) in
     record {
       reading = reading_more _ _ _ _ _ c.parts.invariant.reading part;
       fits = part_fits _ _ c.parts.line.items _ _ part;
@@ -24,24 +24,24 @@ returns-in_err-send_before_wait-clause-unread g c =
 pub returns-in_err-send_before_wait-clause-sends : goal.returns-in_err-send_before_wait-clause-sends
 returns-in_err-send_before_wait-clause-sends g c = sends_on _ _ _ _ [] _ _ c.parts.invariant.sent c.in_err-send_before_wait.ensures.sends
 
-pub returns-in_err-take_part-clause-unread : goal.returns-in_err-take_part-clause-unread
-returns-in_err-take_part-clause-unread g c =
-    let p = err_from_is_err_and c.from_residual-in_err-take_part.result c.from_residual-in_err-take_part.ensures.1 in
-    rw (p.1) (reading_stops _ _ _ _ c.parts.invariant.reading c.in_err-take_part.ensures.unread)
+pub returns-in_err-take_fragment-clause-unread : goal.returns-in_err-take_fragment-clause-unread
+returns-in_err-take_fragment-clause-unread g c =
+    let p = err_from_is_err_and c.from_residual-in_err-take_fragment.result c.from_residual-in_err-take_fragment.ensures.1 in
+    rw (p.1) (reading_stops _ _ _ _ c.parts.invariant.reading c.in_err-take_fragment.ensures.unread)
 
-pub returns-in_err-take_part-clause-sends : goal.returns-in_err-take_part-clause-sends
-returns-in_err-take_part-clause-sends g c = sends_on _ _ _ _ [] _ _ c.parts.invariant.sent c.in_ok-send_before_wait.ensures.sends
+pub returns-in_err-take_fragment-clause-sends : goal.returns-in_err-take_fragment-clause-sends
+returns-in_err-take_fragment-clause-sends g c = sends_on _ _ _ _ [] _ _ c.parts.invariant.sent c.in_ok-send_before_wait.ensures.sends
 
 pub returns-in-LineEnd-clause-line : goal.returns-in-LineEnd-clause-line
 returns-in-LineEnd-clause-line g c =
-    reading_ended _ _ _ _ _ c.parts.invariant.reading (taken c.take_part.result _ _ c.take_part.ensures.part (c.in_ok-take_part.was ∙ ap Ok c.in-LineEnd.is))
+    reading_ended _ _ _ _ _ c.parts.invariant.reading (taken c.take_fragment.result _ _ c.take_fragment.ensures.part (c.in_ok-take_fragment.was ∙ ap Ok c.in-LineEnd.is))
 
 pub returns-in-LineEnd-clause-sends : goal.returns-in-LineEnd-clause-sends
 returns-in-LineEnd-clause-sends g c = sends_on _ _ _ _ [] _ _ c.parts.invariant.sent c.in_ok-send_before_wait.ensures.sends
 
 pub returns-in-InputEnd-clause-line : goal.returns-in-InputEnd-clause-line
 returns-in-InputEnd-clause-line g c =
-    reading_over _ _ _ _ _ _ c.parts.invariant.reading (taken c.take_part.result _ _ c.take_part.ensures.part (c.in_ok-take_part.was ∙ ap Ok c.in-InputEnd.is)) (ap not (grind (arith, common_steps)))
+    reading_over _ _ _ _ _ _ c.parts.invariant.reading (taken c.take_fragment.result _ _ c.take_fragment.ensures.part (c.in_ok-take_fragment.was ∙ ap Ok c.in-InputEnd.is)) (ap not (grind (arith, common_steps)))
 
 pub returns-in-InputEnd-clause-sends : goal.returns-in-InputEnd-clause-sends
 returns-in-InputEnd-clause-sends g c = sends_on _ _ _ _ [] _ _ c.parts.invariant.sent c.in_ok-send_before_wait.ensures.sends

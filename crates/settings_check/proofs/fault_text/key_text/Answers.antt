@@ -1,7 +1,7 @@
 use Rattle.std.proofs.Common.{codes, ◌∙◌}
 use Rattle.std.specs.Fmt.{decimal}
 use Rattle.settings_check.specs.Table.{place_of}
-use Rattle.settings_check.specs.Told.{key_lines}
+use Rattle.settings_check.specs.FaultTexts.{key_lines}
 use Rattle.settings_check.specs.declared.table.TheConstants.TableKind.{ALL}
 use Rattle.settings_check.proofs.Joined.{six}
 use Rattle.settings_check.proofs.fault_text.key_text.Goals as goal

@@ -14,4 +14,4 @@ returns c =
     let headed = c.as_str-2.ensures.value ∙ c.in_ok-head.ensures in
     let whole : string_bytes c.in_ok-told.told ≡ warnings_of parsed ++ codes "# the settings in force\n" ++ shown = rw (headed, warned, c.as_str-3.ensures.value) at c.in_ok-told.ensures in
     subst (λ r. Reports parsed r true (string_bytes c.in_ok-told.told)) (sym c.requires.loaded)
-    (refl, shown, whole, c.in_ok-shown.ensures.text, c.in_ok-shown.ensures.loads c.requires.sound)
+    (refl, shown, whole, c.in_ok-shown.ensures.text, c.in_ok-shown.ensures.loads c.requires.valid)

@@ -4,11 +4,11 @@ use Rattle.std.proofs.lemmas.List.Kept.{AllPairs-cons}
 use Rattle.tail_settings.specs.Texts.{is_name}
 use Rattle.tail_settings.specs.Policy.{leaf, always_sample}
 use Rattle.tail_settings.specs.Settings.{TenantData}
-use Rattle.tail_settings.specs.Sound.{IsSoundPolicy, IsSoundTailSampling, IsSoundSection, AreSoundTenants}
+use Rattle.tail_settings.specs.Valid.{IsValidPolicy, IsValidTailSampling, IsValidSection, AreSoundTenants}
 use Rattle.settings_tests.specs.Examples.{default_section, named}
 use Rattle.settings_tests.proofs.definitions.definitions_on_small_inputs.Goals as goal
 
-policies_are : IsSoundTailSampling default_section.tail_sampling
+policies_are : IsValidTailSampling default_section.tail_sampling
 policies_are = record {
   decision_wait = (lit≤ tt, lit≤ tt);
   num_traces = (lit≤ tt, lit≤ tt);
@@ -16,10 +16,10 @@ policies_are = record {
   non_sampled_cache_size = lit≤ tt;
   some_policy = lit< tt;
   few_leaves = lit≤ tt;
-  policies = All-cons IsSoundPolicy (leaf always_sample) [] tt (All-nil IsSoundPolicy);
+  policies = All-cons IsValidPolicy (leaf always_sample) [] tt (All-nil IsValidPolicy);
 }
 
-section_is : IsSoundSection default_section
+section_is : IsValidSection default_section
 section_is = record {
   endpoint = refl;
   max_spans = (lit≤ tt, lit≤ tt);
@@ -52,7 +52,7 @@ abbrev HasName : TenantData → Type 0
 HasName t = IsTrue (is_name t.name)
 
 abbrev HasSection : TenantData → Type 0
-HasSection t = IsSoundSection t.section
+HasSection t = IsValidSection t.section
 
 one_is : AreSoundTenants (named (codes "a") ∷ [])
 one_is = record {

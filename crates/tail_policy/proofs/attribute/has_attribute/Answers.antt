@@ -3,7 +3,7 @@ use Rattle.std.proofs.lemmas.Iterator.Consumers.{YieldsList-from_first}
 use Rattle.std.proofs.lemmas.Iterator.Search.{any_from_yields_List}
 use Rattle.std.specs.Str.{bytes_eq}
 use Rattle.span_view.specs.Shown.{attribute_shown}
-use Rattle.tail_policy.specs.Wanted.{is_wanted}
+use Rattle.tail_policy.specs.AttributeTest.{is_wanted}
 use Rattle.tail_policy.proofs.attribute.has_attribute.Goals as goal
 
 pub returns : goal.returns

@@ -1,7 +1,7 @@
 use Rattle.std.proofs.Common.{◌≡◌, map, length}
 use Rattle.tail_settings.specs.Policy.{policy_view}
 use Rattle.tail_policy.specs.Note.{leaves_in, bits_below, bits_of, fact_meets}
-use Rattle.tail_policy.specs.Wanted.{fact_view}
+use Rattle.tail_policy.specs.AttributeTest.{fact_view}
 use Rattle.tail_policy.proofs.bits.fact_bits.Given as goal
 
 abbrev pub invariant-policies : goal.invariant-policies

@@ -1,7 +1,7 @@
 use Rattle.std.proofs.Common.{◌∙◌, sym, map}
 use Rattle.tail_settings.specs.Policy.{leaf_view}
 use Rattle.tail_policy.specs.Note.{fact_meets}
-use Rattle.tail_policy.specs.Wanted.{fact_view}
+use Rattle.tail_policy.specs.AttributeTest.{fact_view}
 use Rattle.tail_policy.proofs.Joined.{last_leaf, below}
 use Rattle.tail_policy.proofs.bits.leaf_bits.Goals as goal
 

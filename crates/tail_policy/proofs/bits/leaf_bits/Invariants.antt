@@ -1,7 +1,7 @@
 use Rattle.std.proofs.Common.{◌≡◌, map, length}
 use Rattle.tail_settings.specs.Policy.{leaf_view}
 use Rattle.tail_policy.specs.Note.{bits_below, fact_meets}
-use Rattle.tail_policy.specs.Wanted.{fact_view}
+use Rattle.tail_policy.specs.AttributeTest.{fact_view}
 use Rattle.tail_policy.proofs.bits.leaf_bits.Given as goal
 
 abbrev pub invariant-leaves : goal.invariant-leaves

@@ -14,9 +14,9 @@ returns-in_err-global-clause-not_toml c = settings_of-not_toml c.args.text.now
 pub returns-in_err-tenants-clause-not_toml : goal.returns-in_err-tenants-clause-not_toml
 returns-in_err-tenants-clause-not_toml c = settings_of-not_toml c.args.text.now
 
-pub returns-clause-sound : goal.returns-clause-sound
+pub returns-clause-valid : goal.returns-clause-valid
 unfolding settings_of settings_of_table
-returns-clause-sound c =
+returns-clause-valid c =
     let total = spans_of (map tenant_view c.in_ok-tenants.tenants.entries) in
     let few : total ≤ 2 ^ 31 = omega (arith, c.spans.ensures.meaning) in
     settings_of-sound c.args.text.now _ (rw (c.in-Ok.ensures.ok, c.in_ok-global.ensures, c.in_ok-tenants.ensures.meaning, le-leb total (2 ^ 31) few))

@@ -1,7 +1,7 @@
 use Rattle.std.proofs.Common.{◌≡◌, ◌∙◌, ◌++◌, ◌-◌, [], ℕ, List, take, append-nil, ap, refl, subst}
 use Rattle.span_pool.specs.declared.keys.TextKeys.{TextKeys}
 use Rattle.tenant_stores.specs.Part.{part}
-use Rattle.tenant_stores.specs.Sound.{IsSound}
+use Rattle.tenant_stores.specs.Invariant.{StoreInvariant}
 use Rattle.tenant_stores.specs.Trail.{HoldsAll}
 use Rattle.tenant_pipeline.specs.Posts.{all_text_keys}
 use Rattle.tenant_pipeline.proofs.Origins.{all_left, one_less_held, given_back}
@@ -18,22 +18,22 @@ loop-keys-preserved c =
     let one = c.release_all.ensures in
     record {
       rest = one_less_held c.args.all.items c.loop-keys.left.items c.pop.new.self.items c.in-Some.keys (part c.args.tenant c.args.stores.now) (part c.args.tenant c.loop-keys.stores) (part c.args.tenant c.release_all.new.self)
-          c.in-Some.ensures.items c.loop-keys.invariant.rest one.own one.sound one.shows;
-      others = λ other ne. one.others other ne ∙ c.loop-keys.invariant.others other ne;
+          c.in-Some.ensures.items c.loop-keys.invariant.rest one.uses_removed one.store_invariant one.shows;
+      others = λ other ne. one.others_unchanged other ne ∙ c.loop-keys.invariant.others other ne;
     }
 
-pub returns-clause-own : goal.returns-clause-own
-returns-clause-own c = λ start holds.
+pub returns-clause-uses_removed : goal.returns-clause-uses_removed
+returns-clause-uses_removed c = λ start holds.
     let p = part c.args.tenant c.loop-keys.stores in
     let left : List TextKeys = c.loop-keys.left.items in
     let end = c.in_default.ensures in
     let none : left ≡ [] = end.items ∙ (append-nil c.pop.new.self.items ∙ (end.rest ∙ ap (λ (k : ℕ). take (k - 1) left) end.cases.0)) in
     given_back p start (subst (λ (ks : List TextKeys). HoldsAll (all_text_keys ks) start p) none (c.loop-keys.invariant.rest.own start holds))
 
-pub returns-clause-sound : goal.returns-clause-sound
-returns-clause-sound c = λ n pending held sound.
+pub returns-clause-store_invariant : goal.returns-clause-store_invariant
+returns-clause-store_invariant c = λ n pending held sound.
     let p = part c.args.tenant c.loop-keys.stores in
     let left : List TextKeys = c.loop-keys.left.items in
     let end = c.in_default.ensures in
     let none : left ≡ [] = end.items ∙ (append-nil c.pop.new.self.items ∙ (end.rest ∙ ap (λ (k : ℕ). take (k - 1) left) end.cases.0)) in
-    subst (λ (ks : List TextKeys). IsSound n pending (all_text_keys ks ++ held) p) none (c.loop-keys.invariant.rest.sound n pending held sound)
+    subst (λ (ks : List TextKeys). StoreInvariant n pending (all_text_keys ks ++ held) p) none (c.loop-keys.invariant.rest.sound n pending held sound)

@@ -1,7 +1,7 @@
 use Rattle.std.proofs.Common.{◌≡◌, ◌∙◌, ap, sym, subst, ℕ, Bool, Option, [], ◌||◌, arith}
 use Rattle.std.proofs.lemmas.Bool.Decides.{nat_tests}
 use Rattle.tenant_stores.specs.Counts.{no_rows}
-use Rattle.tenant_stores.specs.Sound.{IsSound}
+use Rattle.tenant_stores.specs.Invariant.{StoreInvariant}
 use Rattle.std.specs.Prelude.{◌==◌}
 use Rattle.tail_settings.specs.Section.{section_view}
 use Rattle.tail_settings.specs.Settings.{settings_view}
@@ -35,8 +35,8 @@ ready-ready-requires c =
     let own = c.in_ok-pipeline.pipeline in
     let gap = rw c.deref.ensures.value at c.in-Err.ensures.absent in
     let none = kept_gap c.args.tenant c.args.stores.now ms c.in-Err.at c.requires.order gap.1 in
-    let sound = subst (λ (u : ℕ). IsSound no_rows [] [] (part u c.args.stores.now)) (sym c.in_ok-pipeline.ensures.tenant) (c.requires.strangers c.args.tenant none) in
-    record { held = c.in_ok-pipeline.ensures.held (part own.tenant c.args.stores.now) sound }
+    let sound = subst (λ (u : ℕ). StoreInvariant no_rows [] [] (part u c.args.stores.now)) (sym c.in_ok-pipeline.ensures.tenant) (c.requires.strangers c.args.tenant none) in
+    record { invariant = c.in_ok-pipeline.ensures.invariant (part own.tenant c.args.stores.now) sound }
 
 pub set-requires : goal.set-requires
 set-requires c = c.in_ok-admit.ensures.members c.args.tenant ∙ grind (arith, nat_tests)
@@ -51,7 +51,7 @@ returns-clause-whole c =
     let gap = rw c.deref.ensures.value at c.in-Err.ensures.absent in
     let none = kept_gap t stores ms c.in-Err.at c.requires.order gap.1 in
     let gap' : IsGapFor own.tenant ms c.in-Err.at = subst (λ (u : ℕ). IsGapFor u ms c.in-Err.at) (sym is) gap.1 in
-    let held = c.in_ok-pipeline.ensures.held (part own.tenant stores) (subst (λ (u : ℕ). IsSound no_rows [] [] (part u stores)) (sym is) (c.requires.strangers t none)) in
+    let held = c.in_ok-pipeline.ensures.invariant (part own.tenant stores) (subst (λ (u : ℕ). StoreInvariant no_rows [] [] (part u stores)) (sym is) (c.requires.strangers t none)) in
     let at : ready_of c.set.new.self ≡ with_ready own.tenant (ready (state_in own stores)) (ready_of c.args.agenda.now) =
     c.set.ensures.ready ∙ (ap (λ (r : Option ℕ). with_ready t r (ready_of c.admit.new.self)) c.ready-ready.ensures ∙ (ap (with_ready t (ready (state_in own stores))) c.in_ok-admit.ensures.ready ∙ ap (λ (u : ℕ). with_ready u (ready (state_in own stores)) (ready_of c.args.agenda.now)) (sym is))) in
     let members : (u : ℕ) → is_member c.set.new.self u ≡ (own.tenant == u || is_member c.args.agenda.now u) =
@@ -68,6 +68,6 @@ returns-clause-stands c = λ earlier stands.
     let gap = rw c.deref.ensures.value at c.in-Err.ensures.absent in
     let none = kept_gap t stores ms c.in-Err.at c.requires.order gap.1 in
     let gap' : IsGapFor own.tenant ms c.in-Err.at = subst (λ (u : ℕ). IsGapFor u ms c.in-Err.at) (sym is) gap.1 in
-    let new = c.in_ok-pipeline.ensures.stands (part own.tenant stores) (subst (λ (u : ℕ). IsSound no_rows [] [] (part u stores)) (sym is) (c.requires.strangers t none)) in
+    let new = c.in_ok-pipeline.ensures.stands (part own.tenant stores) (subst (λ (u : ℕ). StoreInvariant no_rows [] [] (part u stores)) (sym is) (c.requires.strangers t none)) in
     let more = opened_more (settings_view c.args.settings.now) earlier stores ms c.in-Err.at own (section_view c.in-Some.section.now) (rw is (sym c.in-Some.ensures)) new gap' stands in
     rw (c.in-Ok.ensures.items, c.in_ok-reserve.ensures.items, ← is) more

@@ -8,28 +8,28 @@ use Rattle.tenant_shard.proofs.Frame.{kept_gap, kept_place}
 use Rattle.tenant_shard.proofs.Runs.{reaches_at, named_steps, stranger_steps, other_steps, stranger_goes_on, other_goes_on, own_goes_on, named_for, not_nobodys, loss_refuses}
 use Rattle.tenant_shard.proofs.shard.step_of.Goals as goal
 
-pub returns-in_default-clause-ok : goal.returns-in_default-clause-ok
-returns-in_default-clause-ok c =
+pub returns-in_default-clause-on_success : goal.returns-in_default-clause-on_success
+returns-in_default-clause-on_success c =
     let gap = rw c.deref.ensures.value at c.in_default.ensures.absent in
     let ms = c.args.members.now.items in
     stranger_steps c.args.tenant c.args.step.now (views c.args.stores.now ms) c.requires.whose (kept_gap c.args.tenant c.args.stores.now ms c.in_default.field-0 c.requires.whole.order gap.1)
 
-pub returns-in_default-clause-goes_on : goal.returns-in_default-clause-goes_on
-returns-in_default-clause-goes_on c =
+pub returns-in_default-clause-from_state : goal.returns-in_default-clause-from_state
+returns-in_default-clause-from_state c =
     let gap = rw c.deref.ensures.value at c.in_default.ensures.absent in
     let ms = c.args.members.now.items in
     stranger_goes_on c.args.tenant c.args.step.now (views c.args.stores.now ms) c.requires.whose (kept_gap c.args.tenant c.args.stores.now ms c.in_default.field-0 c.requires.whole.order gap.1)
 
-pub returns-then-not-takes-clause-ok : goal.returns-then-not-takes-clause-ok
-returns-then-not-takes-clause-ok c =
+pub returns-then-not-takes-clause-on_success : goal.returns-then-not-takes-clause-on_success
+returns-then-not-takes-clause-on_success c =
     let place = rw c.deref.ensures.value at c.in-Ok.ensures.found in
     let ms = c.args.members.now.items in
     let own = c.index.result.now in
     let kept = kept_place c.args.tenant c.args.stores.now ms c.in-Ok.i own place.1 c.index.ensures in
     other_steps c.args.tenant c.args.step.now (views c.args.stores.now ms) (state_in own c.args.stores.now) c.requires.whose kept (sym c.takes.ensures ∙ c.if-not-takes.true)
 
-pub returns-then-not-takes-clause-goes_on : goal.returns-then-not-takes-clause-goes_on
-returns-then-not-takes-clause-goes_on c =
+pub returns-then-not-takes-clause-from_state : goal.returns-then-not-takes-clause-from_state
+returns-then-not-takes-clause-from_state c =
     let place = rw c.deref.ensures.value at c.in-Ok.ensures.found in
     let ms = c.args.members.now.items in
     let own = c.index.result.now in
@@ -44,17 +44,17 @@ step_at-requires-clause-taken c =
     let kept = kept_place c.args.tenant c.args.stores.now ms c.in-Ok.i own place.1 c.index.ensures in
     reaches_at (own_step c.args.step.now) (kept_of c.args.tenant (views c.args.stores.now ms)) (state_in own c.args.stores.now) kept (sym c.takes.ensures ∙ c.if-not-takes.false)
 
-pub returns-in_err-outcome-clause-refused : goal.returns-in_err-outcome-clause-refused
-returns-in_err-outcome-clause-refused c =
+pub returns-in_err-outcome-clause-on_refusal : goal.returns-in_err-outcome-clause-on_refusal
+returns-in_err-outcome-clause-on_refusal c =
     let place = rw c.deref.ensures.value at c.in-Ok.ensures.found in
     let ms = c.args.members.now.items in
     let own = c.index.result.now in
     let kept = kept_place c.args.tenant c.args.stores.now ms c.in-Ok.i own place.1 c.index.ensures in
     let reaches = reaches_at (own_step c.args.step.now) (kept_of c.args.tenant (views c.args.stores.now ms)) (state_in own c.args.stores.now) kept (sym c.takes.ensures ∙ c.if-not-takes.false) in
-    on_err c.from_residual.result (loss_refuses c.args.tenant c.args.step.now (views c.args.stores.now ms) _ (named_for c.args.tenant c.args.step.now (views c.args.stores.now ms) c.requires.whose reaches) c.in_err-outcome.ensures.refused)
+    on_err c.from_residual.result (loss_refuses c.args.tenant c.args.step.now (views c.args.stores.now ms) _ (named_for c.args.tenant c.args.step.now (views c.args.stores.now ms) c.requires.whose reaches) c.in_err-outcome.ensures.on_refusal)
 
-pub returns-in_err-outcome-clause-nobodys : goal.returns-in_err-outcome-clause-nobodys
-returns-in_err-outcome-clause-nobodys c = λ none.
+pub returns-in_err-outcome-clause-on_no_member : goal.returns-in_err-outcome-clause-on_no_member
+returns-in_err-outcome-clause-on_no_member c = λ none.
     let place = rw c.deref.ensures.value at c.in-Ok.ensures.found in
     let ms = c.args.members.now.items in
     let own = c.index.result.now in
@@ -62,26 +62,26 @@ returns-in_err-outcome-clause-nobodys c = λ none.
     let reaches = reaches_at (own_step c.args.step.now) (kept_of c.args.tenant (views c.args.stores.now ms)) (state_in own c.args.stores.now) kept (sym c.takes.ensures ∙ c.if-not-takes.false) in
     absurd (not_nobodys c.args.tenant c.args.step.now (views c.args.stores.now ms) c.requires.whose reaches none)
 
-pub returns-clause-ok : goal.returns-clause-ok
-returns-clause-ok c =
+pub returns-clause-on_success : goal.returns-clause-on_success
+returns-clause-on_success c =
     let place = rw c.deref.ensures.value at c.in-Ok.ensures.found in
     let ms = c.args.members.now.items in
     let own = c.index.result.now in
     let kept = kept_place c.args.tenant c.args.stores.now ms c.in-Ok.i own place.1 c.index.ensures in
     let reaches = reaches_at (own_step c.args.step.now) (kept_of c.args.tenant (views c.args.stores.now ms)) (state_in own c.args.stores.now) kept (sym c.takes.ensures ∙ c.if-not-takes.false) in
-    named_steps c.args.tenant c.args.step.now (views c.args.stores.now ms) _ _ c.requires.whose reaches c.in_ok-outcome.ensures.ok
+    named_steps c.args.tenant c.args.step.now (views c.args.stores.now ms) _ _ c.requires.whose reaches c.in_ok-outcome.ensures.on_success
 
-pub returns-clause-goes_on : goal.returns-clause-goes_on
-returns-clause-goes_on c =
+pub returns-clause-from_state : goal.returns-clause-from_state
+returns-clause-from_state c =
     let place = rw c.deref.ensures.value at c.in-Ok.ensures.found in
     let ms = c.args.members.now.items in
     let own = c.index.result.now in
     let kept = kept_place c.args.tenant c.args.stores.now ms c.in-Ok.i own place.1 c.index.ensures in
     let reaches = reaches_at (own_step c.args.step.now) (kept_of c.args.tenant (views c.args.stores.now ms)) (state_in own c.args.stores.now) kept (sym c.takes.ensures ∙ c.if-not-takes.false) in
-    own_goes_on c.args.tenant c.args.step.now (views c.args.stores.now ms) _ _ (named_for c.args.tenant c.args.step.now (views c.args.stores.now ms) c.requires.whose reaches) c.in_ok-outcome.ensures.ok
+    own_goes_on c.args.tenant c.args.step.now (views c.args.stores.now ms) _ _ (named_for c.args.tenant c.args.step.now (views c.args.stores.now ms) c.requires.whose reaches) c.in_ok-outcome.ensures.on_success
 
-pub returns-clause-nobodys : goal.returns-clause-nobodys
-returns-clause-nobodys c = λ none.
+pub returns-clause-on_no_member : goal.returns-clause-on_no_member
+returns-clause-on_no_member c = λ none.
     let place = rw c.deref.ensures.value at c.in-Ok.ensures.found in
     let ms = c.args.members.now.items in
     let own = c.index.result.now in

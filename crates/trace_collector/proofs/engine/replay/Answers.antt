@@ -2,7 +2,7 @@ use Rattle.std.proofs.Common.{ℕ, List, None, Ok, Err, refl, ap}
 use Rattle.std.proofs.lemmas.Result.{err_from_is_err_and}
 use Rattle.tail_settings.specs.Settings.{settings_view}
 use Rattle.replay_script.specs.Line.{lines_of}
-use Rattle.replay_script.specs.Told.{Ends}
+use Rattle.replay_script.specs.Transcript.{Ends}
 use Rattle.trace_collector.specs.Fault.{script_fault, settings_fault}
 use Rattle.trace_collector.specs.Script.{no_steps}
 use Rattle.trace_collector.specs.Standing.{Answers}
@@ -13,8 +13,8 @@ use Rattle.trace_collector.proofs.EachTold.{nothing_tells, ran_tells, fault_tell
 use Rattle.trace_collector.proofs.Replayed.{Along, ran_replays, fault_replays, was_memory, memory_so_far, some_told, unread_replays, nothing_begins, nothing_told, nothing_so_far}
 use Rattle.trace_collector.proofs.engine.replay.Goals as goal
 
-pub returns-in_err-settings-clause-told : goal.returns-in_err-settings-clause-told
-returns-in_err-settings-clause-told g c =
+pub returns-in_err-settings-clause-output : goal.returns-in_err-settings-clause-output
+returns-in_err-settings-clause-output g c =
     let p = err_from_is_err_and c.from_residual.result c.from_residual.ensures.1 in
     let text = c.args.settings.now in
     let fault = c.in_err-settings.field-0.0 in
@@ -22,8 +22,8 @@ returns-in_err-settings-clause-told g c =
     (λ (script written : List ℕ). IsReplay text script written (Err (settings_fault fault))) _
     (λ script. unread_replays text script fault c.in_err-settings.ensures.fault))
 
-pub returns-in_err-shards-clause-told : goal.returns-in_err-shards-clause-told
-returns-in_err-shards-clause-told g c =
+pub returns-in_err-shards-clause-output : goal.returns-in_err-shards-clause-output
+returns-in_err-shards-clause-output g c =
     let p = err_from_is_err_and c.from_residual-in_err-shards.result c.from_residual-in_err-shards.ensures.1 in
     let text = c.args.settings.now in
     rw (p.1, p.2) (nothing_told _ (λ (script written : List ℕ). IsReplay text script written (Err faults.OutOfMemory)) _
@@ -43,11 +43,11 @@ returns-in_err-run_script-clause-so_far g c =
     let along : Along (settings_view c.in_ok-settings.settings) c.in_ok-shards.shards no_steps =
     record { same = ap settings_view c.in_ok-shards.ensures.settings; stand = c.in_ok-shards.ensures.stand } in
     λ memory.
-    memory_so_far _ _ _ _ c.args.settings.now shards (settings_view c.in_ok-settings.settings) fault c.in_ok-settings.ensures.ok along
-    (was_memory _ _ fault p.1 p.2 memory) c.in_err-run_script.ensures.told
+    memory_so_far _ _ _ _ c.args.settings.now shards (settings_view c.in_ok-settings.settings) fault c.in_ok-settings.ensures.on_success along
+    (was_memory _ _ fault p.1 p.2 memory) c.in_err-run_script.ensures.output
 
-pub returns-in_err-run_script-clause-told : goal.returns-in_err-run_script-clause-told
-returns-in_err-run_script-clause-told g c =
+pub returns-in_err-run_script-clause-output : goal.returns-in_err-run_script-clause-output
+returns-in_err-run_script-clause-output g c =
     let p = err_from_is_err_and c.from_residual-in_err-run_script.result c.from_residual-in_err-run_script.ensures.1 in
     let text = c.args.settings.now in
     let shards = c.in_ok-shards.shards in
@@ -57,11 +57,11 @@ returns-in_err-run_script-clause-told g c =
     rw (p.1, p.2) (some_told _
     (λ (script written : List ℕ). Ends Answers (lines_of script) shards _ written (Err fault))
     (λ (script written : List ℕ). IsReplay text script written (Err (script_fault fault))) _ _
-    (λ script written ends. fault_replays text script written _ shards (settings_view c.in_ok-settings.settings) fault c.in_ok-settings.ensures.ok along ends)
-    c.in_err-run_script.ensures.told)
+    (λ script written ends. fault_replays text script written _ shards (settings_view c.in_ok-settings.settings) fault c.in_ok-settings.ensures.on_success along ends)
+    c.in_err-run_script.ensures.output)
 
-pub returns-clause-told : goal.returns-clause-told
-returns-clause-told g c =
+pub returns-clause-output : goal.returns-clause-output
+returns-clause-output g c =
     let text = c.args.settings.now in
     let shards = c.in_ok-shards.shards in
     let along : Along (settings_view c.in_ok-settings.settings) c.in_ok-shards.shards no_steps =
@@ -69,8 +69,8 @@ returns-clause-told g c =
     some_told _
     (λ (script written : List ℕ). Ends Answers (lines_of script) shards None written (Ok tt))
     (λ (script written : List ℕ). IsReplay text script written (Ok tt)) _ _
-    (λ script written ends. ran_replays text script written None shards (settings_view c.in_ok-settings.settings) tt c.in_ok-settings.ensures.ok along ends)
-    c.in_ok-run_script.ensures.told
+    (λ script written ends. ran_replays text script written None shards (settings_view c.in_ok-settings.settings) tt c.in_ok-settings.ensures.on_success along ends)
+    c.in_ok-run_script.ensures.output
 
 pub returns-in_err-settings-clause-each_alone : goal.returns-in_err-settings-clause-each_alone
 returns-in_err-settings-clause-each_alone g c = nothing_tells _ _ c.args.settings.now c.from_residual.result
@@ -89,8 +89,8 @@ returns-in_err-run_script-clause-each_alone g c =
     rw (p.1, p.2) (some_told _
     (λ (script written : List ℕ). Ends Answers (lines_of script) shards _ written (Err fault))
     (λ (script written : List ℕ). TellsEachAlone text script written (Err (script_fault fault))) _ _
-    (λ script written ends. fault_tells text script written _ shards (settings_view c.in_ok-settings.settings) fault c.in_ok-settings.ensures.ok along ends)
-    c.in_err-run_script.ensures.told)
+    (λ script written ends. fault_tells text script written _ shards (settings_view c.in_ok-settings.settings) fault c.in_ok-settings.ensures.on_success along ends)
+    c.in_err-run_script.ensures.output)
 
 pub returns-clause-each_alone : goal.returns-clause-each_alone
 returns-clause-each_alone g c =
@@ -101,5 +101,5 @@ returns-clause-each_alone g c =
     some_told _
     (λ (script written : List ℕ). Ends Answers (lines_of script) shards None written (Ok tt))
     (λ (script written : List ℕ). TellsEachAlone text script written (Ok tt)) _ _
-    (λ script written ends. ran_tells text script written None shards (settings_view c.in_ok-settings.settings) tt c.in_ok-settings.ensures.ok along ends)
-    c.in_ok-run_script.ensures.told
+    (λ script written ends. ran_tells text script written None shards (settings_view c.in_ok-settings.settings) tt c.in_ok-settings.ensures.on_success along ends)
+    c.in_ok-run_script.ensures.output

@@ -14,4 +14,4 @@ returns-in_default g c =
     bounded _ _ _ _ (leaves_less _ _ _ _ c.loop-left.left c.in-Ok.count c.read_some.new.room c.loop-left.invariant c.in-Ok.ensures.bytes (search rules) (search rules))
 
 pub returns-in_default-2 : goal.returns-in_default-2
-returns-in_default-2 g c = bounded _ _ _ _ (leaves_same _ _ _ _ _ c.loop-left.invariant c.in_default.ensures.err)
+returns-in_default-2 g c = bounded _ _ _ _ (leaves_same _ _ _ _ _ c.loop-left.invariant c.in_default.ensures.on_error)

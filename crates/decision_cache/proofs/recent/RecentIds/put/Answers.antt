@@ -23,8 +23,8 @@ invariant_of-self-2 c =
           rw w.self-inside-is (after.0, after.1)
     ]
 
-pub returns-clause-ok : goal.returns-clause-ok
-returns-clause-ok c =
+pub returns-clause-on_success : goal.returns-clause-on_success
+returns-clause-on_success c =
     let size = c.self.inside.size in
     let kept = subst (λ (o : Option (LruCache (List ℕ) ⊤)). MatchOption o (size ≡ 0) (λ d. (length d.entries ≤ size) × (size < d.cap))) c.in-Some.is c.self.invariant in
     let had = ap (λ (o : Option (LruCache (List ℕ) ⊤)). noted is_same size c.args.id (option_map_or (λ d. keys_of d.entries) o [])) c.in-Some.is in

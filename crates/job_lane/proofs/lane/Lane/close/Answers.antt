@@ -10,7 +10,7 @@ pub loop-last-init : goal.loop-last-init
 loop-last-init g c =
     let name = c.keeper.view_is ∙ c.requires.keeper ∙ sym (ap (λ (s : LaneShape). s.name) c.self.view_is) in
     let root = c.keeper.invariant.2 ∙ ap (λ n. seat_view 0 n [] []) (ap (λ (l : LaneName). l.seats) c.keeper.view_is) in
-    ((ap (λ (l : LaneName). l.table) name, c.keeper.invariant.0), taken_first _ _ _ root c.requires.ours)
+    ((ap (λ (l : LaneName). l.table) name, c.keeper.invariant.0), taken_first _ _ _ root c.requires.same_lane)
 
 pub loop-last-preserved : goal.loop-last-preserved
 loop-last-preserved g c =

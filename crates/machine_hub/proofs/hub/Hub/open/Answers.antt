@@ -13,5 +13,5 @@ invariant_of-keeper g c =
 pub returns-clause-keeper : goal.returns-clause-keeper
 returns-clause-keeper g c = opened_keepers _ _ _ _ _ c.in_ok-opening.ensures
 
-pub returns-clause-mine : goal.returns-clause-mine
-returns-clause-mine g c = opened_mine _ _ _ _ _ c.in_ok-opening.ensures
+pub returns-clause-same_hub : goal.returns-clause-same_hub
+returns-clause-same_hub g c = opened_mine _ _ _ _ _ c.in_ok-opening.ensures

@@ -9,7 +9,7 @@ put_stepped-requires-clause-machine g c κs within =
 
 pub put_stopped-requires-clause-machine : goal.put_stopped-requires-clause-machine
 put_stopped-requires-clause-machine g c κs within =
-    stopped_by _ (known c.me.inside.pass) _ c.take-machine.result _ c.take-machine.ensures.1 c.me.invariant.1 c.apply.ensures.same c.in-Err.ensures.refused
+    stopped_by _ (known c.me.inside.pass) _ c.take-machine.result _ c.take-machine.ensures.1 c.me.invariant.1 c.apply.ensures.same c.in-Err.ensures.on_refusal
 
 pub invariant_of-me : goal.invariant_of-me
 invariant_of-me g c =

@@ -11,4 +11,4 @@ returns c =
     let two : c.put_some_eight.new.out.items ≡ c.put_some_signed.new.out.items ++ some_eight 7 s.start_time_unix_nano = search rules in
     let all : c.put_some_eight-2.new.out.items ≡ c.put_some_eight.new.out.items ++ some_eight 8 s.end_time_unix_nano
     → c.put_some_eight-2.new.out.items ≡ c.args.out.now.items ++ span_times_text (span_view s) = λ last. rw (last, two, one) (simp append_assoc refl) in
-    record { ok = on_ok_weaker c.put_some_eight-2.result all c.put_some_eight-2.ensures.ok }
+    record { on_success = on_ok_weaker c.put_some_eight-2.result all c.put_some_eight-2.ensures.on_success }

@@ -29,7 +29,7 @@ unreachable-requires-in_default-remove c =
     let first : first_retry bs ≡ Some c.args.retry = ap (λ (s : SenderData). first_retry s.active) c.self.view_is ∙ c.requires.first in
     let found = first_under c.args.retry bs c.self.invariant.ordered first in
     let there : under t (bs ++ x ∷ []) ≡ Some found.0 = under-append t bs x found.0 found.1 in
-    let none : None ≡ under t (bs ++ x ∷ []) = c.in_default-remove.ensures.batch ∙ ap (under t) c.in_ok-put.ensures.ok in
+    let none : None ≡ under t (bs ++ x ∷ []) = c.in_default-remove.ensures.batch ∙ ap (under t) c.in_ok-put.ensures.on_success in
     absurd (cc)
 
 pub unreachable-requires-in_default-pop : goal.unreachable-requires-in_default-pop
@@ -50,7 +50,7 @@ invariant_of-self-2 c =
     let first : first_retry bs ≡ Some c.args.retry = ap (λ (s : SenderData). first_retry s.active) c.self.view_is ∙ c.requires.first in
     let found = first_under c.args.retry bs c.self.invariant.ordered first in
     let left : c.self.inside.handed_out < 2 ^ 62 = subst (λ (s : SenderData). s.handed_out < 2 ^ 62) (sym c.self.view_is) c.requires.tickets in
-    let moved : c.remove.new.self ≡ without t bs ++ x ∷ [] = c.remove.ensures.rest ∙ (ap (without t) c.in_ok-put.ensures.ok ∙ without-append t bs x found.0 found.1) in
+    let moved : c.remove.new.self ≡ without t bs ++ x ∷ [] = c.remove.ensures.rest ∙ (ap (without t) c.in_ok-put.ensures.on_success ∙ without-append t bs x found.0 found.1) in
     subst (λ (bs : List ActiveData). IsWhole bs (heap_items q) (heap_len q) (heap_capacity q) c.self.inside.sending.num_consumers (c.self.inside.handed_out + 1))
     (sym moved)
     (whole_again c.args.retry found.0 x c.in-Some-pop.field-0 (heap_items q) (heap_len q) (heap_capacity q) c.self.invariant left first found.1 found.2 c.in-Some-pop.ensures.permutation c.in-Some-pop.ensures.heap_order c.in-Some-pop.ensures.len c.in-Some-pop.ensures.capacity refl (ap (λ (a : Active). a.due) c.in_ok-again.ensures))
@@ -62,7 +62,7 @@ returns-clause-job c =
     let x = active_view (c.self.inside.handed_out + 1, c.in_ok-again.again) in
     let first : first_retry bs ≡ Some c.args.retry = ap (λ (s : SenderData). first_retry s.active) c.self.view_is ∙ c.requires.first in
     let found = first_under c.args.retry bs c.self.invariant.ordered first in
-    let there : Some (active_view (t, c.in-Some-remove.sent)) ≡ Some found.0 = c.in-Some-remove.ensures.batch ∙ (ap (under t) c.in_ok-put.ensures.ok ∙ under-append t bs x found.0 found.1) in
+    let there : Some (active_view (t, c.in-Some-remove.sent)) ≡ Some found.0 = c.in-Some-remove.ensures.batch ∙ (ap (under t) c.in_ok-put.ensures.on_success ∙ under-append t bs x found.0 found.1) in
     ap (λ (o : Option ActiveData). job_of (retried o) (inside_view c.self.inside)) (there ∙ sym found.1)
     ∙ ap (λ (s : SenderData). job_of (retried (under t s.active)) s) c.self.view_is
 
@@ -77,7 +77,7 @@ returns-clause-asked c =
     let x = active_view (ticket, c.in_ok-again.again) in
     let there : under t bs ≡ Some a = sym c.in-Some.ensures in
     let again : x ≡ sent_again ticket a = ap (λ (z : Active). active_view (ticket, z)) c.in_ok-again.ensures in
-    let moved : c.remove.new.self ≡ without t bs ++ sent_again ticket a ∷ [] = c.remove.ensures.rest ∙ (ap (without t) c.in_ok-put.ensures.ok ∙ (without-append t bs x a there ∙ ap (λ (y : ActiveData). without t bs ++ y ∷ []) again)) in
+    let moved : c.remove.new.self ≡ without t bs ++ sent_again ticket a ∷ [] = c.remove.ensures.rest ∙ (ap (without t) c.in_ok-put.ensures.on_success ∙ (without-append t bs x a there ∙ ap (λ (y : ActiveData). without t bs ++ y ∷ []) again)) in
     ap (λ (l : List ActiveData). let z : SenderData = record s { active = l; handed_out = ticket } in z) moved
     ∙ (ap (λ (o : Option ActiveData). handed_of 0 (retried o) s) (sym there)
     ∙ ap (λ (s : SenderData). handed_of 0 (retried (under t s.active)) s) c.self.view_is)

@@ -19,5 +19,5 @@ invariant_of-self-2 c =
     let few : length c.self.inside.active < c.self.inside.sending.num_consumers = grind (arith, nat_tests, free) in
     let left : c.self.inside.handed_out < 2 ^ 62 = subst (λ (s : SenderData). s.handed_out < 2 ^ 62) (sym c.self.view_is) c.requires.tickets in
     subst (λ (bs : List ActiveData). IsWhole bs (heap_items q) (heap_len q) (heap_capacity q) c.self.inside.sending.num_consumers (c.self.inside.handed_out + 1))
-    (sym c.in_ok-put.ensures.ok)
+    (sym c.in_ok-put.ensures.on_success)
     (whole_first x c.self.invariant few left refl (ap (λ a. a.due) c.new-active.ensures))

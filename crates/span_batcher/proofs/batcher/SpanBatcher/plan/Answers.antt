@@ -14,7 +14,7 @@ returns-then-len-threshold-clause-adds c =
     let all : c.extend_from_slice.new.self.items ≡ pending ++ c.args.spans.now = c.in_ok-extend_from_slice.ensures.items ∙ ap (λ (ss : List ℕ). ss ++ c.args.spans.now) (c.in_ok-all.ensures.items ∙ c.deref.ensures.value) in
     let few : length c.extend_from_slice.new.self.items < threshold r = omega arith in
     let start : c.unwrap_or.result ≡ unwrap_or c.self.inside.start c.args.moment = c.unwrap_or.ensures in
-    plans_short r c.self.inside.start pending c.args.moment c.args.spans.now c.args.self.now c.new-batches.result.items c.extend_from_slice.new.self.items c.unwrap_or.result c.self.view_is (c.self.invariant.some, c.self.invariant.limit) c.requires.timer c.requires.some all few c.new-batches.ensures.items start
+    plans_short r c.self.inside.start pending c.args.moment c.args.spans.now c.args.self.now c.new-batches.result.items c.extend_from_slice.new.self.items c.unwrap_or.result c.self.view_is (c.self.invariant.some, c.self.invariant.limit) c.requires.timer c.requires.not_empty all few c.new-batches.ensures.items start
 
 pub returns-clause-adds : goal.returns-clause-adds
 returns-clause-adds c =
@@ -22,7 +22,7 @@ returns-clause-adds c =
     let pending : List ℕ = c.self.inside.spans.items in
     let all : c.extend_from_slice.new.self.items ≡ pending ++ c.args.spans.now = c.in_ok-extend_from_slice.ensures.items ∙ ap (λ (ss : List ℕ). ss ++ c.args.spans.now) (c.in_ok-all.ensures.items ∙ c.deref.ensures.value) in
     let enough : threshold r ≤ length c.extend_from_slice.new.self.items = omega arith in
-    plans_far r c.self.inside.start pending c.args.moment c.args.spans.now c.args.self.now c.in_ok-batches.batches.items c.extend_from_slice.new.self.items c.in_ok-batches.rest.items c.start_in-start.result c.self.view_is (c.self.invariant.some, c.self.invariant.limit) c.requires.timer c.requires.some all enough (c.in_ok-batches.ensures.batches ∙ ap (cuts r c.args.moment) c.deref-2.ensures.value) (c.in_ok-batches.ensures.rest ∙ ap (uncut r) c.deref-2.ensures.value) (c.start_in-start.ensures ∙ ap (start_in c.args.moment) c.deref-3.ensures.value)
+    plans_far r c.self.inside.start pending c.args.moment c.args.spans.now c.args.self.now c.in_ok-batches.batches.items c.extend_from_slice.new.self.items c.in_ok-batches.rest.items c.start_in-start.result c.self.view_is (c.self.invariant.some, c.self.invariant.limit) c.requires.timer c.requires.not_empty all enough (c.in_ok-batches.ensures.batches ∙ ap (cuts r c.args.moment) c.deref-2.ensures.value) (c.in_ok-batches.ensures.rest ∙ ap (uncut r) c.deref-2.ensures.value) (c.start_in-start.ensures ∙ ap (start_in c.args.moment) c.deref-3.ensures.value)
 
 -- by the pending spans alone, where nothing is cut
 short : (c : After-new-batches) →

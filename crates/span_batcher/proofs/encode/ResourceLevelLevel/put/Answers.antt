@@ -21,5 +21,5 @@ returns c =
     let first : c.put_embedded.new.out.items ≡ out ++ embedded 1 x.origin.resource = c.in_ok-put_embedded.ensures ∙ ap (λ t. out ++ embedded 1 t) c.resource_of.ensures in
     let second : c.put_runs.new.out.items ≡ (out ++ embedded 1 x.origin.resource) ++ inner = c.in_ok-put_runs.ensures ∙ ap (λ bs. bs ++ inner) first in
     let third : c.put_some_bytes.new.out.items ≡ ((out ++ embedded 1 x.origin.resource) ++ inner) ++ some_bytes 3 x.origin.resource_schema_url =
-    c.in_ok-put_some_bytes.ensures.ok ∙ (ap (λ bs. bs ++ some_bytes 3 c.resource_url_of.result.now) second ∙ ap (λ bs. ((out ++ embedded 1 x.origin.resource) ++ inner) ++ some_bytes 3 bs) c.resource_url_of.ensures) in
-    on_ok_weaker c.wrap_in_field.result (λ made. wrapped (bytes_field 1) out _ _ _ _ _ _ start third made ∙ ap (λ bs. out ++ bs) (sym (resource_field x spans at))) c.wrap_in_field.ensures.ok
+    c.in_ok-put_some_bytes.ensures.on_success ∙ (ap (λ bs. bs ++ some_bytes 3 c.resource_url_of.result.now) second ∙ ap (λ bs. ((out ++ embedded 1 x.origin.resource) ++ inner) ++ some_bytes 3 bs) c.resource_url_of.ensures) in
+    on_ok_weaker c.wrap_in_field.result (λ made. wrapped (bytes_field 1) out _ _ _ _ _ _ start third made ∙ ap (λ bs. out ++ bs) (sym (resource_field x spans at))) c.wrap_in_field.ensures.on_success

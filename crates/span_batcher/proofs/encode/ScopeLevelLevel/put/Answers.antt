@@ -22,5 +22,5 @@ returns c =
     let first : c.put_embedded.new.out.items ≡ out ++ embedded 1 x.origin.scope = c.in_ok-put_embedded.ensures ∙ ap (λ t. out ++ embedded 1 t) c.scope_of.ensures in
     let second : c.put_spans.new.out.items ≡ (out ++ embedded 1 x.origin.scope) ++ inner = c.in_ok-put_spans.ensures ∙ (ap (λ bs. bs ++ stored) first ∙ ap (λ bs. (out ++ embedded 1 x.origin.scope) ++ bs) texts) in
     let third : c.put_some_bytes.new.out.items ≡ ((out ++ embedded 1 x.origin.scope) ++ inner) ++ some_bytes 3 x.origin.scope_schema_url =
-    c.in_ok-put_some_bytes.ensures.ok ∙ (ap (λ bs. bs ++ some_bytes 3 c.scope_url_of.result.now) second ∙ ap (λ bs. ((out ++ embedded 1 x.origin.scope) ++ inner) ++ some_bytes 3 bs) c.scope_url_of.ensures) in
-    on_ok_weaker c.wrap_in_field.result (λ made. wrapped (bytes_field 2) out _ _ _ _ _ _ start third made ∙ ap (λ bs. out ++ bs) (sym (scope_field x spans at))) c.wrap_in_field.ensures.ok
+    c.in_ok-put_some_bytes.ensures.on_success ∙ (ap (λ bs. bs ++ some_bytes 3 c.scope_url_of.result.now) second ∙ ap (λ bs. ((out ++ embedded 1 x.origin.scope) ++ inner) ++ some_bytes 3 bs) c.scope_url_of.ensures) in
+    on_ok_weaker c.wrap_in_field.result (λ made. wrapped (bytes_field 2) out _ _ _ _ _ _ start third made ∙ ap (λ bs. out ++ bs) (sym (scope_field x spans at))) c.wrap_in_field.ensures.on_success

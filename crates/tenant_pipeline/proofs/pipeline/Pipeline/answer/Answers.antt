@@ -15,22 +15,22 @@ done c =
     let finds : Finds (step.Answer c.args.now c.args.ticket c.args.word (answer_view c.args.answer.now)) c.effective-moment.result s mid c.run_due.new.stores = record {
       at = c.effective-moment.ensures.at;
       rows = (ranges c.args.self.now c.args.stores.now).rows;
-      counted = c.requires.held.counted;
-      within = c.requires.held.within;
-      ok = c.in_ok-run_due.ensures.ok;
+      counted = c.requires.invariant.counted;
+      within = c.requires.invariant.within;
+      ok = c.in_ok-run_due.ensures.on_success;
       reached = c.in_ok-run_due.ensures.reached;
     } in
-    subst (λ told. Done (step.Answer c.args.now c.args.ticket c.args.word (answer_view c.args.answer.now)) s told (record c.settle-told.new.self { clock = c.effective-moment.result }) c.run_due.new.stores) (sym c.settle-told.ensures.told)
+    subst (λ told. Done (step.Answer c.args.now c.args.ticket c.args.word (answer_view c.args.answer.now)) s told (record c.settle-told.new.self { clock = c.effective-moment.result }) c.run_due.new.stores) (sym c.settle-told.ensures.step_reply)
     (answer_done c.args.now c.args.ticket c.args.word c.effective-moment.result (answer_view c.args.answer.now) s mid c.settle-told.new.self c.run_due.new.stores finds c.settle-told.ensures.sends)
 
-pub returns-clause-ok : goal.returns-clause-ok
-returns-clause-ok c = answers_of (step.Answer c.args.now c.args.ticket c.args.word (answer_view c.args.answer.now)) (state_in c.args.self.now c.args.stores.now) _ c.settle-told.result (ranges c.args.self.now c.args.stores.now) (done c).goes_on
+pub returns-clause-on_success : goal.returns-clause-on_success
+returns-clause-on_success c = answers_of (step.Answer c.args.now c.args.ticket c.args.word (answer_view c.args.answer.now)) (state_in c.args.self.now c.args.stores.now) _ c.settle-told.result (ranges c.args.self.now c.args.stores.now) (done c).from_state
 
-pub returns-clause-goes_on : goal.returns-clause-goes_on
-returns-clause-goes_on c = (done c).goes_on
+pub returns-clause-from_state : goal.returns-clause-from_state
+returns-clause-from_state c = (done c).from_state
 
-pub returns-clause-held : goal.returns-clause-held
-returns-clause-held c = (done c).held
+pub returns-clause-invariant : goal.returns-clause-invariant
+returns-clause-invariant c = (done c).held
 
 pub returns-clause-swept : goal.returns-clause-swept
 returns-clause-swept c = λ is. swept_same c.run_due.new.self c.settle-told.new.self (ap (λ (o : Pipeline). o.rows) c.settle-told.ensures.sends.same) (c.in_ok-run_due.ensures.swept is)

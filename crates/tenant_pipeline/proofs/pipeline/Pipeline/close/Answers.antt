@@ -2,7 +2,7 @@ use Rattle.std.proofs.Common.{◌≡◌, ◌∙◌, ◌+◌, ℕ, [], true, sym,
 use Rattle.drop_ledger.specs.Ledger.{LedgerData}
 use Rattle.drop_ledger.specs.Ledger as ledger
 use Rattle.tenant_stores.specs.Counts.{count, waiting_numbers}
-use Rattle.tenant_stores.specs.Sound.{IsSound}
+use Rattle.tenant_stores.specs.Invariant.{StoreInvariant}
 use Rattle.tenant_pipeline.specs.declared.pipeline.Pipeline.{Pipeline}
 use Rattle.tenant_pipeline.specs.StateIn.{counts_in, part_in, policies_of}
 use Rattle.tenant_pipeline.specs.Drains.{sampled_keys}
@@ -14,17 +14,17 @@ use Rattle.tenant_pipeline.proofs.pipeline.Pipeline.close.Goals as goal
 pub settle_rows-requires : goal.settle_rows-requires
 settle_rows-requires c =
     let own = c.args.self.now in
-    let sound = subst (λ (x : Pipeline). IsSound (counts_in x) own.batcher.spans [] (part_in x c.args.stores.now)) (sym c.in-Ok.ensures.ok.same) c.requires.holds.sound in
-    let opened : c.send_all.new.self.rows.opened ≡ own.rows.opened = ap (λ (x : Pipeline). x.rows.opened) c.in-Ok.ensures.ok.same in
+    let sound = subst (λ (x : Pipeline). StoreInvariant (counts_in x) own.batcher.spans [] (part_in x c.args.stores.now)) (sym c.in-Ok.ensures.on_success.same) c.requires.holds.sound in
+    let opened : c.send_all.new.self.rows.opened ≡ own.rows.opened = ap (λ (x : Pipeline). x.rows.opened) c.in-Ok.ensures.on_success.same in
     let few = c.requires.holds.few in
     let counted = c.requires.holds.counted.sound.few in
-    record { sound = (own.batcher.spans, sound); few = omega (arith, opened, few, counted) }
+    record { store_invariant = (own.batcher.spans, sound); rows_bounded = omega (arith, opened, few, counted) }
 
 pub take_back-requires : goal.take_back-requires
 take_back-requires c =
     let own = c.args.self.now in
     let back = c.send_all.ensures.back own c.of-undo.ensures.back in
-    record { sound = subst (λ (l : LedgerData). ledger.IsSound l) (sym back.ledger) c.requires.holds.counted.sound }
+    record { ledger_invariant = subst (λ (l : LedgerData). ledger.LedgerInvariant l) (sym back.ledger) c.requires.holds.counted.sound }
 
 ended : (c : goal.After-drop-undo-in-Ok-2) → Closed c.args.moment c.args.self.now (record c.settle_rows.new.self { drained = true }) (part_in c.args.self.now c.args.stores.now) (part_in c.settle_rows.new.self c.flush.new.self)
 ended c =
@@ -36,22 +36,22 @@ ended c =
     let slice = ap (count key) c.as_slice.ensures.value in
     omega (arith, all, none, slice) in
     ends own mid c.settle_rows.new.self c.drain.new.self c.args.stores.now c.settle_rows.new.stores c.flush.new.self c.as_slice.result.now c.args.moment
-    c.requires.holds c.requires.first c.in-Ok.ensures.ok c.drain.ensures.pending c.settle_rows.ensures.own keys c.settle_rows.ensures.sound c.settle_rows.ensures.shows c.flush.ensures.sound c.flush.ensures.shows
+    c.requires.holds c.requires.first c.in-Ok.ensures.on_success c.drain.ensures.pending c.settle_rows.ensures.only_decided keys c.settle_rows.ensures.store_invariant c.settle_rows.ensures.shows c.flush.ensures.store_invariant c.flush.ensures.shows
 
-pub returns-in-Ok-clause-ok : goal.returns-in-Ok-clause-ok
-returns-in-Ok-clause-ok c = (ended c).state
+pub returns-in-Ok-clause-on_success : goal.returns-in-Ok-clause-on_success
+returns-in-Ok-clause-on_success c = (ended c).state
 
 pub returns-in-Ok-clause-holds : goal.returns-in-Ok-clause-holds
 returns-in-Ok-clause-holds c = (ended c).held
 
-pub returns-in-Ok-clause-others : goal.returns-in-Ok-clause-others
-returns-in-Ok-clause-others c = λ other ne.
-    let mid : c.send_all.new.self.tenant ≡ c.args.self.now.tenant = ap (λ (x : Pipeline). x.tenant) c.in-Ok.ensures.ok.same in
-    let end : c.settle_rows.new.self.tenant ≡ c.args.self.now.tenant = ap (λ (x : Pipeline). x.tenant) c.settle_rows.ensures.own ∙ mid in
-    c.flush.ensures.others other (λ e. ne (e ∙ end)) ∙ c.settle_rows.ensures.others other (λ e. ne (e ∙ mid))
+pub returns-in-Ok-clause-others_unchanged : goal.returns-in-Ok-clause-others_unchanged
+returns-in-Ok-clause-others_unchanged c = λ other ne.
+    let mid : c.send_all.new.self.tenant ≡ c.args.self.now.tenant = ap (λ (x : Pipeline). x.tenant) c.in-Ok.ensures.on_success.same in
+    let end : c.settle_rows.new.self.tenant ≡ c.args.self.now.tenant = ap (λ (x : Pipeline). x.tenant) c.settle_rows.ensures.only_decided ∙ mid in
+    c.flush.ensures.others_unchanged other (λ e. ne (e ∙ end)) ∙ c.settle_rows.ensures.others_unchanged other (λ e. ne (e ∙ mid))
 
-pub returns-in-Err-clause-refused : goal.returns-in-Err-clause-refused
-returns-in-Err-clause-refused c = c.take_back.ensures c.args.self.now (c.send_all.ensures.back c.args.self.now c.of-undo.ensures.back)
+pub returns-in-Err-clause-on_refusal : goal.returns-in-Err-clause-on_refusal
+returns-in-Err-clause-on_refusal c = c.take_back.ensures c.args.self.now (c.send_all.ensures.back c.args.self.now c.of-undo.ensures.back)
 
 pub returns-in-Err-clause-tenant : goal.returns-in-Err-clause-tenant
 returns-in-Err-clause-tenant c = ap (λ (x : Pipeline). x.tenant) (c.take_back.ensures c.args.self.now (c.send_all.ensures.back c.args.self.now c.of-undo.ensures.back))
@@ -65,8 +65,8 @@ returns-in-Err-clause-clock c = ap (λ (x : Pipeline). x.clock) (c.take_back.ens
 pub returns-in-Ok-clause-swept : goal.returns-in-Ok-clause-swept
 returns-in-Ok-clause-swept c = λ is.
     let mid = c.send_all.new.self in
-    let rows : c.settle_rows.new.self.rows ≡ record mid.rows { decided = mid.rows.opened } = ap (λ (x : Pipeline). x.rows) c.settle_rows.ensures.own in
-    subst (λ (r : RowCounts). r.swept ≡ r.first) (sym rows) (swept_same c.args.self.now mid (ap (λ (x : Pipeline). x.rows) c.in-Ok.ensures.ok.same) is)
+    let rows : c.settle_rows.new.self.rows ≡ record mid.rows { decided = mid.rows.opened } = ap (λ (x : Pipeline). x.rows) c.settle_rows.ensures.only_decided in
+    subst (λ (r : RowCounts). r.swept ≡ r.first) (sym rows) (swept_same c.args.self.now mid (ap (λ (x : Pipeline). x.rows) c.in-Ok.ensures.on_success.same) is)
 
 pub returns-in-Err-clause-swept : goal.returns-in-Err-clause-swept
-returns-in-Err-clause-swept c = λ is. swept_back c.args.self.now c.take_back.new.self (returns-in-Err-clause-refused c) is
+returns-in-Err-clause-swept c = λ is. swept_back c.args.self.now c.take_back.new.self (returns-in-Err-clause-on_refusal c) is

@@ -12,14 +12,14 @@ use Rattle.trace_rows.specs.declared.table.Row.{Row}
 use Rattle.trace_rows.specs.Part.{keys_of}
 use Rattle.tenant_stores.specs.Counts.{count, one_decided}
 use Rattle.tenant_stores.specs.Part.{part}
-use Rattle.tenant_stores.specs.Sound.{IsSound}
+use Rattle.tenant_stores.specs.Invariant.{StoreInvariant}
 use Rattle.tenant_stores.specs.Shows.{first_kept}
 use Rattle.tenant_stores.specs.View.{WaitingRow, view}
 use Rattle.tenant_stores.proofs.Lists.{count-append}
 use Rattle.tenant_rules.specs.Timers.{decide, first_due}
 use Rattle.tenant_pipeline.specs.declared.pipeline.Pipeline.{Pipeline}
 use Rattle.tenant_pipeline.specs.StateIn.{counts_in, part_in, policies_of, state_in, state_of, view_in, waiting_of}
-use Rattle.tenant_pipeline.specs.Held.{IsHeldBy}
+use Rattle.tenant_pipeline.specs.Invariant.{PipelineInvariantBy}
 use Rattle.tenant_pipeline.specs.Outbox.{arrivals_at, AreThere, Groups}
 use Rattle.tenant_pipeline.proofs.Deciding.{drop_all, keep_all}
 use Rattle.tenant_pipeline.proofs.Firsts.{first_row}
@@ -29,12 +29,12 @@ use Rattle.tenant_pipeline.specs.declared.pipeline.RowCounts.{RowCounts}
 use Rattle.tenant_pipeline.proofs.Sweeping.{swept_same, swept_back}
 use Rattle.tenant_pipeline.proofs.pipeline.Pipeline.decide.Goals as goal
 
-pub group-requires-clause-some : goal.group-requires-clause-some
-group-requires-clause-some c =
+pub group-requires-clause-not_empty : goal.group-requires-clause-not_empty
+group-requires-clause-not_empty c =
     let own = c.args.self.now in
     let p = part own.tenant c.args.stores.now in
     let row = c.in-Some.row.now in
-    let f = first_row own p c.requires.held row c.requires.some c.in-Some.ensures c.requires.first c.requires.fits in
+    let f = first_row own p c.requires.invariant row c.requires.row_undecided c.in-Some.ensures c.requires.first c.requires.fits in
     let keys : c.as_slice-keys.result.now ≡ row.keys = c.as_slice-keys.ensures in
     let size = ap length keys in let some = f.some in omega (arith, size, some)
 
@@ -43,7 +43,7 @@ group-requires-clause-moment c =
     let own = c.args.self.now in
     let p = part own.tenant c.args.stores.now in
     let row = c.in-Some.row.now in
-    let f = first_row own p c.requires.held row c.requires.some c.in-Some.ensures c.requires.first c.requires.fits in
+    let f = first_row own p c.requires.invariant row c.requires.row_undecided c.in-Some.ensures c.requires.first c.requires.fits in
     f.fits
 
 pub group-requires-clause-timer : goal.group-requires-clause-timer
@@ -51,7 +51,7 @@ group-requires-clause-timer c =
     let own = c.args.self.now in
     let p = part own.tenant c.args.stores.now in
     let row = c.in-Some.row.now in
-    let f = first_row own p c.requires.held row c.requires.some c.in-Some.ensures c.requires.first c.requires.fits in
+    let f = first_row own p c.requires.invariant row c.requires.row_undecided c.in-Some.ensures c.requires.first c.requires.fits in
     f.after
 
 pub group-requires-clause-undecided : goal.group-requires-clause-undecided
@@ -59,7 +59,7 @@ group-requires-clause-undecided c =
     let own = c.args.self.now in
     let p = part own.tenant c.args.stores.now in
     let row = c.in-Some.row.now in
-    let f = first_row own p c.requires.held row c.requires.some c.in-Some.ensures c.requires.first c.requires.fits in
+    let f = first_row own p c.requires.invariant row c.requires.row_undecided c.in-Some.ensures c.requires.first c.requires.fits in
     let keys : c.as_slice-keys.result.now ≡ row.keys = c.as_slice-keys.ensures in
     let size = ap length keys in let few = f.undecided in omega (arith, size, few)
 
@@ -68,7 +68,7 @@ group-requires-clause-pending c =
     let own = c.args.self.now in
     let p = part own.tenant c.args.stores.now in
     let row = c.in-Some.row.now in
-    let f = first_row own p c.requires.held row c.requires.some c.in-Some.ensures c.requires.first c.requires.fits in
+    let f = first_row own p c.requires.invariant row c.requires.row_undecided c.in-Some.ensures c.requires.first c.requires.fits in
     f.pending
 
 pub group-requires-clause-there : goal.group-requires-clause-there
@@ -76,7 +76,7 @@ group-requires-clause-there c =
     let own = c.args.self.now in
     let p = part own.tenant c.args.stores.now in
     let row = c.in-Some.row.now in
-    let f = first_row own p c.requires.held row c.requires.some c.in-Some.ensures c.requires.first c.requires.fits in
+    let f = first_row own p c.requires.invariant row c.requires.row_undecided c.in-Some.ensures c.requires.first c.requires.fits in
     let keys : c.as_slice-keys.result.now ≡ row.keys = c.as_slice-keys.ensures in
     subst (λ (ks : List ℕ). AreThere p (own.batcher.spans ++ ks)) (sym keys) f.there
 
@@ -85,27 +85,27 @@ group-requires-clause-room c =
     let own = c.args.self.now in
     let p = part own.tenant c.args.stores.now in
     let row = c.in-Some.row.now in
-    let f = first_row own p c.requires.held row c.requires.some c.in-Some.ensures c.requires.first c.requires.fits in
+    let f = first_row own p c.requires.invariant row c.requires.row_undecided c.in-Some.ensures c.requires.first c.requires.fits in
     f.room
 
-pub returns-in-Ok-clause-ok : goal.returns-in-Ok-clause-ok
-returns-in-Ok-clause-ok c =
+pub returns-in-Ok-clause-on_success : goal.returns-in-Ok-clause-on_success
+returns-in-Ok-clause-on_success c =
     let own = c.args.self.now in
     let p = part own.tenant c.args.stores.now in
     let row = c.in-Some.row.now in
-    let f = first_row own p c.requires.held row c.requires.some c.in-Some.ensures c.requires.first c.requires.fits in
+    let f = first_row own p c.requires.invariant row c.requires.row_undecided c.in-Some.ensures c.requires.first c.requires.fits in
     let keys : c.as_slice-keys.result.now ≡ row.keys = c.as_slice-keys.ensures in
     let mid = c.group.new.self in
     let q = part own.tenant c.flush.new.self in
     let p1 = part own.tenant c.keep_row.new.self in
-    let groups : Groups row.due row.keys p own mid = subst (λ (ks : List ℕ). Groups row.due ks p own mid) keys c.in_ok-group.ensures.ok in
+    let groups : Groups row.due row.keys p own mid = subst (λ (ks : List ℕ). Groups row.due ks p own mid) keys c.in_ok-group.ensures.on_success in
     let verdict : verdict_of (policies_of own) row.note ≡ true = sym (c.samples.ensures ∙ ap (λ (ps : List PolicySpec). verdict_of (map policy_view ps) row.note) c.as_slice-policies.ensures.value) ∙ c.if-samples.true in
-    let most : own.rows.decided + 1 ≤ own.rows.opened = let some = c.requires.some in omega (arith, some) in
+    let most : own.rows.decided + 1 ≤ own.rows.opened = let some = c.requires.row_undecided in omega (arith, some) in
     let kept_keys : c.keep_row.result ≡ row.keys = c.keep_row.ensures.keys ∙ ap (λ (o : Option (Row TraceNote)). keys_of o) (sym c.in-Some.ensures) in
-    let sound1 : IsSound (one_decided (counts_in own)) (own.batcher.spans ++ row.keys) [] p1 =
-    subst (λ (ks : List ℕ). IsSound (one_decided (counts_in own)) (own.batcher.spans ++ ks) [] p1) kept_keys (c.keep_row.ensures.sound (counts_in own) own.batcher.spans [] refl most c.requires.held.sound) in
+    let sound1 : StoreInvariant (one_decided (counts_in own)) (own.batcher.spans ++ row.keys) [] p1 =
+    subst (λ (ks : List ℕ). StoreInvariant (one_decided (counts_in own)) (own.batcher.spans ++ ks) [] p1) kept_keys (c.keep_row.ensures.store_invariant (counts_in own) own.batcher.spans [] refl most c.requires.invariant.sound) in
     let shows1 : view (one_decided (counts_in own)) (own.batcher.spans ++ row.keys) p1 ≡ first_kept (view_in own p) =
-    subst (λ (ks : List ℕ). view (one_decided (counts_in own)) (own.batcher.spans ++ ks) p1 ≡ first_kept (view_in own p)) kept_keys (c.keep_row.ensures.shows (counts_in own) own.batcher.spans [] own.batcher.spans refl most c.requires.held.sound) in
+    subst (λ (ks : List ℕ). view (one_decided (counts_in own)) (own.batcher.spans ++ ks) p1 ≡ first_kept (view_in own p)) kept_keys (c.keep_row.ensures.shows (counts_in own) own.batcher.spans [] own.batcher.spans refl most c.requires.invariant.sound) in
     let all : (key : ℕ) → count key c.as_slice-gone.result.now + count key mid.batcher.spans ≡ count key (own.batcher.spans ++ row.keys) = λ key.
     let gone = ap (count key) c.as_slice-gone.ensures.value in
     let made = c.in_ok-group.ensures.gone key in
@@ -113,12 +113,12 @@ returns-in-Ok-clause-ok c =
     let ks = ap (count key) keys in
     let both = count-append key own.batcher.spans row.keys in
     omega (arith, gone, made, none, ks, both) in
-    let sound = c.flush.ensures.sound (one_decided (counts_in own)) (own.batcher.spans ++ row.keys) mid.batcher.spans [] all sound1 in
+    let sound = c.flush.ensures.store_invariant (one_decided (counts_in own)) (own.batcher.spans ++ row.keys) mid.batcher.spans [] all sound1 in
     let shows = c.flush.ensures.shows (one_decided (counts_in own)) (own.batcher.spans ++ row.keys) mid.batcher.spans [] mid.batcher.spans all sound1 (λ key. omega arith) in
-    let change = c.keep_row.ensures.own in
+    let change = c.keep_row.ensures.own_part in
     let kept_caches : mid.caches ≡ own.caches = ap (λ (x : Pipeline). x.caches) groups.same in
     let remembers : shown c.put.new.self ≡ noted_in true row.trace (shown own.caches) = c.in-Ok.ensures.shown ∙ ap (λ (k : CachesData). noted_in true row.trace (shown k)) kept_caches in
-    let ran = keep_all own p q c.requires.held row f.rest f.waiting f.noted c.requires.first f.fits f.after c.put.new.self remembers mid p1 verdict groups change.spans change.texts shows1 shows sound in
+    let ran = keep_all own p q c.requires.invariant row f.rest f.waiting f.noted c.requires.first f.fits f.after c.put.new.self remembers mid p1 verdict groups change.spans change.texts shows1 shows sound in
     let caches : CachesData = c.put.new.self in
     let new : Pipeline = record mid { rows = record mid.rows { decided = own.rows.decided + 1 }; clock = row.due; caches = caches } in
     let is : c.pass.new.self ≡ new = c.pass.ensures in
@@ -127,24 +127,24 @@ returns-in-Ok-clause-ok c =
     subst (λ (x : Pipeline). state_in x c.flush.new.self ≡ decide s.waiting s) (sym is)
     (subst (λ (t : ℕ). state_of new (part t c.flush.new.self) ≡ decide s.waiting s) (sym tenant) ran.state)
 
-pub returns-in-Ok-clause-held : goal.returns-in-Ok-clause-held
-returns-in-Ok-clause-held c =
+pub returns-in-Ok-clause-invariant : goal.returns-in-Ok-clause-invariant
+returns-in-Ok-clause-invariant c =
     let own = c.args.self.now in
     let p = part own.tenant c.args.stores.now in
     let row = c.in-Some.row.now in
-    let f = first_row own p c.requires.held row c.requires.some c.in-Some.ensures c.requires.first c.requires.fits in
+    let f = first_row own p c.requires.invariant row c.requires.row_undecided c.in-Some.ensures c.requires.first c.requires.fits in
     let keys : c.as_slice-keys.result.now ≡ row.keys = c.as_slice-keys.ensures in
     let mid = c.group.new.self in
     let q = part own.tenant c.flush.new.self in
     let p1 = part own.tenant c.keep_row.new.self in
-    let groups : Groups row.due row.keys p own mid = subst (λ (ks : List ℕ). Groups row.due ks p own mid) keys c.in_ok-group.ensures.ok in
+    let groups : Groups row.due row.keys p own mid = subst (λ (ks : List ℕ). Groups row.due ks p own mid) keys c.in_ok-group.ensures.on_success in
     let verdict : verdict_of (policies_of own) row.note ≡ true = sym (c.samples.ensures ∙ ap (λ (ps : List PolicySpec). verdict_of (map policy_view ps) row.note) c.as_slice-policies.ensures.value) ∙ c.if-samples.true in
-    let most : own.rows.decided + 1 ≤ own.rows.opened = let some = c.requires.some in omega (arith, some) in
+    let most : own.rows.decided + 1 ≤ own.rows.opened = let some = c.requires.row_undecided in omega (arith, some) in
     let kept_keys : c.keep_row.result ≡ row.keys = c.keep_row.ensures.keys ∙ ap (λ (o : Option (Row TraceNote)). keys_of o) (sym c.in-Some.ensures) in
-    let sound1 : IsSound (one_decided (counts_in own)) (own.batcher.spans ++ row.keys) [] p1 =
-    subst (λ (ks : List ℕ). IsSound (one_decided (counts_in own)) (own.batcher.spans ++ ks) [] p1) kept_keys (c.keep_row.ensures.sound (counts_in own) own.batcher.spans [] refl most c.requires.held.sound) in
+    let sound1 : StoreInvariant (one_decided (counts_in own)) (own.batcher.spans ++ row.keys) [] p1 =
+    subst (λ (ks : List ℕ). StoreInvariant (one_decided (counts_in own)) (own.batcher.spans ++ ks) [] p1) kept_keys (c.keep_row.ensures.store_invariant (counts_in own) own.batcher.spans [] refl most c.requires.invariant.sound) in
     let shows1 : view (one_decided (counts_in own)) (own.batcher.spans ++ row.keys) p1 ≡ first_kept (view_in own p) =
-    subst (λ (ks : List ℕ). view (one_decided (counts_in own)) (own.batcher.spans ++ ks) p1 ≡ first_kept (view_in own p)) kept_keys (c.keep_row.ensures.shows (counts_in own) own.batcher.spans [] own.batcher.spans refl most c.requires.held.sound) in
+    subst (λ (ks : List ℕ). view (one_decided (counts_in own)) (own.batcher.spans ++ ks) p1 ≡ first_kept (view_in own p)) kept_keys (c.keep_row.ensures.shows (counts_in own) own.batcher.spans [] own.batcher.spans refl most c.requires.invariant.sound) in
     let all : (key : ℕ) → count key c.as_slice-gone.result.now + count key mid.batcher.spans ≡ count key (own.batcher.spans ++ row.keys) = λ key.
     let gone = ap (count key) c.as_slice-gone.ensures.value in
     let made = c.in_ok-group.ensures.gone key in
@@ -152,77 +152,77 @@ returns-in-Ok-clause-held c =
     let ks = ap (count key) keys in
     let both = count-append key own.batcher.spans row.keys in
     omega (arith, gone, made, none, ks, both) in
-    let sound = c.flush.ensures.sound (one_decided (counts_in own)) (own.batcher.spans ++ row.keys) mid.batcher.spans [] all sound1 in
+    let sound = c.flush.ensures.store_invariant (one_decided (counts_in own)) (own.batcher.spans ++ row.keys) mid.batcher.spans [] all sound1 in
     let shows = c.flush.ensures.shows (one_decided (counts_in own)) (own.batcher.spans ++ row.keys) mid.batcher.spans [] mid.batcher.spans all sound1 (λ key. omega arith) in
-    let change = c.keep_row.ensures.own in
+    let change = c.keep_row.ensures.own_part in
     let kept_caches : mid.caches ≡ own.caches = ap (λ (x : Pipeline). x.caches) groups.same in
     let remembers : shown c.put.new.self ≡ noted_in true row.trace (shown own.caches) = c.in-Ok.ensures.shown ∙ ap (λ (k : CachesData). noted_in true row.trace (shown k)) kept_caches in
-    let ran = keep_all own p q c.requires.held row f.rest f.waiting f.noted c.requires.first f.fits f.after c.put.new.self remembers mid p1 verdict groups change.spans change.texts shows1 shows sound in
+    let ran = keep_all own p q c.requires.invariant row f.rest f.waiting f.noted c.requires.first f.fits f.after c.put.new.self remembers mid p1 verdict groups change.spans change.texts shows1 shows sound in
     let caches : CachesData = c.put.new.self in
     let new : Pipeline = record mid { rows = record mid.rows { decided = own.rows.decided + 1 }; clock = row.due; caches = caches } in
     let is : c.pass.new.self ≡ new = c.pass.ensures in
     let tenant : mid.tenant ≡ own.tenant = ap (λ (x : Pipeline). x.tenant) groups.same in
-    subst (λ (x : Pipeline). IsHeldBy x (part_in x c.flush.new.self)) (sym is)
-    (subst (λ (t : ℕ). IsHeldBy new (part t c.flush.new.self)) (sym tenant) ran.held)
+    subst (λ (x : Pipeline). PipelineInvariantBy x (part_in x c.flush.new.self)) (sym is)
+    (subst (λ (t : ℕ). PipelineInvariantBy new (part t c.flush.new.self)) (sym tenant) ran.held)
 
-pub returns-clause-ok : goal.returns-clause-ok
-returns-clause-ok c =
+pub returns-clause-on_success : goal.returns-clause-on_success
+returns-clause-on_success c =
     let own = c.args.self.now in
     let p = part own.tenant c.args.stores.now in
     let row = c.in-Some.row.now in
-    let f = first_row own p c.requires.held row c.requires.some c.in-Some.ensures c.requires.first c.requires.fits in
+    let f = first_row own p c.requires.invariant row c.requires.row_undecided c.in-Some.ensures c.requires.first c.requires.fits in
     let q = part own.tenant c.drop_row-spans.new.self in
     let n = c.drop_row-spans.result in
     let verdict : verdict_of (policies_of own) row.note ≡ false = sym (c.samples.ensures ∙ ap (λ (ps : List PolicySpec). verdict_of (map policy_view ps) row.note) c.as_slice-policies.ensures.value) ∙ c.if-samples.false in
-    let most : own.rows.decided + 1 ≤ own.rows.opened = let some = c.requires.some in omega (arith, some) in
+    let most : own.rows.decided + 1 ≤ own.rows.opened = let some = c.requires.row_undecided in omega (arith, some) in
     let size : n ≡ length (arrivals_at p row.keys) = c.drop_row-spans.ensures.size ∙ (ap (λ (o : Option (Row TraceNote)). length (keys_of o)) (sym c.in-Some.ensures) ∙ sym f.size) in
-    let sound = c.drop_row-spans.ensures.sound (counts_in own) own.batcher.spans [] refl most c.requires.held.sound in
-    let shows = c.drop_row-spans.ensures.shows (counts_in own) own.batcher.spans [] own.batcher.spans refl most c.requires.held.sound (λ key. omega arith) in
+    let sound = c.drop_row-spans.ensures.store_invariant (counts_in own) own.batcher.spans [] refl most c.requires.invariant.sound in
+    let shows = c.drop_row-spans.ensures.shows (counts_in own) own.batcher.spans [] own.batcher.spans refl most c.requires.invariant.sound (λ key. omega arith) in
     let caches : CachesData = c.put-2.new.self in
     let remembers : shown caches ≡ noted_in false row.trace (shown own.caches) = c.in_ok-put.ensures.shown in
-    let ran = drop_all own p q c.requires.held row f.rest f.waiting f.noted c.requires.first f.fits f.after caches remembers n size verdict sound shows in
+    let ran = drop_all own p q c.requires.invariant row f.rest f.waiting f.noted c.requires.first f.fits f.after caches remembers n size verdict sound shows in
     let is : c.pass-2.new.self ≡ record own { rows = record own.rows { decided = own.rows.decided + 1 }; clock = row.due; ledger = moved Undecided NotSampled n own.ledger; caches = caches } =
     c.pass-2.ensures ∙ ap (λ (l : LedgerData). let y : Pipeline = record own { rows = record own.rows { decided = own.rows.decided + 1 }; clock = row.due; ledger = l; caches = caches } in y) c.move_spans.ensures in
     let s = state_in own c.args.stores.now in
     subst (λ (x : Pipeline). state_in x c.drop_row-spans.new.self ≡ decide s.waiting s) (sym is) ran.state
 
-pub returns-clause-held : goal.returns-clause-held
-returns-clause-held c =
+pub returns-clause-invariant : goal.returns-clause-invariant
+returns-clause-invariant c =
     let own = c.args.self.now in
     let p = part own.tenant c.args.stores.now in
     let row = c.in-Some.row.now in
-    let f = first_row own p c.requires.held row c.requires.some c.in-Some.ensures c.requires.first c.requires.fits in
+    let f = first_row own p c.requires.invariant row c.requires.row_undecided c.in-Some.ensures c.requires.first c.requires.fits in
     let q = part own.tenant c.drop_row-spans.new.self in
     let n = c.drop_row-spans.result in
     let verdict : verdict_of (policies_of own) row.note ≡ false = sym (c.samples.ensures ∙ ap (λ (ps : List PolicySpec). verdict_of (map policy_view ps) row.note) c.as_slice-policies.ensures.value) ∙ c.if-samples.false in
-    let most : own.rows.decided + 1 ≤ own.rows.opened = let some = c.requires.some in omega (arith, some) in
+    let most : own.rows.decided + 1 ≤ own.rows.opened = let some = c.requires.row_undecided in omega (arith, some) in
     let size : n ≡ length (arrivals_at p row.keys) = c.drop_row-spans.ensures.size ∙ (ap (λ (o : Option (Row TraceNote)). length (keys_of o)) (sym c.in-Some.ensures) ∙ sym f.size) in
-    let sound = c.drop_row-spans.ensures.sound (counts_in own) own.batcher.spans [] refl most c.requires.held.sound in
-    let shows = c.drop_row-spans.ensures.shows (counts_in own) own.batcher.spans [] own.batcher.spans refl most c.requires.held.sound (λ key. omega arith) in
+    let sound = c.drop_row-spans.ensures.store_invariant (counts_in own) own.batcher.spans [] refl most c.requires.invariant.sound in
+    let shows = c.drop_row-spans.ensures.shows (counts_in own) own.batcher.spans [] own.batcher.spans refl most c.requires.invariant.sound (λ key. omega arith) in
     let caches : CachesData = c.put-2.new.self in
     let remembers : shown caches ≡ noted_in false row.trace (shown own.caches) = c.in_ok-put.ensures.shown in
-    let ran = drop_all own p q c.requires.held row f.rest f.waiting f.noted c.requires.first f.fits f.after caches remembers n size verdict sound shows in
+    let ran = drop_all own p q c.requires.invariant row f.rest f.waiting f.noted c.requires.first f.fits f.after caches remembers n size verdict sound shows in
     let is : c.pass-2.new.self ≡ record own { rows = record own.rows { decided = own.rows.decided + 1 }; clock = row.due; ledger = moved Undecided NotSampled n own.ledger; caches = caches } =
     c.pass-2.ensures ∙ ap (λ (l : LedgerData). let y : Pipeline = record own { rows = record own.rows { decided = own.rows.decided + 1 }; clock = row.due; ledger = l; caches = caches } in y) c.move_spans.ensures in
-    subst (λ (x : Pipeline). IsHeldBy x (part_in x c.drop_row-spans.new.self)) (sym is) ran.held
+    subst (λ (x : Pipeline). PipelineInvariantBy x (part_in x c.drop_row-spans.new.self)) (sym is) ran.held
 
 pub move_spans-requires : goal.move_spans-requires
 move_spans-requires c =
     let own = c.args.self.now in
     let p = part own.tenant c.args.stores.now in
     let row = c.in-Some.row.now in
-    let f = first_row own p c.requires.held row c.requires.some c.in-Some.ensures c.requires.first c.requires.fits in
+    let f = first_row own p c.requires.invariant row c.requires.row_undecided c.in-Some.ensures c.requires.first c.requires.fits in
     let size = c.drop_row-spans.ensures.size ∙ ap (λ (o : Option (Row TraceNote)). length (keys_of o)) (sym c.in-Some.ensures) in let few = f.undecided in omega (arith, size, few)
 
-pub returns-in-Ok-clause-others : goal.returns-in-Ok-clause-others
-returns-in-Ok-clause-others c = λ other ne. c.flush.ensures.others other ne ∙ c.keep_row.ensures.others other ne
+pub returns-in-Ok-clause-others_unchanged : goal.returns-in-Ok-clause-others_unchanged
+returns-in-Ok-clause-others_unchanged c = λ other ne. c.flush.ensures.others_unchanged other ne ∙ c.keep_row.ensures.others_unchanged other ne
 
 pub returns-in-Ok-clause-clock : goal.returns-in-Ok-clause-clock
 returns-in-Ok-clause-clock c = λ moment le all.
     let own = c.args.self.now in
     let p = part own.tenant c.args.stores.now in
     let row = c.in-Some.row.now in
-    let f = first_row own p c.requires.held row c.requires.some c.in-Some.ensures c.requires.first c.requires.fits in
+    let f = first_row own p c.requires.invariant row c.requires.row_undecided c.in-Some.ensures c.requires.first c.requires.fits in
     let due = ap (λ (ws : List (WaitingRow TraceNote)). first_due (map waiting_of ws)) f.waiting in
     let by = all row.due due in
     let clock = ap (λ (x : Pipeline). x.clock) c.pass.ensures in
@@ -233,20 +233,20 @@ returns-clause-clock c = λ moment le all.
     let own = c.args.self.now in
     let p = part own.tenant c.args.stores.now in
     let row = c.in-Some.row.now in
-    let f = first_row own p c.requires.held row c.requires.some c.in-Some.ensures c.requires.first c.requires.fits in
+    let f = first_row own p c.requires.invariant row c.requires.row_undecided c.in-Some.ensures c.requires.first c.requires.fits in
     let due = ap (λ (ws : List (WaitingRow TraceNote)). first_due (map waiting_of ws)) f.waiting in
     let by = all row.due due in
     let clock = ap (λ (x : Pipeline). x.clock) c.pass-2.ensures in
     omega (arith, by, clock)
 
 pub returns-in_err-group-clause-swept : goal.returns-in_err-group-clause-swept
-returns-in_err-group-clause-swept c = λ is. swept_back c.args.self.now c.group.new.self c.in_err-group.ensures.refused is
+returns-in_err-group-clause-swept c = λ is. swept_back c.args.self.now c.group.new.self c.in_err-group.ensures.on_refusal is
 
 pub returns-in-Ok-clause-swept : goal.returns-in-Ok-clause-swept
 returns-in-Ok-clause-swept c = λ is.
     let mid = c.group.new.self in
     let passed : Pipeline = record mid { rows = record mid.rows { decided = c.args.self.now.rows.decided + 1 }; clock = c.in-Some.row.now.due; caches = c.put.new.self } in
-    swept_back passed c.pass.new.self c.pass.ensures (swept_same c.args.self.now mid (ap (λ (x : Pipeline). x.rows) c.in_ok-group.ensures.ok.same) is)
+    swept_back passed c.pass.new.self c.pass.ensures (swept_same c.args.self.now mid (ap (λ (x : Pipeline). x.rows) c.in_ok-group.ensures.on_success.same) is)
 
 pub returns-clause-swept : goal.returns-clause-swept
 returns-clause-swept c = λ is.
@@ -257,54 +257,54 @@ returns-clause-swept c = λ is.
 -- ---- where the cache was refused memory
 
 pub put-requires : goal.put-requires
-put-requires c = record { none = ap (λ (x : Pipeline). x.caches.hits) c.in_ok-group.ensures.ok.same ∙ c.requires.no_hits }
+put-requires c = record { none = ap (λ (x : Pipeline). x.caches.hits) c.in_ok-group.ensures.on_success.same ∙ c.requires.no_hits }
 
 pub take_back-requires : goal.take_back-requires
 take_back-requires c =
     let own = c.args.self.now in
     let back = c.in_ok-group.ensures.back own c.of-undo.ensures.back in
-    record { sound = subst (λ (l : LedgerData). ledger.IsSound l) (sym back.ledger) c.requires.held.counted.sound }
+    record { ledger_invariant = subst (λ (l : LedgerData). ledger.LedgerInvariant l) (sym back.ledger) c.requires.invariant.counted.sound }
 
-pub returns-in-Err-clause-refused : goal.returns-in-Err-clause-refused
-returns-in-Err-clause-refused c =
+pub returns-in-Err-clause-on_refusal : goal.returns-in-Err-clause-on_refusal
+returns-in-Err-clause-on_refusal c =
     let back = c.in_ok-group.ensures.back c.args.self.now c.of-undo.ensures.back in
-    let same = back_to c.args.self.now c.group.new.self c.take_back.new.self c.group.new.undo c.put.new.self c.in-Err.ensures.refused back c.take_back.ensures in
+    let same = back_to c.args.self.now c.group.new.self c.take_back.new.self c.group.new.undo c.put.new.self c.in-Err.ensures.on_refusal back c.take_back.ensures in
     ap (λ (x : Pipeline). state_in x c.args.stores.now) same
 
-pub returns-in-Err-clause-held : goal.returns-in-Err-clause-held
-returns-in-Err-clause-held c =
+pub returns-in-Err-clause-invariant : goal.returns-in-Err-clause-invariant
+returns-in-Err-clause-invariant c =
     let back = c.in_ok-group.ensures.back c.args.self.now c.of-undo.ensures.back in
-    let same = back_to c.args.self.now c.group.new.self c.take_back.new.self c.group.new.undo c.put.new.self c.in-Err.ensures.refused back c.take_back.ensures in
-    subst (λ (x : Pipeline). IsHeldBy x (part_in x c.args.stores.now)) (sym same) c.requires.held
+    let same = back_to c.args.self.now c.group.new.self c.take_back.new.self c.group.new.undo c.put.new.self c.in-Err.ensures.on_refusal back c.take_back.ensures in
+    subst (λ (x : Pipeline). PipelineInvariantBy x (part_in x c.args.stores.now)) (sym same) c.requires.invariant
 
 pub returns-in-Err-clause-tenant : goal.returns-in-Err-clause-tenant
 returns-in-Err-clause-tenant c =
     let back = c.in_ok-group.ensures.back c.args.self.now c.of-undo.ensures.back in
-    let same = back_to c.args.self.now c.group.new.self c.take_back.new.self c.group.new.undo c.put.new.self c.in-Err.ensures.refused back c.take_back.ensures in
+    let same = back_to c.args.self.now c.group.new.self c.take_back.new.self c.group.new.undo c.put.new.self c.in-Err.ensures.on_refusal back c.take_back.ensures in
     ap (λ (x : Pipeline). x.tenant) same
 
 pub returns-in-Err-clause-section : goal.returns-in-Err-clause-section
 returns-in-Err-clause-section c =
     let back = c.in_ok-group.ensures.back c.args.self.now c.of-undo.ensures.back in
-    let same = back_to c.args.self.now c.group.new.self c.take_back.new.self c.group.new.undo c.put.new.self c.in-Err.ensures.refused back c.take_back.ensures in
+    let same = back_to c.args.self.now c.group.new.self c.take_back.new.self c.group.new.undo c.put.new.self c.in-Err.ensures.on_refusal back c.take_back.ensures in
     ap (λ (x : Pipeline). x.section) same
 
 pub returns-in-Err-clause-swept : goal.returns-in-Err-clause-swept
 returns-in-Err-clause-swept c = λ is.
     let back = c.in_ok-group.ensures.back c.args.self.now c.of-undo.ensures.back in
-    let same = back_to c.args.self.now c.group.new.self c.take_back.new.self c.group.new.undo c.put.new.self c.in-Err.ensures.refused back c.take_back.ensures in
+    let same = back_to c.args.self.now c.group.new.self c.take_back.new.self c.group.new.undo c.put.new.self c.in-Err.ensures.on_refusal back c.take_back.ensures in
     swept_back c.args.self.now c.take_back.new.self same is
 
 pub returns-in-Err-clause-clock : goal.returns-in-Err-clause-clock
 returns-in-Err-clause-clock c = λ moment le all.
     let back = c.in_ok-group.ensures.back c.args.self.now c.of-undo.ensures.back in
-    let same = back_to c.args.self.now c.group.new.self c.take_back.new.self c.group.new.undo c.put.new.self c.in-Err.ensures.refused back c.take_back.ensures in
+    let same = back_to c.args.self.now c.group.new.self c.take_back.new.self c.group.new.undo c.put.new.self c.in-Err.ensures.on_refusal back c.take_back.ensures in
     let clock = ap (λ (x : Pipeline). x.clock) same in omega (arith, le, clock)
 
-pub returns-in_err-put-clause-refused : goal.returns-in_err-put-clause-refused
-returns-in_err-put-clause-refused c =
-    on_err c.from_residual-in_err-put.result (ap (λ (k : CachesData). let x : Pipeline = record (c.args.self.now) { caches = k } in state_in x c.args.stores.now) c.in_err-put.ensures.refused)
+pub returns-in_err-put-clause-on_refusal : goal.returns-in_err-put-clause-on_refusal
+returns-in_err-put-clause-on_refusal c =
+    on_err c.from_residual-in_err-put.result (ap (λ (k : CachesData). let x : Pipeline = record (c.args.self.now) { caches = k } in state_in x c.args.stores.now) c.in_err-put.ensures.on_refusal)
 
-pub returns-in_err-put-clause-held : goal.returns-in_err-put-clause-held
-returns-in_err-put-clause-held c =
-    subst (λ (k : CachesData). let x : Pipeline = record (c.args.self.now) { caches = k } in IsHeldBy x (part_in x c.args.stores.now)) (sym c.in_err-put.ensures.refused) c.requires.held
+pub returns-in_err-put-clause-invariant : goal.returns-in_err-put-clause-invariant
+returns-in_err-put-clause-invariant c =
+    subst (λ (k : CachesData). let x : Pipeline = record (c.args.self.now) { caches = k } in PipelineInvariantBy x (part_in x c.args.stores.now)) (sym c.in_err-put.ensures.on_refusal) c.requires.invariant

@@ -13,6 +13,6 @@ returns c =
     let own = c.args.self.now in
     let p = part_in own c.args.stores.now in
     let some : own.rows.decided < own.rows.opened = omega arith in
-    let f = first_is_shown TraceNote (counts_in own) own.batcher.spans [] p c.requires.held.sound some in
+    let f = first_is_shown TraceNote (counts_in own) own.batcher.spans [] p c.requires.invariant.sound some in
     let row : Some c.in-Some.row.now ≡ Some f.row = c.in-Some.ensures ∙ f.there in
     ap (λ (o : Option (Row TraceNote)). option_map (λ r. r.due) o) row ∙ sym (ap (λ (ws : List (WaitingRow TraceNote)). first_due (map waiting_of ws)) f.waiting)

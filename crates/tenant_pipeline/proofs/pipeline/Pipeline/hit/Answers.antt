@@ -27,14 +27,14 @@ either (Err x) p q f g = g q
 pub push_hit-requires : goal.push_hit-requires
 push_hit-requires c =
     let known : found c.args.span.now.trace (shown c.args.self.now.caches) ≡ Some true = c.requires.known ∙ ap (λ (b : Bool). Some b) c.if-sampled.true in
-    record { there = ap (λ (k : CachesData). found c.args.span.now.trace (shown k)) c.in_ok-come_late.ensures.caches ∙ known }
+    record { there = ap (λ (k : CachesData). found c.args.span.now.trace (shown k)) c.in_ok-admit_late.ensures.caches ∙ known }
 
 pub returns-then-sampled-clause-came : goal.returns-then-sampled-clause-came
 returns-then-sampled-clause-came c =
     let own = c.args.self.now in
-    let mid = c.come_late.new.self in
+    let mid = c.admit_late.new.self in
     let p = part_in own c.args.stores.now in
-    let q = part_in mid c.come_late.new.stores in
+    let q = part_in mid c.admit_late.new.stores in
     let m = c.args.moment in
     let x = arrival_at p c.args.keys c.args.span.now.text in
     let trace = c.requires.coming.1.trace in
@@ -44,22 +44,22 @@ returns-then-sampled-clause-came c =
     (λ (noted : shown caches ≡ noted_in true c.args.span.now.trace (shown mid.caches)).
     let here : shown caches ≡ noted_in true (trace_of x) (shown mid.caches) = noted ∙ ap (λ (i : List ℕ). noted_in true i (shown mid.caches)) trace in
     came_before mid q caches true (trace_of x) here (λ (s : State). grouped Undecided m (x ∷ []) (counted_in s)) (λ (s : State). cached_or_opens m x (Some c.args.sampled) (counted_in s))
-    m c.args.journal.now c.come_late.new.journal own p (group_hits m x (trace_of x) t ∙ ap (λ (b : Bool). cached_or_opens m x (Some b) t) (sym c.if-sampled.true)) c.in_ok-come_late.ensures.came)
+    m c.args.journal.now c.admit_late.new.journal own p (group_hits m x (trace_of x) t ∙ ap (λ (b : Bool). cached_or_opens m x (Some b) t) (sym c.if-sampled.true)) c.in_ok-admit_late.ensures.came)
     c.push_hit.ensures.shown
 
 pub returns-then-sampled-clause-written : goal.returns-then-sampled-clause-written
 returns-then-sampled-clause-written c = λ start first written.
-    let mid = c.come_late.new.self in
-    let q = part_in mid c.come_late.new.stores in
+    let mid = c.admit_late.new.self in
+    let q = part_in mid c.admit_late.new.stores in
     let caches : CachesData = c.push_hit.new.self in
-    let journal = c.come_late.new.journal in
-    let there : IsWritten journal start mid first q = c.in_ok-come_late.ensures.written start first written in
-    either c.push_hit.result c.push_hit.ensures.hits c.push_hit.ensures.refused
+    let journal = c.admit_late.new.journal in
+    let there : IsWritten journal start mid first q = c.in_ok-admit_late.ensures.written start first written in
+    either c.push_hit.result c.push_hit.ensures.hits c.push_hit.ensures.on_refusal
     (λ (is : caches ≡ record (mid.caches) { hits = mid.caches.hits ++ (c.args.span.now.trace, true) ∷ [] }). hit_written journal start mid first q (c.args.span.now.trace, true) caches is there)
     (λ (is : caches ≡ mid.caches). subst (λ (k : CachesData). let o : Pipeline = record mid { caches = k } in IsWritten journal start o first q) (sym is) there)
 
 pub returns-then-sampled-clause-same : goal.returns-then-sampled-clause-same
-returns-then-sampled-clause-same c = same_cached c.args.self.now c.come_late.new.self c.push_hit.new.self c.in_ok-come_late.ensures.same
+returns-then-sampled-clause-same c = same_cached c.args.self.now c.admit_late.new.self c.push_hit.new.self c.in_ok-admit_late.ensures.same
 
 -- ---- of one that wasn't
 
@@ -70,7 +70,7 @@ pub returns-in_err-push_hit-clause-written : goal.returns-in_err-push_hit-clause
 returns-in_err-push_hit-clause-written c = λ start first written.
     let own = c.args.self.now in
     let p = part_in own c.args.stores.now in
-    subst (λ (k : CachesData). let o : Pipeline = record own { caches = k } in IsWritten c.args.journal.now start o first p) (sym c.in_err-push_hit.ensures.refused) written
+    subst (λ (k : CachesData). let o : Pipeline = record own { caches = k } in IsWritten c.args.journal.now start o first p) (sym c.in_err-push_hit.ensures.on_refusal) written
 
 pub returns-clause-came : goal.returns-clause-came
 returns-clause-came c =

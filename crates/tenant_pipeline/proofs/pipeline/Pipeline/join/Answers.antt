@@ -5,13 +5,13 @@ use Rattle.span_pool.specs.declared.keys.TextKeys.{TextKeys}
 use Rattle.tail_policy.specs.declared.note.TraceNote.{TraceNote}
 use Rattle.trace_rows.specs.declared.table.Row.{Row}
 use Rattle.trace_rows.specs.Part as rows
-use Rattle.tenant_stores.specs.declared.placed.Placed.{Placed}
-use Rattle.tenant_stores.specs.declared.placed.Placed.TheVariants.{Joined}
+use Rattle.tenant_stores.specs.declared.undo.UndoEntry.{UndoEntry}
+use Rattle.tenant_stores.specs.declared.undo.UndoEntry.TheVariants.{Joined}
 use Rattle.tenant_stores.specs.Changes.{Joins, ReleasesAll}
 use Rattle.tenant_stores.specs.Counts.{Counts}
 use Rattle.tenant_stores.specs.Part.{Part, part}
 use Rattle.tenant_stores.specs.Shows.{AreAmong, with_joined}
-use Rattle.tenant_stores.specs.Sound.{IsSound}
+use Rattle.tenant_stores.specs.Invariant.{StoreInvariant}
 use Rattle.tenant_stores.specs.Trail.{Trail}
 use Rattle.tenant_stores.specs.View.{text_at, text_keys, view}
 use Rattle.tenant_stores.proofs.Seats.{seat_shows}
@@ -31,7 +31,7 @@ unreachable-requires c =
     let own = c.args.self.now in
     let p = part own.tenant c.args.stores.now in
     let coming = c.requires.coming in
-    let shows = (seat_shows (counts_in own) (c.args.journal.now.undo.gone.items ++ own.batcher.spans) coming.0 p c.args.span.now.trace coming.1.posting.holds.sound).waits c.args.number c.requires.seat c.requires.waits in
+    let shows = (seat_shows (counts_in own) (c.args.journal.now.undo.gone.items ++ own.batcher.spans) coming.0 p c.args.span.now.trace coming.1.posting.holds.sound).waits c.args.number c.requires.latest_row c.requires.waits in
     let clash : Path (Option (Row TraceNote)) None (Some shows.row) = c.in_default.ensures ∙ shows.there in
     absurd (cc)
 
@@ -39,7 +39,7 @@ pub returns-in_err-keyed-clause-written : goal.returns-in_err-keyed-clause-writt
 returns-in_err-keyed-clause-written c = λ start first written.
     let own = c.args.self.now in
     let coming = c.requires.coming in
-    let same = c.in_err-keyed.ensures.refused (counts_in own) (c.args.journal.now.undo.gone.items ++ own.batcher.spans) coming.0 coming.1.among coming.1.posting.holds.sound in
+    let same = c.in_err-keyed.ensures.on_refusal (counts_in own) (c.args.journal.now.undo.gone.items ++ own.batcher.spans) coming.0 coming.1.among coming.1.posting.holds.sound in
     subst (λ (x : Part TraceNote). IsWritten c.args.journal.now start own first x) (sym same) written
 
 pub returns-in-Ok-clause-came : goal.returns-in-Ok-clause-came
@@ -56,16 +56,16 @@ returns-in-Ok-clause-came c =
     let span = c.args.span.now in
     let k = c.in_ok-keyed.keyed in
     let e = c.in_ok-keyed.ensures in
-    let keyed : IsKeyed c.args.keys span.text p mid k = record { text_is = e.text; holds = e.own; sound = e.sound; origin = e.texts; shows = e.shows; stay = e.stay } in
+    let keyed : IsKeyed c.args.keys span.text p mid k = record { text_is = e.text; holds = e.uses_added; sound = e.store_invariant; origin = e.texts; shows = e.shows; stay = e.stay } in
     let ready : IsReady own p mid journal c.args.keys span.text k = ready_now own p mid c.args.moment journal c.args.keys span.text coming.0 k coming.1.posting coming.1.among keyed in
     let note = c.joined-note.result in
-    let change = subst (λ (u : ℕ). Joins c.args.number c.in-Ok.joining.key k note (part u S1) (part u S2)) e.owner c.in-Ok.ensures.own in
-    let sound = subst (λ (u : ℕ). (n : Counts) (pending others : List ℕ) → n.decided < c.args.number → c.args.number ≤ n.opened → IsSound n pending (text_keys k.keys ++ others) (part u S1) → IsSound n pending others (part u S2)) e.owner c.in-Ok.ensures.sound in
-    let shows = subst (λ (u : ℕ). (n : Counts) (pending others shown trace : List ℕ) → IsSound n pending others (part u S1) → AreAmong shown pending → (part u S1).seats trace ≡ Some c.args.number → n.decided < c.args.number →
+    let change = subst (λ (u : ℕ). Joins c.args.number c.in-Ok.joining.key k note (part u S1) (part u S2)) e.owner c.in-Ok.ensures.own_part in
+    let sound = subst (λ (u : ℕ). (n : Counts) (pending others : List ℕ) → n.decided < c.args.number → c.args.number ≤ n.opened → StoreInvariant n pending (text_keys k.keys ++ others) (part u S1) → StoreInvariant n pending others (part u S2)) e.owner c.in-Ok.ensures.store_invariant in
+    let shows = subst (λ (u : ℕ). (n : Counts) (pending others shown trace : List ℕ) → StoreInvariant n pending others (part u S1) → AreAmong shown pending → (part u S1).latest_rows trace ≡ Some c.args.number → n.decided < c.args.number →
     view n shown (part u S2) ≡ with_joined trace (texts_of (text_at (part u S1).texts) k) note (view n shown (part u S1))) e.owner c.in-Ok.ensures.shows in
     let journal' : Journal = record { placed = c.push_reserved.new.self; undo = journal.undo; hits = journal.hits } in
     let came = join_came own p mid q c.args.moment journal c.args.keys span coming.0 coming.1 k ready c.args.number c.in-Ok.joining.key note c.in-Some.row.now
-    c.requires.seat c.requires.waits (sym c.in-Some.ensures) c.joined-note.ensures change sound shows c.requires.fits c.requires.budget journal' refl in
+    c.requires.latest_row c.requires.waits (sym c.in-Some.ensures) c.joined-note.ensures change sound shows c.requires.fits c.requires.budget journal' refl in
     subst (λ (l : LedgerData). let o : Pipeline = record own { ledger = l } in Came (λ (s : State). joins (arrival_at p c.args.keys span.text) (counted_in s)) c.args.moment journal journal' own o p q) (sym c.take.ensures) came
 
 pub returns-in-Ok-clause-written : goal.returns-in-Ok-clause-written
@@ -83,21 +83,21 @@ returns-in-Ok-clause-written c = λ start first written.
     let note = c.joined-note.result in
     let row = c.in-Some.row.now in
     let there : p.rows c.args.number ≡ Some row = sym c.in-Some.ensures in
-    let holds = e.own (counts_in own) (c.args.journal.now.undo.gone.items ++ own.batcher.spans) coming.0 coming.1.among coming.1.posting.holds.sound in
-    let change = subst (λ (u : ℕ). Joins c.args.number c.in-Ok.joining.key k note (part u S1) (part u S2)) e.owner c.in-Ok.ensures.own in
+    let holds = e.uses_added (counts_in own) (c.args.journal.now.undo.gone.items ++ own.batcher.spans) coming.0 coming.1.among coming.1.posting.holds.sound in
+    let change = subst (λ (u : ℕ). Joins c.args.number c.in-Ok.joining.key k note (part u S1) (part u S2)) e.owner c.in-Ok.ensures.own_part in
     let former : c.in-Ok.joining.former ≡ row.note =
     c.in-Ok.ensures.former ∙ (ap (λ (u : ℕ). rows.note_of note ((part u S1).rows c.args.number)) e.owner
     ∙ (ap (λ (f : ℕ → Option (Row TraceNote)). rows.note_of note (f c.args.number)) holds.rows ∙ ap (rows.note_of note) there)) in
     record {
-      trail = subst (λ (xs : List (Placed TraceNote)). Trail first xs q) (sym c.push_reserved.ensures.items)
+      trail = subst (λ (xs : List (UndoEntry TraceNote)). Trail first xs q) (sym c.push_reserved.ensures.items)
           (trail_more first p q c.args.journal.now.placed.items (Joined c.args.number c.in-Ok.joining.key c.in-Ok.joining.former) written.trail (k, row, note, mid, there, sym former, holds, change));
       undo = takes_back c.args.journal.now.undo start (hits_undone c.args.journal.now.hits own) own.rows c.take.new.self written.undo;
       hits = written.hits;
     }
 
-pub returns-in-Ok-clause-others : goal.returns-in-Ok-clause-others
-returns-in-Ok-clause-others c = λ other ne.
-    c.join.ensures.others other (λ (is : other ≡ c.in_ok-keyed.keyed.owner). ne (is ∙ c.in_ok-keyed.ensures.owner)) ∙ c.keyed.ensures.others other ne
+pub returns-in-Ok-clause-others_unchanged : goal.returns-in-Ok-clause-others_unchanged
+returns-in-Ok-clause-others_unchanged c = λ other ne.
+    c.join.ensures.others_unchanged other (λ (is : other ≡ c.in_ok-keyed.keyed.owner). ne (is ∙ c.in_ok-keyed.ensures.owner)) ∙ c.keyed.ensures.others_unchanged other ne
 
 pub returns-in-Err-clause-written : goal.returns-in-Err-clause-written
 returns-in-Err-clause-written c = λ start first written.
@@ -110,12 +110,12 @@ returns-in-Err-clause-written c = λ start first written.
     let coming = c.requires.coming in
     let k = c.in_ok-keyed.keyed in
     let e = c.in_ok-keyed.ensures in
-    let holds = e.own (counts_in own) (c.args.journal.now.undo.gone.items ++ own.batcher.spans) coming.0 coming.1.among coming.1.posting.holds.sound in
-    let refused : part t c.join.new.self ≡ mid = subst (λ (u : ℕ). part u c.join.new.self ≡ part u S1) e.owner c.in-Err.ensures.refused in
-    let back = subst (λ (x : Part TraceNote). ReleasesAll (text_keys k.keys) x r) refused (subst (λ (ks : TextKeys). ReleasesAll (text_keys ks) (part t c.join.new.self) r) c.keys-held.ensures c.release_all.ensures.own) in
+    let holds = e.uses_added (counts_in own) (c.args.journal.now.undo.gone.items ++ own.batcher.spans) coming.0 coming.1.among coming.1.posting.holds.sound in
+    let refused : part t c.join.new.self ≡ mid = subst (λ (u : ℕ). part u c.join.new.self ≡ part u S1) e.owner c.in-Err.ensures.on_refusal in
+    let back = subst (λ (x : Part TraceNote). ReleasesAll (text_keys k.keys) x r) refused (subst (λ (ks : TextKeys). ReleasesAll (text_keys ks) (part t c.join.new.self) r) c.keys-held.ensures c.release_all.ensures.uses_removed) in
     subst (λ (x : Part TraceNote). IsWritten c.args.journal.now start own first x) (sym (given_back (text_keys k.keys) p mid r holds back)) written
 
-pub returns-in-Err-clause-others : goal.returns-in-Err-clause-others
-returns-in-Err-clause-others c = λ other ne.
-    c.release_all.ensures.others other ne
-    ∙ (c.join.ensures.others other (λ (is : other ≡ c.in_ok-keyed.keyed.owner). ne (is ∙ c.in_ok-keyed.ensures.owner)) ∙ c.keyed.ensures.others other ne)
+pub returns-in-Err-clause-others_unchanged : goal.returns-in-Err-clause-others_unchanged
+returns-in-Err-clause-others_unchanged c = λ other ne.
+    c.release_all.ensures.others_unchanged other ne
+    ∙ (c.join.ensures.others_unchanged other (λ (is : other ≡ c.in_ok-keyed.keyed.owner). ne (is ∙ c.in_ok-keyed.ensures.owner)) ∙ c.keyed.ensures.others_unchanged other ne)

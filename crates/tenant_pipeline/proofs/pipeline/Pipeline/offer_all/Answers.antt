@@ -31,8 +31,8 @@ loop-batch-preserved c =
     record {
       rules = λ s sender ledger. c.loop-batch.invariant.rules s sender ledger
           ∙ (ap (λ (bs : List BatchData). all_queued bs (record s { sender = own.sender; ledger = own.ledger })) split
-          ∙ ap (λ (t : State). all_queued rest t) (c.in-Ok.ensures.ok.rules (record s { sender = own.sender; ledger = own.ledger }) refl refl));
-      same = c.in-Ok.ensures.ok.same ∙ ap (λ (x : Pipeline). let y : Pipeline = record x { sender = new.sender; ledger = new.ledger } in y) c.loop-batch.invariant.same;
+          ∙ ap (λ (t : State). all_queued rest t) (c.in-Ok.ensures.on_success.rules (record s { sender = own.sender; ledger = own.ledger }) refl refl));
+      same = c.in-Ok.ensures.on_success.same ∙ ap (λ (x : Pipeline). let y : Pipeline = record x { sender = new.sender; ledger = new.ledger } in y) c.loop-batch.invariant.same;
       took = took_more c.loop-batch.offers c.in-Ok.taken c.args.self.now.sender own.sender new.sender c.loop-batch.invariant.took c.in-Ok.ensures.took;
-      few = let left = pending_one b own new c.in-Ok.ensures.ok (omega (arith, all, cons, few)) in omega (arith, left, all, cons, few);
+      few = let left = pending_one b own new c.in-Ok.ensures.on_success (omega (arith, all, cons, few)) in omega (arith, left, all, cons, few);
     }

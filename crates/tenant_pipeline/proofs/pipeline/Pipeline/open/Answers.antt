@@ -2,13 +2,13 @@ use Rattle.std.proofs.Common.{◌≡◌, ◌+◌, ◌++◌, ◌∙◌, ℕ, List
 use Rattle.span_pool.specs.Stored.{texts_of}
 use Rattle.span_pool.specs.declared.keys.TextKeys.{TextKeys}
 use Rattle.tail_policy.specs.declared.note.TraceNote.{TraceNote}
-use Rattle.tenant_stores.specs.declared.placed.Placed.{Placed}
-use Rattle.tenant_stores.specs.declared.placed.Placed.TheVariants.{Opened}
+use Rattle.tenant_stores.specs.declared.undo.UndoEntry.{UndoEntry}
+use Rattle.tenant_stores.specs.declared.undo.UndoEntry.TheVariants.{Opened}
 use Rattle.tenant_stores.specs.Changes.{Opens, ReleasesAll}
 use Rattle.tenant_stores.specs.Counts.{Counts, one_opened}
 use Rattle.tenant_stores.specs.Part.{Part, part}
 use Rattle.tenant_stores.specs.Shows.{AreAmong, with_opened}
-use Rattle.tenant_stores.specs.Sound.{IsSound}
+use Rattle.tenant_stores.specs.Invariant.{StoreInvariant}
 use Rattle.tenant_stores.specs.Trail.{Trail}
 use Rattle.tenant_stores.specs.View.{text_at, text_keys, view}
 use Rattle.tenant_rules.specs.Machine.{counted_in, evicted, opens}
@@ -26,7 +26,7 @@ pub returns-in_err-keyed-clause-written : goal.returns-in_err-keyed-clause-writt
 returns-in_err-keyed-clause-written c = λ start first written.
     let own = c.args.self.now in
     let coming = c.requires.coming in
-    let same = c.in_err-keyed.ensures.refused (counts_in own) (c.args.journal.now.undo.gone.items ++ own.batcher.spans) coming.0 coming.1.among coming.1.posting.holds.sound in
+    let same = c.in_err-keyed.ensures.on_refusal (counts_in own) (c.args.journal.now.undo.gone.items ++ own.batcher.spans) coming.0 coming.1.among coming.1.posting.holds.sound in
     subst (λ (x : Part TraceNote). IsWritten c.args.journal.now start own first x) (sym same) written
 
 pub make_room-requires-clause-undecided : goal.make_room-requires-clause-undecided
@@ -37,7 +37,7 @@ make_room-requires-clause-undecided c =
     let coming = c.requires.coming in
     let k = c.in_ok-keyed.keyed in
     let e = c.in_ok-keyed.ensures in
-    let keyed : IsKeyed c.args.keys c.args.span.now.text p mid k = record { text_is = e.text; holds = e.own; sound = e.sound; origin = e.texts; shows = e.shows; stay = e.stay } in
+    let keyed : IsKeyed c.args.keys c.args.span.now.text p mid k = record { text_is = e.text; holds = e.uses_added; sound = e.store_invariant; origin = e.texts; shows = e.shows; stay = e.stay } in
     let ready = ready_now own p mid c.args.moment c.args.journal.now c.args.keys c.args.span.now.text coming.0 k coming.1.posting coming.1.among keyed in
     leaves_few own p mid c.args.moment c.args.journal.now c.args.keys c.args.span.now coming.0 coming.1 k ready
 
@@ -47,7 +47,7 @@ open-requires c =
     let made = c.make_room.new.self in
     let S1 = c.keyed.new.stores in
     let coming = c.requires.coming in
-    let sound = c.in_ok-keyed.ensures.sound (counts_in own) (c.args.journal.now.undo.gone.items ++ own.batcher.spans) coming.0 coming.1.among coming.1.posting.holds.sound in
+    let sound = c.in_ok-keyed.ensures.store_invariant (counts_in own) (c.args.journal.now.undo.gone.items ++ own.batcher.spans) coming.0 coming.1.among coming.1.posting.holds.sound in
     let opened : made.rows.opened ≡ own.rows.opened = ap (λ (n : Counts). n.opened) c.make_room.ensures.rows in
     ap (λ (u : ℕ). (part u S1).rows (made.rows.opened + 1)) c.in_ok-keyed.ensures.owner ∙ sound.vacant (made.rows.opened + 1) (omega (arith, opened))
 
@@ -66,15 +66,15 @@ returns-in-Ok-clause-came c =
     let span = c.args.span.now in
     let k = c.in_ok-keyed.keyed in
     let e = c.in_ok-keyed.ensures in
-    let keyed : IsKeyed c.args.keys span.text p mid k = record { text_is = e.text; holds = e.own; sound = e.sound; origin = e.texts; shows = e.shows; stay = e.stay } in
+    let keyed : IsKeyed c.args.keys span.text p mid k = record { text_is = e.text; holds = e.uses_added; sound = e.store_invariant; origin = e.texts; shows = e.shows; stay = e.stay } in
     let ready : IsReady own p mid journal c.args.keys span.text k = ready_now own p mid c.args.moment journal c.args.keys span.text coming.0 k coming.1.posting coming.1.among keyed in
     let number = made.rows.opened + 1 in
     let due = c.args.moment + made.section.tail_sampling.decision_wait in
     let key = c.in-Ok.opening.key in
     let opened : made.rows.opened ≡ own.rows.opened = ap (λ (n : Counts). n.opened) c.make_room.ensures.rows in
-    let change = subst (λ (u : ℕ). Opens number key due span.trace k span.note (part u S1) (part u S2)) e.owner c.in-Ok.ensures.own in
-    let sound = subst (λ (u : ℕ). (n : Counts) (pending others : List ℕ) → number ≡ n.opened + 1 → IsSound n pending (text_keys k.keys ++ others) (part u S1) → IsSound (one_opened n) pending others (part u S2)) e.owner c.in-Ok.ensures.sound in
-    let shows = subst (λ (u : ℕ). (n : Counts) (pending others shown : List ℕ) → number ≡ n.opened + 1 → IsSound n pending others (part u S1) → AreAmong shown pending →
+    let change = subst (λ (u : ℕ). Opens number key due span.trace k span.note (part u S1) (part u S2)) e.owner c.in-Ok.ensures.own_part in
+    let sound = subst (λ (u : ℕ). (n : Counts) (pending others : List ℕ) → number ≡ n.opened + 1 → StoreInvariant n pending (text_keys k.keys ++ others) (part u S1) → StoreInvariant (one_opened n) pending others (part u S2)) e.owner c.in-Ok.ensures.store_invariant in
+    let shows = subst (λ (u : ℕ). (n : Counts) (pending others shown : List ℕ) → number ≡ n.opened + 1 → StoreInvariant n pending others (part u S1) → AreAmong shown pending →
     view (one_opened n) shown (part u S2) ≡ with_opened span.trace due (texts_of (text_at (part u S1).texts) k) span.note (view n shown (part u S1))) e.owner c.in-Ok.ensures.shows in
     let journal' : Journal = record { placed = c.push_reserved.new.self; undo = journal.undo; hits = journal.hits } in
     let due_is : due ≡ c.args.moment + own.section.tail_sampling.decision_wait = ap (λ (o : Pipeline). c.args.moment + o.section.tail_sampling.decision_wait) c.make_room.ensures.same in
@@ -102,25 +102,25 @@ returns-in-Ok-clause-written c = λ start first written.
     let due = c.args.moment + made.section.tail_sampling.decision_wait in
     let key = c.in-Ok.opening.key in
     let opened : made.rows.opened ≡ own.rows.opened = ap (λ (n : Counts). n.opened) c.make_room.ensures.rows in
-    let holds = e.own (counts_in own) (journal.undo.gone.items ++ own.batcher.spans) coming.0 coming.1.among coming.1.posting.holds.sound in
-    let change = subst (λ (u : ℕ). Opens number key due span.trace k span.note (part u S1) (part u S2)) e.owner c.in-Ok.ensures.own in
+    let holds = e.uses_added (counts_in own) (journal.undo.gone.items ++ own.batcher.spans) coming.0 coming.1.among coming.1.posting.holds.sound in
+    let change = subst (λ (u : ℕ). Opens number key due span.trace k span.note (part u S1) (part u S2)) e.owner c.in-Ok.ensures.own_part in
     let vacant = coming.1.posting.holds.sound.vacant number (omega (arith, opened)) in
-    let earlier : p.seats span.trace ≡ c.in-Ok.opening.earlier =
-    ap (λ (f : List ℕ → Option ℕ). f span.trace) (sym holds.seats) ∙ (ap (λ (u : ℕ). (part u S1).seats span.trace) (sym e.owner) ∙ sym c.in-Ok.ensures.earlier) in
+    let earlier : p.latest_rows span.trace ≡ c.in-Ok.opening.earlier =
+    ap (λ (f : List ℕ → Option ℕ). f span.trace) (sym holds.latest_rows) ∙ (ap (λ (u : ℕ). (part u S1).latest_rows span.trace) (sym e.owner) ∙ sym c.in-Ok.ensures.earlier) in
     let is = opened_is own mid made c.take.new.self c.make_room.ensures.rows c.make_room.ensures.ledger c.make_room.ensures.same c.take.ensures in
     let now = opened_own own mid in
     let journal' : Journal = record { placed = c.push_reserved.new.self; undo = journal.undo; hits = journal.hits } in
     let done : IsWritten journal' start now first q = record {
-      trail = subst (λ (xs : List (Placed TraceNote)). Trail first xs q) (sym c.push_reserved.ensures.items)
+      trail = subst (λ (xs : List (UndoEntry TraceNote)). Trail first xs q) (sym c.push_reserved.ensures.items)
           (trail_more first p q journal.placed.items (Opened number key span.trace c.in-Ok.opening.earlier) written.trail (k, due, span.note, mid, vacant, earlier, holds, change));
       undo = takes_back journal.undo start (hits_undone journal.hits own) now.rows now.ledger written.undo;
       hits = written.hits;
     } in
     subst (λ (o : Pipeline). IsWritten journal' start o first (part_in o S2)) (sym is) done
 
-pub returns-in-Ok-clause-others : goal.returns-in-Ok-clause-others
-returns-in-Ok-clause-others c = λ other ne.
-    c.open.ensures.others other (λ (is : other ≡ c.in_ok-keyed.keyed.owner). ne (is ∙ c.in_ok-keyed.ensures.owner)) ∙ c.keyed.ensures.others other ne
+pub returns-in-Ok-clause-others_unchanged : goal.returns-in-Ok-clause-others_unchanged
+returns-in-Ok-clause-others_unchanged c = λ other ne.
+    c.open.ensures.others_unchanged other (λ (is : other ≡ c.in_ok-keyed.keyed.owner). ne (is ∙ c.in_ok-keyed.ensures.owner)) ∙ c.keyed.ensures.others_unchanged other ne
 
 pub returns-in-Err-clause-written : goal.returns-in-Err-clause-written
 returns-in-Err-clause-written c = λ start first written.
@@ -135,11 +135,11 @@ returns-in-Err-clause-written c = λ start first written.
     let coming = c.requires.coming in
     let k = c.in_ok-keyed.keyed in
     let e = c.in_ok-keyed.ensures in
-    let holds = e.own (counts_in own) (journal.undo.gone.items ++ own.batcher.spans) coming.0 coming.1.among coming.1.posting.holds.sound in
+    let holds = e.uses_added (counts_in own) (journal.undo.gone.items ++ own.batcher.spans) coming.0 coming.1.among coming.1.posting.holds.sound in
     let tenant : made.tenant ≡ t = ap (λ (o : Pipeline). o.tenant) c.make_room.ensures.same in
-    let refused : part t c.open.new.self ≡ mid = subst (λ (u : ℕ). part u c.open.new.self ≡ part u S1) e.owner c.in-Err.ensures.refused in
+    let refused : part t c.open.new.self ≡ mid = subst (λ (u : ℕ). part u c.open.new.self ≡ part u S1) e.owner c.in-Err.ensures.on_refusal in
     let released : ReleasesAll (text_keys k.keys) (part t c.open.new.self) (part t S3) =
-    subst (λ (u : ℕ). ReleasesAll (text_keys k.keys) (part u c.open.new.self) (part u S3)) tenant (subst (λ (ks : TextKeys). ReleasesAll (text_keys ks) (part made.tenant c.open.new.self) (part made.tenant S3)) c.keys-held.ensures c.release_all.ensures.own) in
+    subst (λ (u : ℕ). ReleasesAll (text_keys k.keys) (part u c.open.new.self) (part u S3)) tenant (subst (λ (ks : TextKeys). ReleasesAll (text_keys ks) (part made.tenant c.open.new.self) (part made.tenant S3)) c.keys-held.ensures c.release_all.ensures.uses_removed) in
     let back = subst (λ (x : Part TraceNote). ReleasesAll (text_keys k.keys) x (part t S3)) refused released in
     let now : Pipeline = record own { rows = made.rows; ledger = made.ledger } in
     let same : part t S3 ≡ p = given_back (text_keys k.keys) p mid (part t S3) holds back in
@@ -150,8 +150,8 @@ returns-in-Err-clause-written c = λ start first written.
     } in
     subst (λ (o : Pipeline). IsWritten journal start o first (part_in o S3)) (sym c.make_room.ensures.same) done
 
-pub returns-in-Err-clause-others : goal.returns-in-Err-clause-others
-returns-in-Err-clause-others c = λ other ne.
+pub returns-in-Err-clause-others_unchanged : goal.returns-in-Err-clause-others_unchanged
+returns-in-Err-clause-others_unchanged c = λ other ne.
     let tenant : c.make_room.new.self.tenant ≡ c.args.self.now.tenant = ap (λ (o : Pipeline). o.tenant) c.make_room.ensures.same in
-    c.release_all.ensures.others other (λ (is : other ≡ c.make_room.new.self.tenant). ne (is ∙ tenant))
-    ∙ (c.open.ensures.others other (λ (is : other ≡ c.in_ok-keyed.keyed.owner). ne (is ∙ c.in_ok-keyed.ensures.owner)) ∙ c.keyed.ensures.others other ne)
+    c.release_all.ensures.others_unchanged other (λ (is : other ≡ c.make_room.new.self.tenant). ne (is ∙ tenant))
+    ∙ (c.open.ensures.others_unchanged other (λ (is : other ≡ c.in_ok-keyed.keyed.owner). ne (is ∙ c.in_ok-keyed.ensures.owner)) ∙ c.keyed.ensures.others_unchanged other ne)

@@ -6,5 +6,5 @@ use Rattle.tenant_pipeline.proofs.pipeline.Pipeline.ready.Goals as goal
 pub returns : goal.returns
 returns c =
     let s = state_in c.args.self.now c.args.stores.now in
-    let is = ready_in_order s (order_from_start c.args.self.now.clock s.waiting c.requires.held.order) in
+    let is = ready_in_order s (order_from_start c.args.self.now.clock s.waiting c.requires.invariant.order) in
     cc

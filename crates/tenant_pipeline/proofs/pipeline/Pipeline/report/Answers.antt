@@ -6,8 +6,8 @@ use Rattle.tenant_pipeline.specs.StateIn.{state_in}
 use Rattle.tenant_pipeline.proofs.Stepping.{Done, Finds, answers_of, ranges, report_done}
 use Rattle.tenant_pipeline.proofs.pipeline.Pipeline.report.Goals as goal
 
-pub returns-in_err-told-clause-refused : goal.returns-in_err-told-clause-refused
-returns-in_err-told-clause-refused c =
+pub returns-in_err-told-clause-on_refusal : goal.returns-in_err-told-clause-on_refusal
+returns-in_err-told-clause-on_refusal c =
     let old = state_in c.args.self.now c.args.stores.now in
     let front = subst (λ (m : ℕ). IsFront m old (state_in c.run_due.new.self c.run_due.new.stores)) c.effective-moment.ensures.at c.run_due.ensures.front in
     on_err c.from_residual-in_err-told.result front
@@ -20,19 +20,19 @@ done c =
     let finds : Finds (step.Report c.args.now) c.effective-moment.result s mid c.run_due.new.stores = record {
       at = c.effective-moment.ensures.at;
       rows = (ranges c.args.self.now c.args.stores.now).rows;
-      counted = c.requires.held.counted;
-      within = c.requires.held.within;
-      ok = c.in_ok-run_due.ensures.ok;
+      counted = c.requires.invariant.counted;
+      within = c.requires.invariant.within;
+      ok = c.in_ok-run_due.ensures.on_success;
       reached = c.in_ok-run_due.ensures.reached;
     } in
     subst (λ told. Done (step.Report c.args.now) s told (record mid { clock = c.effective-moment.result }) c.run_due.new.stores) (sym c.in_ok-told.ensures)
     (report_done c.args.now c.effective-moment.result s mid c.run_due.new.stores finds)
 
-pub returns-clause-ok : goal.returns-clause-ok
-returns-clause-ok c = answers_of (step.Report c.args.now) (state_in c.args.self.now c.args.stores.now) _ c.in_ok-told.told (ranges c.args.self.now c.args.stores.now) (done c).goes_on
+pub returns-clause-on_success : goal.returns-clause-on_success
+returns-clause-on_success c = answers_of (step.Report c.args.now) (state_in c.args.self.now c.args.stores.now) _ c.in_ok-told.told (ranges c.args.self.now c.args.stores.now) (done c).from_state
 
-pub returns-clause-goes_on : goal.returns-clause-goes_on
-returns-clause-goes_on c = (done c).goes_on
+pub returns-clause-from_state : goal.returns-clause-from_state
+returns-clause-from_state c = (done c).from_state
 
-pub returns-clause-held : goal.returns-clause-held
-returns-clause-held c = (done c).held
+pub returns-clause-invariant : goal.returns-clause-invariant
+returns-clause-invariant c = (done c).held

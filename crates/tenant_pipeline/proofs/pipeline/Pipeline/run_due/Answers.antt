@@ -12,10 +12,10 @@ loop-self-preserved c =
     let s = state_in c.loop-self.self c.loop-self.stores in
     let due : is_due (next_timer s) c.args.moment ≡ true = sym (c.is_due.ensures ∙ ap (λ (t : Option ℕ). is_due t c.args.moment) c.next_timer.ensures) ∙ c.loop-self-test.true in
     record {
-      front = IsFront-push c.args.moment (state_in c.args.self.now c.args.stores.now) s (state_in c.run_one.new.self c.run_one.new.stores) c.loop-self.invariant.front due c.in_ok-run_one.ensures.ok;
-      held = c.in_ok-run_one.ensures.held;
+      front = IsFront-push c.args.moment (state_in c.args.self.now c.args.stores.now) s (state_in c.run_one.new.self c.run_one.new.stores) c.loop-self.invariant.front due c.in_ok-run_one.ensures.on_success;
+      held = c.in_ok-run_one.ensures.invariant;
       clock = c.in_ok-run_one.ensures.clock c.loop-self.invariant.clock;
-      others = λ other ne. c.in_ok-run_one.ensures.others other (λ e. ne (e ∙ c.loop-self.invariant.tenant)) ∙ c.loop-self.invariant.others other ne;
+      others = λ other ne. c.in_ok-run_one.ensures.others_unchanged other (λ e. ne (e ∙ c.loop-self.invariant.tenant)) ∙ c.loop-self.invariant.others other ne;
       tenant = c.in_ok-run_one.ensures.tenant ∙ c.loop-self.invariant.tenant;
       section = c.in_ok-run_one.ensures.section ∙ c.loop-self.invariant.section;
       swept = λ is. c.in_ok-run_one.ensures.swept (c.loop-self.invariant.swept is);
@@ -26,14 +26,14 @@ loop-self-smaller c =
     let s = state_in c.loop-self.self c.loop-self.stores in
     let due : is_due (next_timer s) c.args.moment ≡ true = sym (c.is_due.ensures ∙ ap (λ (t : Option ℕ). is_due t c.args.moment) c.next_timer.ensures) ∙ c.loop-self-test.true in
     let less = one_run_less s c.args.moment due in
-    let same = ap to_run c.in_ok-run_one.ensures.ok in
+    let same = ap to_run c.in_ok-run_one.ensures.on_success in
     omega (arith, less, same)
 
-pub returns-in_err-run_one-clause-others : goal.returns-in_err-run_one-clause-others
-returns-in_err-run_one-clause-others c = λ other ne. c.in_err-run_one.ensures.others other (λ e. ne (e ∙ c.loop-self.invariant.tenant)) ∙ c.loop-self.invariant.others other ne
+pub returns-in_err-run_one-clause-others_unchanged : goal.returns-in_err-run_one-clause-others_unchanged
+returns-in_err-run_one-clause-others_unchanged c = λ other ne. c.in_err-run_one.ensures.others_unchanged other (λ e. ne (e ∙ c.loop-self.invariant.tenant)) ∙ c.loop-self.invariant.others other ne
 
-pub returns-clause-ok : goal.returns-clause-ok
-returns-clause-ok c =
+pub returns-clause-on_success : goal.returns-clause-on_success
+returns-clause-on_success c =
     let s = state_in c.loop-self.self c.loop-self.stores in
     let quiet : is_due (next_timer s) c.args.moment ≡ false = sym (c.is_due.ensures ∙ ap (λ (t : Option ℕ). is_due t c.args.moment) c.next_timer.ensures) ∙ c.loop-self-test.false in
     all_ran c.args.moment c.loop-self.invariant.front.0 (state_in c.args.self.now c.args.stores.now) s c.loop-self.invariant.front.1 quiet

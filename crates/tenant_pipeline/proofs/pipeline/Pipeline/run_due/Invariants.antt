@@ -3,14 +3,14 @@ use Rattle.tenant_stores.specs.Part.{part}
 use Rattle.tenant_rules.specs.Timers.{IsFront}
 use Rattle.tenant_rules.proofs.Fronts.{to_run}
 use Rattle.tenant_pipeline.specs.StateIn.{state_in}
-use Rattle.tenant_pipeline.specs.Held.{IsHeld, IsSwept}
+use Rattle.tenant_pipeline.specs.Invariant.{PipelineInvariant, IsSwept}
 use Rattle.tenant_pipeline.proofs.pipeline.Pipeline.run_due.Given as goal
 
 -- some first due timers have run
 abbrev pub invariant-loop-self : goal.invariant-loop-self
 invariant-loop-self l = record {
   front : IsFront l.moment (state_in l.fn.self l.fn.stores) (state_in l.self l.stores);
-  held : IsHeld l.self l.stores;
+  held : PipelineInvariant l.self l.stores;
   clock : l.self.clock ≤ l.moment;
   others : (other : ℕ) → other ≢ l.fn.self.tenant → part other l.stores ≡ part other l.fn.stores;
   tenant : l.self.tenant ≡ l.fn.self.tenant;

@@ -29,14 +29,14 @@ decide-requires-clause-first c =
     let s = state_in c.args.self.now c.args.stores.now in
     sym (c.is_batch.ensures ∙ (ap (λ (o : Option ℕ). is_batch o c.first_due.result) c.next_due.ensures ∙ ap (λ (o : Option ℕ). is_batch (next_due s.pending) o) c.first_due.ensures)) ∙ c.if-is_batch.false
 
-pub decide-requires-clause-some : goal.decide-requires-clause-some
-decide-requires-clause-some c =
+pub decide-requires-clause-row_undecided : goal.decide-requires-clause-row_undecided
+decide-requires-clause-row_undecided c =
     let own = c.args.self.now in
     let s = state_in own c.args.stores.now in
     let p = part_in own c.args.stores.now in
     let some = decision_there (next_due s.pending) c.args.moment s.waiting (decide-requires-clause-first c) c.requires.due in
     let size = length-map (view_in own p).waiting waiting_of in
-    let many = (lengths_are TraceNote (counts_in own) own.batcher.spans [] p c.requires.held.sound).0 in
+    let many = (lengths_are TraceNote (counts_in own) own.batcher.spans [] p c.requires.invariant.sound).0 in
     omega (arith, some, size, many)
 
 pub decide-requires-clause-fits : goal.decide-requires-clause-fits
@@ -47,13 +47,13 @@ decide-requires-clause-fits c = λ due is.
     omega (arith, le, fits)
 
 -- what hits were noted makes no difference
-pub decide-requires-clause-held : goal.decide-requires-clause-held
-decide-requires-clause-held c =
+pub decide-requires-clause-invariant : goal.decide-requires-clause-invariant
+decide-requires-clause-invariant c =
     let own = c.args.self.now in
-    shown_held own (part_in own c.args.stores.now) c.commit.new.self c.commit.ensures.shown own.clock [] [] c.requires.held
+    shown_held own (part_in own c.args.stores.now) c.commit.new.self c.commit.ensures.shown own.clock [] [] c.requires.invariant
 
-pub returns-else-is_batch-clause-ok : goal.returns-else-is_batch-clause-ok
-returns-else-is_batch-clause-ok c =
+pub returns-else-is_batch-clause-on_success : goal.returns-else-is_batch-clause-on_success
+returns-else-is_batch-clause-on_success c =
     let own = c.args.self.now in
     let s = state_in own c.args.stores.now in
     let same = shown_is own (part_in own c.args.stores.now) c.commit.new.self c.commit.ensures.shown in
@@ -61,14 +61,14 @@ returns-else-is_batch-clause-ok c =
     let run : one_run s ≡ decide s.waiting s = ap (λ (b : Bool). if b then flushed (next_due s.pending) s else decide s.waiting s) first in
     let new = state_in c.decide.new.self c.decide.new.stores in
     let old = state_of (record own { caches = c.commit.new.self }) (part_in own c.args.stores.now) in
-    on_ok_weaker c.decide.result (λ (is : new ≡ decide old.waiting old). is ∙ (ap (λ (t : State). decide t.waiting t) same ∙ sym run)) c.decide.ensures.ok
+    on_ok_weaker c.decide.result (λ (is : new ≡ decide old.waiting old). is ∙ (ap (λ (t : State). decide t.waiting t) same ∙ sym run)) c.decide.ensures.on_success
 
-pub returns-else-is_batch-clause-refused : goal.returns-else-is_batch-clause-refused
-returns-else-is_batch-clause-refused c =
+pub returns-else-is_batch-clause-on_refusal : goal.returns-else-is_batch-clause-on_refusal
+returns-else-is_batch-clause-on_refusal c =
     let own = c.args.self.now in
     let new = state_in c.decide.new.self c.decide.new.stores in
     let old = state_of (record own { caches = c.commit.new.self }) (part_in own c.args.stores.now) in
-    on_err_weaker c.decide.result (λ (is : new ≡ old). is ∙ shown_is own (part_in own c.args.stores.now) c.commit.new.self c.commit.ensures.shown) c.decide.ensures.refused
+    on_err_weaker c.decide.result (λ (is : new ≡ old). is ∙ shown_is own (part_in own c.args.stores.now) c.commit.new.self c.commit.ensures.shown) c.decide.ensures.on_refusal
 
 pub returns-then-is_batch-clause-clock : goal.returns-then-is_batch-clause-clock
 returns-then-is_batch-clause-clock c = λ le.

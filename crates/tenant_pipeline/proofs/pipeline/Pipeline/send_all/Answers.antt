@@ -9,7 +9,7 @@ use Rattle.tenant_stores.proofs.Lists.{count-append}
 use Rattle.tenant_pipeline.specs.declared.pipeline.Pipeline.{Pipeline}
 use Rattle.tenant_pipeline.specs.StateIn.{part_in, policies_of, waiting_of}
 use Rattle.tenant_pipeline.specs.Drains.{SendsRow, SendsRest, keys_if, sampled_keys}
-use Rattle.tenant_pipeline.specs.Held.{IsNoted}
+use Rattle.tenant_pipeline.specs.Invariant.{IsNoted}
 use Rattle.tenant_pipeline.specs.Outbox.{AreThere}
 use Rattle.tenant_pipeline.proofs.Draining.{none_sent, one_sent, row_found, row_of, all_left, some_start}
 use Rattle.tenant_pipeline.proofs.Verdicts.{keys_next, keys_end}
@@ -70,7 +70,7 @@ loop-number-preserved c =
     let tenant : mid.tenant ≡ own.tenant = ap (λ (x : Pipeline). x.tenant) inv.sent.same in
     let sends : (row : Row TraceNote) → p.rows number ≡ Some row → SendsRow c.args.moment (waiting_of (row_shown p row)) p mid new =
     subst (λ (t : ℕ). let q : Part TraceNote = part t stores in (row : Row TraceNote) → q.rows number ≡ Some row → SendsRow c.args.moment (waiting_of (row_shown q row)) q mid new)
-    tenant c.in_ok-send_row.ensures.ok in
+    tenant c.in_ok-send_row.ensures.on_success in
     record {
       from = omega (arith, from);
       sent = one_sent own p c.args.moment c.requires.holds d number mid row inv.sent from some refl found.1 new (sends row found.1);
@@ -100,8 +100,8 @@ send_rest-requires-clause-there c =
     let tenant : mid.tenant ≡ own.tenant = ap (λ (x : Pipeline). x.tenant) inv.sent.same in
     subst (λ (t : ℕ). AreThere (part t c.args.stores.now) mid.batcher.spans) (sym tenant) inv.sent.there
 
-pub returns-clause-ok : goal.returns-clause-ok
-returns-clause-ok c =
+pub returns-clause-on_success : goal.returns-clause-on_success
+returns-clause-on_success c =
     let own = c.args.self.now in
     let mid = c.loop-number.self in
     let new = c.send_rest.new.self in
@@ -110,7 +110,7 @@ returns-clause-ok c =
     let tenant : mid.tenant ≡ own.tenant = ap (λ (x : Pipeline). x.tenant) inv.sent.same in
     on_ok_weaker c.send_rest.result (λ rest.
     all_left own (part_in own c.args.stores.now) c.args.moment c.requires.holds c.loop-number.number mid new (omega (arith, opened)) inv.sent
-    (subst (λ (t : ℕ). SendsRest c.args.moment (part t c.args.stores.now) mid new) tenant rest)) c.send_rest.ensures.ok
+    (subst (λ (t : ℕ). SendsRest c.args.moment (part t c.args.stores.now) mid new) tenant rest)) c.send_rest.ensures.on_success
 
 pub returns-clause-gone : goal.returns-clause-gone
 returns-clause-gone c =

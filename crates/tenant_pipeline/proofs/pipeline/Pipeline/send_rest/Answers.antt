@@ -22,15 +22,15 @@ offer-requires c =
     let pending = c.requires.pending in
     record { pending = omega (arith, many, size, pending) }
 
-pub returns-in-Ok-clause-ok : goal.returns-in-Ok-clause-ok
-returns-in-Ok-clause-ok c =
+pub returns-in-Ok-clause-on_success : goal.returns-in-Ok-clause-on_success
+returns-in-Ok-clause-on_success c =
     let own = c.args.self.now in
     let p = part_in own c.args.stores.now in
     let is : batch_view c.in_ok-batch.batch ≡ as_sent (record { moment = c.args.moment; spans = arrivals_at p own.batcher.spans }) =
     c.in_ok-batch.ensures ∙ ap (λ (ks : List ℕ). as_sent (record { moment = c.args.moment; spans = arrivals_at p ks })) c.spans-keys.ensures in
     let keys = ap length c.spans-keys.ensures in
     let some : 0 < length own.batcher.spans = grind (arith, keys, c.is_empty.ensures, c.if-is_empty.false) in
-    rest_some own c.offer.new.self p c.args.moment c.in-Ok.offers (batch_view c.in_ok-batch.batch) some c.requires.there is c.in-Ok.ensures.ok c.in-Ok.ensures.took c.requires.room
+    rest_some own c.offer.new.self p c.args.moment c.in-Ok.offers (batch_view c.in_ok-batch.batch) some c.requires.there is c.in-Ok.ensures.on_success c.in-Ok.ensures.took c.requires.room
 
 pub returns-in-Ok-clause-gone : goal.returns-in-Ok-clause-gone
 returns-in-Ok-clause-gone c = λ key.
@@ -41,4 +41,4 @@ returns-in-Ok-clause-gone c = λ key.
 
 pub returns-in-Ok-clause-back : goal.returns-in-Ok-clause-back
 returns-in-Ok-clause-back c = λ start back.
-    rest_undo c.args.undo.now _ c.args.self.now c.offer.new.self c.in-Ok.offers (queued (batch_view c.in_ok-batch.batch)) c.in-Ok.ensures.ok c.in-Ok.ensures.took refl refl refl refl start back
+    rest_undo c.args.undo.now _ c.args.self.now c.offer.new.self c.in-Ok.offers (queued (batch_view c.in_ok-batch.batch)) c.in-Ok.ensures.on_success c.in-Ok.ensures.took refl refl refl refl start back

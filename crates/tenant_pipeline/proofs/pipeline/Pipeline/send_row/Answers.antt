@@ -14,8 +14,8 @@ use Rattle.tenant_pipeline.specs.Outbox.{Groups}
 use Rattle.tenant_pipeline.proofs.Draining.{row_known, row_kept, row_dropped, row_size, row_verdict}
 use Rattle.tenant_pipeline.proofs.pipeline.Pipeline.send_row.Goals as goal
 
-pub returns-then-samples-clause-ok : goal.returns-then-samples-clause-ok
-returns-then-samples-clause-ok c =
+pub returns-then-samples-clause-on_success : goal.returns-then-samples-clause-on_success
+returns-then-samples-clause-on_success c =
     let own = c.args.self.now in
     let p = part_in own c.args.stores.now in
     let found = c.in-Some.row.now in
@@ -27,10 +27,10 @@ returns-then-samples-clause-ok c =
     let verdict : verdict_of (policies_of own) row.note ≡ true = ap (λ (r : Row TraceNote). verdict_of (policies_of own) r.note) (sym same)
     ∙ (sym (c.samples.ensures ∙ ap (λ (ps : List PolicySpec). verdict_of (map policy_view ps) found.note) c.as_slice.ensures.value) ∙ c.if-samples.true) in
     let known = row_known own p (p.rows c.args.number) c.requires.there row is in
-    row_kept own new p row c.args.moment (row_verdict own p row known.noted known.there true verdict) (subst (λ (ks : List ℕ). Groups c.args.moment ks p own new) keys groups)) c.group.ensures.ok
+    row_kept own new p row c.args.moment (row_verdict own p row known.noted known.there true verdict) (subst (λ (ks : List ℕ). Groups c.args.moment ks p own new) keys groups)) c.group.ensures.on_success
 
-pub returns-clause-ok : goal.returns-clause-ok
-returns-clause-ok c = λ row is.
+pub returns-clause-on_success : goal.returns-clause-on_success
+returns-clause-on_success c = λ row is.
     let own = c.args.self.now in
     let p = part_in own c.args.stores.now in
     let found = c.in-Some.row.now in

@@ -3,25 +3,25 @@ use Rattle.tail_policy.specs.Note.{verdict_of}
 use Rattle.tail_settings.specs.Policy.{policy_view}
 use Rattle.tail_settings.specs.declared.policy.PolicySpec.{PolicySpec}
 use Rattle.tenant_stores.specs.Counts.{one_decided}
-use Rattle.tenant_stores.specs.Sound.{IsSound}
+use Rattle.tenant_stores.specs.Invariant.{StoreInvariant}
 use Rattle.tenant_pipeline.specs.StateIn.{part_in, policies_of}
 use Rattle.tenant_pipeline.proofs.Verdicts.{keys_kept, keys_dropped}
 use Rattle.tenant_pipeline.proofs.pipeline.Pipeline.settle_row.Goals as goal
 
-pub returns-then-samples-clause-sound : goal.returns-then-samples-clause-sound
-returns-then-samples-clause-sound c = λ n pending number_is most sound.
+pub returns-then-samples-clause-store_invariant : goal.returns-then-samples-clause-store_invariant
+returns-then-samples-clause-store_invariant c = λ n pending number_is most sound.
     let own = c.args.self.now in
     let p = part_in own c.args.stores.now in
     let row = c.in-Some.row.now in
     let verdict : verdict_of (policies_of own) row.note ≡ true = sym (c.samples.ensures ∙ ap (λ (ps : List PolicySpec). verdict_of (map policy_view ps) row.note) c.as_slice.ensures.value) ∙ c.if-samples.true in
     let keys = c.keep_row.ensures.keys ∙ keys_kept (policies_of own) (p.rows c.args.number) row (sym c.in-Some.ensures) verdict in
-    subst (λ (ks : List ℕ). IsSound (one_decided n) (pending ++ ks) [] (part_in own c.keep_row.new.self)) keys (c.keep_row.ensures.sound n pending [] number_is most sound)
+    subst (λ (ks : List ℕ). StoreInvariant (one_decided n) (pending ++ ks) [] (part_in own c.keep_row.new.self)) keys (c.keep_row.ensures.store_invariant n pending [] number_is most sound)
 
-pub returns-else-samples-clause-sound : goal.returns-else-samples-clause-sound
-returns-else-samples-clause-sound c = λ n pending number_is most sound.
+pub returns-else-samples-clause-store_invariant : goal.returns-else-samples-clause-store_invariant
+returns-else-samples-clause-store_invariant c = λ n pending number_is most sound.
     let own = c.args.self.now in
     let p = part_in own c.args.stores.now in
     let row = c.in-Some.row.now in
     let verdict : verdict_of (policies_of own) row.note ≡ false = sym (c.samples.ensures ∙ ap (λ (ps : List PolicySpec). verdict_of (map policy_view ps) row.note) c.as_slice.ensures.value) ∙ c.if-samples.false in
-    subst (λ (ks : List ℕ). IsSound (one_decided n) ks [] (part_in own c.drop_row.new.self)) (sym (append-nil pending) ∙ ap (λ (ks : List ℕ). pending ++ ks) (sym (keys_dropped (policies_of own) (p.rows c.args.number) row (sym c.in-Some.ensures) verdict)))
-    (c.drop_row.ensures.sound n pending [] number_is most sound)
+    subst (λ (ks : List ℕ). StoreInvariant (one_decided n) ks [] (part_in own c.drop_row.new.self)) (sym (append-nil pending) ∙ ap (λ (ks : List ℕ). pending ++ ks) (sym (keys_dropped (policies_of own) (p.rows c.args.number) row (sym c.in-Some.ensures) verdict)))
+    (c.drop_row.ensures.store_invariant n pending [] number_is most sound)

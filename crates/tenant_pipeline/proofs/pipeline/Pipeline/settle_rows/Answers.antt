@@ -2,7 +2,7 @@ use Rattle.std.proofs.Common.{◌≡◌, ◌∙◌, ◌+◌, ◌-◌, ◌++◌, 
 use Rattle.tail_policy.specs.declared.note.TraceNote.{TraceNote}
 use Rattle.trace_rows.specs.declared.table.Row.{Row}
 use Rattle.tenant_stores.specs.Counts.{Counts, range, waiting_numbers}
-use Rattle.tenant_stores.specs.Sound.{IsSound}
+use Rattle.tenant_stores.specs.Invariant.{StoreInvariant}
 use Rattle.tenant_stores.specs.View.{view}
 use Rattle.tenant_pipeline.specs.declared.pipeline.Pipeline.{Pipeline}
 use Rattle.tenant_pipeline.specs.StateIn.{counts_in, part_in, policies_of}
@@ -14,7 +14,7 @@ pub loop-number-init : goal.loop-number-init
 loop-number-init c =
     let own = c.args.self.now in
     let p = part_in own c.args.stores.now in
-    let decided = c.requires.sound.1.order.decided in
+    let decided = c.requires.store_invariant.1.order.decided in
     record {
       from = omega arith;
       by = decided;
@@ -28,7 +28,7 @@ settle_row-requires c =
     let own = c.args.self.now in
     let number = c.loop-number.number + 1 in
     let inv = c.loop-number.invariant in
-    let sound = c.requires.sound.1 in
+    let sound = c.requires.store_invariant.1 in
     let order = sound.order in
     let swept = order.swept in
     let first = order.first in
@@ -57,20 +57,20 @@ loop-number-preserved c =
           let all : (kept.0 ++ more) ++ rest ≡ pending ++ sampled_keys pol p.rows (waiting_numbers (counts_in own)) =
           append_assoc kept.0 more rest ∙ (ap (λ (ks : List ℕ). kept.0 ++ ks) (sym (keys_next pol p.rows d own.rows.opened number (omega arith) refl)) ∙ kept.1) in
           let n : Counts = record (counts_in own) { decided = d } in
-          let now = c.settle_row.ensures.sound n kept.0 refl (omega arith) kept.2 in
-          (kept.0 ++ more, all, subst (λ (o : Option (Row TraceNote)). IsSound (record (counts_in own) { decided = number }) (kept.0 ++ keys_if pol o) [] (part_in own c.settle_row.new.stores)) same now);
-      others = λ other ne. c.settle_row.ensures.others other ne ∙ inv.others other ne;
+          let now = c.settle_row.ensures.store_invariant n kept.0 refl (omega arith) kept.2 in
+          (kept.0 ++ more, all, subst (λ (o : Option (Row TraceNote)). StoreInvariant (record (counts_in own) { decided = number }) (kept.0 ++ keys_if pol o) [] (part_in own c.settle_row.new.stores)) same now);
+      others = λ other ne. c.settle_row.ensures.others_unchanged other ne ∙ inv.others other ne;
     }
 
-pub returns-clause-own : goal.returns-clause-own
-returns-clause-own c =
+pub returns-clause-only_decided : goal.returns-clause-only_decided
+returns-clause-only_decided c =
     let own = c.args.self.now in
     let by = c.loop-number.invariant.by in
     let to : c.loop-number.number ≡ own.rows.opened = omega (arith, by) in
     ap (λ (k : ℕ). let y : Pipeline = record own { rows = record own.rows { decided = k } } in y) to
 
-pub returns-clause-sound : goal.returns-clause-sound
-returns-clause-sound c = λ pending sound.
+pub returns-clause-store_invariant : goal.returns-clause-store_invariant
+returns-clause-store_invariant c = λ pending sound.
     let own = c.args.self.now in
     let pol = policies_of own in
     let p = part_in own c.args.stores.now in
@@ -79,7 +79,7 @@ returns-clause-sound c = λ pending sound.
     let none = keys_end pol p.rows d own.rows.opened (omega arith) in
     let all : kept.0 ≡ pending ++ sampled_keys pol p.rows (waiting_numbers (counts_in own)) =
     sym (append-nil kept.0) ∙ (ap (λ (ks : List ℕ). kept.0 ++ ks) (sym none) ∙ kept.1) in
-    subst (λ (ks : List ℕ). IsSound (record (counts_in own) { decided = d }) ks [] (part_in own c.loop-number.stores)) all kept.2
+    subst (λ (ks : List ℕ). StoreInvariant (record (counts_in own) { decided = d }) ks [] (part_in own c.loop-number.stores)) all kept.2
 
 pub returns-clause-shows : goal.returns-clause-shows
 returns-clause-shows c =
@@ -91,4 +91,4 @@ returns-clause-shows c =
     let by = inv.by in
     let to : c.loop-number.number ≡ own.rows.opened = omega (arith, by) in
     let all = subst (λ (k : ℕ). Given pol own.rows.decided k p.rows q.rows) to inv.given in
-    ap (λ (k : ℕ). view (record (counts_in own) { decided = k }) [] q) to ∙ view_given pol (counts_in own) p q c.requires.sound.1.order all
+    ap (λ (k : ℕ). view (record (counts_in own) { decided = k }) [] q) to ∙ view_given pol (counts_in own) p q c.requires.store_invariant.1.order all

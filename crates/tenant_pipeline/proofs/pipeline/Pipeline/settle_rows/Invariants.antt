@@ -1,7 +1,7 @@
 use Rattle.std.proofs.Common.{◌≡◌, ◌≢◌, ◌≤◌, ◌-◌, ◌++◌, ℕ, List, []}
 use Rattle.tenant_stores.specs.Counts.{range, waiting_numbers}
 use Rattle.tenant_stores.specs.Part.{part}
-use Rattle.tenant_stores.specs.Sound.{IsSound}
+use Rattle.tenant_stores.specs.Invariant.{StoreInvariant}
 use Rattle.tenant_pipeline.specs.StateIn.{counts_in, part_in, policies_of}
 use Rattle.tenant_pipeline.specs.Drains.{sampled_keys}
 use Rattle.tenant_pipeline.proofs.Verdicts.{Given}
@@ -14,10 +14,10 @@ invariant-loop-number l = record {
   by : l.number ≤ l.fn.self.rows.opened;
   given : Given (policies_of l.fn.self) l.fn.self.rows.decided l.number
       (part_in l.fn.self l.fn.stores).rows (part_in l.fn.self l.stores).rows;
-  sound : (pending : List ℕ) → IsSound (counts_in l.fn.self) pending [] (part_in l.fn.self l.fn.stores) →
+  sound : (pending : List ℕ) → StoreInvariant (counts_in l.fn.self) pending [] (part_in l.fn.self l.fn.stores) →
       (kept : List ℕ) × (kept ++ sampled_keys (policies_of l.fn.self) (part_in l.fn.self l.fn.stores).rows (range l.number (l.fn.self.rows.opened - l.number))
       ≡ pending ++ sampled_keys (policies_of l.fn.self) (part_in l.fn.self l.fn.stores).rows (waiting_numbers (counts_in l.fn.self)))
-      × IsSound (record (counts_in l.fn.self) { decided = l.number }) kept [] (part_in l.fn.self l.stores);
+      × StoreInvariant (record (counts_in l.fn.self) { decided = l.number }) kept [] (part_in l.fn.self l.stores);
   others : (other : ℕ) → other ≢ l.fn.self.tenant → part other l.stores ≡ part other l.fn.stores;
 }
 

@@ -2,7 +2,7 @@ use Rattle.std.proofs.Common.{arith, ◌≡◌, ◌∙◌, ◌+◌, ◌<◌, ◌
 use Rattle.tenant_stores.specs.Part.{part}
 use Rattle.tenant_stores.specs.Counts.{one_swept}
 use Rattle.tenant_stores.specs.View.{view}
-use Rattle.tenant_pipeline.specs.Held.{IsHeldAt}
+use Rattle.tenant_pipeline.specs.Invariant.{PipelineInvariantAt}
 use Rattle.tenant_pipeline.specs.StateIn.{counts_in, part_in, state_by, view_in}
 use Rattle.tenant_pipeline.proofs.Posting.{held_over, itself}
 use Rattle.tenant_pipeline.proofs.pipeline.Pipeline.sweep.Goals as goal
@@ -24,15 +24,15 @@ loop-self-preserved c =
     let one = c.sweep.ensures in
     let some : own.rows.swept < own.rows.first = c.loop-self-test.true in
     let most : own.rows.swept + 1 ≤ own.rows.first = omega (arith, some) in
-    let shows : (reached : ℕ) (held : List ℕ) → IsHeldAt reached [] held own p → view (one_swept (counts_in own)) own.batcher.spans q ≡ view_in own p = λ reached held holds.
+    let shows : (reached : ℕ) (held : List ℕ) → PipelineInvariantAt reached [] held own p → view (one_swept (counts_in own)) own.batcher.spans q ≡ view_in own p = λ reached held holds.
     one.shows (counts_in own) own.batcher.spans held own.batcher.spans refl most holds.sound (λ key. omega arith) in
     let any = was.holds c.requires.0 c.requires.1 c.requires.2 in
     record {
       state = ap (state_by own) (shows c.requires.0 c.requires.1 any) ∙ was.state;
       holds = λ reached held first.
           let now = was.holds reached held first in
-          held_over reached (own.rows.swept + 1) [] [] held held own p q now (one.sound (counts_in own) own.batcher.spans held refl most now.sound) (shows reached held now);
-      others = λ other ne. one.others other (λ e. ne (e ∙ was.same.tenant)) ∙ was.others other ne;
+          held_over reached (own.rows.swept + 1) [] [] held held own p q now (one.store_invariant (counts_in own) own.batcher.spans held refl most now.sound) (shows reached held now);
+      others = λ other ne. one.others_unchanged other (λ e. ne (e ∙ was.same.tenant)) ∙ was.others other ne;
       same = record { tenant = was.same.tenant; section = was.same.section; clock = was.same.clock; drained = was.same.drained };
     }
 

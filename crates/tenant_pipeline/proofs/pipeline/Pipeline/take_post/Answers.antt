@@ -14,7 +14,7 @@ use Rattle.tenant_stores.specs.Part.{Part, part}
 use Rattle.tenant_stores.specs.Trail.{HoldsAll}
 use Rattle.otlp_prepare.specs.Arrivals.{arrival_in}
 use Rattle.tenant_pipeline.specs.Acts.{at}
-use Rattle.tenant_pipeline.specs.Held.{IsHeldAt}
+use Rattle.tenant_pipeline.specs.Invariant.{PipelineInvariantAt}
 use Rattle.tenant_pipeline.specs.Posts.{all_text_keys, arrivals_at, IsTaken, verdict_after}
 use Rattle.tenant_pipeline.specs.Prepared.{arrivals_of}
 use Rattle.tenant_pipeline.specs.StateIn.{counts_in, part_in, state_in, state_of}
@@ -39,24 +39,24 @@ over c =
     let size = size_is d.arrivals d.invalid in
     omega (arith, more, sum, invalid, spans, same, size)
 
-pub returns-then-not-fits-clause-ok : goal.returns-then-not-fits-clause-ok
-returns-then-not-fits-clause-ok c =
+pub returns-then-not-fits-clause-on_success : goal.returns-then-not-fits-clause-on_success
+returns-then-not-fits-clause-on_success c =
     let s = state_in c.args.self.now c.args.stores.now in
     let arrivals = arrivals_of c.args.prepared.now in
     let m = c.args.moment in
     on_ok c.refusal-then-not-fits.result (sym (ap (λ (v : Verdict). posted v (at m s) (all_come m (valid arrivals) (at m s))) (verdict_limited m arrivals s c.if-self.false (over c))))
 
-pub returns-then-not-fits-clause-told : goal.returns-then-not-fits-clause-told
-returns-then-not-fits-clause-told c =
+pub returns-then-not-fits-clause-reply : goal.returns-then-not-fits-clause-reply
+returns-then-not-fits-clause-reply c =
     let s = state_in c.args.self.now c.args.stores.now in
     subst (λ (v : Verdict). IfOk c.refusal-then-not-fits.result (λ reply. reply ≡ reply_of v)) (sym (verdict_limited c.args.moment (arrivals_of c.args.prepared.now) s c.if-self.false (over c))) c.refusal-then-not-fits.ensures
 
 -- ---- the origins are held
 
-pub returns-in_err-keys-clause-refused_part : goal.returns-in_err-keys-clause-refused_part
-returns-in_err-keys-clause-refused_part c =
+pub returns-in_err-keys-clause-part_on_refusal : goal.returns-in_err-keys-clause-part_on_refusal
+returns-in_err-keys-clause-part_on_refusal c =
     let own = c.args.self.now in
-    on_err c.from_residual.result (c.in_err-keys.ensures.refused (counts_in own) own.batcher.spans [] c.requires.holds.sound)
+    on_err c.from_residual.result (c.in_err-keys.ensures.on_refusal (counts_in own) own.batcher.spans [] c.requires.holds.sound)
 
 -- the body with its origins held
 body_at : (c : goal.After-as_slice) → Body c.args.moment c.args.self.now (part_in c.args.self.now c.args.stores.now) (part_in c.args.self.now c.hold_origins.new.stores) c.as_slice.result.now c.parts.result.1.now c.args.prepared.now.arrivals
@@ -64,7 +64,7 @@ body_at c =
     let own = c.args.self.now in
     let made = c.in_ok-keys.ensures in
     body_is c.args.moment own (part_in own c.args.stores.now) (part_in own c.hold_origins.new.stores) c.as_slice.result.now c.in_ok-keys.keys.items c.parts.result.0.now c.parts.result.1.now
-    c.args.prepared.now.policies c.args.prepared.now.arrivals c.requires.holds c.as_slice.ensures.value c.requires.policies c.parts.ensures.ready c.parts.ensures.arrivals made.own made.sound made.origins made.shows
+    c.args.prepared.now.policies c.args.prepared.now.arrivals c.requires.holds c.as_slice.ensures.value c.requires.policies c.parts.ensures.ready c.parts.ensures.arrivals made.uses_added made.store_invariant made.origins made.shows
 
 pub take_spans-reply-requires-clause-holds : goal.take_spans-reply-requires-clause-holds
 take_spans-reply-requires-clause-holds c = (body_at c).holds
@@ -79,19 +79,19 @@ body c =
     let own = c.args.self.now in
     let made = c.in_ok-keys.ensures in
     body_is c.args.moment own (part_in own c.args.stores.now) (part_in own c.hold_origins.new.stores) c.as_slice.result.now c.in_ok-keys.keys.items c.parts.result.0.now c.parts.result.1.now
-    c.args.prepared.now.policies c.args.prepared.now.arrivals c.requires.holds c.as_slice.ensures.value c.requires.policies c.parts.ensures.ready c.parts.ensures.arrivals made.own made.sound made.origins made.shows
+    c.args.prepared.now.policies c.args.prepared.now.arrivals c.requires.holds c.as_slice.ensures.value c.requires.policies c.parts.ensures.ready c.parts.ensures.arrivals made.uses_added made.store_invariant made.origins made.shows
 
 -- what is left once they are
 abbrev Left : goal.After-release_origins → Type 0
 Left c = (state_in c.take_spans-reply.new.self c.release_origins.new.stores ≡ state_in c.take_spans-reply.new.self c.take_spans-reply.new.stores)
-    × IsHeldAt c.args.moment [] [] c.take_spans-reply.new.self (part_in c.take_spans-reply.new.self c.release_origins.new.stores)
+    × PipelineInvariantAt c.args.moment [] [] c.take_spans-reply.new.self (part_in c.take_spans-reply.new.self c.release_origins.new.stores)
 
-left : (c : goal.After-release_origins) → IsHeldAt c.args.moment [] (all_text_keys c.as_slice.result.now) c.take_spans-reply.new.self (part_in c.take_spans-reply.new.self c.take_spans-reply.new.stores) → Left c
+left : (c : goal.After-release_origins) → PipelineInvariantAt c.args.moment [] (all_text_keys c.as_slice.result.now) c.take_spans-reply.new.self (part_in c.take_spans-reply.new.self c.take_spans-reply.new.stores) → Left c
 left c holds =
     let new = c.take_spans-reply.new.self in
     let p = part_in new c.take_spans-reply.new.stores in
     body_left c.args.moment new (all_text_keys c.in_ok-keys.keys.items) p (part_in new c.release_origins.new.stores)
-    (subst (λ (ks : List TextKeys). IsHeldAt c.args.moment [] (all_text_keys ks) new p) c.as_slice.ensures.value holds) c.release_origins.ensures.sound c.release_origins.ensures.shows
+    (subst (λ (ks : List TextKeys). PipelineInvariantAt c.args.moment [] (all_text_keys ks) new p) c.as_slice.ensures.value holds) c.release_origins.ensures.store_invariant c.release_origins.ensures.shows
 
 -- it may be counted
 fits : (c : goal.After-release_origins) → counted c.args.self.now.ledger + (length c.args.prepared.now.arrivals + c.args.prepared.now.invalid) ≤ most_counted
@@ -104,8 +104,8 @@ fits c =
     let size = (body c).size in
     omega (arith, room, sum, invalid, size)
 
-pub returns-clause-ok : goal.returns-clause-ok
-returns-clause-ok c =
+pub returns-clause-on_success : goal.returns-clause-on_success
+returns-clause-on_success c =
     let own = c.args.self.now in
     let new = c.take_spans-reply.new.self in
     let p1 = part_in own c.hold_origins.new.stores in
@@ -115,16 +115,16 @@ returns-clause-ok c =
     let t : State = state_in new c.take_spans-reply.new.stores in
     let u : State = state_in new c.release_origins.new.stores in
     let b = body c in
-    on_ok_both c.take_spans-reply.result (λ (holds : IsHeldAt m [] (all_text_keys c.as_slice.result.now) new (part_in new c.take_spans-reply.new.stores))
+    on_ok_both c.take_spans-reply.result (λ (holds : PipelineInvariantAt m [] (all_text_keys c.as_slice.result.now) new (part_in new c.take_spans-reply.new.stores))
     (taken : IsTaken (arrivals_at p1 c.as_slice.result.now c.parts.result.1.now) c.invalid-invalid.result m (state_of own p1) t).
     let one : IsTaken d.arrivals c.invalid-invalid.result m (state_of own p1) t = subst (λ (xs : List Arrival). IsTaken xs c.invalid-invalid.result m (state_of own p1) t) b.arrivals taken in
     let two : IsTaken d.arrivals d.invalid m (state_of own p1) t = subst (λ (k : ℕ). IsTaken d.arrivals k m (state_of own p1) t) c.invalid-invalid.ensures one in
     let three : IsTaken d.arrivals d.invalid m s0 t = subst (λ (s : State). IsTaken d.arrivals d.invalid m s t) b.state two in
     post_taken m d.invalid d.arrivals s0 b.valid c.if-self.false (fits c) u ((left c holds).0 ∙ three))
-    c.take_spans-reply.ensures.holds c.take_spans-reply.ensures.ok
+    c.take_spans-reply.ensures.holds c.take_spans-reply.ensures.on_success
 
-pub returns-clause-told : goal.returns-clause-told
-returns-clause-told c =
+pub returns-clause-reply : goal.returns-clause-reply
+returns-clause-reply c =
     let own = c.args.self.now in
     let p1 = part_in own c.hold_origins.new.stores in
     let m = c.args.moment in
@@ -136,22 +136,22 @@ returns-clause-told c =
     let three = ap (λ (s : State). verdict_after d.arrivals d.invalid m s) b.state in
     let same : verdict_after (arrivals_at p1 c.as_slice.result.now c.parts.result.1.now) c.invalid-invalid.result m (state_of own p1) ≡ post_verdict m (arrivals_of d) (at m s0) =
     one ∙ (two ∙ (three ∙ sym (verdict_taken m d.invalid d.arrivals s0 b.valid c.if-self.false (fits c)))) in
-    subst (λ (v : Verdict). IfOk c.take_spans-reply.result (λ reply. reply ≡ reply_of v)) same c.take_spans-reply.ensures.told
+    subst (λ (v : Verdict). IfOk c.take_spans-reply.result (λ reply. reply ≡ reply_of v)) same c.take_spans-reply.ensures.reply
 
 pub returns-clause-holds : goal.returns-clause-holds
 returns-clause-holds c =
     let new = c.take_spans-reply.new.self in
-    on_ok_both c.take_spans-reply.result (λ (holds : IsHeldAt c.args.moment [] (all_text_keys c.as_slice.result.now) new (part_in new c.take_spans-reply.new.stores))
-    (also : IsHeldAt c.args.moment [] (all_text_keys c.as_slice.result.now) new (part_in new c.take_spans-reply.new.stores)). (left c holds).1)
+    on_ok_both c.take_spans-reply.result (λ (holds : PipelineInvariantAt c.args.moment [] (all_text_keys c.as_slice.result.now) new (part_in new c.take_spans-reply.new.stores))
+    (also : PipelineInvariantAt c.args.moment [] (all_text_keys c.as_slice.result.now) new (part_in new c.take_spans-reply.new.stores)). (left c holds).1)
     c.take_spans-reply.ensures.holds c.take_spans-reply.ensures.holds
 
-pub returns-clause-others : goal.returns-clause-others
-returns-clause-others c = λ other ne.
+pub returns-clause-others_unchanged : goal.returns-clause-others_unchanged
+returns-clause-others_unchanged c = λ other ne.
     let same = c.take_spans-reply.ensures.same in
-    c.release_origins.ensures.others other (λ e. ne (e ∙ same.tenant)) ∙ (c.take_spans-reply.ensures.others other ne ∙ c.in_ok-keys.ensures.others other ne)
+    c.release_origins.ensures.others_unchanged other (λ e. ne (e ∙ same.tenant)) ∙ (c.take_spans-reply.ensures.others_unchanged other ne ∙ c.in_ok-keys.ensures.others_unchanged other ne)
 
-pub returns-clause-refused_part : goal.returns-clause-refused_part
-returns-clause-refused_part c =
+pub returns-clause-part_on_refusal : goal.returns-clause-part_on_refusal
+returns-clause-part_on_refusal c =
     let own = c.args.self.now in
     let new = c.take_spans-reply.new.self in
     let p0 = part_in own c.args.stores.now in
@@ -162,8 +162,8 @@ returns-clause-refused_part c =
     on_err_then c.take_spans-reply.result (λ (same : part own.tenant c.take_spans-reply.new.stores ≡ p1).
     let here : HoldsAll (all_text_keys items) p0 (part own.tenant c.take_spans-reply.new.stores) = subst (λ (p : Part TraceNote). HoldsAll (all_text_keys items) p0 p) (sym same) back in
     let there : HoldsAll (all_text_keys items) p0 (part new.tenant c.take_spans-reply.new.stores) = subst (λ (t : ℕ). HoldsAll (all_text_keys items) p0 (part t c.take_spans-reply.new.stores)) (sym tenant) here in
-    subst (λ (t : ℕ). part t c.release_origins.new.stores ≡ p0) tenant (c.release_origins.ensures.own p0 there))
-    c.take_spans-reply.ensures.refused_part
+    subst (λ (t : ℕ). part t c.release_origins.new.stores ≡ p0) tenant (c.release_origins.ensures.uses_removed p0 there))
+    c.take_spans-reply.ensures.part_on_refusal
 
 pub returns-clause-swept : goal.returns-clause-swept
-returns-clause-swept c = λ is. swept_either c.take_spans-reply.result c.args.self.now c.take_spans-reply.new.self c.take_spans-reply.ensures.swept c.take_spans-reply.ensures.refused is
+returns-clause-swept c = λ is. swept_either c.take_spans-reply.result c.args.self.now c.take_spans-reply.new.self c.take_spans-reply.ensures.swept c.take_spans-reply.ensures.on_refusal is

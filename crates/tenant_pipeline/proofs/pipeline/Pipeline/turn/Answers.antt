@@ -9,11 +9,11 @@ use Rattle.tenant_pipeline.proofs.Stepping.{Done, Finds, answers_of, ranges, tur
 use Rattle.tenant_pipeline.proofs.Sweeping.{swept_same, swept_back}
 use Rattle.tenant_pipeline.proofs.pipeline.Pipeline.turn.Goals as goal
 
-pub returns-in_err-told-clause-refused : goal.returns-in_err-told-clause-refused
-returns-in_err-told-clause-refused c =
+pub returns-in_err-told-clause-on_refusal : goal.returns-in_err-told-clause-on_refusal
+returns-in_err-told-clause-on_refusal c =
     let old = state_in c.args.self.now c.args.stores.now in
     let front = subst (λ (m : ℕ). IsFront m old (state_in c.run_due.new.self c.run_due.new.stores)) c.effective-moment.ensures.at c.run_due.ensures.front in
-    let kept = subst (λ (o : Pipeline). IsFront (effective (step.Turn c.args.now) old) old (state_in o c.run_due.new.stores)) (sym c.in_err-told.ensures.refused) front in
+    let kept = subst (λ (o : Pipeline). IsFront (effective (step.Turn c.args.now) old) old (state_in o c.run_due.new.stores)) (sym c.in_err-told.ensures.on_refusal) front in
     on_err c.from_residual-in_err-told.result kept
 
 done : (c : goal.After-self-1) → Done (step.Turn c.args.now) (state_in c.args.self.now c.args.stores.now) c.in_ok-told.told
@@ -24,25 +24,25 @@ done c =
     let finds : Finds (step.Turn c.args.now) c.effective-moment.result s mid c.run_due.new.stores = record {
       at = c.effective-moment.ensures.at;
       rows = (ranges c.args.self.now c.args.stores.now).rows;
-      counted = c.requires.held.counted;
-      within = c.requires.held.within;
-      ok = c.in_ok-run_due.ensures.ok;
+      counted = c.requires.invariant.counted;
+      within = c.requires.invariant.within;
+      ok = c.in_ok-run_due.ensures.on_success;
       reached = c.in_ok-run_due.ensures.reached;
     } in
-    subst (λ told. Done (step.Turn c.args.now) s told (record c.hand_out.new.self { clock = c.effective-moment.result }) c.run_due.new.stores) (sym c.in_ok-told.ensures.told)
-    (turn_done c.args.now c.effective-moment.result s mid c.hand_out.new.self c.run_due.new.stores finds c.in_ok-told.ensures.ok)
+    subst (λ told. Done (step.Turn c.args.now) s told (record c.hand_out.new.self { clock = c.effective-moment.result }) c.run_due.new.stores) (sym c.in_ok-told.ensures.step_reply)
+    (turn_done c.args.now c.effective-moment.result s mid c.hand_out.new.self c.run_due.new.stores finds c.in_ok-told.ensures.on_success)
 
-pub returns-clause-ok : goal.returns-clause-ok
-returns-clause-ok c = answers_of (step.Turn c.args.now) (state_in c.args.self.now c.args.stores.now) _ c.in_ok-told.told (ranges c.args.self.now c.args.stores.now) (done c).goes_on
+pub returns-clause-on_success : goal.returns-clause-on_success
+returns-clause-on_success c = answers_of (step.Turn c.args.now) (state_in c.args.self.now c.args.stores.now) _ c.in_ok-told.told (ranges c.args.self.now c.args.stores.now) (done c).from_state
 
-pub returns-clause-goes_on : goal.returns-clause-goes_on
-returns-clause-goes_on c = (done c).goes_on
+pub returns-clause-from_state : goal.returns-clause-from_state
+returns-clause-from_state c = (done c).from_state
 
-pub returns-clause-held : goal.returns-clause-held
-returns-clause-held c = (done c).held
+pub returns-clause-invariant : goal.returns-clause-invariant
+returns-clause-invariant c = (done c).held
 
 pub returns-in_err-told-clause-swept : goal.returns-in_err-told-clause-swept
-returns-in_err-told-clause-swept c = λ is. swept_back c.run_due.new.self c.hand_out.new.self c.in_err-told.ensures.refused (c.in_ok-run_due.ensures.swept is)
+returns-in_err-told-clause-swept c = λ is. swept_back c.run_due.new.self c.hand_out.new.self c.in_err-told.ensures.on_refusal (c.in_ok-run_due.ensures.swept is)
 
 pub returns-clause-swept : goal.returns-clause-swept
-returns-clause-swept c = λ is. swept_same c.run_due.new.self c.hand_out.new.self (ap (λ (o : Pipeline). o.rows) c.in_ok-told.ensures.ok.same) (c.in_ok-run_due.ensures.swept is)
+returns-clause-swept c = λ is. swept_same c.run_due.new.self c.hand_out.new.self (ap (λ (o : Pipeline). o.rows) c.in_ok-told.ensures.on_success.same) (c.in_ok-run_due.ensures.swept is)

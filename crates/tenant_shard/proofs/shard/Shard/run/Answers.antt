@@ -25,12 +25,12 @@ returns-clause-counted c = c.loop-step.invariant.counted
 pub returns-in_default-step-clause-stopped : goal.returns-in_default-step-clause-stopped
 returns-in_default-step-clause-stopped c =
     let count : length c.loop-step.outcomes.items ≡ c.loop-step.step-index = omega (arith, c.loop-step.outcomes.ok.0, c.loop-step.invariant.count) in
-    stopped_at c.args.steps.now c.args.self.now c.loop-step.self c.step.new.self c.loop-step.outcomes.items c.loop-step.step-index c.step-item.result count c.loop-step-test.true c.step-item.is c.loop-step.invariant.runs c.in_default-step.ensures.refused
+    stopped_at c.args.steps.now c.args.self.now c.loop-step.self c.step.new.self c.loop-step.outcomes.items c.loop-step.step-index c.step-item.result count c.loop-step-test.true c.step-item.is c.loop-step.invariant.runs c.in_default-step.ensures.on_refusal
 
 pub loop-step-preserved : goal.loop-step-preserved
 loop-step-preserved c =
     let i = c.loop-step.step-index in
-    let does : ShardDoes c.step-item.result c.loop-step.self c.in-Ok-step.outcome c.step.new.self = record { by_own_steps = c.in-Ok-step.ensures.ok; goes_on = c.in-Ok-step.ensures.goes_on } in
+    let does : ShardDoes c.step-item.result c.loop-step.self c.in-Ok-step.outcome c.step.new.self = record { by_own_steps = c.in-Ok-step.ensures.on_success; from_state = c.in-Ok-step.ensures.from_state } in
     let runs = Chain-push ShardDoes (take i c.args.steps.now) c.loop-step.outcomes.items c.step-item.result c.in-Ok-step.outcome c.args.self.now c.loop-step.self c.step.new.self c.loop-step.invariant.runs does in
     record {
       runs = rw (take_more c.args.steps.now i c.step-item.result c.loop-step-test.true, ← c.step-item.is, c.in-Ok-push.ensures.items) runs;
@@ -39,8 +39,8 @@ loop-step-preserved c =
       counted = c.step.ensures.counted;
     }
 
-pub returns-clause-ok : goal.returns-clause-ok
-returns-clause-ok c =
+pub returns-clause-on_success : goal.returns-clause-on_success
+returns-clause-on_success c =
     let all : length c.args.steps.now ≤ c.loop-step.step-index = c.loop-step-test.false in
     rw take_all at c.loop-step.invariant.runs
 

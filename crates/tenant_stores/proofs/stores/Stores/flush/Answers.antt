@@ -12,17 +12,17 @@ use Rattle.tenant_stores.proofs.stores.Stores.flush.Goals as goal
 
 pub loop-key-preserved : goal.loop-key-preserved
 loop-key-preserved g c =
-    let more = leave_more c.args.keys.now c.loop-key.key-index (part c.args.tenant c.loop-key.self) (part c.args.tenant c.leave.new.self) c.loop-key-test.true c.leave.ensures.own in
+    let more = leave_more c.args.keys.now c.loop-key.key-index (part c.args.tenant c.loop-key.self) (part c.args.tenant c.leave.new.self) c.loop-key-test.true c.leave.ensures.own_part in
     record {
       spans = more.0 ∙ c.loop-key.invariant.spans;
       texts = more.1 ∙ c.loop-key.invariant.texts;
-      rows = c.leave.ensures.own.rows ∙ c.loop-key.invariant.rows;
-      seats = c.leave.ensures.own.seats ∙ c.loop-key.invariant.seats;
-      others = λ other ne. c.leave.ensures.others other ne ∙ c.loop-key.invariant.others other ne;
+      rows = c.leave.ensures.own_part.rows ∙ c.loop-key.invariant.rows;
+      latest_rows = c.leave.ensures.own_part.latest_rows ∙ c.loop-key.invariant.latest_rows;
+      others = λ other ne. c.leave.ensures.others_unchanged other ne ∙ c.loop-key.invariant.others other ne;
     }
 
-pub returns-clause-sound : goal.returns-clause-sound
-returns-clause-sound g c = λ n pending left held all sound.
+pub returns-clause-store_invariant : goal.returns-clause-store_invariant
+returns-clause-store_invariant g c = λ n pending left held all sound.
     let keys = c.args.keys.now in
     let old = part c.args.tenant c.args.self.now in
     let new = part c.args.tenant c.loop-key.self in
@@ -31,7 +31,7 @@ returns-clause-sound g c = λ n pending left held all sound.
       spans = sym (ap (λ (ks : List ℕ). without ks new.spans) end) ∙ c.loop-key.invariant.spans;
       texts = sym (ap (λ (ks : List ℕ). texts_without ks new.spans new.texts) end) ∙ c.loop-key.invariant.texts;
       rows = c.loop-key.invariant.rows;
-      seats = c.loop-key.invariant.seats;
+      latest_rows = c.loop-key.invariant.latest_rows;
     }) n pending left held all sound
 
 pub returns-clause-shows : goal.returns-clause-shows
@@ -44,7 +44,7 @@ returns-clause-shows g c = λ n pending left held shown all sound among.
       spans = sym (ap (λ (ks : List ℕ). without ks new.spans) end) ∙ c.loop-key.invariant.spans;
       texts = sym (ap (λ (ks : List ℕ). texts_without ks new.spans new.texts) end) ∙ c.loop-key.invariant.texts;
       rows = c.loop-key.invariant.rows;
-      seats = c.loop-key.invariant.seats;
+      latest_rows = c.loop-key.invariant.latest_rows;
     }) n pending left held all sound shown among
 
 pub returns-clause-stay : goal.returns-clause-stay
@@ -57,5 +57,5 @@ returns-clause-stay g c = λ n pending left held all sound.
       spans = sym (ap (λ (ks : List ℕ). without ks new.spans) end) ∙ c.loop-key.invariant.spans;
       texts = sym (ap (λ (ks : List ℕ). texts_without ks new.spans new.texts) end) ∙ c.loop-key.invariant.texts;
       rows = c.loop-key.invariant.rows;
-      seats = c.loop-key.invariant.seats;
+      latest_rows = c.loop-key.invariant.latest_rows;
     }) n pending left held all sound

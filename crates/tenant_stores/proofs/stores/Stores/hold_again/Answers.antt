@@ -1,19 +1,19 @@
 use Rattle.std.proofs.Common.{◌≡◌, ◌≢◌, ◌∙◌, ap, sym, subst, refl, ℕ, List, ◌++◌, Option}
 use Rattle.span_pool.specs.declared.keys.TextKeys.{TextKeys}
 use Rattle.text_pool.specs.Part as texts
-use Rattle.text_pool.specs.declared.pool.Kept.{Kept}
+use Rattle.text_pool.specs.declared.pool.CountedText.{CountedText}
 use Rattle.tenant_stores.specs.Part.{Part, part}
 use Rattle.tenant_stores.specs.View.{text_keys}
 use Rattle.tenant_stores.specs.Counts.{Counts}
-use Rattle.tenant_stores.specs.Sound.{IsSound}
+use Rattle.tenant_stores.specs.Invariant.{StoreInvariant}
 use Rattle.tenant_stores.specs.Shows.{AreAmong}
-use Rattle.tenant_stores.specs.Held.{AreHeld}
+use Rattle.tenant_stores.specs.HeldTexts.{AreHeld}
 use Rattle.tenant_stores.proofs.Parts.{part_by}
 use Rattle.tenant_stores.proofs.Held.{on_err, holds_all, held_sound, held_shows, held_stays, in_hand, all_known, origin_again}
 use Rattle.tenant_stores.proofs.stores.Stores.hold_again.Goals as goal
 
-pub returns-clause-own : goal.returns-clause-own
-returns-clause-own g c = λ n pending held among sound.
+pub returns-clause-uses_added : goal.returns-clause-uses_added
+returns-clause-uses_added g c = λ n pending held among sound.
     let stores = c.args.self.now in
     let old = part c.args.tenant stores in
     let new = part c.args.tenant (record stores { texts = c.hold_four.new.texts }) in
@@ -21,7 +21,7 @@ returns-clause-own g c = λ n pending held among sound.
     let t = texts.part c.args.tenant stores.texts in
     let known = all_known c.wanted_again-resource.result c.wanted_again-resource_schema_url.result c.wanted_again-scope.result c.wanted_again-scope_schema_url.result keys t
     c.wanted_again-resource.ensures c.wanted_again-resource_schema_url.ensures c.wanted_again-scope.ensures c.wanted_again-scope_schema_url.ensures (in_hand n pending held old sound (text_keys keys) among) in
-    let more : AreHeld (text_keys c.in_ok-again.again) old.texts new.texts = c.in_ok-again.ensures.held sound.kept known.0 known.1 known.2 known.3 in
+    let more : AreHeld (text_keys c.in_ok-again.again) old.texts new.texts = c.in_ok-again.ensures.keys_held sound.kept known.0 known.1 known.2 known.3 in
     holds_all (text_keys c.in_ok-again.again) old new refl more refl refl
 
 pub returns-clause-texts : goal.returns-clause-texts
@@ -36,8 +36,8 @@ returns-clause-texts g c = λ n pending held among sound.
     ∙ origin_again c.wanted_again-resource.result c.wanted_again-resource_schema_url.result c.wanted_again-scope.result c.wanted_again-scope_schema_url.result keys t
     c.wanted_again-resource.ensures c.wanted_again-resource_schema_url.ensures c.wanted_again-scope.ensures c.wanted_again-scope_schema_url.ensures
 
-pub returns-clause-sound : goal.returns-clause-sound
-returns-clause-sound g c = λ n pending held among sound.
+pub returns-clause-store_invariant : goal.returns-clause-store_invariant
+returns-clause-store_invariant g c = λ n pending held among sound.
     let stores = c.args.self.now in
     let old = part c.args.tenant stores in
     let new = part c.args.tenant (record stores { texts = c.hold_four.new.texts }) in
@@ -45,7 +45,7 @@ returns-clause-sound g c = λ n pending held among sound.
     let t = texts.part c.args.tenant stores.texts in
     let known = all_known c.wanted_again-resource.result c.wanted_again-resource_schema_url.result c.wanted_again-scope.result c.wanted_again-scope_schema_url.result keys t
     c.wanted_again-resource.ensures c.wanted_again-resource_schema_url.ensures c.wanted_again-scope.ensures c.wanted_again-scope_schema_url.ensures (in_hand n pending held old sound (text_keys keys) among) in
-    let more : AreHeld (text_keys c.in_ok-again.again) old.texts new.texts = c.in_ok-again.ensures.held sound.kept known.0 known.1 known.2 known.3 in
+    let more : AreHeld (text_keys c.in_ok-again.again) old.texts new.texts = c.in_ok-again.ensures.keys_held sound.kept known.0 known.1 known.2 known.3 in
     held_sound (text_keys c.in_ok-again.again) old new refl more refl refl n pending held sound
 
 pub returns-clause-shows : goal.returns-clause-shows
@@ -57,7 +57,7 @@ returns-clause-shows g c = λ n pending held shown among sound within.
     let t = texts.part c.args.tenant stores.texts in
     let known = all_known c.wanted_again-resource.result c.wanted_again-resource_schema_url.result c.wanted_again-scope.result c.wanted_again-scope_schema_url.result keys t
     c.wanted_again-resource.ensures c.wanted_again-resource_schema_url.ensures c.wanted_again-scope.ensures c.wanted_again-scope_schema_url.ensures (in_hand n pending held old sound (text_keys keys) among) in
-    let more : AreHeld (text_keys c.in_ok-again.again) old.texts new.texts = c.in_ok-again.ensures.held sound.kept known.0 known.1 known.2 known.3 in
+    let more : AreHeld (text_keys c.in_ok-again.again) old.texts new.texts = c.in_ok-again.ensures.keys_held sound.kept known.0 known.1 known.2 known.3 in
     held_shows (text_keys c.in_ok-again.again) old new refl more refl refl n pending held sound shown within
 
 pub returns-clause-stay : goal.returns-clause-stay
@@ -69,24 +69,24 @@ returns-clause-stay g c = λ n pending held among sound.
     let t = texts.part c.args.tenant stores.texts in
     let known = all_known c.wanted_again-resource.result c.wanted_again-resource_schema_url.result c.wanted_again-scope.result c.wanted_again-scope_schema_url.result keys t
     c.wanted_again-resource.ensures c.wanted_again-resource_schema_url.ensures c.wanted_again-scope.ensures c.wanted_again-scope_schema_url.ensures (in_hand n pending held old sound (text_keys keys) among) in
-    let more : AreHeld (text_keys c.in_ok-again.again) old.texts new.texts = c.in_ok-again.ensures.held sound.kept known.0 known.1 known.2 known.3 in
+    let more : AreHeld (text_keys c.in_ok-again.again) old.texts new.texts = c.in_ok-again.ensures.keys_held sound.kept known.0 known.1 known.2 known.3 in
     held_stays (text_keys c.in_ok-again.again) old new refl more refl refl n pending held sound
 
-pub returns-clause-others : goal.returns-clause-others
-returns-clause-others g c = λ other ne. part_by _ _ _ _ _ _ _ _ refl (c.in_ok-again.ensures.others other ne) refl refl
+pub returns-clause-others_unchanged : goal.returns-clause-others_unchanged
+returns-clause-others_unchanged g c = λ other ne. part_by _ _ _ _ _ _ _ _ refl (c.in_ok-again.ensures.others_unchanged other ne) refl refl
 
-pub returns-in_err-again-clause-others : goal.returns-in_err-again-clause-others
-returns-in_err-again-clause-others g c = λ other ne. part_by _ _ _ _ _ _ _ _ refl (c.in_err-again.ensures.others other ne) refl refl
+pub returns-in_err-again-clause-others_unchanged : goal.returns-in_err-again-clause-others_unchanged
+returns-in_err-again-clause-others_unchanged g c = λ other ne. part_by _ _ _ _ _ _ _ _ refl (c.in_err-again.ensures.others_unchanged other ne) refl refl
 
-pub returns-in_err-again-clause-refused : goal.returns-in_err-again-clause-refused
-returns-in_err-again-clause-refused g c =
+pub returns-in_err-again-clause-on_refusal : goal.returns-in_err-again-clause-on_refusal
+returns-in_err-again-clause-on_refusal g c =
     let stores = c.args.self.now in
     let old = part c.args.tenant stores in
     let new = part c.args.tenant (record stores { texts = c.hold_four.new.texts }) in
     let keys = c.args.keys in
     let t = texts.part c.args.tenant stores.texts in
-    let same : (n : Counts) (pending held : List ℕ) → AreAmong (text_keys keys) held → IsSound n pending held old → new ≡ old = λ n pending held among sound.
+    let same : (n : Counts) (pending held : List ℕ) → AreAmong (text_keys keys) held → StoreInvariant n pending held old → new ≡ old = λ n pending held among sound.
     let known = all_known c.wanted_again-resource.result c.wanted_again-resource_schema_url.result c.wanted_again-scope.result c.wanted_again-scope_schema_url.result keys t
     c.wanted_again-resource.ensures c.wanted_again-resource_schema_url.ensures c.wanted_again-scope.ensures c.wanted_again-scope_schema_url.ensures (in_hand n pending held old sound (text_keys keys) among) in
-    part_by _ _ _ _ _ _ _ _ refl (c.in_err-again.ensures.refused sound.kept known.0 known.1 known.2 known.3) refl refl in
+    part_by _ _ _ _ _ _ _ _ refl (c.in_err-again.ensures.on_refusal sound.kept known.0 known.1 known.2 known.3) refl refl in
     on_err c.from_residual.result same

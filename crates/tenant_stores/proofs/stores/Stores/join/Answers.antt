@@ -3,40 +3,40 @@ use Rattle.span_pool.specs.Stored.{StoredData}
 use Rattle.span_pool.specs.Pool.{with_span}
 use Rattle.span_pool.specs.Pool as pool
 use Rattle.tenant_stores.specs.Part.{part, owner_of}
-use Rattle.trace_rows.specs.Part.{with_at, with_seat, joined, note_of, rows_part, seats_part}
+use Rattle.trace_rows.specs.Part.{with_at, with_latest_row, joined, note_of, rows_part, latest_rows_part}
 use Rattle.tenant_stores.specs.Changes.{Joins, Opens, new_row}
 use Rattle.tenant_stores.proofs.Sounds.{joins_sound, opens_sound}
 use Rattle.tenant_stores.proofs.Parts.{part_by, span_restored}
 use Rattle.tenant_stores.proofs.Shows.{joins_shows}
 use Rattle.tenant_stores.proofs.stores.Stores.join.Goals as goal
 
-pub returns-in_err-key-clause-others : goal.returns-in_err-key-clause-others
-returns-in_err-key-clause-others g c = λ other ne. part_by _ _ _ _ _ _ _ _ (c.in_err-key.ensures.others other ne) refl refl refl
+pub returns-in_err-key-clause-others_unchanged : goal.returns-in_err-key-clause-others_unchanged
+returns-in_err-key-clause-others_unchanged g c = λ other ne. part_by _ _ _ _ _ _ _ _ (c.in_err-key.ensures.others_unchanged other ne) refl refl refl
 
-pub returns-in-Err-clause-others : goal.returns-in-Err-clause-others
-returns-in-Err-clause-others g c = λ other ne.
-    let same = c.in-Err.ensures.others other (λ e. ne (e ∙ c.owner-tenant.ensures)) in
-    part_by _ _ _ _ _ _ _ _ (c.undo_put.ensures.others other (λ e. ne (e ∙ c.owner-tenant.ensures)) ∙ c.in_ok-key.ensures.others other ne) refl same.rows same.seats
+pub returns-in-Err-clause-others_unchanged : goal.returns-in-Err-clause-others_unchanged
+returns-in-Err-clause-others_unchanged g c = λ other ne.
+    let same = c.in-Err.ensures.others_unchanged other (λ e. ne (e ∙ c.owner-tenant.ensures)) in
+    part_by _ _ _ _ _ _ _ _ (c.undo_put.ensures.others_unchanged other (λ e. ne (e ∙ c.owner-tenant.ensures)) ∙ c.in_ok-key.ensures.others_unchanged other ne) refl same.rows same.latest_rows
 
-pub returns-in-Err-clause-refused : goal.returns-in-Err-clause-refused
-returns-in-Err-clause-refused g c =
-    let same = c.in-Err.ensures.refused in
+pub returns-in-Err-clause-on_refusal : goal.returns-in-Err-clause-on_refusal
+returns-in-Err-clause-on_refusal g c =
+    let same = c.in-Err.ensures.on_refusal in
     let key = c.in_ok-key.key in
     let old = c.args.self.now in
     let put : pool.part owner_of c.owner-tenant.result c.put.new.self ≡ with_span key (Some c.args.span) (pool.part owner_of c.owner-tenant.result old.spans) =
-    subst (λ (t : ℕ). pool.part owner_of t c.put.new.self ≡ with_span key (Some c.args.span) (pool.part owner_of t old.spans)) (sym c.owner-tenant.ensures) c.in_ok-key.ensures.own in
+    subst (λ (t : ℕ). pool.part owner_of t c.put.new.self ≡ with_span key (Some c.args.span) (pool.part owner_of t old.spans)) (sym c.owner-tenant.ensures) c.in_ok-key.ensures.own_part in
     let none : pool.part owner_of c.owner-tenant.result old.spans key ≡ None = c.in_ok-key.ensures.vacant c.owner-tenant.result in
     let back : pool.part owner_of c.owner-tenant.result c.undo_put.new.self ≡ pool.part owner_of c.owner-tenant.result old.spans =
-    c.undo_put.ensures.own ∙ (ap (with_span key None) put ∙ span_restored (pool.part owner_of c.owner-tenant.result old.spans) key (Some c.args.span) None none) in
-    subst (λ (t : ℕ). part t (record { alloc = old.alloc; spans = c.undo_put.new.self; texts = old.texts; rows = c.join.new.self }) ≡ part t old) c.owner-tenant.ensures (part_by _ _ _ _ _ _ _ _ back refl same.rows same.seats)
+    c.undo_put.ensures.own_part ∙ (ap (with_span key None) put ∙ span_restored (pool.part owner_of c.owner-tenant.result old.spans) key (Some c.args.span) None none) in
+    subst (λ (t : ℕ). part t (record { alloc = old.alloc; spans = c.undo_put.new.self; texts = old.texts; rows = c.join.new.self }) ≡ part t old) c.owner-tenant.ensures (part_by _ _ _ _ _ _ _ _ back refl same.rows same.latest_rows)
 
-pub returns-in-Ok-clause-others : goal.returns-in-Ok-clause-others
-returns-in-Ok-clause-others g c = λ other ne.
-    let same = c.in-Ok.ensures.others other (λ e. ne (e ∙ c.owner-tenant.ensures)) in
-    part_by _ _ _ _ _ _ _ _ (c.in_ok-key.ensures.others other ne) refl same.rows same.seats
+pub returns-in-Ok-clause-others_unchanged : goal.returns-in-Ok-clause-others_unchanged
+returns-in-Ok-clause-others_unchanged g c = λ other ne.
+    let same = c.in-Ok.ensures.others_unchanged other (λ e. ne (e ∙ c.owner-tenant.ensures)) in
+    part_by _ _ _ _ _ _ _ _ (c.in_ok-key.ensures.others_unchanged other ne) refl same.rows same.latest_rows
 
-pub returns-in-Ok-clause-sound : goal.returns-in-Ok-clause-sound
-returns-in-Ok-clause-sound g c = λ n pending held above below sound.
+pub returns-in-Ok-clause-store_invariant : goal.returns-in-Ok-clause-store_invariant
+returns-in-Ok-clause-store_invariant g c = λ n pending held above below sound.
     let span = c.args.span in
     let stores = c.args.self.now in
     let old = part span.owner stores in
@@ -44,17 +44,17 @@ returns-in-Ok-clause-sound g c = λ n pending held above below sound.
     let key = c.in_ok-key.key in
     let change : Joins c.args.number key span c.args.note old new = record {
       vacant = c.in_ok-key.ensures.vacant span.owner;
-      spans = c.in_ok-key.ensures.own;
+      spans = c.in_ok-key.ensures.own_part;
       texts = refl;
       rows = subst (λ (t : ℕ). rows_part t c.join.new.self ≡ with_at c.args.number (joined key c.args.note (rows_part t stores.rows c.args.number)) (rows_part t stores.rows)) c.owner-tenant.ensures c.in-Ok.ensures.rows;
-      seats = subst (λ (t : ℕ). seats_part t c.join.new.self ≡ seats_part t stores.rows) c.owner-tenant.ensures c.in-Ok.ensures.seats;
+      latest_rows = subst (λ (t : ℕ). latest_rows_part t c.join.new.self ≡ latest_rows_part t stores.rows) c.owner-tenant.ensures c.in-Ok.ensures.latest_rows;
     } in
     let m = c.args.number - 1 in
     let e : c.args.number ≡ suc m = omega (arith, above) in
     joins_sound m key span c.args.note old new n pending held (subst (λ (k : ℕ). Joins k key span c.args.note old new) e change) (omega (arith, above)) (omega (arith, above, below)) sound
 
 pub returns-in-Ok-clause-shows : goal.returns-in-Ok-clause-shows
-returns-in-Ok-clause-shows g c = λ n pending held keys trace sound among seat above.
+returns-in-Ok-clause-shows g c = λ n pending held keys trace sound among latest_row above.
     let span = c.args.span in
     let stores = c.args.self.now in
     let old = part span.owner stores in
@@ -62,12 +62,12 @@ returns-in-Ok-clause-shows g c = λ n pending held keys trace sound among seat a
     let key = c.in_ok-key.key in
     let change : Joins c.args.number key span c.args.note old new = record {
       vacant = c.in_ok-key.ensures.vacant span.owner;
-      spans = c.in_ok-key.ensures.own;
+      spans = c.in_ok-key.ensures.own_part;
       texts = refl;
       rows = subst (λ (t : ℕ). rows_part t c.join.new.self ≡ with_at c.args.number (joined key c.args.note (rows_part t stores.rows c.args.number)) (rows_part t stores.rows)) c.owner-tenant.ensures c.in-Ok.ensures.rows;
-      seats = subst (λ (t : ℕ). seats_part t c.join.new.self ≡ seats_part t stores.rows) c.owner-tenant.ensures c.in-Ok.ensures.seats;
+      latest_rows = subst (λ (t : ℕ). latest_rows_part t c.join.new.self ≡ latest_rows_part t stores.rows) c.owner-tenant.ensures c.in-Ok.ensures.latest_rows;
     } in
-    joins_shows c.args.number key span c.args.note old new change n pending held sound keys among trace seat above
+    joins_shows c.args.number key span c.args.note old new change n pending held sound keys among trace latest_row above
 
 pub returns-in-Ok-clause-former : goal.returns-in-Ok-clause-former
 returns-in-Ok-clause-former g c =

@@ -2,5 +2,5 @@ use Rattle.std.proofs.Common.{◌≡◌, ◌≢◌, ◌∙◌, ap, refl, ℕ}
 use Rattle.tenant_stores.proofs.Parts.{part_by}
 use Rattle.tenant_stores.proofs.stores.Stores.leave.Goals as goal
 
-pub returns-clause-others : goal.returns-clause-others
-returns-clause-others g c = λ other ne. part_by _ _ _ _ _ _ _ _ (c.take.ensures.others other ne) (c.release_all.ensures.others other ne) refl refl
+pub returns-clause-others_unchanged : goal.returns-clause-others_unchanged
+returns-clause-others_unchanged g c = λ other ne. part_by _ _ _ _ _ _ _ _ (c.take.ensures.others_unchanged other ne) (c.release_all.ensures.others_unchanged other ne) refl refl

@@ -1,7 +1,7 @@
 use Rattle.std.proofs.Common.{◌≡◌, ◌≢◌, ◌∙◌, ap, sym, subst, refl, List, ◌++◌, ◌∷◌, []}
-use Rattle.tenant_stores.specs.declared.placed.Placed.{Placed}
+use Rattle.tenant_stores.specs.declared.undo.UndoEntry.{UndoEntry}
 use Rattle.tenant_stores.specs.Part.{Part, part}
-use Rattle.tenant_stores.specs.Trail.{IsPlaced, Trail}
+use Rattle.tenant_stores.specs.Trail.{IsUndone, Trail}
 use Rattle.tenant_stores.proofs.Backs.{Trail_pop}
 use Rattle.tenant_stores.proofs.stores.Stores.take_all_back.Goals as goal
 
@@ -11,8 +11,8 @@ loop-placed-preserved g c =
     let split : c.loop-placed.journal.items ≡ c.pop.new.self.items ++ c.in-Some.placed ∷ [] = c.in-Some.ensures.items in
     record {
       back = λ start whole.
-          let led = subst (λ (xs : List (Placed g.row.N.Denot)). Trail start xs now) split (c.loop-placed.invariant.back start whole) in
+          let led = subst (λ (xs : List (UndoEntry g.row.N.Denot)). Trail start xs now) split (c.loop-placed.invariant.back start whole) in
           let popped = Trail_pop start now c.pop.new.self.items c.in-Some.placed led in
           subst (λ (p : Part g.row.N.Denot). Trail start c.pop.new.self.items p) (sym (c.take_back.ensures.back popped.0 popped.2)) popped.1;
-      others = λ other ne. c.take_back.ensures.others other ne ∙ c.loop-placed.invariant.others other ne;
+      others = λ other ne. c.take_back.ensures.others_unchanged other ne ∙ c.loop-placed.invariant.others other ne;
     }

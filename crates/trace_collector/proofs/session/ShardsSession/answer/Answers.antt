@@ -14,4 +14,4 @@ returns-in_ok-step_of-in-Answer-clause-ok g c =
     (steps.Answer c.in-Some.tenant c.in-Answer.moment c.in-Answer.ticket c.in-Answer.word c.in-Answer.answer)
     (own.Answer c.in-Answer.moment c.in-Answer.ticket c.in-Answer.word (answer_view c.in-Answer.answer)) _ _
     (ap (λ s. settings_view s.now) c.in_ok-step_of-in-Answer.ensures.settings) (sym c.number.ensures ∙ c.in-Some.is) (λ settings pasts later line asked. asked) refl refl
-    c.in_ok-step_of-in-Answer.ensures.ok)
+    c.in_ok-step_of-in-Answer.ensures.on_success)

@@ -6,8 +6,8 @@ use Rattle.replay_script.specs.Command.{Drain}
 use Rattle.trace_collector.proofs.Done.{done_asks}
 use Rattle.trace_collector.proofs.shards.Shards.drain.Goals as goal
 
-pub returns-clause-ok : goal.returns-clause-ok
-returns-clause-ok c =
+pub returns-clause-on_success : goal.returns-clause-on_success
+returns-clause-on_success c =
     done_asks c.args.self.now c.step_of.new.self c.in-Some.tenant c.args.name.now (Drain c.args.name.now c.args.moment) (steps.Drain c.in-Some.tenant c.args.moment) (own.Drain c.args.moment) _ _
     (ap (λ s. settings_view s.now) c.in_ok-step_of.ensures.settings) (sym c.number.ensures ∙ c.in-Some.is) (λ settings pasts later line asked. asked) refl refl
-    c.in_ok-step_of.ensures.ok
+    c.in_ok-step_of.ensures.on_success

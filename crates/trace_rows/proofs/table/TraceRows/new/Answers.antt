@@ -2,6 +2,6 @@ use Rattle.std.proofs.Common.{rules}
 use Rattle.trace_rows.specs.Maps.{by_id}
 use Rattle.trace_rows.proofs.table.TraceRows.new.Goals as goal
 
-pub returns-clause-seats : goal.returns-clause-seats
+pub returns-clause-latest_rows : goal.returns-clause-latest_rows
 unfolding by_id
-returns-clause-seats g c = search rules
+returns-clause-latest_rows g c = search rules

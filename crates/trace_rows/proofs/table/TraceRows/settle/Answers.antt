@@ -19,6 +19,6 @@ returns g c =
     record {
       keys = c.replace.ensures.value ∙ sym (ap keys_of had);
       rows = rows_put c.args.self.now.rows new t k (Some less) written ∙ ap (λ (s : Option (Row g.row.N.Denot)). with_at k s f) slot;
-      seats = refl;
-      others = λ other ne. record { rows = rows_put_other c.args.self.now.rows new t k other (Some less) written ne; seats = refl };
+      latest_rows = refl;
+      others_unchanged = λ other ne. record { rows = rows_put_other c.args.self.now.rows new t k other (Some less) written ne; latest_rows = refl };
     }

@@ -18,6 +18,6 @@ returns g c =
     let slot : Some less ≡ unjoined c.args.former (f k) = ap (λ (ks : List ℕ). Some (record row { keys = ks; note = c.args.former })) keys ∙ sym (ap (unjoined c.args.former) had) in
     record {
       rows = rows_put c.args.self.now.rows new t k (Some less) written ∙ ap (λ (s : Option (Row g.row.N.Denot)). with_at k s f) slot;
-      seats = refl;
-      others = λ other ne. record { rows = rows_put_other c.args.self.now.rows new t k other (Some less) written ne; seats = refl };
+      latest_rows = refl;
+      others_unchanged = λ other ne. record { rows = rows_put_other c.args.self.now.rows new t k other (Some less) written ne; latest_rows = refl };
     }

@@ -9,5 +9,5 @@ loop-tenant-preserved g c =
     record {
       settings = made.settings ∙ before.settings;
       hub = made.hub ∙ before.hub;
-      drained = simp unary_clauses (c.loop-tenant.self.station.caller, c.loop-tenant.self.beat.last, c.make.result, before.drained, rw before.hub at made.made);
+      drained = simp unary_clauses (c.loop-tenant.self.context.caller, c.loop-tenant.self.beat.last, c.make.result, before.drained, rw before.hub at made.made);
     }

@@ -1,7 +1,7 @@
 use Rattle.std.proofs.Common.{◌%◌, ℕ, [], ◌∷◌, ◌++◌, length, refl, ◌∙◌}
 use Rattle.export_edge.proofs.Throughs.{through_more}
 use Rattle.machine_hub.specs.Hub.{IsRefusedOn}
-use Rattle.shared_hub.specs.Logs.{Seats}
+use Rattle.shared_hub.specs.Logs.{CallerState}
 use Rattle.trace_service.proofs.Rising.{rises_more, rises_same}
 use Rattle.trace_service.proofs.control.Control.make.Goals as goal
 
@@ -11,7 +11,7 @@ attempts-init g c = record { settings = refl; hub = refl; tried = ([], refl, ref
 pub attempts-preserved : goal.attempts-preserved
 attempts-preserved g c =
     let before = c.attempts.invariant in
-    let n = length c.args.self.now.station.hub.now in
+    let n = length c.args.self.now.context.hub.now in
     let tried = before.tried in
     let more = rises_more _ _ c.now-now.result _ tried.0 tried.2 c.now-now.ensures in
     record {
@@ -19,8 +19,8 @@ attempts-preserved g c =
       hub = c.step.ensures.hub ∙ before.hub;
       tried = (
         tried.0 ++ c.now-now.result ∷ [],
-        through_more (λ (s : Seats) (now : ℕ) (t : Seats). IsRefusedOn s t (c.args.tenant % n)) _ _ _ tried.0 c.now-now.result tried.1
-            (rw before.hub at c.in-Err.ensures.refused),
+        through_more (λ (s : CallerState) (now : ℕ) (t : CallerState). IsRefusedOn s t (c.args.tenant % n)) _ _ _ tried.0 c.now-now.result tried.1
+            (rw before.hub at c.in-Err.ensures.on_refusal),
         rises_same _ _ _ (tried.0 ++ c.now-now.result ∷ []) more c.pause.ensures,
       );
     }
@@ -31,7 +31,7 @@ returns-in-Ok-clause-made g c =
     let tried = before.tried in
     record {
       refusals = tried.0;
-      mid = c.attempts.self.station.caller;
+      mid = c.attempts.self.context.caller;
       refused = tried.1;
       now = c.now-now.result;
       receipt = c.in-Ok.ensures.call.0;

@@ -1,0 +1,32 @@
+//! What a span changed.
+
+/// A span that joined a row: the key that it lies at, and what was noted of the row's spans until then.
+#[derive(Drop)]
+pub struct Joining<N> {
+    /// The span's key.
+    pub key: usize,
+    /// The row's note before this span.
+    pub former: N,
+}
+
+/// A span that opened a row: the key that it lies at, and the trace's latest row until then.
+#[derive(Clone, Copy, Debug, PartialEq, Eq)]
+pub struct Opening {
+    /// The span's key.
+    pub key: usize,
+    /// The number of the trace's latest row before this one.
+    pub earlier: Option<u64>,
+}
+
+/// What one span changed, so that it can be taken back.
+#[derive(Drop)]
+pub enum UndoEntry<N> {
+    /// Nothing.
+    Left,
+    /// It joined a row: the row's number, the span's key, and the row's note until then.
+    Joined(u64, usize, N),
+    /// It opened a row: the row's number, the span's key, the trace, and the trace's latest row until then.
+    Opened(u64, usize, [u8; 16], Option<u64>),
+    /// It came late to a row that was sampled, and waits for a batch: its key.
+    Late(usize),
+}

@@ -1,9 +1,0 @@
-use Rattle.std.proofs.Common.{refl}
-use Rattle.trace_service.specs.Told.{asks, asks_nobody}
-use Rattle.trace_service.proofs.control.Control.answer.Goals as goal
-
-pub returns-in_ok-tell-in-Some-clause-answered : goal.returns-in_ok-tell-in-Some-clause-answered
-returns-in_ok-tell-in-Some-clause-answered g c = asks c.in-Some.tenant c.in-Some.ensures.asked c.in_ok-tell-in-Some.ensures.told
-
-pub returns-in-None-clause-answered : goal.returns-in-None-clause-answered
-returns-in-None-clause-answered g c = asks_nobody c.in-None.ensures.none refl refl refl

@@ -1,0 +1,9 @@
+use Rattle.trace_service.proofs.control.Control.print_report.Goals as goal
+
+pub returns-clause-reported : goal.returns-clause-reported
+returns-clause-reported g c = record {
+  outcome = c.make-outcome.result;
+  made = rw c.line_again-line.ensures.last c.make-outcome.ensures.made;
+  line = rw (c.as_slice.ensures.value, c.line_again-line.ensures.line, c.name-name.ensures)
+      at c.in_ok-write_text.ensures;
+}

@@ -1,0 +1,74 @@
+//! Who works at what.
+
+ghost use Rattle.std.specs.Prelude.{◌≡◌, ◌<◌, ◌≤◌, ◌+◌, length, map, All, IfOk, vec_len};
+ghost use Rattle.machine_hub.specs.Hub.{AreCallersOf, slots_of};
+ghost use Rattle.trace_service.specs.Assignment.{place_of, places};
+
+use crate::naming::Naming;
+use crate::shared::Shared;
+use crate::workers::{Role, Worker};
+use job_lane::LaneSeat;
+use shared_hub::Caller;
+use std::alloc::{AllocError, Global};
+use std::sync::Wait;
+use std::time::Clock;
+
+/// A worker for each caller: turners first, one for each shard, then senders, then receivers.
+pub(crate) fn assign_threads<'h, J: Naming, R: Wait + Clock>(
+    shared: &Shared<'h, R>,
+    mut callers: Vec<Caller>,
+    mut seats: Vec<LaneSeat>,
+) -> Result<Vec<Worker<'h, J, R>>, AllocError>
+    requires hub { shared.now.hub.now ≡ J.slots }
+    requires callers { AreCallersOf J.slots callers.items }
+    requires seats { All (λ s. s.lane ≡ J.lane) seats.items }
+    requires enough { vec_len callers ≤ vec_len seats }
+    ensures places { IfOk result (λ workers. map (λ w. (w.role, w.context.shard)) workers.items
+        ≡ places (length shared.now.hub.now) shared.now.settings.now.global.senders (vec_len callers)) }
+    ensures count { IfOk result (λ workers. vec_len workers ≡ vec_len callers) }
+{
+    let shards = shared.hub.shards();
+    let senders = shared.settings.global.senders as usize;
+    let mut workers = Vec::new(shared.alloc);
+    while let Some(caller) = callers.pop() {
+        let Some(seat) = seats.pop() else {
+            unreachable!()
+        };
+        let (role, shard) = role_of(workers.len(), shards, senders);
+        workers.push(Worker::new(role, shared.context::<J>(caller, shard), seat))?;
+    }
+    Ok(workers)
+}
+
+/// What the worker of this number does, and at which shard's context.
+fn role_of(number: usize, shards: usize, senders: usize) -> (Role, usize)
+    requires { 0 < shards }
+    ensures place { result ≡ place_of shards senders number }
+    ensures shard { result.1 < shards }
+{
+    if number < shards {
+        (Role::Turner, number)
+    } else if number - shards < senders {
+        (Role::Sender, 0)
+    } else {
+        (Role::Receiver, 0)
+    }
+}
+
+/// The callers of all workers, after their work, and the caller of who read the input.
+pub(crate) fn collect_callers<'h, J: Naming, R: Wait + Clock>(
+    alloc: Global,
+    mut workers: Vec<Worker<'h, J, R>>,
+    own: Caller,
+) -> Result<Vec<Caller>, AllocError>
+    requires { slots_of own ≡ J.slots }
+    ensures same_hub { IfOk result (λ all. AreCallersOf J.slots all.items) }
+    ensures all { IfOk result (λ all. vec_len all ≡ 1 + vec_len workers.entry) }
+{
+    let mut callers = Vec::new(alloc);
+    callers.push(own)?;
+    while let Some(worker) = workers.pop() {
+        callers.push(worker.into_context().into_caller())?;
+    }
+    Ok(callers)
+}

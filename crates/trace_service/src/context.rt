@@ -1,0 +1,239 @@
+//! Where a thread works: its caller at the shards, and what it does there.
+
+ghost use Rattle.std.specs.Prelude.{◌≡◌, ◌<◌, length};
+ghost use Rattle.machine_hub.specs.Hub.{slots_of};
+ghost use Rattle.trace_service.specs.Work.{turned_of};
+
+use crate::beat::{ServiceBeat, Signals};
+use crate::naming::Naming;
+use crate::post::{post_body, refused, without_memory};
+use bytes::Bytes;
+use export_edge::{AnswerRefused, AnswerSink, Beat, JobSource, TurnResult};
+use http_edge::{Handler, HttpMessage, Reply};
+use job_lane::Job;
+use otlp_front::{Route, RouteRefusal, route};
+use send_retry::Answer;
+use shared_hub::{Caller, HubFault, SharedHub};
+use std::alloc::{AllocError, Global};
+use std::marker::PhantomData;
+use std::sync::Wait;
+use std::thread::Threads;
+use std::time::Clock;
+use tail_settings::Settings;
+use tenant_shard::{Outcome, Step};
+
+/// One thread's place at the shards.
+#[derive(Drop)]
+pub(crate) struct WorkerContext<'h, J: Naming, R> {
+    rt: &'h R,
+    alloc: Global,
+    settings: &'h Settings,
+    hub: &'h SharedHub,
+    caller: Caller,
+    // Whose turns it makes.
+    shard: usize,
+    beat: ServiceBeat<'h, R>,
+    of: PhantomData<J>,
+    ghost hub_is: { hub.now ≡ J.slots },
+    ghost ours: { slots_of caller ≡ J.slots },
+    ghost shard_is: { shard < length J.slots },
+}
+
+impl<'h, J: Naming, R: Wait + Clock> WorkerContext<'h, J, R> {
+    ghost use Rattle.std.specs.Prelude.{◌≡◌, ◌<◌, ◌%◌, length, Option, IfOk, OnErr};
+    ghost use Rattle.machine_hub.specs.declared.receipt.Receipt.{Receipt};
+    ghost use Rattle.machine_hub.specs.Hub.{IsRefusedOn};
+    ghost use Rattle.shared_hub.specs.Logs.{IsStepOn, IsEmptyOn};
+
+    /// A place at these shards, for who makes turns of this one.
+    pub fn new(
+        rt: &'h R,
+        alloc: Global,
+        settings: &'h Settings,
+        hub: &'h SharedHub,
+        caller: Caller,
+        shard: usize,
+        beat: ServiceBeat<'h, R>,
+    ) -> WorkerContext<'h, J, R>
+        requires hub { hub.now ≡ J.slots }
+        requires same_hub { slots_of caller ≡ J.slots }
+        requires shard { shard < length J.slots }
+        ensures caller { result.caller ≡ caller }
+        ensures shard { result.shard ≡ shard }
+    {
+        WorkerContext {
+            rt,
+            alloc,
+            settings,
+            hub,
+            caller,
+            shard,
+            beat,
+            of: PhantomData,
+        }
+    }
+
+    /// The caller, once the work is done.
+    pub fn into_caller(self) -> Caller
+        ensures same_hub { slots_of result ≡ J.slots }
+        ensures caller { result ≡ self.entry.caller }
+    {
+        self.caller
+    }
+
+    /// A beat for this thread.
+    pub fn beat(&self) -> ServiceBeat<'h, R> {
+        self.beat.again()
+    }
+
+    /// What threads tell one another.
+    pub fn signals(&self) -> &'h Signals {
+        self.beat.signals()
+    }
+
+    pub fn alloc(&self) -> Global {
+        self.alloc
+    }
+
+    /// Makes one step at this tenant's shard.
+    pub fn step(&mut self, tenant: u32, step: Step) -> Result<Outcome, HubFault>
+        ensures call { IfOk result (λ outcome. (receipt : Option Receipt)
+            × IsStepOn self.old.caller self.new.caller (tenant % length self.old.hub.now) step outcome receipt) }
+        ensures on_refusal { OnErr result (IsRefusedOn self.old.caller self.new.caller
+            (tenant % length self.old.hub.now)) }
+        ensures hub { self.new.hub ≡ self.old.hub }
+    {
+        let shard = tenant as usize % self.hub.shards();
+        let (outcome, _receipt) = self
+            .hub
+            .step(self.rt, self.alloc, &mut self.caller, shard, step)?;
+        Ok(outcome)
+    }
+
+    /// Whether the tenant holds no span.
+    pub fn is_empty(&mut self, tenant: u32) -> bool
+        ensures empty { IsEmptyOn self.old.caller (tenant % length self.old.hub.now) tenant result }
+        ensures same { self.new.caller ≡ self.old.caller }
+        ensures hub { self.new.hub ≡ self.old.hub }
+    {
+        self.hub.empty(self.rt, &mut self.caller, tenant)
+    }
+}
+
+impl<'h, J: Naming, R: Wait + Clock> JobSource for WorkerContext<'h, J, R> {
+    ghost use Rattle.std.specs.Prelude.{◌≡◌};
+    ghost use Rattle.trace_service.specs.Work.{MakesTurn};
+
+    ghost turns = { λ old t new. (new.shard ≡ old.shard) × MakesTurn old.caller new.caller old.shard t };
+
+    fn turn(&mut self, now: u64) -> TurnResult {
+        let step = Step::Turn { now };
+        match self
+            .hub
+            .step(self.rt, self.alloc, &mut self.caller, self.shard, step)
+        {
+            Ok((outcome, _receipt)) => turn_result(outcome),
+            Err(_) => TurnResult::Idle,
+        }
+    }
+}
+
+/// What a turn's outcome is to who made it.
+fn turn_result(outcome: Outcome) -> TurnResult
+    ensures { result ≡ turned_of outcome }
+{
+    match outcome {
+        Outcome::Job(tenant, ticket, payload) => TurnResult::Job(Job {
+            tenant,
+            ticket,
+            payload,
+        }),
+        Outcome::Worked(_) => TurnResult::Worked,
+        _ => TurnResult::Idle,
+    }
+}
+
+impl<'h, J: Naming, R: Wait + Clock> AnswerSink for WorkerContext<'h, J, R> {
+    ghost use Rattle.std.specs.Prelude.{◌≡◌, length};
+    ghost use Rattle.trace_service.specs.Work.{TakesAnswer, RefusesAnswer};
+
+    ghost takes = { λ old g new. TakesAnswer old.caller new.caller (length old.hub.now) g };
+
+    ghost refuses = { λ old g new. RefusesAnswer old.caller new.caller (length old.hub.now) g };
+
+    fn answer(
+        &mut self,
+        tenant: u32,
+        now: u64,
+        ticket: u64,
+        answer: &Answer,
+    ) -> Result<(), AnswerRefused> {
+        match self.hub.answer(
+            self.rt,
+            self.alloc,
+            &mut self.caller,
+            tenant,
+            now,
+            ticket,
+            answer,
+        ) {
+            Ok(_) => Ok(()),
+            Err(_) => Err(AnswerRefused),
+        }
+    }
+}
+
+impl<'h, J: Naming, R: Wait + Clock> Handler for WorkerContext<'h, J, R> {
+    ghost use Rattle.std.specs.Prelude.{◌≡◌, length};
+    ghost use Rattle.tail_settings.specs.Settings.{settings_view};
+    ghost use Rattle.trace_service.specs.Post.{IsHandled};
+
+    ghost answers = { λ old request told new. (new.settings ≡ old.settings)
+        × IsHandled (settings_view old.settings.now) old.beat.last new.beat.last old.caller new.caller
+        (length old.hub.now) request told };
+
+    fn handle<T: Threads + Sync>(&mut self, rt: &T, message: &HttpMessage) -> Reply {
+        match route(self.settings, message) {
+            Route::Post { tenant } => self.post(rt, tenant, &message.body),
+            Route::Refuse(refusal) => refused(self.alloc, refusal),
+        }
+    }
+}
+
+impl<'h, J: Naming, R: Wait + Clock> WorkerContext<'h, J, R> {
+    ghost use Rattle.std.specs.Prelude.{◌≡◌, length};
+    ghost use Rattle.http_edge.specs.Seen.{response_of};
+    ghost use Rattle.tail_settings.specs.Settings.{settings_view};
+    ghost use Rattle.tenant_shard.specs.Table.{section_at};
+    ghost use Rattle.trace_service.specs.Post.{IsSent};
+
+    /// Posts a body to a tenant, at the moment that it now is.
+    fn post<T: Threads + Sync>(&mut self, rt: &T, tenant: u32, body: &[u8]) -> Reply
+        ensures settings { self.new.settings ≡ self.old.settings }
+        ensures sent { IsSent (section_at (settings_view self.old.settings.now) tenant) self.old.beat.last
+            self.new.beat.last self.old.caller self.new.caller (length self.old.hub.now) tenant body.now
+            (response_of result) }
+    {
+        let settings = self.settings;
+        let Some(section) = settings.section(tenant) else {
+            return refused(self.alloc, RouteRefusal::UnknownTenant);
+        };
+        let now = self.beat.now();
+        let parts = settings.global.parts;
+        match Bytes::copy_from_slice(self.alloc, body) {
+            Ok(body) => post_body(
+                rt,
+                self.rt,
+                self.alloc,
+                self.hub,
+                &mut self.caller,
+                now,
+                tenant,
+                section,
+                body,
+                parts,
+            ),
+            Err(AllocError) => without_memory(self.alloc),
+        }
+    }
+}
