@@ -12,7 +12,7 @@ returns-in_err-outcome-clause-on_refusal g c = on_err _ _ (refused_on _ _ _ _ _ 
 pub returns-clause-same_hub : goal.returns-clause-same_hub
 returns-clause-same_hub g c =
     still_mine _ _ _ _ _ _ c.me.view_is c.requires.same_hub c.requires.shard c.index_mut-seat.ensures.value
-    (slot_after _ _ c.in_ok-outcome.ensures.made.noted c.in_ok-outcome.ensures.made.after)
+    (slot_after _ _ c.in_ok-outcome.ensures.made.late c.in_ok-outcome.ensures.made.noted c.in_ok-outcome.ensures.made.after)
 
 pub returns-clause-call : goal.returns-clause-call
 returns-clause-call g c =
