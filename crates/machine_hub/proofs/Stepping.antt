@@ -9,8 +9,8 @@ use Rattle.machine_hub.specs.declared.view.SlotView.{SlotView}
 use Rattle.machine_hub.specs.declared.view.Standing.{Standing}
 use Rattle.machine_hub.specs.declared.told.Told.{Told}
 use Rattle.machine_hub.specs.Runs.{entry, IsLoss, entries_in, IsLogged, IsMade}
-use Rattle.machine_hub.specs.Slot.{seat_view, with_history, added, added_late, stored, passed, IsAtHome, Taken, Stepped, IsSteppedBy, IsBackWith, IsStoppedBy, IsReturnedBy}
-use Rattle.machine_hub.specs.Seats.{SeatState, if_kept, IsStepOf, WasTold}
+use Rattle.machine_hub.specs.Slot.{seat_view, with_history, added, added_late, stored, passed, Taken, Stepped, IsSteppedBy, IsBackWith, IsStoppedBy, IsReturnedBy}
+use Rattle.machine_hub.specs.Seats.{SeatState, if_kept, IsSeatsMachine, IsStepOf, WasTold}
 
 some_same : {X : Type 0} (a b : X) → Some a ≡ Some b → a ≡ b
 some_same a b e = cc
@@ -94,10 +94,19 @@ module _ {M S O : Type 0} (steps : M → S → O → M → Type 0) (loses : M �
   pub returned_by : (v u : SlotView M S O) (s : Standing M S O) → Taken steps loses v s u → v.parts ≡ 1 → IsReturnedBy u s
   returned_by v u s t part = (with_history t.entries t.later s, back_with v u s s t part (refl, refl) refl, refl, refl)
 
+  -- the machine as the seat that takes it out knows it
+  known_by : (slot : TableId) (v u : SlotView M S O) (s : Standing M S O) (t : Taken steps loses v s u) → v.parts ≡ 1 → IsSeatsMachine steps loses (seat_of slot v) (with_history t.entries t.later s)
+  known_by slot v u s t part = record {
+    home = t.home (omega (arith, part));
+    history = t.history (omega (arith, part));
+    calls = t.calls;
+    late_calls = t.late;
+  }
+
   pub told_so : {Q : Type 0} (is_so : M → Q → Bool) (question : Q) (slot : TableId) (v u : SlotView M S O) (seat : SeatState M S O) (s : Standing M S O) (told : Told)
-      → seat_of slot v ≡ seat → v.parts ≡ 1 → Taken steps loses v s u → told.answer ≡ is_so s.machine question → told.stopped ≡ s.stopped → WasTold steps is_so seat question told
+      → seat_of slot v ≡ seat → v.parts ≡ 1 → Taken steps loses v s u → told.answer ≡ is_so s.machine question → told.stopped ≡ s.stopped → WasTold steps loses is_so seat question told
   told_so is_so question slot v u seat s told is part t answer stopped =
-      subst (λ (y : SeatState M S O). WasTold steps is_so y question told) is (with_history t.entries t.later s, t.home (omega (arith, part)), t.calls, answer, stopped)
+      subst (λ (y : SeatState M S O). WasTold steps loses is_so y question told) is (with_history t.entries t.later s, known_by slot v u s t part, answer, stopped)
 
   -- what the seat knows after the step
   after_view : (v u w : SlotView M S O) (before s : Standing M S O) (e : Entry S O) (t : Taken steps loses v before u) → Stepped u s w → s.last ≡ Some e
@@ -126,9 +135,9 @@ module _ {M S O : Type 0} (steps : M → S → O → M → Type 0) (loses : M �
 
   pub step_of : {C : Type 0} (asks : C → S → Type 0) (call : C) (slot slot' : TableId) (v u w : SlotView M S O) (seat : SeatState M S O) (before s : Standing M S O) (outcome : O) (given : Option (ℕ × Entry S O))
       → seat_of slot v ≡ seat → slot' ≡ slot → v.parts ≡ 1 → Taken steps loses v before u → Stepped u s w → IsMade asks steps call before s outcome given
-      → IsStepOf asks steps seat (seat_of slot' w) call outcome given
+      → IsStepOf asks steps loses seat (seat_of slot' w) call outcome given
   step_of asks call slot slot' v u w seat before s outcome given is same part t stepped made =
-      subst (λ (y : SeatState M S O). IsStepOf asks steps y (seat_of slot' w) call outcome given) is (by s.stopped refl)
+      subst (λ (y : SeatState M S O). IsStepOf asks steps loses y (seat_of slot' w) call outcome given) is (by s.stopped refl)
     where
       e : Entry S O
       e = entry made.0 outcome
@@ -145,18 +154,17 @@ module _ {M S O : Type 0} (steps : M → S → O → M → Type 0) (loses : M �
       stays : s.stopped ≡ before.stopped
       stays = stays_as before s e given made.4
 
-      home : IsAtHome steps v.home old
-      home = t.home (omega (arith, part))
+      known : IsSeatsMachine steps loses (seat_of slot v) old
+      known = known_by slot v u before t part
 
-      by : (b : Bool) → s.stopped ≡ b → IsStepOf asks steps (seat_of slot v) (seat_of slot' w) call outcome given
+      by : (b : Bool) → s.stopped ≡ b → IsStepOf asks steps loses (seat_of slot v) (seat_of slot' w) call outcome given
       by true off = record {
         late = true;
         noted = (length (entries_in t.later), e);
         made = record {
           old = old;
           new = with_history t.entries (t.later ++ Some e ∷ []) s;
-          home = home;
-          calls = t.calls;
+          before = known;
           step = made.0;
           asked = made.1;
           made = made.2;
@@ -172,8 +180,7 @@ module _ {M S O : Type 0} (steps : M → S → O → M → Type 0) (loses : M �
         made = record {
           old = old;
           new = with_history (t.entries ++ e ∷ []) t.later s;
-          home = home;
-          calls = t.calls;
+          before = known;
           step = made.0;
           asked = made.1;
           made = made.2;
@@ -181,5 +188,5 @@ module _ {M S O : Type 0} (steps : M → S → O → M → Type 0) (loses : M �
         };
         above = AreBelow-from t.entries v.calls t.calls;
         after = λ i. seat_of (same i) (view_at false on i);
-        given_is = given_on before s e given t.entries v.home.keeps made.4 on home.1 (t.kept (omega (arith, part)));
+        given_is = given_on before s e given t.entries v.home.keeps made.4 on known.home.1 (t.kept (omega (arith, part)));
       }

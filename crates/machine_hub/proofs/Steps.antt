@@ -45,10 +45,10 @@ module _ {M S O : Type 0} where
   refused_on ss me self k s w is e lt got w_is =
       (s, subst (λ l. slice_get l k ≡ Some s) is (seat_at ss me self k s is e lt got), (λ i. set (is i) k (w_is i)))
 
-module _ {M S O : Type 0} (steps : M → S → O → M → Type 0) where
+module _ {M S O : Type 0} (steps : M → S → O → M → Type 0) (loses : M → M → Type 0) where
   pub call_on : {C : Type 0} (asks : C → S → Type 0) (ss me : List (SeatState M S O)) (self : List TableId) (k : ℕ) (s w : SeatState M S O) (call : C) (outcome : O) (given : Option (ℕ × Entry S O)) (receipt : Option Receipt)
-      → ss ≡ me → slots_of me ≡ self → k < length self → s ≡ get_or ss k s → IsStepOf asks steps s w call outcome given → receipt ≡ option_map (λ g. receipt_at k g.0) given
-      → IsCallOn asks steps me (set ss k w) k call outcome receipt
+      → ss ≡ me → slots_of me ≡ self → k < length self → s ≡ get_or ss k s → IsStepOf asks steps loses s w call outcome given → receipt ≡ option_map (λ g. receipt_at k g.0) given
+      → IsCallOn asks steps loses me (set ss k w) k call outcome receipt
   call_on asks ss me self k s w call outcome given receipt is e lt got did receipt_is = record {
     seat = s;
     late = did.late;
@@ -61,5 +61,5 @@ module _ {M S O : Type 0} (steps : M → S → O → M → Type 0) where
   }
 
   pub told_on : {Q : Type 0} (is_so : M → Q → Bool) (ss me : List (SeatState M S O)) (self : List TableId) (k : ℕ) (s : SeatState M S O) (question : Q) (told : Told)
-      → ss ≡ me → slots_of me ≡ self → k < length self → s ≡ get_or ss k s → WasTold steps is_so s question told → IsToldOn steps is_so me k question told
+      → ss ≡ me → slots_of me ≡ self → k < length self → s ≡ get_or ss k s → WasTold steps loses is_so s question told → IsToldOn steps loses is_so me k question told
   told_on is_so ss me self k s question told is e lt got was = (s, subst (λ l. slice_get l k ≡ Some s) is (seat_at ss me self k s is e lt got), was)

@@ -81,12 +81,13 @@ module _ {M S O : Type 0} where
 -- caller's seat there has its entry, unless memory was refused before, above those of its earlier calls there; the
 -- receipt, where the log keeps, names the shard and the entry's position; the caller's other seats are as before
 pub record IsCallOn {C M S O : Type 0} (asks : C → S → Type 0) (steps : M → S → O → M → Type 0)
-    (old new : List (SeatState M S O)) (shard : ℕ) (call : C) (outcome : O) (receipt : Option Receipt) : Type 0 where
+    (loses : M → M → Type 0) (old new : List (SeatState M S O)) (shard : ℕ) (call : C) (outcome : O)
+    (receipt : Option Receipt) : Type 0 where
   pub seat : SeatState M S O
   pub late : Bool
   pub noted : ℕ × Entry S O
   pub at : slice_get old shard ≡ Some seat
-  pub made : WasMade asks steps seat call outcome late noted
+  pub made : WasMade asks steps loses seat call outcome late noted
   pub above : IsAbove seat late noted
   pub after : new ≡ slice_set old shard (seat_after seat late noted)
   pub receipt_is :
@@ -94,10 +95,10 @@ pub record IsCallOn {C M S O : Type 0} (asks : C → S → Type 0) (steps : M �
 
 -- at one moment of a call the machine of this shard, which did all that the caller's earlier calls there gave, answered
 -- so
-abbrev pub IsToldOn : {M S O Q : Type 0} → (M → S → O → M → Type 0) → (M → Q → Bool) →
+abbrev pub IsToldOn : {M S O Q : Type 0} → (M → S → O → M → Type 0) → (M → M → Type 0) → (M → Q → Bool) →
     List (SeatState M S O) → ℕ → Q → Told → Type 0
-IsToldOn {M} {S} {O} steps is_so callers shard question told =
-    (seat : SeatState M S O) × (slice_get callers shard ≡ Some seat) × WasTold steps is_so seat question told
+IsToldOn {M} {S} {O} steps loses is_so callers shard question told =
+    (seat : SeatState M S O) × (slice_get callers shard ≡ Some seat) × WasTold steps loses is_so seat question told
 
 module _ {M S O : Type 0} (steps : M → S → O → M → Type 0) where
   -- what all callers' calls at a shard tell of it at the end. What it did is a run from what it was at first, which the

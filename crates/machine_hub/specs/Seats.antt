@@ -8,7 +8,7 @@ use Rattle.machine_hub.specs.declared.view.SlotView.{SlotView}
 use Rattle.machine_hub.specs.declared.view.Standing.{Standing}
 use Rattle.machine_hub.specs.declared.told.Told.{Told}
 use Rattle.machine_hub.specs.Runs.{entry, entries_in, losses, IsHistory}
-use Rattle.machine_hub.specs.Slot.{seat_view, with_entries, stored, IsAtHome}
+use Rattle.machine_hub.specs.Slot.{seat_view, with_entries, stored, IsAtHome, HasHistory}
 
 -- a seat: its slot and its machine's home, the entries of its calls, each with its position in what the machine did: of
 -- those that came before memory was refused, and of those that came later; how many these are, and how many calls were
@@ -86,6 +86,10 @@ module _ {M S O : Type 0} where
   abbrev pub HasCalls : List (Entry S O) → SeatState M S O → Type 0
   HasCalls entries seat = AreFrom entries seat.calls
 
+  -- what came after memory was refused has the seat's later calls at their positions
+  abbrev pub HasLateCalls : List (Option (Entry S O)) → SeatState M S O → Type 0
+  HasLateCalls later seat = AreFrom (entries_in later) seat.late
+
   -- the entry's position is above those of all earlier calls
   abbrev pub IsAbove : SeatState M S O → Bool → ℕ × Entry S O → Type 0
   IsAbove s true noted = AreBelow noted.0 s.late
@@ -119,13 +123,22 @@ IsNoted old new e false noted =
     (noted ≡ (length old.entries, e)) × (new.entries ≡ old.entries ++ e ∷ []) × (new.later ≡ old.later)
     × (old.stopped ≡ false) × (new.stopped ≡ false)
 
+-- it is the seat's machine, known with what it did: a run, and what came after memory was refused. In these are all of
+-- the seat's calls
+pub record IsSeatsMachine {M S O : Type 0} (steps : M → S → O → M → Type 0) (loses : M → M → Type 0)
+    (seat : SeatState M S O) (s : Standing M S O) : Type 0 where
+  pub home : IsAtHome steps seat.home s
+  pub history : HasHistory steps loses seat.home s
+  pub calls : HasCalls s.entries seat
+  pub late_calls : HasLateCalls s.later seat
+
 -- at one moment of a call the seat's machine, which did all that the seat's earlier calls gave, made this step
 pub record WasMade {C M S O : Type 0} (asks : C → S → Type 0) (steps : M → S → O → M → Type 0)
-    (seat : SeatState M S O) (call : C) (outcome : O) (late : Bool) (noted : ℕ × Entry S O) : Type 0 where
+    (loses : M → M → Type 0) (seat : SeatState M S O) (call : C) (outcome : O) (late : Bool) (noted : ℕ × Entry S O)
+    : Type 0 where
   pub old : Standing M S O
   pub new : Standing M S O
-  pub home : IsAtHome steps seat.home old
-  pub calls : HasCalls old.entries seat
+  pub before : IsSeatsMachine steps loses seat old
   pub step : S
   pub asked : asks call step
   pub made : steps old.machine step outcome new.machine
@@ -144,20 +157,21 @@ if_kept false o = None
 -- a call answered: its step was made, and the seat has its entry behind its others, above all of them. The entry is
 -- answered where the log keeps
 pub record IsStepOf {C M S O : Type 0} (asks : C → S → Type 0) (steps : M → S → O → M → Type 0)
-    (old new : SeatState M S O) (call : C) (outcome : O) (given : Option (ℕ × Entry S O)) : Type 0 where
+    (loses : M → M → Type 0) (old new : SeatState M S O) (call : C) (outcome : O) (given : Option (ℕ × Entry S O))
+    : Type 0 where
   pub late : Bool
   pub noted : ℕ × Entry S O
-  pub made : WasMade asks steps old call outcome late noted
+  pub made : WasMade asks steps loses old call outcome late noted
   pub above : IsAbove old late noted
   pub after : new ≡ seat_after old late noted
   pub given_is : given ≡ if_kept old.home.keeps (unless_late late noted)
 
 -- at one moment of a call the seat's machine, which did all that the seat's earlier calls gave, answered so, and had
 -- been refused memory or hadn't
-abbrev pub WasTold : {M S O Q : Type 0} → (M → S → O → M → Type 0) → (M → Q → Bool) →
+abbrev pub WasTold : {M S O Q : Type 0} → (M → S → O → M → Type 0) → (M → M → Type 0) → (M → Q → Bool) →
     SeatState M S O → Q → Told → Type 0
-WasTold {M} {S} {O} steps is_so seat question told =
-    (s : Standing M S O) × IsAtHome steps seat.home s × HasCalls s.entries seat
+WasTold {M} {S} {O} steps loses is_so seat question told =
+    (s : Standing M S O) × IsSeatsMachine steps loses seat s
     × (told.answer ≡ is_so s.machine question) × (told.stopped ≡ s.stopped)
 
 -- what the calls of all seats tell of the machine at its end: what it did is a run from what it was at first, which the

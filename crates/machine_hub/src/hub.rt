@@ -93,7 +93,7 @@ impl<M: Machine, L: StepLog<M>> Hub<M, L> {
         requires shard { shard < length self.now }
         requires same_hub { slots_of me.old ≡ self.now }
         ensures same_hub { slots_of me.new ≡ self.now }
-        ensures call { IfOk result (λ r. IsCallOn M.asks M.steps me.old me.new shard call r.0 r.1) }
+        ensures call { IfOk result (λ r. IsCallOn M.asks M.steps M.loses me.old me.new shard call r.0 r.1) }
         ensures on_refusal { OnErr result (IsRefusedOn me.old me.new shard) }
     {
         let seat = &mut me.seats[shard];
@@ -113,7 +113,7 @@ impl<M: Machine, L: StepLog<M>> Hub<M, L> {
     ) -> Told
         requires shard { shard < length self.now }
         requires same_hub { slots_of me.old ≡ self.now }
-        ensures answer { IsToldOn M.steps M.is_so me.old shard question.now result }
+        ensures answer { IsToldOn M.steps M.loses M.is_so me.old shard question.now result }
         ensures same { me.new ≡ me.old }
     {
         let seat = &mut me.seats[shard];

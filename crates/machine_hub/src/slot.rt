@@ -159,7 +159,7 @@ impl<M: Machine, L: StepLog<M>> Slot<M, L> {
         call: M::Call,
     ) -> Result<(M::Outcome, Given<M>), AllocError>
         requires { me.old.slot ≡ self.now }
-        ensures made { IfOk result (λ r. IsStepOf M.asks M.steps me.old me.new call r.0
+        ensures made { IfOk result (λ r. IsStepOf M.asks M.steps M.loses me.old me.new call r.0
             (option_map (λ given. (given.0, arc_value given.1)) r.1)) }
         ensures on_refusal { OnErr result (me.new ≡ seat_refused me.old) }
     {
@@ -180,7 +180,7 @@ impl<M: Machine, L: StepLog<M>> Slot<M, L> {
     /// Whether the question's answer is yes. It makes no step, and the machine's log has nothing of it.
     pub fn ask<R: Wait>(&self, rt: &R, me: &mut SlotSeat<M, L>, question: &M::Question) -> Told
         requires { me.old.slot ≡ self.now }
-        ensures answer { WasTold M.steps M.is_so me.old question.now result }
+        ensures answer { WasTold M.steps M.loses M.is_so me.old question.now result }
         ensures same { me.new ≡ me.old }
     {
         let _guard = self.gate.lock(rt);

@@ -17,5 +17,5 @@ returns-clause-same_hub g c =
 pub returns-clause-call : goal.returns-clause-call
 returns-clause-call g c =
     let e = c.in_ok-outcome.ensures in
-    call_on g.M.Machine.steps g.M.Machine.asks _ _ _ _ _ _ _ _ (option_map (λ x. (x.0, arc_value x.1)) c.in_ok-outcome.given) _ c.me.view_is c.requires.same_hub c.requires.shard c.index_mut-seat.ensures.value e.made
+    call_on g.M.Machine.steps g.M.Machine.loses g.M.Machine.asks _ _ _ _ _ _ _ _ (option_map (λ x. (x.0, arc_value x.1)) c.in_ok-outcome.given) _ c.me.view_is c.requires.same_hub c.requires.shard c.index_mut-seat.ensures.value e.made
     (receipt_by arc_value _ _ _ c.receipt_of-receipt.ensures)
