@@ -55,7 +55,7 @@ impl Machine for ShardMachine {
     ghost use Rattle.tenant_shard.specs.Empty.{is_empty};
     ghost use Rattle.tenant_shard.specs.View.{kept_of};
     ghost use Rattle.shard_machine.specs.MachineState.{AsksFor, MachineDoes};
-    ghost use Rattle.shard_machine.specs.Drawing.{IsLost};
+    ghost use Rattle.shard_machine.specs.Drawing.{IsLost, IsLostBySome};
 
     type Call = Call;
 
@@ -71,12 +71,15 @@ impl Machine for ShardMachine {
 
     ghost steps = { MachineDoes };
 
+    ghost loses = { IsLostBySome };
+
     ghost is_so = { λ s tenant. is_empty (kept_of tenant s.views) };
 
     fn make(&mut self, _alloc: Global, call: Call) -> Result<(LoggedStep, Outcome), AllocError>
         ensures asked { IfOk result (λ made. AsksFor call made.0) }
         ensures made { IfOk result (λ made. MachineDoes self.old made.0 made.1 self.new) }
         ensures on_refusal { OnErr result (IsLost call self.old self.new) }
+        ensures lost { OnErr result (IsLostBySome self.old self.new) }
     {
         let made = ready(&mut self.words, call);
         let outcome = self.shard.step(&made.step)?;
