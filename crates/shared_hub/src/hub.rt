@@ -5,7 +5,7 @@ ghost use Rattle.tail_settings.specs.Settings.{SettingsData, settings_view};
 ghost use Rattle.machine_hub.specs.Hub.{slots_of, new_caller, AreCallersOf, AreShardRuns, IsRefusedOn};
 ghost use Rattle.shard_machine.specs.MachineState.{MachineDoes};
 ghost use Rattle.shared_hub.specs.Shards.{AreOpened, kept};
-ghost use Rattle.shared_hub.specs.Logs.{IsStepOn, IsAnswerOn, IsLookOn, IsEmptyOn, AreLogged, AreOneRun};
+ghost use Rattle.shared_hub.specs.Logs.{IsStepOn, IsAnswerOn, IsLookOn, IsEmptyOn, AreLogged, AreOneRun, AreOneHistory};
 ghost use Rattle.shared_hub.specs.declared.fault.HubFault.TheVariants as faults;
 
 use crate::copy::copy_of;
@@ -166,6 +166,8 @@ impl SharedHub {
             AreOpened table keeper.homes → AreLogged table shards.items) }
         ensures one_run { IfOk result (λ shards. (table : SettingsData) →
             AreOpened table keeper.homes → AreOneRun table callers.items) }
+        ensures one_history { IfOk result (λ shards. (table : SettingsData) →
+            AreOpened table keeper.homes → AreOneHistory table callers.items shards.items) }
         ensures missing { IfErr result (λ back. (vec_len callers ≢ keeper.callers) × (back.hub ≡ self)
             × (back.keeper ≡ keeper) × (back.callers ≡ callers)) }
     {
