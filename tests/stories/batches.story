@@ -21,6 +21,16 @@ report a 2700 = report a accepted=6 active=6
 post b 3000 14.32+14.33+14.34+14.35 = reply b 200 -
 turn 4000 = job b 2 14.32+14.33+14.34+14.35
 
+# The rest of a cut waits its whole second, and not that of the span which waited before.
+story the_timer_starts_anew_for_the_rest: TWO_OR_THREE
+post a 0 11.21 = reply a 200 -
+post a 400 12.22+12.23+12.24 = reply a 200 -
+turn 1000 = worked a
+turn 1400 = job a 1 11.21+12.22+12.23
+turn 2000 = idle
+turn 2399 = idle
+turn 2400 = job a 2 12.24
+
 # However late a step comes, batches are those of their own moments, and so is when they may be sent. At one moment
 # the batch timer goes before the decision.
 story late_timers_take_in_no_later_span: TWO_OR_THREE
