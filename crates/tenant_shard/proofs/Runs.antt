@@ -49,7 +49,7 @@ own_answer t (Some section) past known kept step before after said stands is tak
 
     by_known : (k : Bool) → MemberStands (Some section) past k (Some before) →
         IsTakenOrNot (is_taken section step) t section past k step.step (named t (Answered said)) × MemberStands (Some section) (if is_taken section step then step.step ∷ past else past) k (Some after)
-    by_known true known_stands = let both = answers section past known_stands in rw test (ap (λ replies. named t (Answered told)) both.0, both.1)
+    by_known true known_stands = let both = answers section past known_stands in rw test (ap (λ told. named t (Answered told)) both.0, both.1)
     by_known false known_stands = rw test ((said, refl), stay ∙ keeps)
 
 -- every tenant after a member's own step

@@ -7,8 +7,8 @@ use Rattle.replay_script.specs.Command as data_of
 use Rattle.trace_collector.proofs.Done.{done_asks}
 use Rattle.trace_collector.proofs.session.ShardsSession.answer.Goals as goal
 
-pub returns-in_ok-step_of-in-Answer-clause-ok : goal.returns-in_ok-step_of-in-Answer-clause-ok
-returns-in_ok-step_of-in-Answer-clause-ok g c =
+pub returns-in_ok-step_of-in-Answer-clause-on_success : goal.returns-in_ok-step_of-in-Answer-clause-on_success
+returns-in_ok-step_of-in-Answer-clause-on_success g c =
     rw c.in-Answer.is (done_asks c.args.self.now c.step_of.new.self c.in-Some.tenant c.in-Answer.name.now
     (data_of.Answer c.in-Answer.name.now c.in-Answer.moment c.in-Answer.ticket c.in-Answer.word (answer_view c.in-Answer.answer))
     (steps.Answer c.in-Some.tenant c.in-Answer.moment c.in-Answer.ticket c.in-Answer.word c.in-Answer.answer)

@@ -16,4 +16,4 @@ returns c =
     let six : c.put_some_four.new.out.items ≡ c.put_some_number.new.out.items ++ some_four 6 s.flags = search rules in
     let all : c.extend_from_slice.new.self.items ≡ c.put_some_four.new.out.items ++ s.unknown
     → c.extend_from_slice.new.self.items ≡ c.args.out.now.items ++ link_text (link_view s) = λ last. rw (last, six, five, four, three, two, one) (simp append_assoc refl) in
-    record { ok = on_ok_weaker c.extend_from_slice.result all (search rules) }
+    record { on_success = on_ok_weaker c.extend_from_slice.result all (search rules) }
