@@ -4,6 +4,7 @@ ghost use Rattle.std.specs.Prelude.{◌≡◌, true, [], ◌∷◌, ◌++◌, ta
 ghost use Rattle.decision_cache.specs.Ids.{contains};
 ghost use Rattle.decision_cache.specs.Caches.{both, with_hits, no_decisions, cache_of, noted_in, all_noted, shown, found, CachesInvariant};
 
+use crate::keyed::HashKeys;
 use crate::recent::RecentIds;
 use std::alloc::{AllocError, Global};
 use std::marker::Model;
@@ -33,12 +34,12 @@ impl Model for DecisionCaches {
 impl DecisionCaches {
     /// Caches of at most so many ids each. A cache makes its room at once; of size 0 it takes none, and stays empty.
     ///
-    /// The keys are two numbers that whoever picks trace ids can't know. No answer depends on them.
+    /// Whoever picks trace ids can't know the keys. No answer depends on them.
     pub fn new(
         alloc: Global,
         sampled_size: u32,
         other_size: u32,
-        keys: (u64, u64),
+        keys: HashKeys,
     ) -> Result<Self, AllocError>
         ensures made { IfOk result (λ caches. caches ≡ no_decisions sampled_size other_size) }
         ensures inactive { sampled_size ≡ 0 → other_size ≡ 0 → IsOk result }

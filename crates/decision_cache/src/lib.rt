@@ -21,6 +21,7 @@ mod keyed;
 mod recent;
 
 pub use caches::DecisionCaches;
+pub use keyed::HashKeys;
 
 /// The list of a cache has the ids that its events say, and goes on with each event: a law over the definitions.
 pub fn lists_follow_events()

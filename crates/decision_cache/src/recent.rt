@@ -3,7 +3,7 @@
 ghost use Rattle.std.specs.Prelude.{◌≡◌, true, IsOk, IfOk, OnOk, OnErr};
 ghost use Rattle.decision_cache.specs.Ids.{no_ids, with_id, contains};
 
-use crate::keyed::Keyed;
+use crate::keyed::{HashKeys, Keyed};
 use lru::LruCache;
 use std::alloc::{AllocError, Global};
 use std::marker::Model;
@@ -34,7 +34,7 @@ impl Model for RecentIds {
 
 impl RecentIds {
     /// A cache of at most so many ids. It makes its room at once, and none where the size is 0.
-    pub(crate) fn new(alloc: Global, size: u32, keys: (u64, u64)) -> Result<Self, AllocError>
+    pub(crate) fn new(alloc: Global, size: u32, keys: HashKeys) -> Result<Self, AllocError>
         ensures made { IfOk result (λ made. made ≡ no_ids size) }
         ensures inactive { size ≡ 0 → IsOk result }
     {

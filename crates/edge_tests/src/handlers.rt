@@ -67,6 +67,22 @@ fn routed(alloc: Global, settings: &Settings, message: &HttpMessage) -> Result<R
     }
 }
 
+/// Answers that there was no memory, and notes that it was asked.
+#[derive(Drop)]
+pub struct Lacking {
+    pub alloc: Global,
+    pub asked: bool,
+}
+
+impl Handler for Lacking {
+    ghost answers = { λ _ _ _ _. Unit {0} };
+
+    fn handle<T: Threads + Sync>(&mut self, _rt: &T, _message: &HttpMessage) -> Reply {
+        self.asked = true;
+        no_memory(self.alloc)
+    }
+}
+
 /// The reply that takes no memory.
 fn no_memory(alloc: Global) -> Reply {
     Reply {

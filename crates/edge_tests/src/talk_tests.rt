@@ -1,12 +1,13 @@
 //! Talks and connections, in each way.
 
 use crate::connections::CONNECTIONS;
-use crate::handlers::{Echo, Front};
+use crate::handlers::{Echo, Front, Lacking};
 use crate::names::NAMES;
 use crate::notation::names_of;
 use crate::talks::{LONG_TALKS, TALKS};
 use crate::ways::{Way, walk};
-use http_edge::{Reply, reply_bytes};
+use http_edge::{EdgeFault, Reply, reply_bytes, serve};
+use http_line::{Line, MemoryLine};
 use std::alloc::{AllocError, Global};
 use std::test::Fail;
 use std::thread::Threads;
@@ -48,13 +49,13 @@ fn routed<R: Threads + Sync>(
 
 #[test]
 fn talks_cut_at_each_byte(rt: HostRuntime) -> Result<(), Fail> {
-    assert_eq!(rt; echoed(&rt, rt.alloc(), TALKS, Way::Cut)?, (216, ""));
+    assert_eq!(rt; echoed(&rt, rt.alloc(), TALKS, Way::Cut)?, (217, ""));
     Ok(())
 }
 
 #[test]
 fn talks_that_break_off(rt: HostRuntime) -> Result<(), Fail> {
-    assert_eq!(rt; echoed(&rt, rt.alloc(), TALKS, Way::Failing)?, (216, ""));
+    assert_eq!(rt; echoed(&rt, rt.alloc(), TALKS, Way::Failing)?, (217, ""));
     Ok(())
 }
 
@@ -67,7 +68,7 @@ fn long_talks(rt: HostRuntime) -> Result<(), Fail> {
 
 #[test]
 fn talks_with_or_without_memory(rt: HostRuntime) -> Result<(), Fail> {
-    assert_eq!(rt; echoed(&rt, rt.alloc(), TALKS, Way::Refused)?, (216, ""));
+    assert_eq!(rt; echoed(&rt, rt.alloc(), TALKS, Way::Refused)?, (217, ""));
     Ok(())
 }
 
@@ -89,6 +90,32 @@ fn connections_that_break_off(rt: HostRuntime) -> Result<(), Fail> {
 fn connections_with_or_without_memory(rt: HostRuntime) -> Result<(), Fail> {
     let settings = load(rt.alloc(), SETTINGS)?;
     assert_eq!(rt; routed(&rt, rt.alloc(), &settings, Way::Refused)?, (83, ""));
+    Ok(())
+}
+
+/// Whether a client is told that a handler had no memory: want of memory breaks that off only before the handler is
+/// asked.
+fn is_told_of_memory<R: Threads + Sync>(rt: &R, alloc: Global) -> Result<bool, AllocError> {
+    let input = Vec::from_slice(
+        alloc,
+        b"GET / HTTP/1.1\r\nHost: c\r\nConnection: close\r\n\r\n",
+    )?;
+    let mut line = MemoryLine::new(input, Vec::new(alloc), Vec::new(alloc), 0);
+    let mut handler = Lacking {
+        alloc,
+        asked: false,
+    };
+    Ok(match serve(rt, alloc, &mut line, &mut handler) {
+        Ok(()) => line.output().ends_with(b"out of memory"),
+        Err(EdgeFault::OutOfMemory) => !handler.asked,
+        Err(_) => line.failures() == 1,
+    })
+}
+
+/// tests/refused.py refuses each allocation in turn.
+#[test]
+fn a_reply_that_tells_of_memory_needs_none(rt: HostRuntime) -> Result<(), Fail> {
+    assert!(rt; is_told_of_memory(&rt, rt.alloc())?);
     Ok(())
 }
 

@@ -359,6 +359,8 @@ POST / HTTP/1.0\r\nContent-Length: 3\r\nTransfer-Encoding: chunked\r\n\r\n{ABC} 
 {CHUNKED}+{ABC} -> {BAD}
 # a letter that is no digit behind the size
 {CHUNKED}3h\r\nabc\r\n0\r\n\r\n -> {BAD}
+# a bad line of a chunk that ends with the input: its last byte is looked at then, however the bytes came
+{CHUNKED}12z -> {BAD}
 # a colon behind the size
 {CHUNKED}3: x\r\nabc\r\n0\r\n\r\n -> {BAD}
 # a comma behind the size

@@ -8,9 +8,10 @@ use Rattle.atomic_table.specs.Seated.{TableId}
 use Rattle.log_positions.specs.Numbered.{AreRising, AreAllOf}
 use Rattle.machine_hub.specs.declared.view.Home.{Home}
 use Rattle.machine_hub.specs.declared.view.Standing.{Standing}
+use Rattle.machine_hub.specs.Runs.{entries_in, IsHistory}
 use Rattle.machine_hub.specs.Slot.{stored}
 use Rattle.machine_hub.specs.Seats.{SeatState, KeeperState, new_keeper, keeper_with, IsWholeRun}
-use Rattle.machine_hub.specs.Hub.{HubKeeping, keeping, slots_of, seats_at, AreCallersOf, EachRises, IsShardRun, AreShardRuns}
+use Rattle.machine_hub.specs.Hub.{HubKeeping, keeping, slots_of, seats_at, AreCallersOf, EachRises, IsShardRun, AreShardRuns, IsShardHistory, AreShardHistories}
 use Rattle.machine_hub.specs.Keepers.{AreFresh, keeper_slots, AreRoomy, AreFull, taken_in, gathered, AreWholeRuns}
 use Rattle.machine_hub.proofs.Lists.{some_one, empty, EachOf, each_from_all, IsZipping, zipping_first, zipping_old, zipping_all, zipped_long, map_at, map_long, map_some}
 
@@ -190,6 +191,10 @@ module _ {M S O : Type 0} where
   over_calls k [] none = none
   over_calls k (s ∷ ss) none = ap (λ l. s.calls ++ l) (over_calls k ss none)
 
+  over_late : (k : KeeperState M S O) (ss : List (SeatState M S O)) → k.late ≡ [] → (over k ss).late ≡ flat_map (λ (x : SeatState M S O). x.late) ss
+  over_late k [] none = none
+  over_late k (s ∷ ss) none = ap (λ l. s.late ++ l) (over_late k ss none)
+
   over_bare : (k : KeeperState M S O) (ss : List (SeatState M S O)) → k.bare ≡ 0 → (over k ss).bare ≡ sum_by (λ (x : SeatState M S O). x.bare) ss
   over_bare k [] none = none
   over_bare k (s ∷ ss) none = ap (λ n. s.bare + n) (over_bare k ss none) ∙ sym (sum_by-cons (λ (x : SeatState M S O). x.bare) s ss)
@@ -212,14 +217,14 @@ module _ {M S O : Type 0} where
   rises_at i [] each = tt
   rises_at i (c ∷ cs) each = rises_in c i (seats_at i cs) each.0 (rises_at i cs each.1)
 
-module _ {M S O : Type 0} (steps : M → S → O → M → Type 0) where
+module _ {M S O : Type 0} (steps : M → S → O → M → Type 0) (loses : M → M → Type 0) where
   -- some of the last slots have ended
   pub record IsEnding (all rest : List (KeeperState M S O)) (made : List (Standing M S O)) : Type 0 where
     pub done : List (KeeperState M S O)
     pub ended : List (Standing M S O)
     pub all_is : all ≡ rest ++ done
     pub made_is : made ≡ reverse ended
-    pub runs : AreWholeRuns steps done ended
+    pub runs : AreWholeRuns steps loses done ended
     pub full : AreFull rest
 
   pub ending_first : (all : List (KeeperState M S O)) (made : List (Standing M S O)) → made ≡ [] → AreFull all → IsEnding all all made
@@ -228,7 +233,7 @@ module _ {M S O : Type 0} (steps : M → S → O → M → Type 0) where
   pub ending_full : (all was rest : List (KeeperState M S O)) (k : KeeperState M S O) (made : List (Standing M S O)) → IsEnding all was made → was ≡ rest ++ k ∷ [] → k.taken ≡ k.seats
   ending_full all was rest k made h is = (full_front rest k (subst AreFull is h.full)).1
 
-  pub ending_next : (all was rest : List (KeeperState M S O)) (k : KeeperState M S O) (made made' : List (Standing M S O)) (s : Standing M S O) → IsEnding all was made → was ≡ rest ++ k ∷ [] → IsWholeRun steps k s → made' ≡ made ++ s ∷ [] → IsEnding all rest made'
+  pub ending_next : (all was rest : List (KeeperState M S O)) (k : KeeperState M S O) (made made' : List (Standing M S O)) (s : Standing M S O) → IsEnding all was made → was ≡ rest ++ k ∷ [] → IsWholeRun steps loses k s → made' ≡ made ++ s ∷ [] → IsEnding all rest made'
   ending_next all was rest k made made' s h is run now = record {
     done = k ∷ h.done;
     ended = s ∷ h.ended;
@@ -241,27 +246,27 @@ module _ {M S O : Type 0} (steps : M → S → O → M → Type 0) where
   none_left : (ks : List (KeeperState M S O)) (ts : List TableId) → keeper_slots ks ≡ ts → ts ≡ [] → ks ≡ []
   none_left ks ts e none = empty ks (omega (arith, map_long keeper_slot ks ts e, ap length none))
 
-  pub ended_all : (all rest : List (KeeperState M S O)) (made final : List (Standing M S O)) (ts : List TableId) → IsEnding all rest made → keeper_slots rest ≡ ts → ts ≡ [] → final ≡ reverse made → AreWholeRuns steps all final
+  pub ended_all : (all rest : List (KeeperState M S O)) (made final : List (Standing M S O)) (ts : List TableId) → IsEnding all rest made → keeper_slots rest ≡ ts → ts ≡ [] → final ≡ reverse made → AreWholeRuns steps loses all final
   ended_all all rest made final ts h e none is =
       let whole : h.done ≡ all = ap (λ l. l ++ h.done) (sym (none_left rest ts e none)) ∙ sym h.all_is in
       let given : h.ended ≡ final = sym (is ∙ ap reverse h.made_is ∙ reverse-reverse h.ended) in
-      subst (λ l. AreWholeRuns steps all l) given (subst (λ l. AreWholeRuns steps l h.ended) whole h.runs)
+      subst (λ l. AreWholeRuns steps loses all l) given (subst (λ l. AreWholeRuns steps loses l h.ended) whole h.runs)
 
-  whole_long : (ks : List (KeeperState M S O)) (ss : List (Standing M S O)) → AreWholeRuns steps ks ss → length ss ≡ length ks
+  whole_long : (ks : List (KeeperState M S O)) (ss : List (Standing M S O)) → AreWholeRuns steps loses ks ss → length ss ≡ length ks
   whole_long [] [] runs = refl
   whole_long [] (s ∷ ss) runs = absurd runs
   whole_long (k ∷ ks) [] runs = absurd runs
   whole_long (k ∷ ks) (s ∷ ss) runs = ap suc (whole_long ks ss runs.1)
 
-  whole_at : (ks : List (KeeperState M S O)) (ss : List (Standing M S O)) (i : ℕ) (k : KeeperState M S O) (s : Standing M S O) → AreWholeRuns steps ks ss → slice_get ks i ≡ Some k → slice_get ss i ≡ Some s → IsWholeRun steps k s
+  whole_at : (ks : List (KeeperState M S O)) (ss : List (Standing M S O)) (i : ℕ) (k : KeeperState M S O) (s : Standing M S O) → AreWholeRuns steps loses ks ss → slice_get ks i ≡ Some k → slice_get ss i ≡ Some s → IsWholeRun steps loses k s
   whole_at [] ss i k s runs at here = absurd (cc)
   whole_at (x ∷ ks) [] i k s runs at here = absurd runs
   whole_at (x ∷ ks) (y ∷ ss) zero k s runs at here =
-      subst (λ (z : KeeperState M S O). IsWholeRun steps z s) (some_one x k at) (subst (λ (z : Standing M S O). IsWholeRun steps x z) (some_one y s here) runs.0)
+      subst (λ (z : KeeperState M S O). IsWholeRun steps loses z s) (some_one x k at) (subst (λ (z : Standing M S O). IsWholeRun steps loses x z) (some_one y s here) runs.0)
   whole_at (x ∷ ks) (y ∷ ss) (suc i) k s runs at here = whole_at ks ss i k s runs.1 at here
 
   -- a keeper that has taken in all the seats of its slot
-  shard_run : (n : ℕ) (k : KeeperState M S O) (ss : List (SeatState M S O)) (s : Standing M S O) → k ≡ new_keeper k.slot k.home n → EachRises ss → IsWholeRun steps (over k ss) s → IsShardRun steps k.home ss s
+  shard_run : (n : ℕ) (k : KeeperState M S O) (ss : List (SeatState M S O)) (s : Standing M S O) → k ≡ new_keeper k.slot k.home n → EachRises ss → IsWholeRun steps loses (over k ss) s → IsShardRun steps k.home ss s
   shard_run n k ss s fresh rises w =
       let home = over_home k ss in
       let calls = over_calls k ss (ap (λ (y : KeeperState M S O). y.calls) fresh) in
@@ -278,12 +283,37 @@ module _ {M S O : Type 0} (steps : M → S → O → M → Type 0) where
         stops = λ some. w.stops (omega (arith, refused, some));
       }
 
+  shard_history : (n : ℕ) (k : KeeperState M S O) (ss : List (SeatState M S O)) (s : Standing M S O) → k ≡ new_keeper k.slot k.home n → IsWholeRun steps loses (over k ss) s → IsShardHistory steps loses k.home ss s
+  shard_history n k ss s fresh w =
+      let home = over_home k ss in
+      let calls = over_calls k ss (ap (λ (y : KeeperState M S O). y.calls) fresh) in
+      let late = over_late k ss (ap (λ (y : KeeperState M S O). y.late) fresh) in
+      let refused = over_refused k ss (ap (λ (y : KeeperState M S O). y.refused) fresh) in
+      record {
+        entries = w.entries;
+        later = w.later;
+        history = subst (λ (y : Home M). IsHistory steps loses y.start w.entries w.later s.stopped s.machine) home w.history;
+        each = subst (AreAllOf w.entries) calls w.each;
+        late = subst (AreAllOf (entries_in w.later)) late w.late;
+        count = w.count ∙ refused;
+      }
+
+  pub shard_histories : (slots : List TableId) (n m : ℕ) (all rest : List (List (SeatState M S O))) (old now : List (KeeperState M S O)) (homes : List (Home M)) (ss : List (Standing M S O))
+      → AreFresh m old → map (λ k. k.home) old ≡ homes → IsGathering slots n all rest old now → rest ≡ [] → AreWholeRuns steps loses now ss → AreShardHistories steps loses homes all ss
+  shard_histories slots n m all rest old now homes ss fresh homes_are h none runs i home s at here =
+      let done_is : h.done ≡ all = sym (h.all_is ∙ ap (λ l. l ++ h.done) none) in
+      let whole : AreWholeRuns steps loses (gathered old all) ss = subst (λ l. AreWholeRuns steps loses l ss) (h.now_is ∙ ap (gathered old) done_is) runs in
+      let k = map_some (λ (k : KeeperState M S O). k.home) old i home (subst (λ l. slice_get l i ≡ Some home) (sym homes_are) at) in
+      subst (λ (y : Home M). IsShardHistory steps loses y (seats_at i all) s) k.2
+      (shard_history m k.0 (seats_at i all) s (fresh_at m old i k.0 fresh k.1)
+      (whole_at (gathered old all) ss i (over k.0 (seats_at i all)) s whole (gathered_at old all i k.0 k.1) here))
+
   pub shard_runs : (slots : List TableId) (n m : ℕ) (all rest : List (List (SeatState M S O))) (old now : List (KeeperState M S O)) (homes : List (Home M)) (ss : List (Standing M S O))
-      → AreFresh m old → map (λ k. k.home) old ≡ homes → IsGathering slots n all rest old now → rest ≡ [] → AreWholeRuns steps now ss → AreShardRuns steps homes all ss
+      → AreFresh m old → map (λ k. k.home) old ≡ homes → IsGathering slots n all rest old now → rest ≡ [] → AreWholeRuns steps loses now ss → AreShardRuns steps homes all ss
   shard_runs slots n m all rest old now homes ss fresh homes_are h none runs =
       let done_is : h.done ≡ all = sym (h.all_is ∙ ap (λ l. l ++ h.done) none) in
       let rises : EachOf EachRises all = subst (EachOf EachRises) done_is h.rising in
-      let whole : AreWholeRuns steps (gathered old all) ss = subst (λ l. AreWholeRuns steps l ss) (h.now_is ∙ ap (gathered old) done_is) runs in
+      let whole : AreWholeRuns steps loses (gathered old all) ss = subst (λ l. AreWholeRuns steps loses l ss) (h.now_is ∙ ap (gathered old) done_is) runs in
       record {
         count = omega (arith, whole_long (gathered old all) ss whole, gathered_long old all, ap length homes_are, length-map old (λ (k : KeeperState M S O). k.home));
         each = λ i home s at here.

@@ -8,9 +8,9 @@ use Rattle.machine_hub.specs.declared.view.Home.{Home}
 use Rattle.machine_hub.specs.declared.view.SlotView.{SlotView}
 use Rattle.machine_hub.specs.declared.view.Standing.{Standing}
 use Rattle.machine_hub.specs.declared.told.Told.{Told}
-use Rattle.machine_hub.specs.Runs.{entry, IsLogged, IsMade}
-use Rattle.machine_hub.specs.Slot.{seat_view, with_entries, added, stored, passed, IsAtHome, Taken, Stepped, IsSteppedBy, IsBackWith, IsStoppedBy, IsReturnedBy}
-use Rattle.machine_hub.specs.Seats.{SeatState, seat_after, if_kept, IsStepOf, WasTold}
+use Rattle.machine_hub.specs.Runs.{entry, IsLoss, entries_in, IsLogged, IsMade}
+use Rattle.machine_hub.specs.Slot.{seat_view, with_history, added, added_late, stored, passed, Taken, Stepped, IsSteppedBy, IsBackWith, IsStoppedBy, IsReturnedBy}
+use Rattle.machine_hub.specs.Seats.{SeatState, if_kept, IsSeatsMachine, IsStepOf, WasTold}
 
 some_same : {X : Type 0} (a b : X) → Some a ≡ Some b → a ≡ b
 some_same a b e = cc
@@ -18,7 +18,7 @@ some_same a b e = cc
 module _ {M S O : Type 0} where
   -- a seat by what its pass knows
   abbrev pub seat_of : TableId → SlotView M S O → SeatState M S O
-  seat_of slot v = record { slot = slot; home = v.home; calls = v.calls; bare = v.bare; refused = v.refused }
+  seat_of slot v = record { slot = slot; home = v.home; calls = v.calls; late = v.late; bare = v.bare; refused = v.refused }
 
   -- what the log says of a step, by whether memory was refused before
   stays_as : (old new : Standing M S O) (e : Entry S O) (given : Option (ℕ × Entry S O)) → IsLogged old new e given → new.stopped ≡ old.stopped
@@ -46,26 +46,26 @@ module _ {M S O : Type 0} where
   given_on old new e (Some given) es true l on same is = ap Some (l.0 ∙ ap (λ (l : List (Entry S O)). (length l, e)) is)
   given_on old new e (Some given) es false l on same is = absurd (true≢false (sym l.4 ∙ same))
 
-module _ {M S O : Type 0} (steps : M → S → O → M → Type 0) where
+module _ {M S O : Type 0} (steps : M → S → O → M → Type 0) (loses : M → M → Type 0) where
   -- the seat that takes the machine out has it, and its part
-  held_by : (v u : SlotView M S O) (before : Standing M S O) (t : Taken steps v before u) → v.parts ≡ 1 → (0 < u.parts) × (u.held ≡ Some (with_entries t.entries before)) × (u.home ≡ v.home)
+  held_by : (v u : SlotView M S O) (before : Standing M S O) (t : Taken steps loses v before u) → v.parts ≡ 1 → (0 < u.parts) × (u.held ≡ Some (with_history t.entries t.later before)) × (u.home ≡ v.home)
   held_by v u before t part = (
     subst (λ (y : SlotView M S O). 0 < y.parts) (sym t.after) (omega (arith, part)),
     ap (λ (y : SlotView M S O). y.held) t.after,
     ap (λ (y : SlotView M S O). y.home) t.after,
   )
 
-  kept_by : (v u : SlotView M S O) (before : Standing M S O) (t : Taken steps v before u) → v.parts ≡ 1 → (before.keeps ≡ u.home.keeps) × (before.entries ≡ stored u.home.keeps t.entries)
+  kept_by : (v u : SlotView M S O) (before : Standing M S O) (t : Taken steps loses v before u) → v.parts ≡ 1 → (before.keeps ≡ u.home.keeps) × (before.entries ≡ stored u.home.keeps t.entries)
   kept_by v u before t part =
       let mine : v.home.keeps ≡ u.home.keeps = ap (λ (y : Home M). y.keeps) (sym (held_by v u before t part).2) in
       ((t.home (omega (arith, part))).1 ∙ mine, t.kept (omega (arith, part)) ∙ ap (λ b. stored b t.entries) mine)
 
-  pub stepped_by : {C : Type 0} (asks : C → S → Type 0) (call : C) (v u : SlotView M S O) (before s : Standing M S O) (outcome : O) (given : Option (ℕ × Entry S O)) → Taken steps v before u → v.parts ≡ 1
+  pub stepped_by : {C : Type 0} (asks : C → S → Type 0) (call : C) (v u : SlotView M S O) (before s : Standing M S O) (outcome : O) (given : Option (ℕ × Entry S O)) → Taken steps loses v before u → v.parts ≡ 1
       → (s.number ≡ before.number) × (s.keeps ≡ before.keeps) → IsMade asks steps call before s outcome given → IsSteppedBy steps u s
   stepped_by asks call v u before s outcome given t part same made =
       let has = held_by v u before t part in
       let e : Entry S O = entry made.0 outcome in record {
-        old = with_entries t.entries before;
+        old = with_history t.entries t.later before;
         step = made.0;
         outcome = outcome;
         part = has.0;
@@ -77,8 +77,8 @@ module _ {M S O : Type 0} (steps : M → S → O → M → Type 0) where
         stepped = made.2;
       }
 
-  back_with : (v u : SlotView M S O) (before s : Standing M S O) (t : Taken steps v before u) → v.parts ≡ 1
-      → (s.number ≡ before.number) × (s.keeps ≡ before.keeps) → s.entries ≡ before.entries → IsBackWith (with_entries t.entries before) u s
+  back_with : (v u : SlotView M S O) (before s : Standing M S O) (t : Taken steps loses v before u) → v.parts ≡ 1
+      → (s.number ≡ before.number) × (s.keeps ≡ before.keeps) → s.entries ≡ before.entries → IsBackWith (with_history t.entries t.later before) u s
   back_with v u before s t part same is =
       let has = held_by v u before t part in record {
         part = has.0;
@@ -87,33 +87,43 @@ module _ {M S O : Type 0} (steps : M → S → O → M → Type 0) where
         kept = is ∙ (kept_by v u before t part).1;
       }
 
-  pub stopped_by : (v u : SlotView M S O) (before s : Standing M S O) → Taken steps v before u → v.parts ≡ 1
-      → (s.number ≡ before.number) × (s.keeps ≡ before.keeps) → (s.entries ≡ before.entries) × (s.stopped ≡ true) → IsStoppedBy u s
-  stopped_by v u before s t part same refused = (with_entries t.entries before, back_with v u before s t part same refused.0, refused.1)
+  pub stopped_by : (v u : SlotView M S O) (before s : Standing M S O) → Taken steps loses v before u → v.parts ≡ 1
+      → (s.number ≡ before.number) × (s.keeps ≡ before.keeps) → (s.entries ≡ before.entries) × (s.stopped ≡ true) → IsLoss steps loses before.machine s.machine → IsStoppedBy steps loses u s
+  stopped_by v u before s t part same refused loss = (with_history t.entries t.later before, back_with v u before s t part same refused.0, refused.1, loss)
 
-  pub returned_by : (v u : SlotView M S O) (s : Standing M S O) → Taken steps v s u → v.parts ≡ 1 → IsReturnedBy u s
-  returned_by v u s t part = (with_entries t.entries s, back_with v u s s t part (refl, refl) refl, refl, refl)
+  pub returned_by : (v u : SlotView M S O) (s : Standing M S O) → Taken steps loses v s u → v.parts ≡ 1 → IsReturnedBy u s
+  returned_by v u s t part = (with_history t.entries t.later s, back_with v u s s t part (refl, refl) refl, refl, refl)
+
+  -- the machine as the seat that takes it out knows it
+  known_by : (slot : TableId) (v u : SlotView M S O) (s : Standing M S O) (t : Taken steps loses v s u) → v.parts ≡ 1 → IsSeatsMachine steps loses (seat_of slot v) (with_history t.entries t.later s)
+  known_by slot v u s t part = record {
+    home = t.home (omega (arith, part));
+    history = t.history (omega (arith, part));
+    calls = t.calls;
+    late_calls = t.late;
+  }
 
   pub told_so : {Q : Type 0} (is_so : M → Q → Bool) (question : Q) (slot : TableId) (v u : SlotView M S O) (seat : SeatState M S O) (s : Standing M S O) (told : Told)
-      → seat_of slot v ≡ seat → v.parts ≡ 1 → Taken steps v s u → told.answer ≡ is_so s.machine question → told.stopped ≡ s.stopped → WasTold steps is_so seat question told
+      → seat_of slot v ≡ seat → v.parts ≡ 1 → Taken steps loses v s u → told.answer ≡ is_so s.machine question → told.stopped ≡ s.stopped → WasTold steps loses is_so seat question told
   told_so is_so question slot v u seat s told is part t answer stopped =
-      subst (λ (y : SeatState M S O). WasTold steps is_so y question told) is (with_entries t.entries s, t.home (omega (arith, part)), t.calls, answer, stopped)
+      subst (λ (y : SeatState M S O). WasTold steps loses is_so y question told) is (with_history t.entries t.later s, known_by slot v u s t part, answer, stopped)
 
   -- what the seat knows after the step
-  after_view : (v u w : SlotView M S O) (before s : Standing M S O) (e : Entry S O) (t : Taken steps v before u) → Stepped u s w → s.last ≡ Some e
-      → w ≡ seat_view v.parts v.home None (added s.stopped v.calls (length t.entries, e)) (passed s.stopped v.bare) v.refused
+  after_view : (v u w : SlotView M S O) (before s : Standing M S O) (e : Entry S O) (t : Taken steps loses v before u) → Stepped u s w → s.last ≡ Some e
+      → w ≡ seat_view v.parts v.home None (added s.stopped v.calls (length t.entries, e)) (added_late s.stopped v.late (length (entries_in t.later), e)) (passed s.stopped v.bare) v.refused
   after_view v u w before s e t stepped last =
       let told = subst (λ (y : SlotView M S O). Stepped y s w) t.after stepped in
-      let same : with_entries t.entries before ≡ told.0 = some_same (with_entries t.entries before) told.0 told.2 in
+      let same : with_history t.entries t.later before ≡ told.0 = some_same (with_history t.entries t.later before) told.0 told.2 in
       let made : told.1 ≡ e = some_same told.1 e (sym told.3 ∙ last) in
       let here : length told.0.entries ≡ length t.entries = ap (λ (y : Standing M S O). length y.entries) (sym same) in
-      told.4 ∙ (λ i. seat_view v.parts v.home None (added s.stopped v.calls (here i, made i)) (passed s.stopped v.bare) v.refused)
+      let there : length (entries_in told.0.later) ≡ length (entries_in t.later) = ap (λ (y : Standing M S O). length (entries_in y.later)) (sym same) in
+      told.4 ∙ (λ i. seat_view v.parts v.home None (added s.stopped v.calls (here i, made i)) (added_late s.stopped v.late (there i, made i)) (passed s.stopped v.bare) v.refused)
 
   rises : (calls : List (ℕ × Entry S O)) (stopped : Bool) (n : ℕ) (e : Entry S O) → AreBelow n calls → AreRising calls → AreRising (added stopped calls (n, e))
   rises calls true n e below rising = rising
   rises calls false n e below rising = AreRising-push calls n e below rising
 
-  pub seat_stands : {C : Type 0} (asks : C → S → Type 0) (call : C) (v u w : SlotView M S O) (before s : Standing M S O) (outcome : O) (given : Option (ℕ × Entry S O)) → Taken steps v before u → Stepped u s w
+  pub seat_stands : {C : Type 0} (asks : C → S → Type 0) (call : C) (v u w : SlotView M S O) (before s : Standing M S O) (outcome : O) (given : Option (ℕ × Entry S O)) → Taken steps loses v before u → Stepped u s w
       → v.parts ≡ 1 → AreRising v.calls → IsMade asks steps call before s outcome given → (w.parts ≡ 1) × (w.held ≡ None) × AreRising w.calls
   seat_stands asks call v u w before s outcome given t stepped part rising made =
       let e : Entry S O = entry made.0 outcome in
@@ -124,59 +134,59 @@ module _ {M S O : Type 0} (steps : M → S → O → M → Type 0) where
       )
 
   pub step_of : {C : Type 0} (asks : C → S → Type 0) (call : C) (slot slot' : TableId) (v u w : SlotView M S O) (seat : SeatState M S O) (before s : Standing M S O) (outcome : O) (given : Option (ℕ × Entry S O))
-      → seat_of slot v ≡ seat → slot' ≡ slot → v.parts ≡ 1 → Taken steps v before u → Stepped u s w → IsMade asks steps call before s outcome given
-      → IsStepOf asks steps seat (seat_of slot' w) call outcome given
+      → seat_of slot v ≡ seat → slot' ≡ slot → v.parts ≡ 1 → Taken steps loses v before u → Stepped u s w → IsMade asks steps call before s outcome given
+      → IsStepOf asks steps loses seat (seat_of slot' w) call outcome given
   step_of asks call slot slot' v u w seat before s outcome given is same part t stepped made =
-      subst (λ (y : SeatState M S O). IsStepOf asks steps y (seat_of slot' w) call outcome given) is (by s.stopped refl)
+      subst (λ (y : SeatState M S O). IsStepOf asks steps loses y (seat_of slot' w) call outcome given) is (by s.stopped refl)
     where
       e : Entry S O
       e = entry made.0 outcome
 
       old : Standing M S O
-      old = with_entries t.entries before
+      old = with_history t.entries t.later before
 
-      view : w ≡ seat_view v.parts v.home None (added s.stopped v.calls (length t.entries, e)) (passed s.stopped v.bare) v.refused
+      view : w ≡ seat_view v.parts v.home None (added s.stopped v.calls (length t.entries, e)) (added_late s.stopped v.late (length (entries_in t.later), e)) (passed s.stopped v.bare) v.refused
       view = after_view v u w before s e t stepped made.3
 
-      view_at : (b : Bool) → s.stopped ≡ b → w ≡ seat_view v.parts v.home None (added b v.calls (length t.entries, e)) (passed b v.bare) v.refused
-      view_at b at = view ∙ ap (λ c. seat_view v.parts v.home None (added c v.calls (length t.entries, e)) (passed c v.bare) v.refused) at
+      view_at : (b : Bool) → s.stopped ≡ b → w ≡ seat_view v.parts v.home None (added b v.calls (length t.entries, e)) (added_late b v.late (length (entries_in t.later), e)) (passed b v.bare) v.refused
+      view_at b at = view ∙ ap (λ c. seat_view v.parts v.home None (added c v.calls (length t.entries, e)) (added_late c v.late (length (entries_in t.later), e)) (passed c v.bare) v.refused) at
 
       stays : s.stopped ≡ before.stopped
       stays = stays_as before s e given made.4
 
-      home : IsAtHome steps v.home old
-      home = t.home (omega (arith, part))
+      known : IsSeatsMachine steps loses (seat_of slot v) old
+      known = known_by slot v u before t part
 
-      by : (b : Bool) → s.stopped ≡ b → IsStepOf asks steps (seat_of slot v) (seat_of slot' w) call outcome given
+      by : (b : Bool) → s.stopped ≡ b → IsStepOf asks steps loses (seat_of slot v) (seat_of slot' w) call outcome given
       by true off = record {
-        noted = None;
+        late = true;
+        noted = (length (entries_in t.later), e);
         made = record {
           old = old;
-          new = with_entries t.entries s;
-          home = home;
-          calls = t.calls;
+          new = with_history t.entries (t.later ++ Some e ∷ []) s;
+          before = known;
           step = made.0;
           asked = made.1;
           made = made.2;
-          adds = (refl, sym stays ∙ off, off);
+          adds = (refl, refl, refl, sym stays ∙ off, off);
         };
-        above = tt;
+        above = AreBelow-from (entries_in t.later) v.late t.late;
         after = λ i. seat_of (same i) (view_at true off i);
         given_is = given_off before s e given v.home.keeps made.4 off;
       }
       by false on = record {
-        noted = Some (length t.entries, e);
+        late = false;
+        noted = (length t.entries, e);
         made = record {
           old = old;
-          new = with_entries (t.entries ++ e ∷ []) s;
-          home = home;
-          calls = t.calls;
+          new = with_history (t.entries ++ e ∷ []) t.later s;
+          before = known;
           step = made.0;
           asked = made.1;
           made = made.2;
-          adds = (refl, refl, sym stays ∙ on, on);
+          adds = (refl, refl, refl, sym stays ∙ on, on);
         };
         above = AreBelow-from t.entries v.calls t.calls;
         after = λ i. seat_of (same i) (view_at false on i);
-        given_is = given_on before s e given t.entries v.home.keeps made.4 on home.1 (t.kept (omega (arith, part)));
+        given_is = given_on before s e given t.entries v.home.keeps made.4 on known.home.1 (t.kept (omega (arith, part)));
       }

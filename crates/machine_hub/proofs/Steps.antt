@@ -1,5 +1,5 @@
 -- A caller's call at one shard of a hub.
-use Rattle.std.proofs.Common.{◌≡◌, ℕ, ◌<◌, List, length, get_or, set, Bool, Option, Some, None, sym, ap, ◌∙◌, subst, arith}
+use Rattle.std.proofs.Common.{◌≡◌, ℕ, ◌<◌, List, length, get_or, set, Bool, true, false, Option, Some, None, sym, ap, ◌∙◌, subst, arith}
 use Rattle.std.specs.Prelude.{Result, Ok, Err, OnErr, option_map, slice_get}
 use Rattle.atomic_table.specs.Seated.{TableId}
 use Rattle.machine_hub.specs.declared.entry.Entry.{Entry}
@@ -34,9 +34,9 @@ module _ {M S O : Type 0} where
   pub still_mine : (ss me : List (SeatState M S O)) (self : List TableId) (k : ℕ) (s w : SeatState M S O) → ss ≡ me → slots_of me ≡ self → k < length self → s ≡ get_or ss k s → w.slot ≡ s.slot → slots_of (set ss k w) ≡ self
   still_mine ss me self k s w is e lt got same = map_set slot_in ss k s w (seat_at ss me self k s is e lt got) same ∙ ap slots_of is ∙ e
 
-  pub slot_after : (s w : SeatState M S O) (given : Option (ℕ × Entry S O)) → w ≡ seat_after s given → w.slot ≡ s.slot
-  slot_after s w None is = ap slot_in is
-  slot_after s w (Some given) is = ap slot_in is
+  pub slot_after : (s w : SeatState M S O) (late : Bool) (noted : ℕ × Entry S O) → w ≡ seat_after s late noted → w.slot ≡ s.slot
+  slot_after s w true noted is = ap slot_in is
+  slot_after s w false noted is = ap slot_in is
 
   pub slot_refused : (s w : SeatState M S O) → w ≡ seat_refused s → w.slot ≡ s.slot
   slot_refused s w is = ap slot_in is
@@ -45,12 +45,13 @@ module _ {M S O : Type 0} where
   refused_on ss me self k s w is e lt got w_is =
       (s, subst (λ l. slice_get l k ≡ Some s) is (seat_at ss me self k s is e lt got), (λ i. set (is i) k (w_is i)))
 
-module _ {M S O : Type 0} (steps : M → S → O → M → Type 0) where
+module _ {M S O : Type 0} (steps : M → S → O → M → Type 0) (loses : M → M → Type 0) where
   pub call_on : {C : Type 0} (asks : C → S → Type 0) (ss me : List (SeatState M S O)) (self : List TableId) (k : ℕ) (s w : SeatState M S O) (call : C) (outcome : O) (given : Option (ℕ × Entry S O)) (receipt : Option Receipt)
-      → ss ≡ me → slots_of me ≡ self → k < length self → s ≡ get_or ss k s → IsStepOf asks steps s w call outcome given → receipt ≡ option_map (λ g. receipt_at k g.0) given
-      → IsCallOn asks steps me (set ss k w) k call outcome receipt
+      → ss ≡ me → slots_of me ≡ self → k < length self → s ≡ get_or ss k s → IsStepOf asks steps loses s w call outcome given → receipt ≡ option_map (λ g. receipt_at k g.0) given
+      → IsCallOn asks steps loses me (set ss k w) k call outcome receipt
   call_on asks ss me self k s w call outcome given receipt is e lt got did receipt_is = record {
     seat = s;
+    late = did.late;
     noted = did.noted;
     at = subst (λ l. slice_get l k ≡ Some s) is (seat_at ss me self k s is e lt got);
     made = did.made;
@@ -60,5 +61,5 @@ module _ {M S O : Type 0} (steps : M → S → O → M → Type 0) where
   }
 
   pub told_on : {Q : Type 0} (is_so : M → Q → Bool) (ss me : List (SeatState M S O)) (self : List TableId) (k : ℕ) (s : SeatState M S O) (question : Q) (told : Told)
-      → ss ≡ me → slots_of me ≡ self → k < length self → s ≡ get_or ss k s → WasTold steps is_so s question told → IsToldOn steps is_so me k question told
+      → ss ≡ me → slots_of me ≡ self → k < length self → s ≡ get_or ss k s → WasTold steps loses is_so s question told → IsToldOn steps loses is_so me k question told
   told_on is_so ss me self k s question told is e lt got was = (s, subst (λ l. slice_get l k ≡ Some s) is (seat_at ss me self k s is e lt got), was)

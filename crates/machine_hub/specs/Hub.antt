@@ -7,8 +7,9 @@ use Rattle.log_positions.specs.Numbered.{AreRising, AreAllOf}
 use Rattle.machine_hub.specs.declared.entry.Entry.{Entry}
 use Rattle.machine_hub.specs.declared.view.Home.{Home}
 use Rattle.machine_hub.specs.declared.view.Standing.{Standing}
+use Rattle.machine_hub.specs.Runs.{entries_in, losses, IsHistory}
 use Rattle.machine_hub.specs.Slot.{home_of, with_entries, stored, IsAtHome}
-use Rattle.machine_hub.specs.Seats.{SeatState, new_seat, seat_after, seat_refused, IsAbove, WasMade, WasTold, if_kept}
+use Rattle.machine_hub.specs.Seats.{SeatState, new_seat, seat_after, seat_refused, IsAbove, WasMade, WasTold, if_kept, unless_late}
 use Rattle.machine_hub.specs.declared.receipt.Receipt.{Receipt}
 use Rattle.machine_hub.specs.declared.told.Told.{Told}
 
@@ -62,6 +63,10 @@ module _ {M S O : Type 0} where
   abbrev pub AreCallsOf : List (Entry S O) → List (SeatState M S O) → Type 0
   AreCallsOf entries seats = AreAllOf entries (flat_map (λ x. x.calls) seats)
 
+  -- the same of their calls that came after memory was refused
+  abbrev pub AreLateCallsOf : List (Entry S O) → List (SeatState M S O) → Type 0
+  AreLateCallsOf entries seats = AreAllOf entries (flat_map (λ x. x.late) seats)
+
   -- of each seat the positions of its entries rise, in the order of its calls
   abbrev pub EachRises : List (SeatState M S O) → Type 0
   EachRises [] = Unit {0}
@@ -76,21 +81,24 @@ module _ {M S O : Type 0} where
 -- caller's seat there has its entry, unless memory was refused before, above those of its earlier calls there; the
 -- receipt, where the log keeps, names the shard and the entry's position; the caller's other seats are as before
 pub record IsCallOn {C M S O : Type 0} (asks : C → S → Type 0) (steps : M → S → O → M → Type 0)
-    (old new : List (SeatState M S O)) (shard : ℕ) (call : C) (outcome : O) (receipt : Option Receipt) : Type 0 where
+    (loses : M → M → Type 0) (old new : List (SeatState M S O)) (shard : ℕ) (call : C) (outcome : O)
+    (receipt : Option Receipt) : Type 0 where
   pub seat : SeatState M S O
-  pub noted : Option (ℕ × Entry S O)
+  pub late : Bool
+  pub noted : ℕ × Entry S O
   pub at : slice_get old shard ≡ Some seat
-  pub made : WasMade asks steps seat call outcome noted
-  pub above : IsAbove seat noted
-  pub after : new ≡ slice_set old shard (seat_after seat noted)
-  pub receipt_is : receipt ≡ option_map (λ g. receipt_at shard g.0) (if_kept seat.home.keeps noted)
+  pub made : WasMade asks steps loses seat call outcome late noted
+  pub above : IsAbove seat late noted
+  pub after : new ≡ slice_set old shard (seat_after seat late noted)
+  pub receipt_is :
+      receipt ≡ option_map (λ g. receipt_at shard g.0) (if_kept seat.home.keeps (unless_late late noted))
 
 -- at one moment of a call the machine of this shard, which did all that the caller's earlier calls there gave, answered
 -- so
-abbrev pub IsToldOn : {M S O Q : Type 0} → (M → S → O → M → Type 0) → (M → Q → Bool) →
+abbrev pub IsToldOn : {M S O Q : Type 0} → (M → S → O → M → Type 0) → (M → M → Type 0) → (M → Q → Bool) →
     List (SeatState M S O) → ℕ → Q → Told → Type 0
-IsToldOn {M} {S} {O} steps is_so callers shard question told =
-    (seat : SeatState M S O) × (slice_get callers shard ≡ Some seat) × WasTold steps is_so seat question told
+IsToldOn {M} {S} {O} steps loses is_so callers shard question told =
+    (seat : SeatState M S O) × (slice_get callers shard ≡ Some seat) × WasTold steps loses is_so seat question told
 
 module _ {M S O : Type 0} (steps : M → S → O → M → Type 0) where
   -- what all callers' calls at a shard tell of it at the end. What it did is a run from what it was at first, which the
@@ -114,3 +122,20 @@ module _ {M S O : Type 0} (steps : M → S → O → M → Type 0) where
     pub count : length shards ≡ length homes
     pub each : (k : ℕ) (home : Home M) (s : Standing M S O) → slice_get homes k ≡ Some home →
         slice_get shards k ≡ Some s → IsShardRun home (seats_at k callers) s
+
+module _ {M S O : Type 0} (steps : M → S → O → M → Type 0) (loses : M → M → Type 0) where
+  -- what all callers' calls at a shard tell of it beyond its first want of memory. What happened there is a run, and
+  -- then later steps and calls that were refused memory: each later entry is one later call's, and so many were refused
+  -- as calls of these seats
+  pub record IsShardHistory (home : Home M) (seats : List (SeatState M S O)) (s : Standing M S O) : Type 0 where
+    pub entries : List (Entry S O)
+    pub later : List (Option (Entry S O))
+    pub history : IsHistory steps loses home.start entries later s.stopped s.machine
+    pub each : AreCallsOf entries seats
+    pub late : AreLateCallsOf (entries_in later) seats
+    pub count : losses later ≡ sum_by (λ x. x.refused) seats
+
+  -- the same of each shard
+  abbrev pub AreShardHistories : List (Home M) → List (List (SeatState M S O)) → List (Standing M S O) → Type 0
+  AreShardHistories homes callers shards = (k : ℕ) (home : Home M) (s : Standing M S O) →
+      slice_get homes k ≡ Some home → slice_get shards k ≡ Some s → IsShardHistory home (seats_at k callers) s

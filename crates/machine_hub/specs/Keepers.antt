@@ -64,10 +64,10 @@ module _ {M S O : Type 0} where
     pub keepers_are : keepers' ≡ snoc keepers (new_keeper slot (home_of machine) seats)
     pub callers_are : callers' ≡ zipped snoc callers (replicate seats (new_seat slot (home_of machine)))
 
-module _ {M S O : Type 0} (steps : M → S → O → M → Type 0) where
+module _ {M S O : Type 0} (steps : M → S → O → M → Type 0) (loses : M → M → Type 0) where
   -- the machines that the keepers gave at the end
   abbrev pub AreWholeRuns : List (KeeperState M S O) → List (Standing M S O) → Type 0
   AreWholeRuns [] [] = Unit {0}
   AreWholeRuns [] (s ∷ ss) = ⊥
   AreWholeRuns (k ∷ ks) [] = ⊥
-  AreWholeRuns (k ∷ ks) (s ∷ ss) = IsWholeRun steps k s × AreWholeRuns ks ss
+  AreWholeRuns (k ∷ ks) (s ∷ ss) = IsWholeRun steps loses k s × AreWholeRuns ks ss

@@ -1,5 +1,5 @@
 -- Runs of a state machine, as its log has them. This project's own rule.
-use Rattle.std.specs.Prelude.{◌≡◌, ℕ, List, [], ◌∷◌, ◌++◌, length, Bool, true, false, Option, Some, None}
+use Rattle.std.specs.Prelude.{◌≡◌, ◌⊎◌, ℕ, ◌+◌, List, [], ◌∷◌, ◌++◌, length, Bool, true, false, Option, Some, None}
 use Rattle.machine_hub.specs.declared.entry.Entry.{Entry}
 use Rattle.machine_hub.specs.declared.view.Standing.{Standing}
 
@@ -22,6 +22,43 @@ pub record RunsFrom {M S O : Type 0} (steps : M → S → O → M → Type 0)
   pub middle : M
   pub run : Runs steps start entries middle
   pub now_is : stopped ≡ false → middle ≡ now
+
+-- a call was refused memory: nothing happened; or the machine is what want of memory leaves; or the step was made, and
+-- nobody was told what it gave
+abbrev pub IsLoss : {M S O : Type 0} → (M → S → O → M → Type 0) → (M → M → Type 0) → M → M → Type 0
+IsLoss {M} {S} {O} steps loses old new =
+    (new ≡ old) ⊎ (loses old new ⊎ ((step : S) × (outcome : O) × steps old step outcome new))
+
+-- what happened leads a machine from one state to another: steps that gave their outcomes, and, where there is none,
+-- calls that were refused memory
+abbrev pub RunsWithLosses : {M S O : Type 0} → (M → S → O → M → Type 0) → (M → M → Type 0) →
+    M → List (Option (Entry S O)) → M → Type 0
+RunsWithLosses steps loses start [] end = start ≡ end
+RunsWithLosses {M} steps loses start (None ∷ hs) end =
+    (next : M) × IsLoss steps loses start next × RunsWithLosses steps loses next hs end
+RunsWithLosses {M} steps loses start (Some e ∷ hs) end =
+    (next : M) × steps start e.step e.outcome next × RunsWithLosses steps loses next hs end
+
+-- the entries of the steps in it
+abbrev pub entries_in : {E : Type 0} → List (Option E) → List E
+entries_in [] = []
+entries_in (None ∷ hs) = entries_in hs
+entries_in (Some e ∷ hs) = e ∷ entries_in hs
+
+-- how many calls in it were refused memory
+abbrev pub losses : {E : Type 0} → List (Option E) → ℕ
+losses [] = 0
+losses (None ∷ hs) = losses hs + 1
+losses (Some e ∷ hs) = losses hs
+
+-- what a machine did from its start: a run, which are these entries, until memory was refused, and what happened later
+pub record IsHistory {M S O : Type 0} (steps : M → S → O → M → Type 0) (loses : M → M → Type 0)
+    (start : M) (entries : List (Entry S O)) (later : List (Option (Entry S O))) (stopped : Bool) (now : M)
+    : Type 0 where
+  pub middle : M
+  pub run : Runs steps start entries middle
+  pub later_run : RunsWithLosses steps loses middle later now
+  pub clean : stopped ≡ false → later ≡ []
 
 -- what a step leaves in the log, and what is given of it: its entry, which is the last, with its position; or none,
 -- where the log keeps nothing or was stopped before

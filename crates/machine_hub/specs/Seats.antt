@@ -7,15 +7,17 @@ use Rattle.machine_hub.specs.declared.view.Home.{Home}
 use Rattle.machine_hub.specs.declared.view.SlotView.{SlotView}
 use Rattle.machine_hub.specs.declared.view.Standing.{Standing}
 use Rattle.machine_hub.specs.declared.told.Told.{Told}
-use Rattle.machine_hub.specs.Runs.{entry}
-use Rattle.machine_hub.specs.Slot.{seat_view, with_entries, stored, IsAtHome}
+use Rattle.machine_hub.specs.Runs.{entry, entries_in, losses, IsHistory}
+use Rattle.machine_hub.specs.Slot.{seat_view, with_entries, stored, IsAtHome, HasHistory}
 
--- a seat: its slot and its machine's home, its calls' entries, each with its position in what the machine did, and how
--- many came after memory was refused and how many were refused memory
+-- a seat: its slot and its machine's home, the entries of its calls, each with its position in what the machine did: of
+-- those that came before memory was refused, and of those that came later; how many these are, and how many calls were
+-- refused memory
 pub record SeatState (M S O : Type 0) : Type 0 where
   pub slot : TableId
   pub home : Home M
   pub calls : List (ℕ × Entry S O)
+  pub late : List (ℕ × Entry S O)
   pub bare : ℕ
   pub refused : ℕ
 
@@ -26,13 +28,14 @@ pub record KeeperState (M S O : Type 0) : Type 0 where
   pub seats : ℕ
   pub taken : ℕ
   pub calls : List (ℕ × Entry S O)
+  pub late : List (ℕ × Entry S O)
   pub bare : ℕ
   pub refused : ℕ
 
 module _ {M S O : Type 0} where
   -- a seat that made no call yet
   abbrev pub new_seat : TableId → Home M → SeatState M S O
-  new_seat slot home = record { slot = slot; home = home; calls = []; bare = 0; refused = 0 }
+  new_seat slot home = record { slot = slot; home = home; calls = []; late = []; bare = 0; refused = 0 }
 
   -- a keeper that has taken in no seat yet
   abbrev pub new_keeper : TableId → Home M → ℕ → KeeperState M S O
@@ -42,6 +45,7 @@ module _ {M S O : Type 0} where
     seats = seats;
     taken = 0;
     calls = [];
+    late = [];
     bare = 0;
     refused = 0;
   }
@@ -54,52 +58,96 @@ module _ {M S O : Type 0} where
     seats = k.seats;
     taken = k.taken + 1;
     calls = s.calls ++ k.calls;
+    late = s.late ++ k.late;
     bare = s.bare + k.bare;
     refused = s.refused + k.refused;
   }
 
-  -- a seat after a call that answered: its entry is behind its others; or it has none
-  abbrev pub seat_after : SeatState M S O → Option (ℕ × Entry S O) → SeatState M S O
-  seat_after s None = record { slot = s.slot; home = s.home; calls = s.calls; bare = s.bare + 1; refused = s.refused }
-  seat_after s (Some given) =
-      record { slot = s.slot; home = s.home; calls = s.calls ++ given ∷ []; bare = s.bare; refused = s.refused }
+  -- a seat after a call that answered, after memory was refused or before: its entry is behind its others
+  abbrev pub seat_after : SeatState M S O → Bool → ℕ × Entry S O → SeatState M S O
+  seat_after s true noted = record {
+    slot = s.slot;
+    home = s.home;
+    calls = s.calls;
+    late = s.late ++ noted ∷ [];
+    bare = s.bare + 1;
+    refused = s.refused;
+  }
+  seat_after s false noted = record {
+    slot = s.slot;
+    home = s.home;
+    calls = s.calls ++ noted ∷ [];
+    late = s.late;
+    bare = s.bare;
+    refused = s.refused;
+  }
 
   -- these entries have the seat's calls at their positions
   abbrev pub HasCalls : List (Entry S O) → SeatState M S O → Type 0
   HasCalls entries seat = AreFrom entries seat.calls
 
+  -- what came after memory was refused has the seat's later calls at their positions
+  abbrev pub HasLateCalls : List (Option (Entry S O)) → SeatState M S O → Type 0
+  HasLateCalls later seat = AreFrom (entries_in later) seat.late
+
   -- the entry's position is above those of all earlier calls
-  abbrev pub IsAbove : SeatState M S O → Option (ℕ × Entry S O) → Type 0
-  IsAbove s None = Unit {0}
-  IsAbove s (Some given) = AreBelow given.0 s.calls
+  abbrev pub IsAbove : SeatState M S O → Bool → ℕ × Entry S O → Type 0
+  IsAbove s true noted = AreBelow noted.0 s.late
+  IsAbove s false noted = AreBelow noted.0 s.calls
 
   -- a seat after a call that was refused memory
   abbrev pub seat_refused : SeatState M S O → SeatState M S O
-  seat_refused s = record { slot = s.slot; home = s.home; calls = s.calls; bare = s.bare; refused = s.refused + 1 }
+  seat_refused s = record {
+    slot = s.slot;
+    home = s.home;
+    calls = s.calls;
+    late = s.late;
+    bare = s.bare;
+    refused = s.refused + 1;
+  }
 
   -- a pass that has taken in a seat
   abbrev pub with_seat : SlotView M S O → SeatState M S O → SlotView M S O
-  with_seat v s = seat_view (v.parts + 1) v.home v.held (s.calls ++ v.calls) (s.bare + v.bare) (s.refused + v.refused)
+  with_seat v s =
+      seat_view (v.parts + 1) v.home v.held (s.calls ++ v.calls) (s.late ++ v.late) (s.bare + v.bare)
+      (s.refused + v.refused)
 
--- what a step adds to what the machine did: its entry, under its position; or none, where memory was refused before
+-- what a step adds to what the machine did: its entry, under its position, behind those after memory was refused or
+-- behind those before
 abbrev pub IsNoted : {M S O : Type 0} →
-    Standing M S O → Standing M S O → Entry S O → Option (ℕ × Entry S O) → Type 0
-IsNoted old new e None = (new.entries ≡ old.entries) × (old.stopped ≡ true) × (new.stopped ≡ true)
-IsNoted old new e (Some noted) =
-    (noted ≡ (length old.entries, e)) × (new.entries ≡ old.entries ++ e ∷ [])
+    Standing M S O → Standing M S O → Entry S O → Bool → ℕ × Entry S O → Type 0
+IsNoted old new e true noted =
+    (noted ≡ (length (entries_in old.later), e)) × (new.entries ≡ old.entries) × (new.later ≡ old.later ++ Some e ∷ [])
+    × (old.stopped ≡ true) × (new.stopped ≡ true)
+IsNoted old new e false noted =
+    (noted ≡ (length old.entries, e)) × (new.entries ≡ old.entries ++ e ∷ []) × (new.later ≡ old.later)
     × (old.stopped ≡ false) × (new.stopped ≡ false)
+
+-- it is the seat's machine, known with what it did: a run, and what came after memory was refused. In these are all of
+-- the seat's calls
+pub record IsSeatsMachine {M S O : Type 0} (steps : M → S → O → M → Type 0) (loses : M → M → Type 0)
+    (seat : SeatState M S O) (s : Standing M S O) : Type 0 where
+  pub home : IsAtHome steps seat.home s
+  pub history : HasHistory steps loses seat.home s
+  pub calls : HasCalls s.entries seat
+  pub late_calls : HasLateCalls s.later seat
 
 -- at one moment of a call the seat's machine, which did all that the seat's earlier calls gave, made this step
 pub record WasMade {C M S O : Type 0} (asks : C → S → Type 0) (steps : M → S → O → M → Type 0)
-    (seat : SeatState M S O) (call : C) (outcome : O) (noted : Option (ℕ × Entry S O)) : Type 0 where
+    (loses : M → M → Type 0) (seat : SeatState M S O) (call : C) (outcome : O) (late : Bool) (noted : ℕ × Entry S O)
+    : Type 0 where
   pub old : Standing M S O
   pub new : Standing M S O
-  pub home : IsAtHome steps seat.home old
-  pub calls : HasCalls old.entries seat
+  pub before : IsSeatsMachine steps loses seat old
   pub step : S
   pub asked : asks call step
   pub made : steps old.machine step outcome new.machine
-  pub adds : IsNoted old new (entry step outcome) noted
+  pub adds : IsNoted old new (entry step outcome) late noted
+
+-- a call's entry, where it came before memory was refused
+abbrev pub unless_late : {X : Type 0} → Bool → X → Option X
+unless_late true x = None
+unless_late false x = Some x
 
 -- what a log that keeps answers
 abbrev pub if_kept : {X : Type 0} → Bool → Option X → Option X
@@ -109,27 +157,33 @@ if_kept false o = None
 -- a call answered: its step was made, and the seat has its entry behind its others, above all of them. The entry is
 -- answered where the log keeps
 pub record IsStepOf {C M S O : Type 0} (asks : C → S → Type 0) (steps : M → S → O → M → Type 0)
-    (old new : SeatState M S O) (call : C) (outcome : O) (given : Option (ℕ × Entry S O)) : Type 0 where
-  pub noted : Option (ℕ × Entry S O)
-  pub made : WasMade asks steps old call outcome noted
-  pub above : IsAbove old noted
-  pub after : new ≡ seat_after old noted
-  pub given_is : given ≡ if_kept old.home.keeps noted
+    (loses : M → M → Type 0) (old new : SeatState M S O) (call : C) (outcome : O) (given : Option (ℕ × Entry S O))
+    : Type 0 where
+  pub late : Bool
+  pub noted : ℕ × Entry S O
+  pub made : WasMade asks steps loses old call outcome late noted
+  pub above : IsAbove old late noted
+  pub after : new ≡ seat_after old late noted
+  pub given_is : given ≡ if_kept old.home.keeps (unless_late late noted)
 
 -- at one moment of a call the seat's machine, which did all that the seat's earlier calls gave, answered so, and had
 -- been refused memory or hadn't
-abbrev pub WasTold : {M S O Q : Type 0} → (M → S → O → M → Type 0) → (M → Q → Bool) →
+abbrev pub WasTold : {M S O Q : Type 0} → (M → S → O → M → Type 0) → (M → M → Type 0) → (M → Q → Bool) →
     SeatState M S O → Q → Told → Type 0
-WasTold {M} {S} {O} steps is_so seat question told =
-    (s : Standing M S O) × IsAtHome steps seat.home s × HasCalls s.entries seat
+WasTold {M} {S} {O} steps loses is_so seat question told =
+    (s : Standing M S O) × IsSeatsMachine steps loses seat s
     × (told.answer ≡ is_so s.machine question) × (told.stopped ≡ s.stopped)
 
 -- what the calls of all seats tell of the machine at its end: what it did is a run from what it was at first, which the
 -- log has where it keeps; each entry is one call's and each call with an entry is there; a call without one came only
 -- after memory was refused, and the machine is stopped just where a call was refused memory
-pub record IsWholeRun {M S O : Type 0} (steps : M → S → O → M → Type 0)
+pub record IsWholeRun {M S O : Type 0} (steps : M → S → O → M → Type 0) (loses : M → M → Type 0)
     (k : KeeperState M S O) (s : Standing M S O) : Type 0 where
   pub entries : List (Entry S O)
+  pub later : List (Option (Entry S O))
+  pub history : IsHistory steps loses k.home.start entries later s.stopped s.machine
+  pub late : AreAllOf (entries_in later) k.late
+  pub count : losses later ≡ k.refused
   pub run : IsAtHome steps k.home (with_entries entries s)
   pub kept : s.entries ≡ stored k.home.keeps entries
   pub each : AreAllOf entries k.calls

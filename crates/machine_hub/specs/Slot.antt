@@ -9,7 +9,7 @@ use Rattle.machine_hub.specs.declared.entry.Entry.{Entry}
 use Rattle.machine_hub.specs.declared.view.Home.{Home}
 use Rattle.machine_hub.specs.declared.view.SlotView.{SlotView}
 use Rattle.machine_hub.specs.declared.view.Standing.{Standing}
-use Rattle.machine_hub.specs.Runs.{entry, RunsFrom}
+use Rattle.machine_hub.specs.Runs.{entry, RunsFrom, IsLoss, entries_in, losses, IsHistory}
 
 -- more parts than a slot can have seats
 abbrev pub all_parts : ℕ
@@ -19,6 +19,11 @@ all_parts = 2 ^ 64
 abbrev pub added : {E : Type 0} → Bool → List E → E → List E
 added true es e = es
 added false es e = es ++ e ∷ []
+
+-- those that came after memory was refused, after one step more
+abbrev pub added_late : {E : Type 0} → Bool → List E → E → List E
+added_late true es e = es ++ e ∷ []
+added_late false es e = es
 
 -- what a log has of these entries
 abbrev pub stored : {E : Type 0} → Bool → List E → List E
@@ -32,9 +37,17 @@ passed false n = n
 
 module _ {M S O : Type 0} where
   -- what a pass knows
-  abbrev pub seat_view : ℕ → Home M → Option (Standing M S O) → List (ℕ × Entry S O) → ℕ → ℕ → SlotView M S O
-  seat_view parts home held calls bare refused =
-      record { parts = parts; home = home; held = held; calls = calls; bare = bare; refused = refused }
+  abbrev pub seat_view : ℕ → Home M → Option (Standing M S O) → List (ℕ × Entry S O) → List (ℕ × Entry S O) → ℕ → ℕ
+      → SlotView M S O
+  seat_view parts home held calls late bare refused = record {
+    parts = parts;
+    home = home;
+    held = held;
+    calls = calls;
+    late = late;
+    bare = bare;
+    refused = refused;
+  }
 
   -- what a machine is at first
   abbrev pub home_of : Standing M S O → Home M
@@ -42,7 +55,15 @@ module _ {M S O : Type 0} where
 
   -- no machine
   abbrev pub no_standing : M → Standing M S O
-  no_standing m = record { number = 0; machine = m; entries = []; keeps = true; stopped = false; last = None }
+  no_standing m = record {
+    number = 0;
+    machine = m;
+    entries = [];
+    keeps = true;
+    stopped = false;
+    last = None;
+    later = [];
+  }
 
   -- the machine with the entries of all that it did, whether or not its log has them
   abbrev pub with_entries : List (Entry S O) → Standing M S O → Standing M S O
@@ -53,15 +74,28 @@ module _ {M S O : Type 0} where
     keeps = s.keeps;
     stopped = s.stopped;
     last = s.last;
+    later = s.later;
+  }
+
+  -- the same, with what happened since memory was refused
+  abbrev pub with_history : List (Entry S O) → List (Option (Entry S O)) → Standing M S O → Standing M S O
+  with_history es later s = record {
+    number = s.number;
+    machine = s.machine;
+    entries = es;
+    keeps = s.keeps;
+    stopped = s.stopped;
+    last = s.last;
+    later = later;
   }
 
   -- who makes the slot holds a machine that nobody has seen
   abbrev pub maker : M → SlotView M S O
-  maker m = seat_view all_parts (home_of (no_standing m)) (Some (no_standing m)) [] 0 0
+  maker m = seat_view all_parts (home_of (no_standing m)) (Some (no_standing m)) [] [] 0 0
 
   -- a pass that is spent
   abbrev pub spent_view : M → SlotView M S O
-  spent_view m = seat_view 0 (home_of (no_standing m)) None [] 0 0
+  spent_view m = seat_view 0 (home_of (no_standing m)) None [] [] 0 0
 
   -- how many machines a seat has out
   abbrev pub held_count : Option (Standing M S O) → ℕ
@@ -70,34 +104,35 @@ module _ {M S O : Type 0} where
 
   -- a part is cut off for a new seat
   abbrev pub without_part : SlotView M S O → SlotView M S O
-  without_part v = seat_view (v.parts - 1) v.home v.held v.calls v.bare v.refused
+  without_part v = seat_view (v.parts - 1) v.home v.held v.calls v.late v.bare v.refused
 
   abbrev pub newcomer : SlotView M S O → SlotView M S O
-  newcomer v = seat_view 1 v.home None [] 0 0
+  newcomer v = seat_view 1 v.home None [] [] 0 0
 
   -- one has taken in another
   abbrev pub both_views : SlotView M S O → SlotView M S O → SlotView M S O
   both_views v w =
-      seat_view (v.parts + w.parts) v.home v.held (w.calls ++ v.calls) (w.bare + v.bare) (w.refused + v.refused)
+      seat_view (v.parts + w.parts) v.home v.held (w.calls ++ v.calls) (w.late ++ v.late) (w.bare + v.bare)
+      (w.refused + v.refused)
 
   -- the machine came in, with an empty log
   abbrev pub Opened : SlotView M S O → Standing M S O → SlotView M S O → Type 0
-  Opened v s w = w ≡ seat_view v.parts (home_of s) None [] 0 0
+  Opened v s w = w ≡ seat_view v.parts (home_of s) None [] [] 0 0
 
   -- the machine came back after a step
   abbrev pub Stepped : SlotView M S O → Standing M S O → SlotView M S O → Type 0
   Stepped v s w =
       (old : Standing M S O) × (e : Entry S O) × (v.held ≡ Some old) × (s.last ≡ Some e)
-      × (w ≡ seat_view v.parts v.home None (added s.stopped v.calls (length old.entries, e)) (passed s.stopped v.bare)
-      v.refused)
+      × (w ≡ seat_view v.parts v.home None (added s.stopped v.calls (length old.entries, e))
+      (added_late s.stopped v.late (length (entries_in old.later), e)) (passed s.stopped v.bare) v.refused)
 
   -- the machine came back after it was refused memory
   abbrev pub Stopped : SlotView M S O → Standing M S O → SlotView M S O → Type 0
-  Stopped v s w = w ≡ seat_view v.parts v.home None v.calls v.bare (v.refused + 1)
+  Stopped v s w = w ≡ seat_view v.parts v.home None v.calls v.late v.bare (v.refused + 1)
 
   -- the machine came back as it was
   abbrev pub Returned : SlotView M S O → Standing M S O → SlotView M S O → Type 0
-  Returned v s w = w ≡ seat_view v.parts v.home None v.calls v.bare v.refused
+  Returned v s w = w ≡ seat_view v.parts v.home None v.calls v.late v.bare v.refused
 
   -- who has the machine out knows that the slot is empty
   abbrev pub IsOut : SlotView M S O → List (Standing M S O) → Type 0
@@ -110,6 +145,8 @@ module _ {M S O : Type 0} where
   -- these are all calls: each entry is one call's, and the machine is stopped just where memory was refused
   pub record IsWhole (v : SlotView M S O) (s : Standing M S O) : Type 0 where
     pub each : AreAllOf s.entries v.calls
+    pub late : AreAllOf (entries_in s.later) v.late
+    pub count : losses s.later ≡ v.refused
     pub blame : s.stopped ≡ true → 0 < v.refused
     pub stops : 0 < v.refused → s.stopped ≡ true
 
@@ -120,50 +157,72 @@ module _ {M S O : Type 0} (steps : M → S → O → M → Type 0) where
       (s.number ≡ home.number) × (s.keeps ≡ home.keeps)
       × RunsFrom steps home.start s.entries s.stopped s.machine
 
-  -- it is known with these entries
-  abbrev pub IsState : Home M → List (Entry S O) → Bool → Standing M S O → Type 0
-  IsState home entries stopped s = IsAtHome home s × (s.entries ≡ entries) × (s.stopped ≡ stopped)
+module _ {M S O : Type 0} (steps : M → S → O → M → Type 0) (loses : M → M → Type 0) where
+  -- what it did from its home's start is known
+  abbrev pub HasHistory : Home M → Standing M S O → Type 0
+  HasHistory home s = IsHistory steps loses home.start s.entries s.later s.stopped s.machine
 
-  -- it did this, and its log has it where it keeps, and else nothing
-  abbrev pub Did : Home M → List (Entry S O) → Bool → Standing M S O → Type 0
-  Did home entries stopped s =
-      IsAtHome home (with_entries entries s) × (s.entries ≡ stored home.keeps entries) × (s.stopped ≡ stopped)
+  -- it is known with these entries, and with what happened later
+  pub record IsState (home : Home M) (entries : List (Entry S O)) (later : List (Option (Entry S O))) (stopped : Bool)
+      (s : Standing M S O) : Type 0 where
+    pub home_is : IsAtHome steps home s
+    pub history : HasHistory home s
+    pub entries_are : s.entries ≡ entries
+    pub later_is : s.later ≡ later
+    pub stopped_is : s.stopped ≡ stopped
+
+  -- it did this, and its log has the entries where it keeps, and else nothing
+  pub record Did (home : Home M) (entries : List (Entry S O)) (later : List (Option (Entry S O))) (stopped : Bool)
+      (s : Standing M S O) : Type 0 where
+    pub home_is : IsAtHome steps home (with_history entries later s)
+    pub history : HasHistory home (with_history entries later s)
+    pub kept : s.entries ≡ stored home.keeps entries
+    pub stopped_is : s.stopped ≡ stopped
 
   -- the same of each
-  abbrev pub AreStates : Home M → List (Entry S O) → Bool → List (Standing M S O) → Type 0
-  AreStates home entries stopped [] = Unit {0}
-  AreStates home entries stopped (s ∷ ss) = Did home entries stopped s × AreStates home entries stopped ss
+  abbrev pub AreStates : Home M → List (Entry S O) → List (Option (Entry S O)) → Bool → List (Standing M S O) → Type 0
+  AreStates home entries later stopped [] = Unit {0}
+  AreStates home entries later stopped (s ∷ ss) =
+      Did home entries later stopped s × AreStates home entries later stopped ss
 
   -- what a view has to do with the machine
-  pub record Fits (home : Home M) (entries : List (Entry S O)) (stopped : Bool) (v : SlotView M S O) : Type 0 where
+  pub record Fits (home : Home M) (entries : List (Entry S O)) (later : List (Option (Entry S O))) (stopped : Bool)
+      (v : SlotView M S O) : Type 0 where
     pub homed : 0 < v.parts → v.home ≡ home
-    pub out : IfSome v.held (IsState home entries stopped)
+    pub out : IfSome v.held (IsState home entries later stopped)
     pub blank : 0 < v.bare → stopped ≡ true
     pub stops : 0 < v.refused → stopped ≡ true
-    pub idle : v.parts ≡ 0 → (v.held ≡ None) × (v.calls ≡ []) × (v.bare ≡ 0) × (v.refused ≡ 0)
+    pub idle : v.parts ≡ 0 → (v.held ≡ None) × (v.calls ≡ []) × (v.late ≡ []) × (v.bare ≡ 0) × (v.refused ≡ 0)
 
   -- the rule
   pub record IsSlot (items : List (Standing M S O)) (views : List (SlotView M S O)) : Type 0 where
     pub home : Home M
     pub entries : List (Entry S O)
+    pub later : List (Option (Entry S O))
     pub stopped : Bool
     pub parts : sum_by (λ v. v.parts) views ≡ all_parts
     pub one : length items + sum_by (λ v. held_count v.held) views ≡ 1
-    pub stands : AreStates home entries stopped items
+    pub stands : AreStates home entries later stopped items
     pub calls : AreAllOf entries (flat_map (λ v. v.calls) views)
+    pub late : AreAllOf (entries_in later) (flat_map (λ v. v.late) views)
+    pub count : losses later ≡ sum_by (λ v. v.refused) views
     pub blame : stopped ≡ true → 0 < sum_by (λ v. v.refused) views
-    pub fits : (i : ℕ) (v : SlotView M S O) → get_elem? views i ≡ some v → Fits home entries stopped v
+    pub fits : (i : ℕ) (v : SlotView M S O) → get_elem? views i ≡ some v → Fits home entries later stopped v
 
   -- the machine went out: all calls of this seat are of what it did, which is a run
   pub record Taken (v : SlotView M S O) (s : Standing M S O) (w : SlotView M S O) : Type 0 where
     pub entries : List (Entry S O)
-    pub after : w ≡ seat_view v.parts v.home (Some (with_entries entries s)) v.calls v.bare v.refused
-    pub home : 0 < v.parts → IsAtHome v.home (with_entries entries s)
+    pub later : List (Option (Entry S O))
+    pub after : w ≡ seat_view v.parts v.home (Some (with_history entries later s)) v.calls v.late v.bare v.refused
+    pub home : 0 < v.parts → IsAtHome steps v.home (with_history entries later s)
+    pub history : 0 < v.parts → HasHistory v.home (with_history entries later s)
     pub kept : 0 < v.parts → s.entries ≡ stored v.home.keeps entries
     pub calls : AreFrom entries v.calls
     pub blank : 0 < v.bare → s.stopped ≡ true
-    pub whole : v.parts ≡ all_parts → IsWhole v (with_entries entries s)
+    pub late : AreFrom (entries_in later) v.late
+    pub whole : v.parts ≡ all_parts → IsWhole v (with_history entries later s)
 
+module _ {M S O : Type 0} (steps : M → S → O → M → Type 0) where
   -- the machine that this seat has out, after a step
   pub record IsSteppedBy (v : SlotView M S O) (s : Standing M S O) : Type 0 where
     pub old : Standing M S O
@@ -186,8 +245,9 @@ module _ {M S O : Type 0} where
     pub kept : s.entries ≡ stored v.home.keeps old.entries
 
   -- after it was refused memory
-  abbrev pub IsStoppedBy : SlotView M S O → Standing M S O → Type 0
-  IsStoppedBy v s = (old : Standing M S O) × IsBackWith old v s × (s.stopped ≡ true)
+  abbrev pub IsStoppedBy : (M → S → O → M → Type 0) → (M → M → Type 0) → SlotView M S O → Standing M S O → Type 0
+  IsStoppedBy steps loses v s =
+      (old : Standing M S O) × IsBackWith old v s × (s.stopped ≡ true) × IsLoss steps loses old.machine s.machine
 
   -- as it was
   abbrev pub IsReturnedBy : SlotView M S O → Standing M S O → Type 0

@@ -2,7 +2,7 @@
 
 ghost use Rattle.std.specs.Prelude.{◌≡◌, ◌+◌, ◌<◌, [], length, true, false, Some, IfOk, OnErr, option_map};
 ghost use Rattle.std.specs.Arc.{arc_value};
-ghost use Rattle.machine_hub.specs.Runs.{entry, IsMade};
+ghost use Rattle.machine_hub.specs.Runs.{entry, IsLoss, IsMade};
 
 use crate::entry::{Entry, EntryOf};
 use crate::log::StepLog;
@@ -34,7 +34,7 @@ impl<M: Machine, L: StepLog<M>> Model for LoggedMachine<M, L> {
 
     ghost Value = { Standing M M.Step M.Outcome };
 
-    ghost use Rattle.std.specs.Prelude.{◌≡◌, length, option_map};
+    ghost use Rattle.std.specs.Prelude.{◌≡◌, [], length, option_map};
     ghost use Rattle.machine_hub.specs.Runs.{entry};
 
     ghost view = { λ s. record {
@@ -44,6 +44,7 @@ impl<M: Machine, L: StepLog<M>> Model for LoggedMachine<M, L> {
       keeps = L.keeping s.log;
       stopped = s.stopped;
       last = option_map (λ l. entry l.0 l.1) s.last.value;
+      later = [];
     } };
 
     ghost invariant = { λ s. s.made ≡ length (L.entries s.log) };
@@ -77,6 +78,7 @@ impl<M: Machine, L: StepLog<M>> LoggedMachine<M, L> {
         ensures made { IfOk result (λ r. IsMade M.asks M.steps call self.old self.new r.0
             (option_map (λ given. (given.0, arc_value given.1)) r.1)) }
         ensures on_refusal { OnErr result ((self.new.entries ≡ self.old.entries) × (self.new.stopped ≡ true)) }
+        ensures lost { OnErr result (IsLoss M.steps M.loses self.old.machine self.new.machine) }
         ensures same { (self.new.number ≡ self.old.number) × (self.new.keeps ≡ self.old.keeps) }
     {
         if self.stopped {
@@ -100,6 +102,7 @@ impl<M: Machine, L: StepLog<M>> LoggedMachine<M, L> {
         ensures made { IfOk result (λ r. IsMade M.asks M.steps call self.old self.new r.0
             (option_map (λ given. (given.0, arc_value given.1)) r.1)) }
         ensures on_refusal { OnErr result (self.new.entries ≡ self.old.entries) }
+        ensures lost { OnErr result (IsLoss M.steps M.loses self.old.machine self.new.machine) }
         ensures same { (self.new.number ≡ self.old.number) × (self.new.keeps ≡ self.old.keeps) }
     {
         self.log.room(alloc, self.number)?;
@@ -124,6 +127,7 @@ impl<M: Machine, L: StepLog<M>> LoggedMachine<M, L> {
     fn make(&mut self, alloc: Global, call: M::Call) -> Result<(M::Step, M::Outcome), AllocError>
         ensures asked { IfOk result (λ made. M.asks call made.0) }
         ensures made { IfOk result (λ made. M.steps self.old.machine made.0 made.1 self.new.machine) }
+        ensures lost { OnErr result (M.loses self.old.machine self.new.machine) }
         ensures last { IfOk result (λ made. self.new.last ≡ Some (entry made.0 made.1)) }
         ensures log { (self.new.entries ≡ self.old.entries) × (self.new.stopped ≡ self.old.stopped) }
         ensures same { (self.new.number ≡ self.old.number) × (self.new.keeps ≡ self.old.keeps) }

@@ -4,7 +4,7 @@ use std::alloc::{AllocError, Global};
 
 /// A state machine. A call names a step, but for what only the machine knows, as the next of its random words.
 pub trait Machine: Drop + Send {
-    ghost use Rattle.std.specs.Prelude.{◌≡◌, Bool, IfOk};
+    ghost use Rattle.std.specs.Prelude.{◌≡◌, Bool, IfOk, OnErr};
 
     /// What a caller asks for.
     type Call: Drop;
@@ -27,17 +27,21 @@ pub trait Machine: Drop + Send {
     // the step leads from one state to another, and gives that outcome
     ghost steps: { Self → Self.Step → Self.Outcome → Self → Type 0 };
 
+    // want of memory may leave a state so
+    ghost loses: { Self → Self → Type 0 };
+
     // whether a question's answer is yes in a state
     ghost is_so: { Self → Self.Question → Bool };
 
-    /// Makes one step. Where memory is refused the step isn't done; what the machine is then is for it to say.
+    /// Makes one step. Where memory is refused the step isn't done.
     fn make(
         &mut self,
         alloc: Global,
         call: Self::Call,
     ) -> Result<(Self::Step, Self::Outcome), AllocError>
         ensures asked { IfOk result (λ made. asks call made.0) }
-        ensures made { IfOk result (λ made. steps self.old made.0 made.1 self.new) };
+        ensures made { IfOk result (λ made. steps self.old made.0 made.1 self.new) }
+        ensures lost { OnErr result (loses self.old self.new) };
 
     /// Whether the question's answer is yes.
     fn tell(&self, question: &Self::Question) -> bool

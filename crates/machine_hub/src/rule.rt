@@ -15,7 +15,7 @@ pub struct OneAtATime;
 impl<M: Machine, L: StepLog<M>> Protocol<LoggedMachine<M, L>, ViewOf<M>> for OneAtATime {
     ghost use Rattle.machine_hub.specs.Slot.{IsSlot, maker};
 
-    ghost holds = { IsSlot M.steps };
+    ghost holds = { IsSlot M.steps M.loses };
 
     ghost first = { maker M.nowhere };
 }
@@ -60,7 +60,7 @@ pub struct Takes;
 impl<M: Machine, L: StepLog<M>> Outcome<LoggedMachine<M, L>, ViewOf<M>> for Takes {
     ghost use Rattle.machine_hub.specs.Slot.{Taken};
 
-    ghost then = { Taken M.steps };
+    ghost then = { Taken M.steps M.loses };
 }
 
 impl<M: Machine, L: StepLog<M>> Lesson<LoggedMachine<M, L>, ViewOf<M>> for Takes {

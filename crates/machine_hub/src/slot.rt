@@ -42,6 +42,7 @@ impl<M: Machine, L: StepLog<M>> Model for SlotSeat<M, L> {
       slot = s.pass.table_id;
       home = (known s.pass).home;
       calls = (known s.pass).calls;
+      late = (known s.pass).late;
       bare = (known s.pass).bare;
       refused = (known s.pass).refused;
     } };
@@ -95,6 +96,7 @@ impl<M: Machine, L: StepLog<M>> Model for SlotKeeper<M, L> {
       seats = s.seats;
       taken = s.taken;
       calls = (known s.root).calls;
+      late = (known s.root).late;
       bare = (known s.root).bare;
       refused = (known s.root).refused;
     } };
@@ -106,7 +108,7 @@ impl<M: Machine, L: StepLog<M>> Model for SlotKeeper<M, L> {
 impl<M: Machine, L: StepLog<M>> SlotSeat<M, L> {
     fn new(pass: Token<M, L>) -> SlotSeat<M, L>
         requires pass { pass.me.1 ≡ [] }
-        requires fresh { known pass ≡ seat_view 1 (known pass).home None [] 0 0 }
+        requires fresh { known pass ≡ seat_view 1 (known pass).home None [] [] 0 0 }
         ensures { result ≡ new_seat pass.table_id (known pass).home }
     {
         SlotSeat { pass }
@@ -157,7 +159,7 @@ impl<M: Machine, L: StepLog<M>> Slot<M, L> {
         call: M::Call,
     ) -> Result<(M::Outcome, Given<M>), AllocError>
         requires { me.old.slot ≡ self.now }
-        ensures made { IfOk result (λ r. IsStepOf M.asks M.steps me.old me.new call r.0
+        ensures made { IfOk result (λ r. IsStepOf M.asks M.steps M.loses me.old me.new call r.0
             (option_map (λ given. (given.0, arc_value given.1)) r.1)) }
         ensures on_refusal { OnErr result (me.new ≡ seat_refused me.old) }
     {
@@ -178,7 +180,7 @@ impl<M: Machine, L: StepLog<M>> Slot<M, L> {
     /// Whether the question's answer is yes. It makes no step, and the machine's log has nothing of it.
     pub fn ask<R: Wait>(&self, rt: &R, me: &mut SlotSeat<M, L>, question: &M::Question) -> Told
         requires { me.old.slot ≡ self.now }
-        ensures answer { WasTold M.steps M.is_so me.old question.now result }
+        ensures answer { WasTold M.steps M.loses M.is_so me.old question.now result }
         ensures same { me.new ≡ me.old }
     {
         let _guard = self.gate.lock(rt);
@@ -210,7 +212,7 @@ impl<M: Machine, L: StepLog<M>> SlotKeeper<M, L> {
     pub fn finish<R: Wait>(self, rt: &R, slot: Slot<M, L>) -> LoggedMachine<M, L>
         requires slot { self.slot ≡ slot }
         requires all { self.taken ≡ self.seats }
-        ensures { IsWholeRun M.steps self result }
+        ensures { IsWholeRun M.steps M.loses self result }
     {
         let Slot { gate: _, cell } = slot;
         let SlotKeeper {
@@ -233,7 +235,7 @@ fn take<M: Machine, L: StepLog<M>, R: Wait>(
 ) -> LoggedMachine<M, L>
     requires pass { IsPassOf cell.now pass.old }
     requires free { (0 < (known pass.old).parts) × ((known pass.old).held ≡ None) }
-    ensures { IsSamePass pass.old pass.new × Taken M.steps (known pass.old) result (known pass.new) }
+    ensures { IsSamePass pass.old pass.new × Taken M.steps M.loses (known pass.old) result (known pass.new) }
 {
     for _ in rt.forever() {
         if let Some(machine) = cell.pop_as::<Takes, R>(rt, pass) {
@@ -266,7 +268,7 @@ fn put_stopped<M: Machine, L: StepLog<M>, R: Wait>(
     machine: LoggedMachine<M, L>,
 )
     requires pass { IsPassOf cell.now pass.old × (ruled_capacity cell.now ≡ 1) }
-    requires machine { IsStoppedBy (known pass.old) machine }
+    requires machine { IsStoppedBy M.steps M.loses (known pass.old) machine }
     ensures { IsSamePass pass.old pass.new × Stopped (known pass.old) machine (known pass.new) }
 {
     let Ok(()) = cell.push_as::<Stops, R>(rt, pass, machine) else {

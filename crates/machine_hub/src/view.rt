@@ -3,8 +3,8 @@
 use crate::entry::Entry;
 use std::collections::LinkedList;
 
-// A machine with its log: its number, its state, the entries, whether the log keeps, whether it is stopped, and the
-// last step that was made.
+// A machine with its log: its number, its state, the entries, whether the log keeps, whether it is stopped, the last
+// step that was made, and what happened since memory was first refused: steps, and calls that were refused memory.
 pub struct Standing<M, S, O> {
     pub number: u64,
     pub machine: M,
@@ -12,6 +12,7 @@ pub struct Standing<M, S, O> {
     pub keeps: bool,
     pub stopped: bool,
     pub last: Option<Entry<S, O>>,
+    pub later: LinkedList<Option<Entry<S, O>>>,
 }
 
 // Which machine it is, what it was at first, and whether its log keeps.
@@ -22,13 +23,14 @@ pub struct Home<M> {
 }
 
 // What a seat knows: its parts of the right to know the whole, the machine's home, the machine while the seat has it
-// out, the entries of its calls, each with its position, and how many came after memory was refused and how many were
-// refused memory.
+// out, its calls that came before memory was refused, each with its position, those that came after that, and how many
+// these are and how many were refused memory.
 pub struct SlotView<M, S, O> {
     pub parts: u64,
     pub home: Home<M>,
     pub held: Option<Standing<M, S, O>>,
     pub calls: LinkedList<(u64, Entry<S, O>)>,
+    pub late: LinkedList<(u64, Entry<S, O>)>,
     pub bare: u64,
     pub refused: u64,
 }

@@ -4,6 +4,7 @@ ghost use Rattle.std.specs.Prelude.{◌≡◌};
 ghost use Rattle.machine_hub.specs.Hub.{slots_of};
 
 use bytes::Bytes;
+use decision_cache::HashKeys;
 use http_edge::Reply;
 use shared_hub::{Caller, HubFault, SharedHub};
 use std::alloc::{AllocError, Global};
@@ -13,6 +14,12 @@ use std::thread::Threads;
 use tail_settings::{Settings, load};
 use tenant_shard::{Outcome, Step};
 use trace_service::post_body;
+
+/// The tests' own trace ids are no one's choice.
+const KEYS: HashKeys = HashKeys {
+    first: 0x0123_4567_89ab_cdef,
+    second: 7,
+};
 
 /// Two tenants with different policies, in two shards. Each trace of the second is sampled a second after it opened,
 /// and is a batch at once.
@@ -109,7 +116,8 @@ fn are_told_by_a_hub<R>(rt: &R, alloc: Global, settings: &Settings) -> bool
 where
     R: Threads + Wait + Sync,
 {
-    let Ok((hub, _keeper, mut callers)) = SharedHub::open(rt, alloc, settings, 1, false) else {
+    let Ok((hub, _keeper, mut callers)) = SharedHub::open(rt, alloc, settings, 1, false, KEYS)
+    else {
         return false;
     };
     match callers.pop() {
@@ -180,7 +188,7 @@ fn leave<R>(rt: &R, alloc: Global, settings: &Settings) -> Result<bool, Fail>
 where
     R: Threads + Wait + Sync,
 {
-    let (hub, _keeper, mut callers) = SharedHub::open(rt, alloc, settings, 1, false)?;
+    let (hub, _keeper, mut callers) = SharedHub::open(rt, alloc, settings, 1, false, KEYS)?;
     let Some(mut me) = callers.pop() else {
         return Ok(false);
     };

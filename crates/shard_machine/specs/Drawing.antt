@@ -25,3 +25,7 @@ pub record IsLost (call : Call) (old new : MachineState) : Type 0 where
   pub asked : AsksFor call made
   pub shard : ShardRefuses made.step old.views new.views
   pub words : IsReady made.word made.step old.words new.words
+
+-- some call was refused memory and left that
+abbrev pub IsLostBySome : MachineState → MachineState → Type 0
+IsLostBySome old new = (call : Call) × IsLost call old new

@@ -10,6 +10,7 @@ ghost use Rattle.shard_machine.specs.Drawing.{IsReady};
 use crate::copy::copy_of;
 use crate::jitter::JitterGenerators;
 use crate::step::{Call, LoggedStep, WordSource};
+use decision_cache::HashKeys;
 use machine_hub::Machine;
 use std::alloc::{AllocError, Global};
 use std::marker::Model;
@@ -35,16 +36,17 @@ impl Model for ShardMachine {
 
 impl ShardMachine {
     /// A shard of the tenants of the settings whose numbers stand in `members`, with no steps so far, each with a
-    /// generator at the start of its seed.
+    /// generator at the start of its seed. No sender knows the keys, under which trace ids are hashed.
     pub fn open(
         alloc: Global,
         settings: &Settings,
         members: &[u32],
+        keys: HashKeys,
     ) -> Result<ShardMachine, AllocError>
         ensures stands { IfOk result (λ s. ShardStands (opened (settings_view settings.now) members.now) s.views) }
         ensures words { IfOk result (λ s. AreSeeded (settings_view settings.now) members.now s.words) }
     {
-        let shard = Shard::open(alloc, settings, members)?;
+        let shard = Shard::open_with_keys(alloc, settings, members, keys)?;
         let words = seeded(alloc, settings, members)?;
         Ok(ShardMachine { shard, words })
     }
@@ -55,7 +57,7 @@ impl Machine for ShardMachine {
     ghost use Rattle.tenant_shard.specs.Empty.{is_empty};
     ghost use Rattle.tenant_shard.specs.View.{kept_of};
     ghost use Rattle.shard_machine.specs.MachineState.{AsksFor, MachineDoes};
-    ghost use Rattle.shard_machine.specs.Drawing.{IsLost};
+    ghost use Rattle.shard_machine.specs.Drawing.{IsLost, IsLostBySome};
 
     type Call = Call;
 
@@ -71,12 +73,15 @@ impl Machine for ShardMachine {
 
     ghost steps = { MachineDoes };
 
+    ghost loses = { IsLostBySome };
+
     ghost is_so = { λ s tenant. is_empty (kept_of tenant s.views) };
 
     fn make(&mut self, _alloc: Global, call: Call) -> Result<(LoggedStep, Outcome), AllocError>
         ensures asked { IfOk result (λ made. AsksFor call made.0) }
         ensures made { IfOk result (λ made. MachineDoes self.old made.0 made.1 self.new) }
         ensures on_refusal { OnErr result (IsLost call self.old self.new) }
+        ensures lost { OnErr result (IsLostBySome self.old self.new) }
     {
         let made = ready(&mut self.words, call);
         let outcome = self.shard.step(&made.step)?;

@@ -1,5 +1,5 @@
 -- What the logs are at the end.
-use Rattle.std.proofs.Common.{◌≡◌, ℕ, zero, suc, ◌+◌, ◌<◌, List, [], ◌∷◌, ◌++◌, length, Bool, true, false, Option, Some, None, refl, sym, ap, ◌∙◌, subst, arith}
+use Rattle.std.proofs.Common.{◌≡◌, ℕ, zero, suc, ◌+◌, List, [], ◌∷◌, ◌++◌, Bool, true, false, Some, refl, sym, ap, ◌∙◌, subst, arith}
 use Rattle.std.specs.Prelude.{slice_get, slice_set, option_map}
 use Rattle.tail_settings.specs.Section.{SectionData}
 use Rattle.tail_settings.specs.Settings.{SettingsData}
@@ -8,21 +8,19 @@ use Rattle.tenant_shard.specs.Alone.{OwnStepsDecide}
 use Rattle.tenant_shard.specs.Table.{opened, members_of}
 use Rattle.tenant_shard.proofs.Wholes.{by_own_steps, stands_after, each_alone}
 use Rattle.machine_hub.specs.declared.view.Home.{Home}
-use Rattle.machine_hub.specs.Runs.{entry, Runs}
-use Rattle.machine_hub.proofs.Kept.{runs_push}
+use Rattle.machine_hub.specs.Runs.{entry, Runs, IsHistory}
+use Rattle.machine_hub.proofs.Kept.{runs_push, history_logged, history_late}
 use Rattle.machine_hub.proofs.Ended.{found, shard_run}
-use Rattle.tenant_shard.specs.declared.step.Outcome.{Outcome}
-use Rattle.machine_hub.specs.declared.receipt.Receipt.{Receipt}
-use Rattle.machine_hub.specs.declared.told.Told.{Told}
-use Rattle.machine_hub.specs.Slot.{stored}
+use Rattle.machine_hub.specs.Slot.{stored, with_history}
 use Rattle.machine_hub.specs.Seats.{seat_after, IsNoted}
-use Rattle.machine_hub.specs.Hub.{IsCallOn, AreShardRuns}
-use Rattle.shard_machine.specs.declared.step.Call.{Call}
-use Rattle.shard_machine.specs.MachineState.{MachineState, AsksFor, MachineDoes}
+use Rattle.machine_hub.specs.Hub.{AreShardRuns, AreShardHistories}
+use Rattle.shard_machine.specs.MachineState.{MachineState, MachineDoes}
 use Rattle.shard_machine.specs.Run.{Logged, steps_of, outcomes_of, RunsAreShardRuns, WordsAreInOrder}
 use Rattle.shared_hub.specs.Shards.{IsFresh, AreOpened}
-use Rattle.shared_hub.specs.Logs.{Seat, CallerState, LoggedShard, has_none, IsLogOf, EachCallEndsARun, EachLookSeesARun, AreLogged, AreOneRun, LogsTellByOwnSteps}
+use Rattle.shared_hub.specs.Logs.{Seat, CallerState, LoggedShard, has_none, IsLogOf, EachCallEndsARun, EachLookSeesARun, AreLogged, AreOneRun, IsHistoryOf, AreOneHistory, EachCallEndsAHistory, EachLookSeesAHistory, LogsTellByOwnSteps}
+use Rattle.shard_machine.specs.Drawing.{IsLostBySome}
 use Rattle.shared_hub.proofs.Drawing.{none_drawn}
+use Rattle.shared_hub.proofs.Sparing.{IsAlone, spares, behind, run_and_later, entries_behind, losses_behind}
 
 log_of : RunsAreShardRuns → WordsAreInOrder → (table : SettingsData) (members : List ℕ) (first last : MachineState) (entries : List Logged) → IsFresh table members first → Runs MachineDoes first entries last → IsLogOf table members entries last
 log_of shard_runs in_order table members first last entries fresh run =
@@ -67,6 +65,33 @@ are_one_run shard_runs in_order table homes callers shards runs opens shard with
       each = run.each;
     }
 
+history_of : (table : SettingsData) (members : List ℕ) (first : MachineState) (s : LoggedShard) → IsFresh table members first → IsHistory MachineDoes IsLostBySome first s.entries s.later s.stopped s.machine → IsHistoryOf table members s
+history_of table members first s fresh did =
+    let spared = spares (behind s.entries s.later) first s.machine (run_and_later s.entries s.later first did.middle s.machine did.run did.later_run) in
+    record {
+      first = first;
+      fresh = fresh;
+      history = did;
+      hit = spared.hit;
+      few = omega (arith, spared.few, losses_behind s.entries s.later);
+      each_alone = λ tenant section at apart.
+          subst (IsAlone tenant section []) (entries_behind s.entries s.later) (spared.alone_is (opened table members) fresh.stands tenant section at refl apart);
+    }
+
+pub are_one_history : (table : SettingsData) (homes : List (Home MachineState)) (callers : List CallerState) (shards : List LoggedShard) → AreShardRuns MachineDoes homes callers shards → AreShardHistories MachineDoes IsLostBySome homes callers shards
+    → AreOpened table homes → AreOneHistory table callers shards
+are_one_history table homes callers shards runs histories opens shard s at =
+    let here = shard_run MachineDoes homes callers shards runs shard s at in
+    let did = histories shard here.0 s here.1 at in
+    record {
+      entries = did.entries;
+      later = did.later;
+      log = history_of table (members_of table shard) here.0.start (with_history did.entries did.later s) (opens.each shard here.0 here.1).1 did.history;
+      each = did.each;
+      each_late = did.late;
+      count = did.count;
+    }
+
 set_here : {X : Type 0} (xs : List X) (k : ℕ) (x w : X) → slice_get xs k ≡ Some x → slice_get (slice_set xs k w) k ≡ Some w
 set_here [] k x w at = absurd (cc)
 set_here (y ∷ xs) zero x w at = refl
@@ -76,22 +101,22 @@ some_one : (a b : Seat) → Some a ≡ Some b → a ≡ b
 some_one a b e = cc
 
 -- a call that its seat doesn't count as late came before its shard was refused memory
-on_time : (seat after : Seat) (old new : LoggedShard) (e : Logged) (noted : Option (ℕ × Logged)) → IsNoted old new e noted → after ≡ seat_after seat noted → after.bare ≡ seat.bare → old.stopped ≡ false
-on_time seat after old new e None adds is same =
+on_time : (seat after : Seat) (old new : LoggedShard) (e : Logged) (late : Bool) (noted : ℕ × Logged) → IsNoted old new e late noted → after ≡ seat_after seat late noted → after.bare ≡ seat.bare → old.stopped ≡ false
+on_time seat after old new e true noted adds is same =
     let more : after.bare ≡ seat.bare + 1 = ap (λ (s : Seat). s.bare) is in
     absurd (omega (arith, more, same))
-on_time seat after old new e (Some noted) adds is same = adds.2
+on_time seat after old new e false noted adds is same = adds.3
 
 pub ends_a_run : RunsAreShardRuns → WordsAreInOrder → EachCallEndsARun
 ends_a_run shard_runs in_order table members old new shard call outcome receipt made fresh after at same =
     let one = made.made in
     let was = one.old in
     let now = one.new in
-    let did = one.home.2 in
+    let did = one.before.home.2 in
     let e : Logged = entry one.step outcome in
-    let is : after ≡ seat_after made.seat made.noted =
-    some_one after (seat_after made.seat made.noted) (sym at ∙ ap (λ (l : CallerState). slice_get l shard) made.after ∙ set_here old shard made.seat (seat_after made.seat made.noted) made.at) in
-    let on = on_time made.seat after was now e made.noted one.adds is same in
+    let is : after ≡ seat_after made.seat made.late made.noted =
+    some_one after (seat_after made.seat made.late made.noted) (sym at ∙ ap (λ (l : CallerState). slice_get l shard) made.after ∙ set_here old shard made.seat (seat_after made.seat made.late made.noted) made.at) in
+    let on = on_time made.seat after was now e made.late made.noted one.adds is same in
     let end : MachineDoes did.middle e.step e.outcome now.machine = subst (λ m. MachineDoes m e.step e.outcome now.machine) (sym (did.now_is on)) one.made in
     record {
       step = one.step;
@@ -103,15 +128,37 @@ ends_a_run shard_runs in_order table members old new shard call outcome receipt 
 pub sees_a_run : RunsAreShardRuns → WordsAreInOrder → EachLookSeesARun
 sees_a_run shard_runs in_order table members caller shard tenant told look fresh on =
     let was = look.2 in
-    let did = was.1.2 in
-    let here : did.middle ≡ was.0.machine = did.now_is (sym was.4 ∙ on) in
+    let did = was.1.home.2 in
+    let here : did.middle ≡ was.0.machine = did.now_is (sym was.3 ∙ on) in
     record {
       entries = was.0.entries;
       last = did.middle;
       log = log_of shard_runs in_order table members look.0.home.start did.middle was.0.entries fresh did.run;
-      calls = was.2;
-      empty_is = was.3 ∙ ap (λ (m : MachineState). has_none m tenant) (sym here);
+      calls = was.1.calls;
+      empty_is = was.2 ∙ ap (λ (m : MachineState). has_none m tenant) (sym here);
     }
+
+-- the machine's history with a call's step behind it
+made_behind : (first : MachineState) (old new : LoggedShard) (e : Logged) (late : Bool) (noted : ℕ × Logged) → IsHistory MachineDoes IsLostBySome first old.entries old.later old.stopped old.machine
+    → MachineDoes old.machine e.step e.outcome new.machine → IsNoted old new e late noted → IsHistory MachineDoes IsLostBySome first new.entries new.later new.stopped new.machine
+made_behind first old new e true noted did step adds =
+    let longer = history_late MachineDoes IsLostBySome first old.entries old.later e old.stopped new.stopped old.machine new.machine did adds.4 step in
+    subst (λ es. IsHistory MachineDoes IsLostBySome first es new.later new.stopped new.machine) (sym adds.1)
+    (subst (λ hs. IsHistory MachineDoes IsLostBySome first old.entries hs new.stopped new.machine) (sym adds.2) longer)
+made_behind first old new e false noted did step adds =
+    let longer = history_logged MachineDoes IsLostBySome first old.entries old.later e old.stopped new.stopped old.machine new.machine did adds.3 step in
+    subst (λ es. IsHistory MachineDoes IsLostBySome first es new.later new.stopped new.machine) (sym adds.1)
+    (subst (λ hs. IsHistory MachineDoes IsLostBySome first (old.entries ++ e ∷ []) hs new.stopped new.machine) (sym adds.2) longer)
+
+pub ends_a_history : EachCallEndsAHistory
+ends_a_history table members old new shard call outcome receipt made fresh =
+    let one = made.made in
+    let start = made.seat.home.start in
+    history_of table members start one.new fresh (made_behind start one.old one.new (entry one.step outcome) made.late made.noted one.before.history one.made one.adds)
+
+pub sees_a_history : EachLookSeesAHistory
+sees_a_history table members caller shard tenant told look fresh =
+    history_of table members look.0.home.start look.2.0 fresh look.2.1.history
 
 pub told_by_own_steps : OwnStepsDecide → LogsTellByOwnSteps
 told_by_own_steps decide section steps =

@@ -1,3 +1,4 @@
 mod Building
 mod Drawing
+mod Sparing
 mod Closing

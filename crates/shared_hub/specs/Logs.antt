@@ -1,5 +1,5 @@
 -- What contracts say of calls, and of the logs at the end. This project's own rule.
-use Rattle.std.specs.Prelude.{◌≡◌, ℕ, ◌<◌, List, [], ◌∷◌, ◌++◌, map, length, Bool, true, false, Option, Some, None, slice_get}
+use Rattle.std.specs.Prelude.{◌≡◌, ◌≢◌, ℕ, ◌<◌, ◌≤◌, sum_by, List, [], ◌∷◌, ◌++◌, map, length, Bool, true, false, Option, Some, None, slice_get}
 use Rattle.send_retry.specs.declared.answer.Answer.{Answer}
 use Rattle.send_retry.specs.Class.{answer_view}
 use Rattle.tail_settings.specs.Section.{SectionData}
@@ -16,14 +16,16 @@ use Rattle.tenant_shard.specs.Outcomes.{OwnStep, Answer as Answered, named}
 use Rattle.tenant_shard.specs.Alone.{alone, own_steps, told_to}
 use Rattle.tenant_shard.specs.Table.{section_of, opened, members_of}
 use Rattle.machine_hub.specs.declared.view.Standing.{Standing}
-use Rattle.machine_hub.specs.Runs.{entry}
+use Rattle.machine_hub.specs.Runs.{entry, entries_in, losses, IsHistory}
+use Rattle.machine_hub.specs.Slot.{with_history}
 use Rattle.machine_hub.specs.Seats.{SeatState, HasCalls}
 use Rattle.machine_hub.specs.declared.receipt.Receipt.{Receipt}
 use Rattle.machine_hub.specs.declared.told.Told.{Told}
-use Rattle.machine_hub.specs.Hub.{IsCallOn, IsToldOn, seats_at, AreCallsOf}
+use Rattle.machine_hub.specs.Hub.{IsCallOn, IsToldOn, seats_at, AreCallsOf, AreLateCallsOf}
 use Rattle.shard_machine.specs.declared.step.Call.{Call}
 use Rattle.shard_machine.specs.declared.step.Call.TheVariants as calls
 use Rattle.shard_machine.specs.declared.step.LoggedStep.{LoggedStep}
+use Rattle.shard_machine.specs.Drawing.{IsLostBySome}
 use Rattle.shard_machine.specs.MachineState.{MachineState, AsksFor, MachineDoes}
 use Rattle.shard_machine.specs.Run.{Logged, steps_of, outcomes_of, drawn_for}
 use Rattle.shared_hub.specs.Shards.{IsFresh}
@@ -43,13 +45,13 @@ LoggedShard = Standing MachineState LoggedStep Outcome
 -- a call made this step of a shard, with this outcome and this receipt
 abbrev pub IsStepOn : CallerState → CallerState → ℕ → Step → Outcome → Option Receipt → Type 0
 IsStepOn old new shard step outcome receipt =
-    IsCallOn AsksFor MachineDoes old new shard (calls.Step step) outcome receipt
+    IsCallOn AsksFor MachineDoes IsLostBySome old new shard (calls.Step step) outcome receipt
 
 -- a call made the step of a back end's answer, for whose word its tenant's generator was asked
 abbrev pub IsAnswerOn : CallerState → CallerState → ℕ → ℕ → ℕ → ℕ → Answer → Outcome → Option Receipt → Type 0
 IsAnswerOn old new shard tenant now ticket answer outcome receipt =
     (copy : Answer) × (answer_view copy ≡ answer_view answer)
-    × IsCallOn AsksFor MachineDoes old new shard (calls.Answer tenant now ticket copy) outcome receipt
+    × IsCallOn AsksFor MachineDoes IsLostBySome old new shard (calls.Answer tenant now ticket copy) outcome receipt
 
 -- whether a tenant is empty in a shard
 abbrev pub has_none : MachineState → ℕ → Bool
@@ -57,7 +59,7 @@ has_none shard tenant = is_empty (kept_of tenant shard.views)
 
 -- at one moment of a call the tenant was empty or wasn't, and its shard had been refused memory or hadn't
 abbrev pub IsLookOn : CallerState → ℕ → ℕ → Told → Type 0
-IsLookOn caller shard tenant told = IsToldOn MachineDoes has_none caller shard tenant told
+IsLookOn caller shard tenant told = IsToldOn MachineDoes IsLostBySome has_none caller shard tenant told
 
 -- at one moment of a call this was so
 abbrev pub IsEmptyOn : CallerState → ℕ → ℕ → Bool → Type 0
@@ -96,7 +98,7 @@ pub record EndsARun (table : SettingsData) (members : List ℕ) (before : List L
 abbrev pub EachCallEndsARun : Type 0
 EachCallEndsARun = (table : SettingsData) (members : List ℕ) (old new : CallerState) (shard : ℕ) (call : Call)
     (outcome : Outcome) (receipt : Option Receipt)
-    (made : IsCallOn AsksFor MachineDoes old new shard call outcome receipt) →
+    (made : IsCallOn AsksFor MachineDoes IsLostBySome old new shard call outcome receipt) →
     IsFresh table members made.seat.home.start →
     (after : Seat) → slice_get new shard ≡ Some after → after.bare ≡ made.seat.bare →
     EndsARun table members made.made.old.entries call outcome
@@ -140,6 +142,58 @@ pub record IsOneRun (table : SettingsData) (callers : List CallerState) (shard :
 -- so it is at each shard
 abbrev pub AreOneRun : SettingsData → List CallerState → Type 0
 AreOneRun table callers = (shard : ℕ) → shard < table.global.shards → IsOneRun table callers shard
+
+-- the tenant is none of these
+abbrev pub IsSpared : ℕ → List ℕ → Type 0
+IsSpared tenant [] = Unit {0}
+IsSpared tenant (other ∷ others) = (other ≢ tenant) × IsSpared tenant others
+
+-- all that this shard answered: its entries before memory was refused and then those that came later
+abbrev pub answered : LoggedShard → List Logged
+answered s = s.entries ++ entries_in s.later
+
+-- what a shard of these tenants did from before its first step, with the calls that were refused memory: one chain of
+-- what is kept. Each of these calls costs one tenant at most, and each other member was told exactly what its pipeline
+-- alone answers to the steps that were its own
+pub record IsHistoryOf (table : SettingsData) (members : List ℕ) (s : LoggedShard) : Type 0 where
+  pub first : MachineState
+  pub fresh : IsFresh table members first
+  pub history : IsHistory MachineDoes IsLostBySome first s.entries s.later s.stopped s.machine
+  pub hit : List ℕ
+  pub few : length hit ≤ losses s.later
+  pub each_alone : (tenant : ℕ) (section : SectionData) → section_of table members tenant ≡ Some section →
+      IsSpared tenant hit → told_to tenant (outcomes_of (answered s)) ≡ map (named tenant)
+      (alone section [] (own_steps tenant (steps_of (answered s)) (outcomes_of (answered s))))
+
+-- all callers' calls at this shard are one such history, whether or not a log keeps it: each that answered is there
+-- once, with its step and outcome, before memory was refused or after, and as many were refused memory as are there
+pub record IsOneHistory (table : SettingsData) (callers : List CallerState) (shard : ℕ) (s : LoggedShard)
+    : Type 0 where
+  pub entries : List Logged
+  pub later : List (Option Logged)
+  pub log : IsHistoryOf table (members_of table shard) (with_history entries later s)
+  pub each : AreCallsOf entries (seats_at shard callers)
+  pub each_late : AreLateCallsOf (entries_in later) (seats_at shard callers)
+  pub count : losses later ≡ sum_by (λ x. x.refused) (seats_at shard callers)
+
+-- so it is at each shard
+abbrev pub AreOneHistory : SettingsData → List CallerState → List LoggedShard → Type 0
+AreOneHistory table callers shards =
+    (shard : ℕ) (s : LoggedShard) → slice_get shards shard ≡ Some s → IsOneHistory table callers shard s
+
+-- what a call's shard did, with the step of the call, is such a history, in which all earlier calls of its caller are,
+-- also where memory was refused before
+abbrev pub EachCallEndsAHistory : Type 0
+EachCallEndsAHistory = (table : SettingsData) (members : List ℕ) (old new : CallerState) (shard : ℕ) (call : Call)
+    (outcome : Outcome) (receipt : Option Receipt)
+    (made : IsCallOn AsksFor MachineDoes IsLostBySome old new shard call outcome receipt) →
+    IsFresh table members made.seat.home.start → IsHistoryOf table members made.made.new
+
+-- what is told of a tenant is so where such a history ends
+abbrev pub EachLookSeesAHistory : Type 0
+EachLookSeesAHistory = (table : SettingsData) (members : List ℕ) (caller : CallerState) (shard tenant : ℕ)
+    (told : Told) (look : IsLookOn caller shard tenant told) →
+    IsFresh table members look.0.home.start → IsHistoryOf table members look.2.0
 
 -- what a tenant is told follows from its section and its own steps alone, whichever log it is, whatever the other
 -- tenants' sections and steps, and whatever threads did

@@ -5,7 +5,7 @@ ghost use Rattle.tail_settings.specs.Settings.{SettingsData, settings_view};
 ghost use Rattle.machine_hub.specs.Hub.{slots_of, new_caller, AreCallersOf, AreShardRuns, IsRefusedOn};
 ghost use Rattle.shard_machine.specs.MachineState.{MachineDoes};
 ghost use Rattle.shared_hub.specs.Shards.{AreOpened, kept};
-ghost use Rattle.shared_hub.specs.Logs.{IsStepOn, IsAnswerOn, IsLookOn, IsEmptyOn, AreLogged, AreOneRun};
+ghost use Rattle.shared_hub.specs.Logs.{IsStepOn, IsAnswerOn, IsLookOn, IsEmptyOn, AreLogged, AreOneRun, AreOneHistory};
 ghost use Rattle.shared_hub.specs.declared.fault.HubFault.TheVariants as faults;
 
 use crate::copy::copy_of;
@@ -13,6 +13,7 @@ use crate::fault::{CallersMissing, HubFault};
 use crate::log::OptionalLog;
 use crate::shards::shards_of;
 use crate::{Caller, HubKeeper, ShardLog};
+use decision_cache::HashKeys;
 use machine_hub::{Hub, Receipt, Told};
 use send_retry::Answer;
 use shard_machine::{Call, ShardMachine, runs_are_shard_runs, words_are_in_order};
@@ -44,13 +45,15 @@ impl Model for SharedHub {
 
 impl SharedHub {
     /// A hub of all shards of the settings, none of which made a step, its keeper, and its callers, one for each
-    /// thread. The logs keep each entry or nothing. Where memory is refused nothing is kept.
+    /// thread. The logs keep each entry or nothing. No sender knows the keys, under which trace ids are hashed. Where
+    /// memory is refused nothing is kept.
     pub fn open<R: Wait>(
         rt: &R,
         alloc: Global,
         settings: &Settings,
         callers: usize,
         keeps: bool,
+        keys: HashKeys,
     ) -> Result<(SharedHub, HubKeeper, Vec<Caller>), AllocError>
         requires { 0 < callers }
         ensures shards { IfOk result (λ r. length r.0 ≡ settings.now.global.shards) }
@@ -60,7 +63,7 @@ impl SharedHub {
         ensures callers { IfOk result (λ r. (vec_len r.2 ≡ callers) × AreCallersOf r.0 r.2.items) }
         ensures new { IfOk result (λ r. r.2.items ≡ replicate callers (new_caller r.0 r.1.homes)) }
     {
-        let shards = shards_of(alloc, settings, keeps)?;
+        let shards = shards_of(alloc, settings, keeps, keys)?;
         let (hub, keeper, list) = Hub::open(rt, alloc, shards, callers)?;
         Ok((SharedHub { hub }, keeper, list))
     }
@@ -166,6 +169,8 @@ impl SharedHub {
             AreOpened table keeper.homes → AreLogged table shards.items) }
         ensures one_run { IfOk result (λ shards. (table : SettingsData) →
             AreOpened table keeper.homes → AreOneRun table callers.items) }
+        ensures one_history { IfOk result (λ shards. (table : SettingsData) →
+            AreOpened table keeper.homes → AreOneHistory table callers.items shards.items) }
         ensures missing { IfErr result (λ back. (vec_len callers ≢ keeper.callers) × (back.hub ≡ self)
             × (back.keeper ≡ keeper) × (back.callers ≡ callers)) }
     {

@@ -10,7 +10,7 @@
 //! `tail_settings` for the tenants. Its rules come from no public text.
 #![tactic(auto)]
 
-ghost use Rattle.shared_hub.specs.Logs.{EachCallEndsARun, EachLookSeesARun, LogsTellByOwnSteps};
+ghost use Rattle.shared_hub.specs.Logs.{EachCallEndsARun, EachCallEndsAHistory, EachLookSeesARun, EachLookSeesAHistory, LogsTellByOwnSteps};
 
 mod copy;
 mod fault;
@@ -52,6 +52,13 @@ pub fn each_look_sees_a_run()
     shard_machine::runs_are_shard_runs();
     shard_machine::words_are_in_order();
 }
+
+/// Want of memory at a shard costs the tenants little whose calls were refused it, and the others nothing: a law over
+/// calls, also those that come after it, and over looks.
+pub fn each_answer_is_of_a_history()
+    ensures calls { EachCallEndsAHistory }
+    ensures looks { EachLookSeesAHistory }
+{}
 
 /// What the logs of any hubs tell a tenant follows from its section and its own steps alone: a law over logs.
 pub fn logs_tell_by_own_steps()

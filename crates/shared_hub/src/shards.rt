@@ -7,6 +7,7 @@ ghost use Rattle.shared_hub.specs.Shards.{AreOpened, kept};
 
 use crate::ShardLog;
 use crate::log::OptionalLog;
+use decision_cache::HashKeys;
 use machine_hub::LoggedMachine;
 use shard_machine::ShardMachine;
 use std::alloc::{AllocError, Global};
@@ -18,6 +19,7 @@ pub(crate) fn shards_of(
     alloc: Global,
     settings: &Settings,
     keeps: bool,
+    keys: HashKeys,
 ) -> Result<Vec<ShardLog>, AllocError>
     ensures count { IfOk result (λ shards. vec_len shards ≡ settings.now.global.shards) }
     ensures opened { IfOk result (λ shards. AreOpened (settings_view settings.now) (homes_of shards.items)) }
@@ -28,7 +30,7 @@ pub(crate) fn shards_of(
     let mut shards = Vec::new(alloc);
     for number in 0..settings.global.shards {
         let members = members_of(alloc, settings, number)?;
-        let shard = ShardMachine::open(alloc, settings, members.as_slice())?;
+        let shard = ShardMachine::open(alloc, settings, members.as_slice(), keys)?;
         let log = OptionalLog::new(alloc, keeps);
         let machine = LoggedMachine::new(shard, log, number);
         shards.push(machine)?;

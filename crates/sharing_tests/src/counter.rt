@@ -25,6 +25,8 @@ impl Machine for Counter {
 
     ghost steps = { λ old step outcome new. outcome ≡ old.count };
 
+    ghost loses = { λ old new. new ≡ old };
+
     ghost is_so = { λ state least. not (nat_lt state.count least) };
 
     fn make(&mut self, _alloc: Global, call: u64) -> Result<(u64, u64), AllocError> {

@@ -6,6 +6,7 @@ ghost use Rattle.machine_hub.specs.Hub.{slots_of};
 use crate::calls::{made, stepped};
 use crate::outcomes::{is_entry, is_outcome};
 use crate::story::{Line, SETTINGS, STORY, line_of};
+use decision_cache::HashKeys;
 use shared_hub::{Caller, Entry, HubKeeper, Receipt, ShardLog, SharedHub};
 use std::alloc::Global;
 use std::sync::{Arc, Wait};
@@ -13,6 +14,12 @@ use std::test::Fail;
 use std::thread::Threads;
 use tail_settings::{Settings, load};
 use tenant_shard::{Outcome, Step};
+
+/// The tests' own trace ids are no one's choice.
+const KEYS: HashKeys = HashKeys {
+    first: 0x0123_4567_89ab_cdef,
+    second: 7,
+};
 
 /// Whether a receipt is that of the next entry of its shard; there is none where nothing is kept.
 fn is_next(receipt: Option<Receipt>, next: &mut [u64; 2], keeps: bool) -> bool {
@@ -120,7 +127,7 @@ fn run_story<R: Threads + Wait + Sync>(
     settings: &Settings,
     keeps: bool,
 ) -> Option<(u32, &'static str, bool)> {
-    let Ok((hub, keeper, mut callers)) = SharedHub::open(rt, alloc, settings, 1, keeps) else {
+    let Ok((hub, keeper, mut callers)) = SharedHub::open(rt, alloc, settings, 1, keeps, KEYS) else {
         return None;
     };
     let Some(mut me) = callers.pop() else {
@@ -172,7 +179,7 @@ fn call_after_all<R: Wait>(
     alloc: Global,
     settings: &Settings,
 ) -> Option<(Outcome, Option<Receipt>)> {
-    let Ok((hub, keeper, mut callers)) = SharedHub::open(rt, alloc, settings, 1, true) else {
+    let Ok((hub, keeper, mut callers)) = SharedHub::open(rt, alloc, settings, 1, true, KEYS) else {
         return None;
     };
     let Some(mut away) = callers.pop() else {

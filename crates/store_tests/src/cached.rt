@@ -2,7 +2,7 @@
 //! instructions the calls of each take.
 
 use crate::load::trace_id;
-use decision_cache::DecisionCaches;
+use decision_cache::{DecisionCaches, HashKeys};
 use std::alloc::{AllocError, Global};
 use std::test::Fail;
 
@@ -63,7 +63,11 @@ fn is_done(
 
 /// How many calls of a full cache of so many ids do what they are to do.
 fn done(alloc: Global, size: u32, call: Call, calls: u64) -> Result<u64, AllocError> {
-    let mut caches = DecisionCaches::new(alloc, size, 0, (0x0123_4567_89ab_cdef, 7))?;
+    let keys = HashKeys {
+        first: 0x0123_4567_89ab_cdef,
+        second: 7,
+    };
+    let mut caches = DecisionCaches::new(alloc, size, 0, keys)?;
     let traces = decide_all(&mut caches, 0, u64::from(size))?;
     let mut done: u64 = 0;
     for number in 0..calls {

@@ -1,12 +1,17 @@
 //! Caches of decisions: two tenants' by a story, and caches of one to three ids beside the events of their ids.
 
 use crate::story::{Step, one, step_of};
-use decision_cache::DecisionCaches;
+use decision_cache::{DecisionCaches, HashKeys};
 use std::alloc::AllocError;
+use std::io;
 use std::process::Abort;
+use std::random::RandomSource;
 use std::test::Fail;
 
-const KEYS: (u64, u64) = (0x0123_4567_89ab_cdef, 7);
+const KEYS: HashKeys = HashKeys {
+    first: 0x0123_4567_89ab_cdef,
+    second: 7,
+};
 
 /// Ids that differ in one byte.
 fn id(number: usize) -> [u8; 16] {
@@ -267,6 +272,46 @@ fn alike(
         }
     }
     Ok(calls)
+}
+
+/// A source that gives the bytes 1, 2, 3 and so on.
+struct Counting;
+
+impl RandomSource for Counting {
+    fn fill_bytes(&self, buf: &mut [u8]) -> io::Result<()> {
+        let mut next: u8 = 0;
+        for byte in buf.iter_mut() {
+            next = next.wrapping_add(1);
+            *byte = next;
+        }
+        Ok(())
+    }
+}
+
+/// A source that fails.
+struct Broken;
+
+impl RandomSource for Broken {
+    fn fill_bytes(&self, _buf: &mut [u8]) -> io::Result<()> {
+        Err(io::Error::from_raw_os_error(5))
+    }
+}
+
+#[test]
+fn keys_are_what_the_source_gives(rt: HostRuntime) -> Result<(), Fail> {
+    let given = HashKeys::draw(&Counting)?;
+    assert!(rt; given.first == 0x0807_0605_0403_0201 && given.second == given.first);
+    assert!(rt; HashKeys::draw(&Broken).is_err());
+    Ok(())
+}
+
+#[test]
+fn keys_of_the_system_differ(rt: HostRuntime) -> Result<(), Fail> {
+    let one = HashKeys::draw(&rt)?;
+    let other = HashKeys::draw(&rt)?;
+    assert!(rt; one.first != other.first && one.second != other.second && one.first != one.second);
+    assert!(rt; one.of_tenant(1).first == one.first && one.of_tenant(1).second != one.second);
+    Ok(())
 }
 
 #[test]

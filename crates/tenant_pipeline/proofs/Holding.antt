@@ -1,8 +1,7 @@
 -- What always holds of a tenant goes on to hold after a timer.
-use Rattle.std.proofs.Common.{◌≡◌, ◌≤◌, ◌+◌, ◌-◌, ◌^◌, ◌∙◌, ℕ, List, [], ◌∷◌, map, refl, sym, ap, subst, arith, true, false, Option, Some, None}
+use Rattle.std.proofs.Common.{◌≡◌, ◌≤◌, ◌+◌, ◌^◌, ◌∙◌, ℕ, List, [], ◌∷◌, map, refl, sym, ap, subst, arith, true, false, Option, Some, None}
 use Rattle.std.specs.List.{AllByRecursion}
 use Rattle.std.proofs.lemmas.Bool.Decides.{nat_tests}
-use Rattle.span_batcher.specs.State as batcher
 use Rattle.span_batcher.specs.State.{next_due}
 use Rattle.span_batcher.specs.Machine.{fired}
 use Rattle.span_batcher.specs.Timers.{is_due}

@@ -1,13 +1,19 @@
 -- Whether rows that left have been swept goes by how many left, and how many were swept.
-use Rattle.std.proofs.Common.{◌≡◌, sym, subst}
+use Rattle.std.proofs.Common.{◌≡◌, ◌∙◌, [], sym, ap, subst}
 use Rattle.std.specs.Prelude.{Result, Ok, Err, OnOk, OnErr}
+use Rattle.decision_cache.specs.Caches.{CachesData}
 use Rattle.tenant_pipeline.specs.declared.pipeline.Pipeline.{Pipeline}
 use Rattle.tenant_pipeline.specs.declared.pipeline.RowCounts.{RowCounts}
 use Rattle.tenant_pipeline.specs.Invariant.{IsSwept}
 
--- of a tenant with the same rows
-pub swept_same : (old new : Pipeline) → new.rows ≡ old.rows → IsSwept old → IsSwept new
-swept_same old new rows is = subst (λ (r : RowCounts). r.swept ≡ r.first) (sym rows) is
+-- of a tenant with as many of both, in whose caches no hit waits
+pub swept_with : (old new : Pipeline) → new.rows.swept ≡ old.rows.swept → new.rows.first ≡ old.rows.first → new.caches.hits ≡ [] → IsSwept old → IsSwept new
+swept_with old new swept first none is = (swept ∙ (is.0 ∙ sym first), none)
+
+-- of a tenant with the same rows and caches
+pub swept_same : (old new : Pipeline) → new.rows ≡ old.rows → new.caches ≡ old.caches → IsSwept old → IsSwept new
+swept_same old new rows caches is =
+    swept_with old new (ap (λ (r : RowCounts). r.swept) rows) (ap (λ (r : RowCounts). r.first) rows) (ap (λ (k : CachesData). k.hits) caches ∙ is.1) is
 
 -- of one that is the same
 pub swept_back : (old new : Pipeline) → new ≡ old → IsSwept old → IsSwept new

@@ -51,9 +51,9 @@ pub record PipelineInvariantAt (reached : ℕ) (gone held : List ℕ) (own : Pip
   pub clock_by : own.clock ≤ reached
   pub reached_fits : reached ≤ 2 ^ 62
 
--- no row that isn't present stays in the table, nor do its spans stay in the stores
+-- no row that isn't present stays in the table, nor do its spans stay in the stores, and no hit waits for a commit
 abbrev pub IsSwept : Pipeline → Type 0
-IsSwept own = own.rows.swept ≡ own.rows.first
+IsSwept own = (own.rows.swept ≡ own.rows.first) × (own.caches.hits ≡ [])
 
 -- between steps
 abbrev pub PipelineInvariantBy : Pipeline → Part TraceNote → Type 0

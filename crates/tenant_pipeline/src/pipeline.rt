@@ -20,7 +20,7 @@ ghost use Rattle.tenant_pipeline.specs.Invariant.{PipelineInvariantBy, PipelineI
 ghost use Rattle.tenant_pipeline.specs.Steps.{StandsFor, Answers, FollowsFromState};
 
 use crate::section::copied_section;
-use decision_cache::DecisionCaches;
+use decision_cache::{DecisionCaches, HashKeys};
 use drop_ledger::Ledger;
 use otlp_prepare::Prepared;
 use send_queue::SendQueue;
@@ -69,13 +69,13 @@ pub struct Pipeline {
 }
 
 impl Pipeline {
-    /// A tenant with no steps so far, over any stores that have nothing of it. The keys are two numbers that no one who
-    /// picks trace ids knows; no answer depends on them.
+    /// A tenant with no steps so far, over any stores that have nothing of it. The keys may be those of other tenants
+    /// too; no one who picks trace ids knows them, and no answer depends on them.
     pub fn new(
         alloc: Global,
         tenant: u32,
         section: &Section,
-        keys: (u64, u64),
+        keys: HashKeys,
     ) -> Result<Self, AllocError>
         ensures stands { IfOk result (λ made. (p : Part Note) → StoreInvariant no_rows [] [] p →
             StandsFor (section_view section.now) [] (state_of made p)) }
@@ -96,7 +96,7 @@ impl Pipeline {
             alloc,
             section.tail_sampling.sampled_cache_size,
             section.tail_sampling.non_sampled_cache_size,
-            keys,
+            keys.of_tenant(tenant),
         )?;
         Ok(Pipeline {
             alloc,

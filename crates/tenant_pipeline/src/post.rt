@@ -245,7 +245,7 @@ impl Pipeline {
             → PipelineInvariantAt reached [] held self.new (part_in self.new stores.new) }
         ensures others_unchanged { (other : ℕ) → other ≢ self.old.tenant
             → part other stores.new ≡ part other stores.old }
-        ensures swept { IsSwept self.new }
+        ensures swept { self.old.caches.hits ≡ [] → IsSwept self.new }
         ensures same { IsSameTenant self.old self.new }
     {
         while self.rows.swept < self.rows.first {

@@ -19,14 +19,14 @@ abbrev pub AllHeld : Stores TraceNote → List Pipeline → Type 0
 AllHeld stores [] = Unit
 AllHeld stores (member ∷ members) = PipelineInvariant member stores × AllHeld stores members
 
--- each of them has in the stores no row that isn't present
+-- each of them has in the stores no row that isn't present, and in its caches no hit that waits
 abbrev pub AllSwept : List Pipeline → Type 0
 AllSwept [] = Unit
 AllSwept (member ∷ members) = IsSwept member × AllSwept members
 
 -- members stand by number, and what always holds of a tenant holds of each, so each span of its part is named once;
--- rows that left are gone with their spans; no other tenant has rows or spans; and the agenda has just the members,
--- each at the moment at which it is ready
+-- rows that left are gone with their spans, and hits are in their caches' order; no other tenant has rows or spans;
+-- and the agenda has just the members, each at the moment at which it is ready
 pub record IsWhole (stores : Stores TraceNote) (agenda : List AgendaEntry) (members : List Pipeline) : Type 0 where
   pub order : AreInOrder members
   pub held : AllHeld stores members

@@ -18,6 +18,7 @@ ghost use Rattle.tenant_shard.specs.Whole.{IsWhole};
 
 use crate::member::{apply_step, named, place_of, takes};
 use crate::step::{Outcome, Step};
+use decision_cache::HashKeys;
 use shard_agenda::Agenda;
 use std::alloc::{AllocError, Global};
 use std::marker::Model;
@@ -32,6 +33,12 @@ const NOT_MEMBER: u8 = 22;
 
 /// The number of the refusal of a body that was prepared for other policies than the tenant's.
 const OTHER_POLICIES: u8 = 23;
+
+/// What trace ids are hashed with where they are the caller's own choice.
+const FIXED_KEYS: HashKeys = HashKeys {
+    first: 0,
+    second: 0,
+};
 
 /// The pipelines of several tenants, by number, over one pool of spans, one of texts, and one table of rows. Of each
 /// member it keeps what its rules see.
@@ -74,8 +81,23 @@ impl Shard {
     ghost use Rattle.tenant_shard.specs.Whole.{AllCounted};
 
     /// Opens a shard of the tenants of the settings whose numbers stand in `members`, with no steps
-    /// so far. Other numbers count for nothing, and one that stands there twice counts once.
+    /// so far. Other numbers count for nothing, and one that stands there twice counts once. Trace
+    /// ids are hashed with keys that anyone knows: strangers' ids are for `open_with_keys`.
     pub fn open(alloc: Global, settings: &Settings, members: &[u32]) -> Result<Self, AllocError>
+        ensures stands { IfOk result (ShardStands (opened (settings_view settings.now) members.now)) }
+        ensures counted { IfOk result AllCounted }
+    {
+        Shard::open_with_keys(alloc, settings, members, FIXED_KEYS)
+    }
+
+    /// The same, with the keys under which trace ids are hashed. Whoever doesn't know them can't
+    /// choose ids that collide. No answer depends on them.
+    pub fn open_with_keys(
+        alloc: Global,
+        settings: &Settings,
+        members: &[u32],
+        keys: HashKeys,
+    ) -> Result<Self, AllocError>
         ensures stands { IfOk result (ShardStands (opened (settings_view settings.now) members.now)) }
         ensures counted { IfOk result AllCounted }
     {
@@ -83,7 +105,15 @@ impl Shard {
         let mut agenda = Agenda::new(alloc);
         let mut opened = Vec::new(alloc);
         for tenant in members {
-            open_member(alloc, settings, &stores, &mut agenda, &mut opened, *tenant)?;
+            open_member(
+                alloc,
+                settings,
+                keys,
+                &stores,
+                &mut agenda,
+                &mut opened,
+                *tenant,
+            )?;
         }
         Ok(Shard {
             alloc,
@@ -273,6 +303,7 @@ fn step_at(
 fn open_member(
     alloc: Global,
     settings: &Settings,
+    keys: HashKeys,
     stores: &Stores<TraceNote>,
     agenda: &mut Agenda,
     members: &mut Vec<Pipeline>,
@@ -293,7 +324,6 @@ fn open_member(
     let Some(section) = settings.section(tenant) else {
         return Ok(());
     };
-    let keys = (section.seed, tenant as u64);
     let pipeline = Pipeline::new(alloc, tenant, section, keys)?;
     members.reserve(1)?;
     agenda.admit(tenant)?;

@@ -31,6 +31,7 @@ use std::alloc::{AllocError, AllocFailed, Global};
 use std::io::{BufRead, BufReader, ErrorKind, Write};
 use std::net::{Net, TcpListener, TcpStream};
 use std::process::ExitCode;
+use std::random::RandomSource;
 use std::rt::{Env, Files};
 use std::sync::Wait;
 use std::thread::Threads;
@@ -128,7 +129,7 @@ fn ended(rt: &impl Eprint, end: Result<End, ProgramFault>) -> ExitCode
 fn run<R>(rt: &R) -> Result<End, ProgramFault>
 where
     R: Env + Files + Input + Print + Eprint + AllocGlobal + Clock + Threads + Wait + Sync,
-    R: Net<Listener = TcpListener, Stream = TcpStream>,
+    R: RandomSource + Net<Listener = TcpListener, Stream = TcpStream>,
 {
     let args = match env::args(rt) {
         Ok(args) => args,

@@ -5,9 +5,11 @@ ghost use Rattle.tail_settings.specs.Settings.{settings_of, settings_view};
 ghost use Rattle.trace_collector_program.specs.Fault.{of_service, IsOfSettings};
 
 use crate::{ProgramFault, READ_SIZE, settings_text};
+use decision_cache::HashKeys;
 use std::alloc::Global;
 use std::io::BufReader;
 use std::net::{Net, TcpListener, TcpStream};
+use std::random::RandomSource;
 use std::rt::Files;
 use std::sync::Wait;
 use std::thread::Threads;
@@ -71,16 +73,18 @@ impl<R: Eprint> Course<'_, '_, R> {
 }
 
 /// Serves under the settings in a file, until standard input ends and all is sent. Reports, and with `audit` the
-/// lengths of the logs, are written to standard output, and where it is `verbose` its course to standard error.
+/// lengths of the logs, are written to standard output, and where it is `verbose` its course to standard error. Trace
+/// ids are hashed with keys that are drawn for this run.
 pub fn serve_file<R>(rt: &R, path: &str, audit: bool, verbose: bool) -> Result<(), ProgramFault>
 where
     R: Files + Input + Print + Eprint + AllocGlobal + Clock + Threads + Wait + Sync,
-    R: Net<Listener = TcpListener, Stream = TcpStream>,
+    R: RandomSource + Net<Listener = TcpListener, Stream = TcpStream>,
 {
     let text = settings_text(fs::read(rt, path)?)?;
     let alloc = rt.alloc();
     let settings = settings_in(alloc, text.as_str())?;
     let listener = TcpListener::bind(rt, settings.global.listen.as_str())?;
+    let keys = HashKeys::draw(rt)?;
     let mut input = BufReader::with_capacity(alloc, READ_SIZE, rt.reader())?;
     let mut output = io::writer(rt);
     let mut course = Course {
@@ -98,6 +102,7 @@ where
         &mut output,
         &mut course,
         audit,
+        keys,
     )?;
     Ok(())
 }

@@ -5,3 +5,4 @@ pub mod Unread
 pub mod Places
 pub mod Rising
 pub mod Heard
+pub mod Coursed

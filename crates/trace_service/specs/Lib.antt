@@ -6,3 +6,4 @@ pub mod Commands
 pub mod Audit
 pub mod Fault
 pub mod Receiving
+pub mod Whole

@@ -1,7 +1,8 @@
 //! Who works at what.
 
-ghost use Rattle.std.specs.Prelude.{◌≡◌, ◌<◌, ◌≤◌, ◌+◌, length, map, All, IfOk, vec_len};
+ghost use Rattle.std.specs.Prelude.{◌≡◌, ◌<◌, ◌≤◌, ◌+◌, ◌∷◌, List, length, map, All, IfOk, vec_len};
 ghost use Rattle.machine_hub.specs.Hub.{AreCallersOf, slots_of};
+ghost use Rattle.shared_hub.specs.Logs.{CallerState};
 ghost use Rattle.trace_service.specs.Assignment.{place_of, places};
 
 use crate::naming::Naming;
@@ -64,6 +65,7 @@ pub(crate) fn collect_callers<'h, J: Naming, R: Wait + Clock>(
     requires { slots_of own ≡ J.slots }
     ensures same_hub { IfOk result (λ all. AreCallersOf J.slots all.items) }
     ensures all { IfOk result (λ all. vec_len all ≡ 1 + vec_len workers.entry) }
+    ensures own_first { IfOk result (λ all. (others : List CallerState) × (all.items ≡ own ∷ others)) }
 {
     let mut callers = Vec::new(alloc);
     callers.push(own)?;

@@ -60,6 +60,7 @@ impl<'h, J: Naming, R: Wait + Clock> WorkerContext<'h, J, R> {
         requires shard { shard < length J.slots }
         ensures caller { result.caller ≡ caller }
         ensures shard { result.shard ≡ shard }
+        ensures hub { result.hub.now ≡ hub.now }
     {
         WorkerContext {
             rt,

@@ -2,9 +2,11 @@
 
 ghost use Rattle.std.specs.Prelude.{◌≡◌, length, OnOk, IfNone, option_map};
 ghost use Rattle.tail_settings.specs.Settings.{settings_view};
+ghost use Rattle.trace_service.specs.Whole.{IsDirected};
 ghost use Rattle.trace_service.specs.Commands.{AreDrained, AreEmptyOn, AreReported, IsAnswered, AreCommandsRead, IsMade, IsReported, report_line, step_of};
 
 use crate::beat::ServiceBeat;
+use crate::beside::Director;
 use crate::chore::Chore;
 use crate::context::WorkerContext;
 use crate::course::{Observer, Stage};
@@ -43,13 +45,17 @@ where
 {
     /// Once all threads are there reads the input to its end, has every tenant send what it holds, and prints the
     /// reports. Whatever comes of it, the other threads are told that the work is over.
-    pub fn direct<I: BufRead, O: Write, L: Observer>(
+    fn go_through<I: BufRead, O: Write, L: Observer>(
         &mut self,
         input: &mut I,
         output: &mut O,
         observer: &mut L,
         threads: usize,
-    ) -> Result<(), ServiceFault> {
+    ) -> Result<(), ServiceFault>
+        ensures { OnOk result (IsDirected (settings_view self.old.settings.now) (length self.old.context.hub.now)
+            (I.remaining input.old) self.old.context.caller self.old.beat.last (O.contents output.old)
+            self.new.context.caller self.new.beat.last (O.contents output.new)) }
+    {
         if !all_arrive(&mut self.beat, threads) {
             return Err(ServiceFault::NoThread);
         }
@@ -64,7 +70,8 @@ where
         observer.observe(Stage::Closing);
         self.beat.signals().end();
         heard?;
-        told
+        told?;
+        Ok(())
     }
 
     /// Answers the lines of the input, to its end.
@@ -76,6 +83,8 @@ where
         ensures commands_read { OnOk result (AreCommandsRead (settings_view self.old.settings.now)
             (length self.old.context.hub.now) (I.remaining input.old) self.old.context.caller self.old.beat.last
             (O.contents output.old) self.new.context.caller self.new.beat.last (O.contents output.new)) }
+        ensures settings { self.new.settings ≡ self.old.settings }
+        ensures hub { self.new.context.hub ≡ self.old.context.hub }
     {
         let mut line = Line::new();
         'lines: for _ in self.rt.forever() {
@@ -138,6 +147,8 @@ where
         ensures drained { AreDrained self.old.context.caller self.new.context.caller
             (length self.old.context.hub.now) self.old.beat.last self.new.beat.last
             (length (settings_view self.old.settings.now).tenants) }
+        ensures settings { self.new.settings ≡ self.old.settings }
+        ensures hub { self.new.context.hub ≡ self.old.context.hub }
     {
         for tenant in 0..self.settings.tenants_len() {
             self.make(tenant, Chore::Drain);
@@ -175,9 +186,16 @@ where
     }
 
     /// Waits until no tenant holds a span.
-    fn await_empty<L: Observer>(&mut self, observer: &mut L) {
+    fn await_empty<L: Observer>(&mut self, observer: &mut L)
+        ensures empty { AreEmptyOn self.old.context.caller (length self.old.context.hub.now)
+            (length (settings_view self.old.settings.now).tenants) }
+        ensures caller { self.new.context.caller ≡ self.old.context.caller }
+        ensures settings { self.new.settings ≡ self.old.settings }
+        ensures hub { self.new.context.hub ≡ self.old.context.hub }
+        ensures last { self.new.beat.last ≡ self.old.beat.last }
+    {
         let mut awaited = None;
-        for _ in self.rt.forever() {
+        'looks: for _ in self.rt.forever() {
             let Some(tenant) = self.first_held() else {
                 return;
             };
@@ -187,12 +205,17 @@ where
             }
             self.beat.pause();
         }
+        unreachable!()
     }
 
     /// The first tenant that holds a span, or None where none does.
     fn first_held(&mut self) -> Option<u32>
         ensures none { IfNone result (AreEmptyOn self.old.context.caller (length self.old.context.hub.now)
             (length (settings_view self.old.settings.now).tenants)) }
+        ensures caller { self.new.context.caller ≡ self.old.context.caller }
+        ensures settings { self.new.settings ≡ self.old.settings }
+        ensures hub { self.new.context.hub ≡ self.old.context.hub }
+        ensures last { self.new.beat.last ≡ self.old.beat.last }
     {
         for tenant in 0..self.settings.tenants_len() {
             if !self.context.is_empty(tenant) {
@@ -200,6 +223,30 @@ where
             }
         }
         None
+    }
+}
+
+impl<'h, J, R> Director for Control<'h, J, R>
+where
+    J: Naming,
+    R: Net<Listener = TcpListener, Stream = TcpStream> + Wait + Clock,
+{
+    ghost use Rattle.std.specs.Prelude.{length};
+    ghost use Rattle.tail_settings.specs.Settings.{settings_view};
+    ghost use Rattle.trace_service.specs.Whole.{IsDirected};
+
+    ghost directs = { λ old input so_far new written. IsDirected (settings_view old.settings.now)
+        (length old.context.hub.now) input old.context.caller old.beat.last so_far new.context.caller new.beat.last
+        written };
+
+    fn direct<I: BufRead, O: Write, L: Observer>(
+        &mut self,
+        input: &mut I,
+        output: &mut O,
+        observer: &mut L,
+        threads: usize,
+    ) -> Result<(), ServiceFault> {
+        self.go_through(input, output, observer, threads)
     }
 }
 

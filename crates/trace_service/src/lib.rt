@@ -13,6 +13,7 @@
 
 mod assignment;
 mod beat;
+mod beside;
 mod chore;
 mod context;
 mod control;

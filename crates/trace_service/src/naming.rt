@@ -7,12 +7,16 @@ pub(crate) trait Naming {
     ghost use Rattle.std.specs.Prelude.{List};
     ghost use Rattle.atomic_table.specs.Seated.{TableId};
     ghost use Rattle.job_lane.specs.Lane.{LaneName};
+    ghost use Rattle.shared_hub.specs.Logs.{CallerState};
 
     // the slots of the hub's shards
     ghost slots: { List TableId };
 
     // the lane
     ghost lane: { LaneName };
+
+    // a caller of the hub that has made no call
+    ghost fresh: { CallerState };
 }
 
 impl Naming for Brand {
@@ -22,4 +26,6 @@ impl Naming for Brand {
     ghost slots = { [] };
 
     ghost lane = { no_lane };
+
+    ghost fresh = { [] };
 }

@@ -2,7 +2,7 @@
 
 ghost use Rattle.std.specs.Prelude.{◌≡◌, ◌++◌, IfOk, OnOk, option_map};
 ghost use Rattle.std.specs.Io.KnownBytes.{Appends};
-ghost use Rattle.trace_service.specs.Audit.{audit_line, audit_text};
+ghost use Rattle.trace_service.specs.Audit.{audit_line, audit_text, IsFollowed};
 ghost use Rattle.trace_service.specs.Commands.{report_line};
 
 use replay_script::put_report;
@@ -41,12 +41,23 @@ pub(crate) fn write_text<W: Write>(output: &mut W, text: &[u8]) -> io::Result<()
     output.flush()
 }
 
-/// Writes how many entries each shard's log has, a line for each.
+/// Writes how many entries each shard's log has, where an audit is asked for.
 pub(crate) fn write_audit<W: Write>(
     alloc: Global,
     output: &mut W,
     shards: &[ShardLog],
+    audit: bool,
 ) -> io::Result<()>
+    ensures { OnOk result (IsFollowed audit (audit_text shards.now) (W.contents output.old) (W.contents output.new)) }
+{
+    if !audit {
+        return Ok(());
+    }
+    write_audit_lines(alloc, output, shards)
+}
+
+/// Writes how many entries each shard's log has, a line for each.
+fn write_audit_lines<W: Write>(alloc: Global, output: &mut W, shards: &[ShardLog]) -> io::Result<()>
     ensures { OnOk result (Appends (W.contents output.old) (W.contents output.new) (audit_text shards.now)) }
 {
     let mut text = Vec::new(alloc);

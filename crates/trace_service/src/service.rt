@@ -1,36 +1,37 @@
 //! The service, from its start to its end.
 
-ghost use Rattle.std.specs.Prelude.{◌≡◌, ◌<◌, ◌≤◌, List, map, string_bytes, All, IfOk, OnOk, IsTrue, true, replicate, vec_len};
-ghost use Rattle.std.specs.Io.KnownBytes.{Appends};
+ghost use Rattle.std.specs.Prelude.{◌≡◌, ◌<◌, ◌≤◌, length, map, string_bytes, All, IfOk, OnOk, replicate, vec_len};
 ghost use Rattle.std.specs.IoError.{error_kind};
 ghost use Rattle.std.specs.Thread.{IsSync};
-ghost use Rattle.machine_hub.specs.Hub.{AreCallersOf, AreShardRuns};
-ghost use Rattle.shared_hub.specs.Logs.{LoggedShard};
+ghost use Rattle.machine_hub.specs.Hub.{AreCallersOf, AreShardRuns, new_caller};
+ghost use Rattle.shared_hub.specs.Logs.{AreLogged, AreOneRun};
 ghost use Rattle.shared_hub.specs.Shards.{AreOpened, kept};
 ghost use Rattle.tail_settings.specs.Settings.{SettingsData, settings_view};
 ghost use Rattle.shard_machine.specs.MachineState.{MachineDoes};
 ghost use Rattle.shared_hub.specs.declared.fault.HubFault.TheVariants as hub_faults;
-ghost use Rattle.trace_service.specs.Audit.{audit_text, IsAudited};
 ghost use Rattle.trace_service.specs.Fault.{IsOfLine};
+ghost use Rattle.trace_service.specs.Whole.{IsCourse, IsDirected, IsServed};
 ghost use Rattle.trace_service.specs.declared.service.ServiceFault.TheVariants as faults;
 
 use crate::assignment::{assign_threads, collect_callers};
 use crate::beat::{ServiceBeat, Signals};
+use crate::beside::work_beside;
 use crate::control::Control;
 use crate::course::{Observer, Stage};
 use crate::naming::Naming;
 use crate::reports::write_audit;
 use crate::shared::Shared;
 use crate::workers::{Worker, work_all};
+use decision_cache::HashKeys;
 use job_lane::{Lane, LaneSeat};
-use shared_hub::{Caller, HubFault, HubKeeper, SharedHub};
+use shared_hub::{Caller, HubFault, HubKeeper, ShardLog, SharedHub};
 use std::alloc::{AllocError, Global};
 use std::io;
 use std::io::{BufRead, ErrorKind, Write};
 use std::marker::Brand;
 use std::net::{Net, TcpListener, TcpStream};
 use std::sync::Wait;
-use std::thread::{Threads, join};
+use std::thread::Threads;
 use std::time::{Clock, Instant};
 use tail_settings::Settings;
 use thiserror::Error;
@@ -86,6 +87,7 @@ impl From<HubFault> for ServiceFault {
 /// say, a turner for each shard, and one lane. A line `report NAME` of the input prints that tenant's counters, and all
 /// reports are printed at the end; with `audit` also how many entries each shard's log has. After a fault of the input
 /// or the output the service ends as it does at the input's end, and then says so. The observer is told of its course.
+/// No client knows the keys, under which trace ids are hashed.
 pub fn run_service<R, I, O, L>(
     rt: &R,
     alloc: Global,
@@ -95,17 +97,19 @@ pub fn run_service<R, I, O, L>(
     output: &mut O,
     observer: &mut L,
     audit: bool,
+    keys: HashKeys,
 ) -> Result<(), ServiceFault>
 where
     R: Net<Listener = TcpListener, Stream = TcpStream> + Threads + Wait + Clock + Sync,
     I: BufRead,
     O: Write,
     L: Observer,
-    ensures audit { OnOk result (IsTrue audit → IsAudited (settings_view settings.now) (O.contents output.new)) }
+    ensures { OnOk result (IsServed (settings_view settings.now) audit (I.remaining input.old) (O.contents output.old)
+        (O.contents output.new)) }
 {
     let global = &settings.global;
     let threads = global.shards as usize + global.senders as usize + global.receivers as usize + 1;
-    let (hub, keeper, callers) = SharedHub::open(rt, alloc, settings, threads, audit)?;
+    let (hub, keeper, callers) = SharedHub::open(rt, alloc, settings, threads, audit, keys)?;
     let (lane, _keeper, seats) = Lane::open(alloc, global.lane_size as usize, threads)?;
     run_named::<Brand, R, I, O, L>(
         rt, alloc, settings, listener, hub, keeper, callers, &lane, seats, input, output, observer,
@@ -144,42 +148,41 @@ where
     requires keeps { kept keeper.homes ≡ replicate settings.now.global.shards audit }
     requires not_empty { 0 < vec_len callers }
     requires all { vec_len callers ≡ keeper.callers }
+    requires fresh { J.fresh ≡ new_caller J.slots keeper.homes }
+    requires new { All (λ c. c ≡ J.fresh) callers.items }
+    requires shards { length J.slots ≡ settings.now.global.shards }
     requires enough { vec_len callers ≤ vec_len seats }
-    ensures audit { OnOk result (IsTrue audit → IsAudited (settings_view settings.now) (O.contents output.new)) }
+    ensures { OnOk result (IsServed (settings_view settings.now) audit (I.remaining input.old) (O.contents output.old)
+        (O.contents output.new)) }
 {
     let (callers, ended) = at_work::<J, R, I, O, L>(
         rt, alloc, settings, listener, &hub, callers, lane, seats, input, output, observer,
     )?;
     observer.observe(Stage::Ended);
-    if audit {
-        write_logs(rt, alloc, hub, keeper, callers, output)?;
-    }
-    ended
+    let shards = end_hub(rt, hub, keeper, callers);
+    write_audit(alloc, output, shards.as_slice(), audit)?;
+    ended?;
+    Ok(())
 }
 
-/// Ends the hub, and writes how many entries each shard's log has.
-fn write_logs<R: Wait, O: Write>(
+/// Ends the hub, whose callers are all back.
+fn end_hub<R: Wait>(
     rt: &R,
-    alloc: Global,
     hub: SharedHub,
     keeper: HubKeeper,
     callers: Vec<Caller>,
-    output: &mut O,
-) -> Result<(), ServiceFault>
+) -> Vec<ShardLog>
     requires keeper { keeper.slots ≡ hub }
     requires callers { AreCallersOf hub callers.items }
     requires all { vec_len callers ≡ keeper.callers }
-    ensures lines { OnOk result ((shards : List LoggedShard)
-        × AreShardRuns MachineDoes keeper.homes callers.items shards
-        × Appends (O.contents output.old) (O.contents output.new) (audit_text shards)) }
-    ensures audit { OnOk result ((table : SettingsData) → AreOpened table keeper.homes →
-        kept keeper.homes ≡ replicate table.global.shards true → IsAudited table (O.contents output.new)) }
+    ensures calls { AreShardRuns MachineDoes keeper.homes callers.items result.items }
+    ensures logged { (table : SettingsData) → AreOpened table keeper.homes → AreLogged table result.items }
+    ensures one_run { (table : SettingsData) → AreOpened table keeper.homes → AreOneRun table callers.items }
 {
     let Ok(shards) = hub.close(rt, keeper, callers) else {
         unreachable!()
     };
-    write_audit(alloc, output, shards.as_slice())?;
-    Ok(())
+    shards
 }
 
 /// All threads' work, to its end: the callers, and how the input and the output fared.
@@ -208,8 +211,11 @@ where
     requires seats { All (λ s. s.lane ≡ J.lane) seats.items }
     requires not_empty { 0 < vec_len callers }
     requires enough { vec_len callers ≤ vec_len seats }
+    requires new { All (λ c. c ≡ J.fresh) callers.items }
     ensures same_hub { IfOk result (λ r. AreCallersOf J.slots r.0.items) }
     ensures all { IfOk result (λ r. vec_len r.0 ≡ vec_len callers) }
+    ensures course { IfOk result (λ r. OnOk r.1 (IsCourse (settings_view settings.now) (length J.slots)
+        (I.remaining input.old) J.fresh (O.contents output.old) r.0.items (O.contents output.new))) }
 {
     let signals = Signals::new();
     let addresses = addresses_of(alloc, settings)?;
@@ -258,8 +264,11 @@ where
     requires seats { All (λ s. s.lane ≡ J.lane) seats.items }
     requires not_empty { 0 < vec_len callers }
     requires enough { vec_len callers ≤ vec_len seats }
+    requires new { All (λ c. c ≡ J.fresh) callers.items }
     ensures same_hub { IfOk result (λ r. AreCallersOf J.slots r.0.items) }
     ensures all { IfOk result (λ r. vec_len r.0 ≡ vec_len callers) }
+    ensures course { IfOk result (λ r. OnOk r.1 (IsCourse (settings_view settings.now) (length J.slots)
+        (I.remaining input.old) J.fresh (O.contents output.old) r.0.items (O.contents output.new))) }
 {
     let start = Instant::now(rt)?;
     let shared = Shared {
@@ -297,8 +306,11 @@ where
     requires seats { All (λ s. s.lane ≡ J.lane) seats.items }
     requires not_empty { 0 < vec_len callers }
     requires enough { vec_len callers ≤ vec_len seats }
+    requires new { All (λ c. c ≡ J.fresh) callers.items }
     ensures same_hub { IfOk result (λ r. AreCallersOf J.slots r.0.items) }
     ensures all { IfOk result (λ r. vec_len r.0 ≡ vec_len callers) }
+    ensures course { IfOk result (λ r. OnOk r.1 (IsCourse (settings_view shared.now.settings.now) (length J.slots)
+        (I.remaining input.old) J.fresh (O.contents output.old) r.0.items (O.contents output.new))) }
 {
     let shards = shared.hub.shards();
     prove!(0 < shards);
@@ -314,7 +326,7 @@ where
         beat: shared.beat.again(),
     };
     let mut workers = assign_threads::<J, R>(shared, callers, seats)?;
-    let ended = work_beside(
+    let ended = all_work(
         shared,
         workers.as_mut_slice(),
         &mut control,
@@ -327,7 +339,7 @@ where
 }
 
 /// The workers' work, with that of who reads the input beside it: how the input and the output fared.
-fn work_beside<'h, J, R, I, O, L>(
+fn all_work<'h, J, R, I, O, L>(
     shared: &Shared<'h, R>,
     workers: &mut [Worker<'h, J, R>],
     control: &mut Control<'h, J, R>,
@@ -342,15 +354,21 @@ where
     O: Write,
     L: Observer,
     requires { shared.now.lane.now.name ≡ J.lane }
+    ensures { OnOk result (IsDirected (settings_view control.old.settings.now) (length control.old.context.hub.now)
+        (I.remaining input.old) control.old.context.caller control.old.beat.last (O.contents output.old)
+        control.new.context.caller control.new.beat.last (O.contents output.new)) }
 {
-    let ((), ended) = join(
+    work_beside(
         shared.rt,
         ||
             requires { IsSync R.row × (shared.now.lane.now.name ≡ J.lane) }
         { work_all(shared, workers) },
-        || control.direct(input, output, observer, shared.threads),
-    );
-    ended
+        control,
+        input,
+        output,
+        observer,
+        shared.threads,
+    )
 }
 
 /// Each tenant's back end, at the tenant's number.

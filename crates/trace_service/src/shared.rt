@@ -39,6 +39,8 @@ impl<'h, R: Wait + Clock> Shared<'h, R> {
         requires same_hub { slots_of caller ≡ J.slots }
         requires shard { shard < length J.slots }
         ensures shard { result.shard ≡ shard }
+        ensures caller { result.caller ≡ caller }
+        ensures hub { result.hub.now ≡ self.now.hub.now }
     {
         WorkerContext::new(
             self.rt,

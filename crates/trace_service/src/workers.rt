@@ -122,7 +122,9 @@ where
 }
 
 /// Says that this thread is there, and waits for the others. False where they don't come, or the work is over.
-pub(crate) fn all_arrive<C: Clock>(beat: &mut ServiceBeat<'_, C>, threads: usize) -> bool {
+pub(crate) fn all_arrive<C: Clock>(beat: &mut ServiceBeat<'_, C>, threads: usize) -> bool
+    ensures { beat.new.last ≡ beat.old.last }
+{
     let signals = beat.signals();
     signals.arrive();
     for _ in 0..MOST_LOOKS {

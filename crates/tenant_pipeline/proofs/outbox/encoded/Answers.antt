@@ -1,4 +1,4 @@
-use Rattle.std.proofs.Common.{arith, ◌≡◌, ◌∙◌, ℕ, List, length, map, sym, ap}
+use Rattle.std.proofs.Common.{arith, ◌≡◌, ◌∙◌, List, length, sym, ap}
 use Rattle.std.proofs.lemmas.List.{length-map}
 use Rattle.std.specs.Borrow.{Bor}
 use Rattle.span_batcher.specs.ExportText as batches

@@ -1,11 +1,10 @@
-use Rattle.std.proofs.Common.{◌≡◌, ◌++◌, ◌+◌, ◌∙◌, ◌<◌, ℕ, List, [], ◌∷◌, length, drop, get_or, sym, ap, arith, append-nil, Some, None, Option}
-use Rattle.std.proofs.lemmas.List.{drop_more, drop_all}
+use Rattle.std.proofs.Common.{◌≡◌, ◌++◌, ◌+◌, ◌∙◌, ℕ, List, ◌∷◌, drop, get_or, sym, ap, Some}
+use Rattle.std.proofs.lemmas.List.{drop_more}
 use Rattle.std.specs.Borrow.{Bor}
-use Rattle.std.specs.Prelude.{option_copied}
 use Rattle.span_batcher.specs.Texts.{spans_in}
-use Rattle.span_pool.specs.Stored.{StoredData, SpanTexts}
+use Rattle.span_pool.specs.Stored.{StoredData}
 use Rattle.tenant_stores.specs.Part.{part}
-use Rattle.tenant_stores.specs.View.{spans_at, shown}
+use Rattle.tenant_stores.specs.View.{spans_at}
 use Rattle.tenant_pipeline.proofs.Spans.{span_more}
 use Rattle.tenant_pipeline.proofs.outbox.spans_by_keys.Goals as goal
 

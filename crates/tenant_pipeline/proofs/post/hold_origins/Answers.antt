@@ -1,4 +1,4 @@
-use Rattle.std.proofs.Common.{arith, ◌≡◌, ◌∙◌, ◌+◌, ◌++◌, ◌≤◌, ℕ, List, length, map, sym, ap, subst, append-nil}
+use Rattle.std.proofs.Common.{arith, ◌≡◌, ◌∙◌, ◌++◌, ◌≤◌, ℕ, List, length, map, sym, ap, subst, append-nil}
 use Rattle.std.proofs.lemmas.List.{drop_all}
 use Rattle.span_pool.specs.Stored.{origin_at, bytes_of}
 use Rattle.tail_policy.specs.declared.note.TraceNote.{TraceNote}

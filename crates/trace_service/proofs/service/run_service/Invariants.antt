@@ -1,4 +1,5 @@
+use Rattle.machine_hub.specs.Hub.{new_caller}
 use Rattle.trace_service.proofs.service.run_service.Given as goal
 
 abbrev pub ghosts-run_named : goal.ghosts-run_named
-ghosts-run_named g a = record { slots = a.hub; lane = a.lane.now.name }
+ghosts-run_named g a = record { slots = a.hub; lane = a.lane.now.name; fresh = new_caller a.hub a.keeper.homes }

@@ -1,5 +1,5 @@
 use Rattle.std.proofs.Common.{rules, ap, ◌∙◌}
-use Rattle.machine_hub.proofs.Closing.{gathering_from, gathering_ours, gathering_room, gathering_next, gathered_full, still_long, shard_runs}
+use Rattle.machine_hub.proofs.Closing.{gathering_from, gathering_ours, gathering_room, gathering_next, gathered_full, still_long, shard_runs, shard_histories}
 use Rattle.machine_hub.proofs.hub.Hub.close.Goals as goal
 
 pub loop-caller-init : goal.loop-caller-init
@@ -22,4 +22,7 @@ pub finish_all-requires-clause-all : goal.finish_all-requires-clause-all
 finish_all-requires-clause-all g c κs within = gathered_full _ _ _ _ _ _ c.loop-caller.invariant.0 (search rules)
 
 pub returns-clause-runs : goal.returns-clause-runs
-returns-clause-runs g c = shard_runs g.M.Machine.steps _ _ _ _ _ _ _ _ _ c.keeper.invariant.0 (ap (λ x. x.homes) c.keeper.view_is) c.loop-caller.invariant.0 (search rules) c.finish_all.ensures
+returns-clause-runs g c = shard_runs g.M.Machine.steps g.M.Machine.loses _ _ _ _ _ _ _ _ _ c.keeper.invariant.0 (ap (λ x. x.homes) c.keeper.view_is) c.loop-caller.invariant.0 (search rules) c.finish_all.ensures
+
+pub returns-clause-histories : goal.returns-clause-histories
+returns-clause-histories g c = shard_histories g.M.Machine.steps g.M.Machine.loses _ _ _ _ _ _ _ _ _ c.keeper.invariant.0 (ap (λ x. x.homes) c.keeper.view_is) c.loop-caller.invariant.0 (search rules) c.finish_all.ensures

@@ -12,10 +12,10 @@ returns-in_err-outcome-clause-on_refusal g c = on_err _ _ (refused_on _ _ _ _ _ 
 pub returns-clause-same_hub : goal.returns-clause-same_hub
 returns-clause-same_hub g c =
     still_mine _ _ _ _ _ _ c.me.view_is c.requires.same_hub c.requires.shard c.index_mut-seat.ensures.value
-    (slot_after _ _ c.in_ok-outcome.ensures.made.noted c.in_ok-outcome.ensures.made.after)
+    (slot_after _ _ c.in_ok-outcome.ensures.made.late c.in_ok-outcome.ensures.made.noted c.in_ok-outcome.ensures.made.after)
 
 pub returns-clause-call : goal.returns-clause-call
 returns-clause-call g c =
     let e = c.in_ok-outcome.ensures in
-    call_on g.M.Machine.steps g.M.Machine.asks _ _ _ _ _ _ _ _ (option_map (λ x. (x.0, arc_value x.1)) c.in_ok-outcome.given) _ c.me.view_is c.requires.same_hub c.requires.shard c.index_mut-seat.ensures.value e.made
+    call_on g.M.Machine.steps g.M.Machine.loses g.M.Machine.asks _ _ _ _ _ _ _ _ (option_map (λ x. (x.0, arc_value x.1)) c.in_ok-outcome.given) _ c.me.view_is c.requires.same_hub c.requires.shard c.index_mut-seat.ensures.value e.made
     (receipt_by arc_value _ _ _ c.receipt_of-receipt.ensures)

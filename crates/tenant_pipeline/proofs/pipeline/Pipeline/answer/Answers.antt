@@ -33,4 +33,4 @@ pub returns-clause-invariant : goal.returns-clause-invariant
 returns-clause-invariant c = (done c).held
 
 pub returns-clause-swept : goal.returns-clause-swept
-returns-clause-swept c = λ is. swept_same c.run_due.new.self c.settle-told.new.self (ap (λ (o : Pipeline). o.rows) c.settle-told.ensures.sends.same) (c.in_ok-run_due.ensures.swept is)
+returns-clause-swept c = λ is. swept_same c.run_due.new.self c.settle-told.new.self (ap (λ (o : Pipeline). o.rows) c.settle-told.ensures.sends.same) (ap (λ (o : Pipeline). o.caches) c.settle-told.ensures.sends.same) (c.in_ok-run_due.ensures.swept is)

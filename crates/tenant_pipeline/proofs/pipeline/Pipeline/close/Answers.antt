@@ -7,8 +7,7 @@ use Rattle.tenant_pipeline.specs.declared.pipeline.Pipeline.{Pipeline}
 use Rattle.tenant_pipeline.specs.StateIn.{counts_in, part_in, policies_of}
 use Rattle.tenant_pipeline.specs.Drains.{sampled_keys}
 use Rattle.tenant_pipeline.proofs.Closing.{Closed, ends}
-use Rattle.tenant_pipeline.specs.declared.pipeline.RowCounts.{RowCounts}
-use Rattle.tenant_pipeline.proofs.Sweeping.{swept_same, swept_back}
+use Rattle.tenant_pipeline.proofs.Sweeping.{swept_with, swept_same, swept_back}
 use Rattle.tenant_pipeline.proofs.pipeline.Pipeline.close.Goals as goal
 
 pub settle_rows-requires : goal.settle_rows-requires
@@ -65,8 +64,10 @@ returns-in-Err-clause-clock c = ap (λ (x : Pipeline). x.clock) (c.take_back.ens
 pub returns-in-Ok-clause-swept : goal.returns-in-Ok-clause-swept
 returns-in-Ok-clause-swept c = λ is.
     let mid = c.send_all.new.self in
-    let rows : c.settle_rows.new.self.rows ≡ record mid.rows { decided = mid.rows.opened } = ap (λ (x : Pipeline). x.rows) c.settle_rows.ensures.only_decided in
-    subst (λ (r : RowCounts). r.swept ≡ r.first) (sym rows) (swept_same c.args.self.now mid (ap (λ (x : Pipeline). x.rows) c.in-Ok.ensures.on_success.same) is)
+    let same = c.in-Ok.ensures.on_success.same in
+    let first = swept_same c.args.self.now mid (ap (λ (x : Pipeline). x.rows) same) (ap (λ (x : Pipeline). x.caches) same) is in
+    let decided = c.settle_rows.ensures.only_decided in
+    swept_with mid c.settle_rows.new.self (ap (λ (x : Pipeline). x.rows.swept) decided) (ap (λ (x : Pipeline). x.rows.first) decided) (ap (λ (x : Pipeline). x.caches.hits) decided ∙ first.1) first
 
 pub returns-in-Err-clause-swept : goal.returns-in-Err-clause-swept
 returns-in-Err-clause-swept c = λ is. swept_back c.args.self.now c.take_back.new.self (returns-in-Err-clause-on_refusal c) is

@@ -1,5 +1,4 @@
 use Rattle.std.proofs.Common.{◌≡◌, ◌∙◌, ◌+◌, ◌++◌, ◌≤◌, List, [], length, map, sym, ap, subst, refl, arith, ℕ, Option, true, false}
-use Rattle.span_batcher.specs.State as batcher
 use Rattle.decision_cache.specs.Caches.{CachesData, noted_in, shown}
 use Rattle.drop_ledger.specs.Ledger.{LedgerData, moved}
 use Rattle.drop_ledger.specs.Ledger as ledger
@@ -25,8 +24,7 @@ use Rattle.tenant_pipeline.proofs.Deciding.{drop_all, keep_all}
 use Rattle.tenant_pipeline.proofs.Firsts.{first_row}
 use Rattle.tenant_pipeline.proofs.Hits.{back_to}
 use Rattle.tenant_pipeline.proofs.Posting.{on_err}
-use Rattle.tenant_pipeline.specs.declared.pipeline.RowCounts.{RowCounts}
-use Rattle.tenant_pipeline.proofs.Sweeping.{swept_same, swept_back}
+use Rattle.tenant_pipeline.proofs.Sweeping.{swept_with, swept_back}
 use Rattle.tenant_pipeline.proofs.pipeline.Pipeline.decide.Goals as goal
 
 pub group-requires-clause-not_empty : goal.group-requires-clause-not_empty
@@ -246,13 +244,16 @@ pub returns-in-Ok-clause-swept : goal.returns-in-Ok-clause-swept
 returns-in-Ok-clause-swept c = λ is.
     let mid = c.group.new.self in
     let passed : Pipeline = record mid { rows = record mid.rows { decided = c.args.self.now.rows.decided + 1 }; clock = c.in-Some.row.now.due; caches = c.put.new.self } in
-    swept_back passed c.pass.new.self c.pass.ensures (swept_same c.args.self.now mid (ap (λ (x : Pipeline). x.rows) c.in_ok-group.ensures.on_success.same) is)
+    let same = c.in_ok-group.ensures.on_success.same in
+    swept_back passed c.pass.new.self c.pass.ensures (swept_with c.args.self.now passed (ap (λ (x : Pipeline). x.rows.swept) same) (ap (λ (x : Pipeline). x.rows.first) same) c.in-Ok.ensures.none is)
 
 pub returns-clause-swept : goal.returns-clause-swept
 returns-clause-swept c = λ is.
-    let own = c.args.self.now in
-    let rows : c.pass-2.new.self.rows ≡ record own.rows { decided = own.rows.decided + 1 } = ap (λ (x : Pipeline). x.rows) c.pass-2.ensures in
-    subst (λ (r : RowCounts). r.swept ≡ r.first) (sym rows) is
+    let passed = c.pass-2.ensures in
+    swept_with c.args.self.now c.pass-2.new.self (ap (λ (x : Pipeline). x.rows.swept) passed) (ap (λ (x : Pipeline). x.rows.first) passed) (ap (λ (x : Pipeline). x.caches.hits) passed ∙ c.in_ok-put.ensures.none) is
+
+pub returns-in_err-put-clause-swept : goal.returns-in_err-put-clause-swept
+returns-in_err-put-clause-swept c = λ is. (is.0, c.in_err-put.ensures.none)
 
 -- ---- where the cache was refused memory
 

@@ -70,4 +70,4 @@ pub returns-in_err-offer-clause-swept : goal.returns-in_err-offer-clause-swept
 returns-in_err-offer-clause-swept c = λ is. swept_back c.args.self.now c.offer.new.self c.in_err-offer.ensures.on_refusal is
 
 pub returns-clause-swept : goal.returns-clause-swept
-returns-clause-swept c = λ is. swept_same c.args.self.now c.offer.new.self (ap (λ (x : Pipeline). x.rows) c.in_ok-offer.ensures.on_success.same) is
+returns-clause-swept c = λ is. swept_same c.args.self.now c.offer.new.self (ap (λ (x : Pipeline). x.rows) c.in_ok-offer.ensures.on_success.same) (ap (λ (x : Pipeline). x.caches) c.in_ok-offer.ensures.on_success.same) is

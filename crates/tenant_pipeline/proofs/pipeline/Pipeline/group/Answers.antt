@@ -1,4 +1,4 @@
-use Rattle.std.proofs.Common.{◌≡◌, ◌∙◌, ◌+◌, ◌++◌, List, map, sym, ap, subst, arith, ℕ}
+use Rattle.std.proofs.Common.{◌≡◌, ◌∙◌, ◌++◌, List, map, sym, ap, subst, arith, ℕ}
 use Rattle.send_queue.specs.Sender.{BatchData}
 use Rattle.send_queue.specs.View.{batch_view}
 use Rattle.span_batcher.specs.Batches.{Batch}

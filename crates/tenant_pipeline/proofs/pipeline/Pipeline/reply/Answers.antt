@@ -1,4 +1,4 @@
-use Rattle.std.proofs.Common.{arith, ◌≡◌, ◌∙◌, ◌+◌, ◌-◌, sym, ap}
+use Rattle.std.proofs.Common.{arith, ◌≡◌, ◌∙◌, sym, ap}
 use Rattle.tenant_rules.specs.Answers.{reply_of}
 use Rattle.tenant_rules.specs.Intake.{Verdict}
 use Rattle.tenant_pipeline.proofs.Taking.{verdict_accepted}

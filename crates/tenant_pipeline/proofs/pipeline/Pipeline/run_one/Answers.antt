@@ -1,4 +1,4 @@
-use Rattle.std.proofs.Common.{◌≡◌, ◌∙◌, ◌-◌, ℕ, [], sym, ap, arith, Option, true, false, Bool, if◌then◌else◌}
+use Rattle.std.proofs.Common.{◌≡◌, ◌∙◌, ℕ, [], sym, ap, arith, Option, Bool, if◌then◌else◌}
 use Rattle.std.proofs.lemmas.Result.{on_ok_weaker, on_err_weaker}
 use Rattle.std.proofs.lemmas.List.{length-map}
 use Rattle.span_batcher.specs.State.{next_due}
@@ -81,3 +81,6 @@ returns-else-is_batch-clause-clock c = λ le.
     let s = state_in c.args.self.now c.args.stores.now in
     let first = sym (c.is_batch.ensures ∙ (ap (λ (o : Option ℕ). is_batch o c.first_due.result) c.next_due.ensures ∙ ap (λ (o : Option ℕ). is_batch (next_due s.pending) o) c.first_due.ensures)) ∙ c.if-is_batch.false in
     c.decide.ensures.clock c.args.moment le (λ due is. decision_by (next_due s.pending) (first_due s.waiting) c.args.moment due is first c.requires.due)
+
+pub returns-else-is_batch-clause-swept : goal.returns-else-is_batch-clause-swept
+returns-else-is_batch-clause-swept c = λ is. c.decide.ensures.swept (is.0, c.commit.ensures.none)

@@ -1,4 +1,5 @@
 use Rattle.std.proofs.Common.{arith, ◌≡◌, ◌∙◌, ◌+◌, ◌<◌, ◌≤◌, ℕ, List, [], ap, refl}
+use Rattle.decision_cache.specs.Caches.{CachesData}
 use Rattle.tenant_stores.specs.Part.{part}
 use Rattle.tenant_stores.specs.Counts.{one_swept}
 use Rattle.tenant_stores.specs.View.{view}
@@ -12,6 +13,7 @@ loop-self-init c = record {
   state = refl;
   holds = λ reached held holds. holds;
   others = λ other ne. refl;
+  caches = refl;
   same = itself c.args.self.now;
 }
 
@@ -33,6 +35,7 @@ loop-self-preserved c =
           let now = was.holds reached held first in
           held_over reached (own.rows.swept + 1) [] [] held held own p q now (one.store_invariant (counts_in own) own.batcher.spans held refl most now.sound) (shows reached held now);
       others = λ other ne. one.others_unchanged other (λ e. ne (e ∙ was.same.tenant)) ∙ was.others other ne;
+      caches = was.caches;
       same = record { tenant = was.same.tenant; section = was.same.section; clock = was.same.clock; drained = was.same.drained };
     }
 
@@ -47,9 +50,9 @@ overflow_add-number c =
     omega (arith, some, first, few, most)
 
 pub returns-clause-swept : goal.returns-clause-swept
-returns-clause-swept c =
+returns-clause-swept c = λ none.
     let own = c.loop-self.self in
     let any = c.loop-self.invariant.holds c.requires.0 c.requires.1 c.requires.2 in
     let order = any.sound.order.swept in
     let done : own.rows.first ≤ own.rows.swept = c.loop-self-test.false in
-    omega (arith, order, done)
+    (omega (arith, order, done), ap (λ (k : CachesData). k.hits) c.loop-self.invariant.caches ∙ none)

@@ -11,6 +11,7 @@ invariant-loop-self l = record {
   holds : (reached : ℕ) (held : List ℕ) → PipelineInvariantAt reached [] held l.fn.self (part_in l.fn.self l.fn.stores)
       → PipelineInvariantAt reached [] held l.self (part_in l.self l.stores);
   others : (other : ℕ) → other ≢ l.fn.self.tenant → part other l.stores ≡ part other l.fn.stores;
+  caches : l.self.caches ≡ l.fn.self.caches;
   same : IsSameTenant l.fn.self l.self;
 }
 

@@ -45,6 +45,9 @@ returns-in-Ok-clause-others_unchanged c = λ other ne.
     let also : other ≢ c.admit_all.new.self.tenant = λ e. ne (e ∙ same.tenant) in
     c.sweep.ensures.others_unchanged other also ∙ (c.flush.ensures.others_unchanged other also ∙ c.in-Ok.ensures.others_unchanged other ne)
 
+pub returns-in-Ok-clause-swept : goal.returns-in-Ok-clause-swept
+returns-in-Ok-clause-swept c = c.sweep.ensures.swept c.commit.ensures.none
+
 pub returns-in-Ok-clause-same : goal.returns-in-Ok-clause-same
 returns-in-Ok-clause-same c =
     let mid = c.admit_all.new.self in

@@ -45,4 +45,4 @@ pub returns-in_err-told-clause-swept : goal.returns-in_err-told-clause-swept
 returns-in_err-told-clause-swept c = λ is. swept_back c.run_due.new.self c.hand_out.new.self c.in_err-told.ensures.on_refusal (c.in_ok-run_due.ensures.swept is)
 
 pub returns-clause-swept : goal.returns-clause-swept
-returns-clause-swept c = λ is. swept_same c.run_due.new.self c.hand_out.new.self (ap (λ (o : Pipeline). o.rows) c.in_ok-told.ensures.on_success.same) (c.in_ok-run_due.ensures.swept is)
+returns-clause-swept c = λ is. swept_same c.run_due.new.self c.hand_out.new.self (ap (λ (o : Pipeline). o.rows) c.in_ok-told.ensures.on_success.same) (ap (λ (o : Pipeline). o.caches) c.in_ok-told.ensures.on_success.same) (c.in_ok-run_due.ensures.swept is)

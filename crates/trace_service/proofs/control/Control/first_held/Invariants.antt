@@ -6,5 +6,7 @@ abbrev pub invariant-loop-tenant : goal.invariant-loop-tenant
 invariant-loop-tenant g l = record {
   caller : l.self.context.caller ≡ l.fn.self.context.caller;
   hub : l.self.context.hub ≡ l.fn.self.context.hub;
+  settings : l.self.settings ≡ l.fn.self.settings;
+  last : l.self.beat.last ≡ l.fn.self.beat.last;
   empty : AreEmptyOn l.fn.self.context.caller (length l.fn.self.context.hub.now) l.tenant;
 }

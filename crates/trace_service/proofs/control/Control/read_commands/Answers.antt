@@ -17,8 +17,7 @@ lines-preserved g c =
           (rw (before.settings, before.hub, c.as_slice.ensures.value) at answered.answered);
     }
 
-pub returns-then-not-branch : goal.returns-then-not-branch
-returns-then-not-branch g c = record {
-  commands_read = heard_all _ _ _ _ _ _ _ (g.I.Read.remaining c.next_line.new.input) _ _ _ c.next_line.new.line.items c.lines.invariant.heard
-      (rw c.if-not-branch.true at c.in_ok-next_line.ensures);
-}
+pub returns-then-not-branch-clause-commands_read : goal.returns-then-not-branch-clause-commands_read
+returns-then-not-branch-clause-commands_read g c =
+    heard_all _ _ _ _ _ _ _ (g.I.Read.remaining c.next_line.new.input) _ _ _ c.next_line.new.line.items c.lines.invariant.heard
+    (rw c.if-not-branch.true at c.in_ok-next_line.ensures)

@@ -4,7 +4,7 @@ use Rattle.tenant_shard.specs.Lists.{ShardStands}
 use Rattle.tenant_shard.specs.Members.{views}
 use Rattle.tenant_shard.specs.Table.{opened}
 use Rattle.tenant_shard.specs.Whole.{IsWhole}
-use Rattle.tenant_shard.proofs.shard.Shard.open.Given as goal
+use Rattle.tenant_shard.proofs.shard.Shard.open_with_keys.Given as goal
 
 abbrev pub invariant-loop-tenant : goal.invariant-loop-tenant
 invariant-loop-tenant l = record {

@@ -1,0 +1,34 @@
+use Rattle.std.proofs.Common.{◌∙◌, length}
+use Rattle.machine_hub.specs.Hub.{new_caller}
+use Rattle.trace_service.proofs.Audited.{are_numbered}
+use Rattle.trace_service.proofs.Coursed.{course_told, kept_if}
+use Rattle.tail_settings.specs.Settings.{settings_view}
+use Rattle.trace_service.proofs.service.run_named.Goals as goal
+
+pub returns : goal.returns
+returns g c =
+    let table = settings_view c.args.settings.now in
+    let homes = c.args.keeper.homes in
+    let slots = g.J.Naming.slots in
+    let callers = c.in_ok-callers.callers.items in
+    let shards = c.end_hub-shards.result.items in
+    let runs = c.end_hub-shards.ensures.calls in
+    let text = g.O.Write.contents c.at_work.new.output in
+    record {
+      slots = slots;
+      homes = homes;
+      opened = c.requires.opened;
+      callers = callers;
+      text = text;
+      course = course_told c.in_ok-callers.ended _ table (length slots) table.global.shards (g.I.Read.remaining c.args.input.now)
+          (g.O.Write.contents c.args.output.now) text g.J.Naming.fresh (new_caller slots homes) callers c.in_ok-ended.was
+          c.requires.shards c.requires.fresh c.in_ok-callers.ensures.course;
+      shards = shards;
+      calls = runs;
+      one_run = c.end_hub-shards.ensures.one_run table c.requires.opened;
+      logged = c.end_hub-shards.ensures.logged table c.requires.opened;
+      count = runs.count ∙ c.requires.opened.count;
+      numbered = are_numbered table homes callers shards runs c.requires.opened;
+      kept = kept_if table homes callers shards runs table.global.shards c.args.audit c.requires.keeps;
+      lines = rw c.as_slice.ensures.value at c.in_ok-write_audit.ensures;
+    }

@@ -1,0 +1,55 @@
+-- What a service comes to, from its start to its end. This project's own rule.
+use Rattle.std.specs.Prelude.{◌≡◌, ℕ, List, ◌∷◌, length, Bool, true, Option, Some, slice_get, All}
+use Rattle.atomic_table.specs.Seated.{TableId}
+use Rattle.machine_hub.specs.declared.view.Home.{Home}
+use Rattle.machine_hub.specs.Hub.{AreShardRuns, new_caller}
+use Rattle.shard_machine.specs.MachineState.{MachineState, MachineDoes}
+use Rattle.shared_hub.specs.Logs.{CallerState, LoggedShard, AreLogged, AreOneRun}
+use Rattle.shared_hub.specs.Shards.{AreOpened}
+use Rattle.tail_settings.specs.Settings.{SettingsData}
+use Rattle.trace_service.specs.Audit.{audit_text, IsFollowed}
+use Rattle.trace_service.specs.Commands.{AreDrained, AreEmptyOn, AreReported, AreCommandsRead}
+
+-- What who reads the input did, by calls of one caller and in this order: all lines of the input were answered, each
+-- tenant was drained, each was seen to hold no span, and each tenant's report was written.
+pub record IsDirected (settings : SettingsData) (shards : ℕ) (input : Option (List ℕ)) (old : CallerState) (before : ℕ)
+    (so_far : Option (List ℕ)) (new : CallerState) (last : ℕ) (written : Option (List ℕ)) : Type 0 where
+  pub after_input : CallerState
+  pub input_end : ℕ
+  pub text : Option (List ℕ)
+  pub heard : AreCommandsRead settings shards input old before so_far after_input input_end text
+  pub after_drains : CallerState
+  pub drain_end : ℕ
+  pub drained : AreDrained after_input after_drains shards input_end drain_end (length settings.tenants)
+  pub empty : AreEmptyOn after_drains shards (length settings.tenants)
+  pub told : AreReported settings after_drains new shards drain_end last text written (length settings.tenants)
+
+-- of a hub's callers, which had made no call, one did that
+pub record IsCourse (settings : SettingsData) (shards : ℕ) (input : Option (List ℕ)) (fresh : CallerState)
+    (so_far : Option (List ℕ)) (callers : List CallerState) (written : Option (List ℕ)) : Type 0 where
+  pub before : ℕ
+  pub last : ℕ
+  pub own : CallerState
+  pub others : List CallerState
+  pub callers_are : callers ≡ own ∷ others
+  pub directed : IsDirected settings shards input fresh before so_far own last written
+
+-- What a service did to its shards, and what it wrote: there was a hub of the settings' shards, and one of its callers,
+-- which had made no call before, read the input and wrote what its calls at these shards gave. All callers' calls at a
+-- shard are one run of it, log or not, of which each tenant was told what its pipeline alone answers to its own steps.
+-- Where an audit is asked for the logs keep, and their lines were written last, each shard's under its number.
+pub record IsServed (table : SettingsData) (audit : Bool) (input so_far written : Option (List ℕ)) : Type 0 where
+  pub slots : List TableId
+  pub homes : List (Home MachineState)
+  pub opened : AreOpened table homes
+  pub callers : List CallerState
+  pub text : Option (List ℕ)
+  pub course : IsCourse table table.global.shards input (new_caller slots homes) so_far callers text
+  pub shards : List LoggedShard
+  pub calls : AreShardRuns MachineDoes homes callers shards
+  pub one_run : AreOneRun table callers
+  pub logged : AreLogged table shards
+  pub count : length shards ≡ table.global.shards
+  pub numbered : (k : ℕ) (s : LoggedShard) → slice_get shards k ≡ Some s → s.number ≡ k
+  pub kept : audit ≡ true → All (λ s. s.keeps ≡ true) shards
+  pub lines : IsFollowed audit (audit_text shards) text written

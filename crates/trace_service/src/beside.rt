@@ -1,0 +1,58 @@
+//! The work of all threads, and of who directs it beside.
+
+ghost use Rattle.std.specs.Prelude.{List, ℕ, Option, OnOk};
+
+use crate::course::Observer;
+use crate::service::ServiceFault;
+use std::io::{BufRead, Write};
+use std::thread::{Threads, join_mut};
+
+/// Who reads the input, and ends the work.
+pub(crate) trait Director {
+    // From the first state the input was heard to its end, behind what was written so far something was written, and
+    // the second state is left.
+    ghost directs: { Self → Option (List ℕ) → Option (List ℕ) → Self → Option (List ℕ) → Type 0 };
+
+    /// Reads the input to its end, and ends the work.
+    fn direct<I: BufRead, O: Write, L: Observer>(
+        &mut self,
+        input: &mut I,
+        output: &mut O,
+        observer: &mut L,
+        threads: usize,
+    ) -> Result<(), ServiceFault>
+        ensures { OnOk result (directs self.old (I.remaining input.old) (O.contents output.old) self.new
+            (O.contents output.new)) };
+}
+
+/// The team's work, in a thread of its own, with that of its director beside it: how the input and the output fared.
+pub(crate) fn work_beside<R, F, D, I, O, L>(
+    rt: &R,
+    mut team: F,
+    director: &mut D,
+    input: &mut I,
+    output: &mut O,
+    observer: &mut L,
+    threads: usize,
+) -> Result<(), ServiceFault>
+where
+    R: Threads,
+    F: FnMut() + Send,
+    D: Director,
+    I: BufRead,
+    O: Write,
+    L: Observer,
+    requires { F.pre team }
+    ensures { OnOk result (D.directs director.old (I.remaining input.old) (O.contents output.old) director.new
+        (O.contents output.new)) }
+{
+    let ((), ended) = join_mut(
+        rt,
+        &mut team,
+        &mut ||
+            ensures { OnOk result (D.directs director.entry.now (I.remaining input.entry.now)
+                (O.contents output.entry.now) director.exit.now (O.contents output.exit.now)) }
+        { director.direct(input, output, observer, threads) },
+    );
+    ended
+}
