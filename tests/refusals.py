@@ -27,7 +27,7 @@ WORDS = TYPES | {"OutOfMemory", REPLY}
 KNOWN = [
     ("settings_check/src/read.rt", "document", 1, "the TOML reader's error says that it is want of memory"),
     ("tenant_pipeline/src/outbox.rt", "offer", 1, "the queue gives the batch back with its want of memory"),
-    ("tail_settings/src/document.rt", "load", 1, "the TOML reader's error says that it is want of memory"),
+    ("tail_settings/src/document.rt", "table", 1, "the TOML reader's error says that it is want of memory"),
     ("trace_collector_program/src/serve.rt", "from", 1, "a thread wasn't started for want of what one is started with"),
     ("tenant_shard/src/shard.rt", "run", 2, "room for the outcomes was refused, or a step was"),
     ("trace_service/src/post.rt", "without_memory", 1, "the reply itself"),

@@ -29,7 +29,7 @@ fn document(alloc: Global, policies: u32) -> Result<String, AllocError> {
 fn section(alloc: Global, policies: u32) -> Result<Section, BenchFault> {
     let settings = load(alloc, document(alloc, policies)?.as_str())?;
     match settings.tenants.into_iter().next() {
-        Some((_name, section)) => Ok(section),
+        Some((_name, tenant)) => Ok(tenant.section),
         None => Err(BenchFault::Usage),
     }
 }

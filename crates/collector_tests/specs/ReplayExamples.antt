@@ -56,12 +56,13 @@ abbrev pub with_shards : ℕ → List TenantData → SettingsData
 with_shards shards tenants = record {
   global = record default_global { shards = shards };
   tenants = tenants;
+  next = length tenants;
 }
 
 -- ---- one tenant, whose name is `a`, in one shard
 
 abbrev pub one_tenant : SettingsData
-one_tenant = with_shards 1 (record { name = codes "a"; section = plain } ∷ [])
+one_tenant = with_shards 1 (record { number = 0; name = codes "a"; section = plain } ∷ [])
 
 -- a body of one span, whose trace id is 11 and whose span id is 21 again and again, in hexadecimal digits
 abbrev pub hex : List ℕ

@@ -2,7 +2,7 @@
 -- path, method, tenant, content type, content encoding. Paths and methods are of OTLP/HTTP (OTLP/HTTP Request), content
 -- and codings of RFC 9110, sections 8.3 and 8.4; the field that names a tenant, and the order, are this project's own
 -- rule.
-use Rattle.std.specs.Prelude.{ℕ, Bool, not, List, map, position, Option, Some, None, option_and_then, if◌then◌else◌, codes, bytes_eq}
+use Rattle.std.specs.Prelude.{ℕ, Bool, not, List, map, find, Option, Some, None, option_map, option_and_then, if◌then◌else◌, codes, bytes_eq}
 use Rattle.http1.specs.Fields.{Header}
 use Rattle.http_edge.specs.Message.{Request, Response}
 use Rattle.http_edge.specs.Reply.{status_body}
@@ -11,14 +11,15 @@ use Rattle.tail_settings.specs.Settings.{SettingsData}
 use Rattle.otlp_front.specs.Target.{is_for_traces}
 use Rattle.otlp_front.specs.Fields.{has_protobuf, are_plain}
 
--- what of the settings a route depends on: the name of the field that names a tenant, and the tenants' names by number
+-- what of the settings a route depends on: the name of the field that names a tenant, and the tenants' numbers and
+-- names
 pub record Names : Type 0 where
   pub header : List ℕ
-  pub tenants : List (List ℕ)
+  pub tenants : List (ℕ × List ℕ)
 
 -- those of some settings
 abbrev pub names_in : SettingsData → Names
-names_in s = record { header = s.global.tenant_header; tenants = map (λ t. t.name) s.tenants }
+names_in s = record { header = s.global.tenant_header; tenants = map (λ t. (t.number, t.name)) s.tenants }
 
 -- where a request goes: to the tenant of this number, or nowhere, with this answer
 pub data Route : Type 0 where
@@ -54,8 +55,8 @@ abbrev pub is_post : List ℕ → Bool
 is_post method = bytes_eq method (codes "POST")
 
 -- the number of the tenant with this name
-abbrev pub number_of : List (List ℕ) → List ℕ → Option ℕ
-number_of tenants name = position (bytes_eq name) tenants
+abbrev pub number_of : List (ℕ × List ℕ) → List ℕ → Option ℕ
+number_of tenants name = option_map (λ t. t.0) (find (λ t. bytes_eq name t.1) tenants)
 
 -- the tenant that the one field of that name names, byte for byte
 abbrev pub tenant_in : Names → List Header → Option ℕ

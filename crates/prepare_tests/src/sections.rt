@@ -15,8 +15,8 @@ pub const THREE: &str = "{ type = \"string_attribute\", key = \"a\", values = [\
 { type = \"string_attribute\", key = \"a\", values = [\"v\"] }] }";
 
 fn first_section(settings: Settings) -> Option<Section> {
-    let (_name, section) = settings.tenants.into_iter().next()?;
-    Some(section)
+    let (_name, tenant) = settings.tenants.into_iter().next()?;
+    Some(tenant.section)
 }
 
 /// A section with these policies.

@@ -12,7 +12,7 @@ use Rattle.tail_settings.specs.Policy.{LeafData, always_sample, leaf, latency_of
 use Rattle.tail_settings.specs.RetryOnFailure.{retry_of}
 use Rattle.tail_settings.specs.Section.{section_of}
 use Rattle.tail_settings.specs.SendingQueue.{sending_queue_of}
-use Rattle.tail_settings.specs.Settings.{TenantData, name_of, tenant_of, tenants_of, settings_of_table}
+use Rattle.tail_settings.specs.Settings.{TenantData, name_of, numbered_tenant, tenant_of, tenants_of, settings_of_table}
 use Rattle.tail_settings.specs.TailSampling.{tail_sampling_of}
 use Rattle.tail_settings.specs.Texts.{address_at, header_at, attribute_key_at}
 use Rattle.settings_check.specs.declared.table.TableKind.{TableKind}
@@ -30,7 +30,7 @@ unfolding global_of table_at number_at address_at header_at text_or_at
 global_alike m n h = rw (h.0, h.1.0, h.1.1.0, h.1.1.1.0, h.1.1.1.1.0, h.1.1.1.1.1.0, h.1.1.1.1.1.1.0) refl
 
 pub tenant_alike : (before : List TenantData) → ReadsAlike kinds.Tenant (tenant_of before)
-unfolding tenant_of name_of section_of tail_sampling_of batch_of sending_queue_of retry_of table_at text_at number_at address_at text_or_at
+unfolding numbered_tenant name_of section_of tail_sampling_of batch_of sending_queue_of retry_of table_at text_at number_at address_at text_or_at
 tenant_alike before m n h =
     rw (h.0, h.1.0, h.1.1.0, h.1.1.1.0, h.1.1.1.1.0, h.1.1.1.1.1.0, h.1.1.1.1.1.1.0, h.1.1.1.1.1.1.1.0) refl
 

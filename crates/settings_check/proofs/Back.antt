@@ -1,11 +1,11 @@
 -- The document that says all of some settings means these settings.
-use Rattle.std.proofs.Common.{◌≡◌, ◌≢◌, ℕ, ◌^◌, ℤ, pos, zero, suc, min, ◌<◌, ◌≤◌, Bool, true, false, codes, List, [], ◌∷◌, ◌++◌, map, length, get_or, Some, Result, Ok, refl, sym, ap, ◌∙◌, ◌==◌, arith, append_assoc, append-nil}
+use Rattle.std.proofs.Common.{◌≡◌, ◌≢◌, ℕ, ◌+◌, ◌^◌, ℤ, pos, zero, suc, min, ◌<◌, ◌≤◌, Bool, true, false, codes, List, [], ◌∷◌, ◌++◌, map, length, get_or, Some, Result, Ok, refl, sym, ap, ◌∙◌, ◌==◌, arith, append_assoc, append-nil}
 use Rattle.std.specs.Prelude.{IsTrue, All, AllPairs}
 use Rattle.std.specs.List.{list_any}
 use Rattle.std.specs.Str.{bytes_eq}
 use Rattle.std.proofs.lemmas.Bool.{le-leb}
 use Rattle.std.proofs.Math.Bool.{or-true}
-use Rattle.std.proofs.lemmas.List.{length-map}
+use Rattle.std.proofs.lemmas.List.{length-map, length_push}
 use Rattle.std.proofs.lemmas.List.Elements.{All-head, All-tail}
 use Rattle.std.proofs.lemmas.List.Folds.{list_any-append}
 use Rattle.std.proofs.lemmas.Slice.Eq.{bytes_eq-Decides}
@@ -20,7 +20,7 @@ use Rattle.tail_settings.specs.Policy.{StatusData, unset, ok, error, LeafData, a
 use Rattle.tail_settings.specs.RetryOnFailure.{retry_of}
 use Rattle.tail_settings.specs.Section.{SectionData, section_of}
 use Rattle.tail_settings.specs.SendingQueue.{sending_queue_of}
-use Rattle.tail_settings.specs.Settings.{TenantData, SettingsData, name_of, tenant_of, tenants_of, spans_of, settings_of_table, settings_of}
+use Rattle.tail_settings.specs.Settings.{TenantData, SettingsData, name_of, numbered_tenant, tenant_of, tenants_of, spans_of, settings_of_table, settings_of}
 use Rattle.tail_settings.specs.Valid.{IsValidGlobal, IsValidLeaf, IsValidPolicy, IsValidTailSampling, IsValidBatch, IsValidSendingQueue, IsValidRetry, IsValidSection, AreValidSettings}
 use Rattle.tail_settings.specs.TailSampling.{TailSamplingData, tail_sampling_of}
 use Rattle.tail_settings.specs.Texts.{is_name, is_address, is_header, is_attribute_key, address_at, header_at, attribute_key_at}
@@ -293,10 +293,11 @@ section_back name s h =
 abbrev IsNew : List TenantData → TenantData → Type 0
 IsNew before t = list_any (λ u. bytes_eq t.name u.name) before ≡ false
 
-tenant_back : (before : List TenantData) (t : TenantData) → IsTrue (is_name t.name) → IsValidSection t.section → IsNew before t → tenant_of before (tenant_table t) ≡ Ok t
-unfolding tenant_of name_of
-tenant_back before t named sound new =
-    rw (text_back (codes "name") t.name (tenant_table t) refl, named, new, section_back t.name t.section sound) refl
+tenant_back : (before : List TenantData) (t : TenantData) → IsTrue (is_name t.name) → IsValidSection t.section → IsNew before t → t.number ≡ length before → tenant_of before (tenant_table t) ≡ Ok t
+unfolding numbered_tenant name_of
+tenant_back before t named sound new here =
+    rw (text_back (codes "name") t.name (tenant_table t) refl, named, new, section_back t.name t.section sound)
+    (ap (λ n. Ok (record { number = n; name = t.name; section = t.section })) (sym here))
 
 undecided : {P : Type 0} (b : Bool) → (b ≡ true → P) → (P → ⊥) → b ≡ false
 undecided true h k = absurd (k (h refl))
@@ -309,14 +310,17 @@ new_behind : (before : List TenantData) (t u : TenantData) → t.name ≢ u.name
 new_behind before t u apart new =
     rw (list_any-append (λ v. bytes_eq u.name v.name) before (t ∷ []), new, differs u.name t.name (λ e. apart (sym e))) refl
 
-tenants_back : (before ts : List TenantData) → All (λ t. IsTrue (is_name t.name)) ts → All (λ t. IsValidSection t.section) ts → AllPairs (λ t u. t.name ≢ u.name) ts → All (IsNew before) ts → each tenant_of before (map tenant_table ts) ≡ Ok (before ++ ts)
-tenants_back before [] names sections apart new = ap Ok (sym (append-nil before))
-tenants_back before (t ∷ ts) names sections apart new =
-    let head = tenant_back before t (All-head (λ u. IsTrue (is_name u.name)) t ts names) (All-head (λ u. IsValidSection u.section) t ts sections) (All-head (IsNew before) t ts new) in
+tenants_back : (before ts : List TenantData) → All (λ t. IsTrue (is_name t.name)) ts → All (λ t. IsValidSection t.section) ts → AllPairs (λ t u. t.name ≢ u.name) ts → All (IsNew before) ts
+    → ((i : ℕ) (d : TenantData) → i < length ts → (get_or ts i d).number ≡ length before + i) → each tenant_of before (map tenant_table ts) ≡ Ok (before ++ ts)
+tenants_back before [] names sections apart new numbers = ap Ok (sym (append-nil before))
+tenants_back before (t ∷ ts) names sections apart new numbers =
+    let first : t.number ≡ length before = omega (arith, numbers 0 t (omega arith)) in
+    let head = tenant_back before t (All-head (λ u. IsTrue (is_name u.name)) t ts names) (All-head (λ u. IsValidSection u.section) t ts sections) (All-head (IsNew before) t ts new) first in
     let behind : All (IsNew (before ++ t ∷ [])) ts = λ k d short. new_behind before t (get_or ts k d) (apart 0 (suc k) d (omega arith) (omega arith)) (All-tail (IsNew before) t ts new k d short) in
     rw head
     (tenants_back (before ++ t ∷ []) ts (All-tail (λ u. IsTrue (is_name u.name)) t ts names) (All-tail (λ u. IsValidSection u.section) t ts sections)
     (λ i j d below short. apart (suc i) (suc j) d (omega arith) (omega arith)) behind
+    (λ i d short. omega (arith, length_push before t, numbers (suc i) d (omega (arith, short))))
     ∙ ap Ok (append_assoc before (t ∷ []) ts))
 
 -- ---- documents
@@ -331,11 +335,13 @@ all_tenants_back s h =
       some_back (missing_key (codes "tenant")) tenant_table ts h.some_tenant,
       few_back 1000 too_many (map tenant_table ts) few,
     )
-    (tenants_back [] ts h.tenants.names h.tenants.sections h.tenants.distinct (λ k d _. refl))
+    (tenants_back [] ts h.tenants.names h.tenants.sections h.tenants.distinct (λ k d _. refl) (λ i d short. omega (arith, h.numbers i d short)))
 
 pub document_back : (s : SettingsData) → AreValidSettings s → settings_of_table (document_of s) ≡ Ok s
 unfolding settings_of_table
-document_back s h = rw (global_back s h.global, all_tenants_back s h, le-leb (spans_of s.tenants) (2 ^ 31) h.few_spans) refl
+document_back s h =
+    rw (global_back s h.global, all_tenants_back s h, le-leb (spans_of s.tenants) (2 ^ 31) h.few_spans)
+    (ap (λ n. Ok (record { global = s.global; tenants = s.tenants; next = n })) (sym h.next))
 
 pub text_back_to : (text : List ℕ) (s : SettingsData) → parse_document text ≡ Some (document_of s) → AreValidSettings s → settings_of text ≡ Ok s
 unfolding settings_of

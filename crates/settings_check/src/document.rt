@@ -300,8 +300,8 @@ fn tenant_array(alloc: Global, settings: &Settings) -> Result<Value, AllocError>
     ensures { IfOk result (λ v. view v ≡ tables tenant_table (settings_view settings.now).tenants) }
 {
     let mut tables = Vec::new(alloc);
-    'tenants: for (name, section) in settings.tenants.iter() {
-        tables.push(Value::Table(section_table(alloc, name.as_str(), section)?))?;
+    'tenants: for (name, tenant) in settings.tenants.iter() {
+        tables.push(Value::Table(section_table(alloc, name.as_str(), &tenant.section)?))?;
     }
     Ok(Value::Array(tables))
 }

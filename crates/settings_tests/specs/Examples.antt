@@ -25,12 +25,12 @@ default_section = record {
   retry_on_failure = default_retry;
 }
 
-abbrev pub named : List ℕ → TenantData
-named name = record { name = name; section = default_section }
+abbrev pub named : ℕ → List ℕ → TenantData
+named number name = record { number = number; name = name; section = default_section }
 
 -- one tenant with one policy, and every default
 abbrev pub smallest : SettingsData
-smallest = record { global = default_global; tenants = named (codes "a") ∷ [] }
+smallest = record { global = default_global; tenants = named 0 (codes "a") ∷ []; next = 1 }
 
 -- by derivation
 pub record Sound : Type 0 where
@@ -42,5 +42,5 @@ pub record Sound : Type 0 where
   -- a greatest size that is the size at which a batch is cut, and one below it
   pub batch_is : IsValidBatch (record default_batch { send_batch_max_size = 8192 })
   pub batch_is_not : IsValidBatch (record default_batch { send_batch_max_size = 8191 }) → ⊥
-  pub tenants_are : AreSoundTenants (named (codes "a") ∷ named (codes "b") ∷ [])
-  pub tenants_are_not : AreSoundTenants (named (codes "a") ∷ named (codes "a") ∷ []) → ⊥
+  pub tenants_are : AreSoundTenants (named 0 (codes "a") ∷ named 1 (codes "b") ∷ [])
+  pub tenants_are_not : AreSoundTenants (named 0 (codes "a") ∷ named 1 (codes "a") ∷ []) → ⊥

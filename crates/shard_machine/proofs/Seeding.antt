@@ -4,9 +4,9 @@ use Rattle.std.specs.Prelude.{option_map, ◌≢◌}
 use Rattle.std.proofs.lemmas.Bool.Decides.{nat_tests}
 use Rattle.rand_pcg.specs.Lcg.{Lcg}
 use Rattle.tail_settings.specs.Section.{SectionData}
-use Rattle.tail_settings.specs.Settings.{SettingsData}
+use Rattle.tail_settings.specs.Settings.{SettingsData, section_at}
 use Rattle.shard_machine.specs.Jitter.{start, TenantGenerator, generator_of, or_start, IsSeeded}
-use Rattle.tenant_shard.specs.Table.{section_at, section_of}
+use Rattle.tenant_shard.specs.Table.{section_of}
 use Rattle.tenant_shard.proofs.Sections.{section_of-push_other, section_of-push_same, section_of-is}
 use Rattle.shard_machine.specs.MachineState.{AreSeeded}
 

@@ -1,5 +1,7 @@
 pub mod Arrays
+pub mod Changes
 pub mod Faults
+pub mod Numbers
 pub mod OnLiterals
 pub mod Policies
 pub mod Rules

@@ -10,7 +10,7 @@ use Rattle.tail_settings.specs.Batch.{batch_of}
 use Rattle.tail_settings.specs.SendingQueue.{sending_queue_of}
 use Rattle.tail_settings.specs.RetryOnFailure.{retry_of}
 use Rattle.tail_settings.specs.Section.{section_of}
-use Rattle.tail_settings.specs.Settings.{name_of, tenant_of, tenants_of, settings_of_table, settings_of}
+use Rattle.tail_settings.specs.Settings.{name_of, numbered_tenant, tenants_of, settings_of_table, settings_of}
 
 unfoldable pub tables_on_literals : ⊤
 unfolding number_at text_or_at table_at address_at header_at global_of batch_of sending_queue_of retry_of
@@ -21,7 +21,7 @@ unfolding required_number_at integer_at text_at tables_at texts_at some_tables_a
 policies_on_literals = tt
 
 unfoldable pub settings_on_literals : ⊤
-unfolding tables_on_literals policies_on_literals tail_sampling_of section_of name_of tenant_of tenants_of settings_of_table settings_of
+unfolding tables_on_literals policies_on_literals tail_sampling_of section_of name_of numbered_tenant tenants_of settings_of_table settings_of
 settings_on_literals = tt
 
 unfoldable pub texts_on_literals : ⊤

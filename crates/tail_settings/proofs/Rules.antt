@@ -13,7 +13,7 @@ use Rattle.tail_settings.specs.Policy.{unset, error, always_sample, latency, sta
 use Rattle.tail_settings.specs.RetryOnFailure.{retry_of}
 use Rattle.tail_settings.specs.Section.{section_of}
 use Rattle.tail_settings.specs.SendingQueue.{sending_queue_of}
-use Rattle.tail_settings.specs.Settings.{TenantData, name_of, tenant_of, tenants_of, spans_of, few_spans, settings_of_table, settings_from, settings_of}
+use Rattle.tail_settings.specs.Settings.{TenantData, name_of, numbered_tenant, tenant_of, tenants_of, spans_of, few_spans, settings_of_table, document_in, settings_of}
 use Rattle.tail_settings.specs.TailSampling.{tail_sampling_of}
 use Rattle.tail_settings.specs.Texts.{is_name, is_address, is_header, is_attribute_key, address_at, header_at, attribute_key_at}
 
@@ -257,7 +257,7 @@ name_of-toml before table =
     choice _ (Err (double_tenant name)) (Ok name) (λ h. cc) (ok name)))
 
 tenant_of-toml : (before : List TenantData) (table : Members) → IsToml (tenant_of before table)
-unfolding tenant_of
+unfolding numbered_tenant
 tenant_of-toml before table =
     bind (name_of before table) _ (name_of-toml before table) (λ name.
     bind (section_of table) _ (section_of-toml table) (λ section. ok _))
@@ -292,10 +292,10 @@ settings_of_table-toml document =
     bind (tenants_of document) _ (tenants_of-toml document) (λ found.
     bind (few_spans found) _ (few_spans-toml found) (λ tenants. ok _)))
 
-settings_from-not_toml : (o : Option Members) → (settings_from o ≡ Err not_toml) ↔ (o ≡ None)
-settings_from-not_toml None = (λ _. refl, λ _. refl)
-settings_from-not_toml (Some document) = (λ h. absurd (settings_of_table-toml document h), λ h. cc)
+document_in-not_toml : (o : Option Members) → ((document_in o >>= settings_of_table) ≡ Err not_toml) ↔ (o ≡ None)
+document_in-not_toml None = (λ _. refl, λ _. refl)
+document_in-not_toml (Some document) = (λ h. absurd (settings_of_table-toml document h), λ h. cc)
 
 pub settings_of-not_toml : (text : List ℕ) → (settings_of text ≡ Err not_toml) ↔ (parse_document text ≡ None)
 unfolding settings_of
-settings_of-not_toml text = settings_from-not_toml (parse_document text)
+settings_of-not_toml text = document_in-not_toml (parse_document text)

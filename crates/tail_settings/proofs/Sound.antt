@@ -1,9 +1,10 @@
 -- The settings that a document means are sound.
-use Rattle.std.proofs.Common.{◌≡◌, ◌≢◌, ℕ, ◌^◌, ℤ, pos, negsuc, zero, suc, ◌+◌, ◌<◌, ◌≤◌, Bool, true, false, codes, List, [], ◌∷◌, ◌++◌, length, get_or, Option, Some, None, Result, Ok, Err, refl, sym, ap, subst, ◌∙◌, nat_le, ◌&&◌, ◌||◌, arith, length-append}
+use Rattle.std.proofs.Common.{◌≡◌, ◌≢◌, ℕ, ◌^◌, ℤ, pos, negsuc, zero, suc, ◌+◌, ◌<◌, ◌≤◌, Bool, true, false, codes, List, [], ◌∷◌, ◌++◌, length, get_or, Option, Some, None, Result, Ok, Err, refl, sym, ap, subst, ◌∙◌, nat_le, ◌&&◌, ◌||◌, arith, length-append, inl, inr}
 use Rattle.std.specs.Prelude.{if◌then◌else◌, IsTrue, All}
 use Rattle.std.specs.List.{list_any}
 use Rattle.std.specs.Str.{bytes_eq}
-use Rattle.std.proofs.lemmas.Bool.{and_parts, leb-true}
+use Rattle.std.proofs.lemmas.Bool.{and_parts, leb-true, cases_lt}
+use Rattle.std.proofs.lemmas.List.{get_or_append_left, get_or_push, length_push}
 use Rattle.std.proofs.lemmas.Bool.Decides.{not_from_Decides, nat_tests}
 use Rattle.std.proofs.lemmas.Slice.Eq.{bytes_eq-Decides}
 use Rattle.std.proofs.lemmas.List.Elements.{All-nil, All-push}
@@ -18,20 +19,20 @@ use Rattle.tail_settings.specs.Policy.{LeafData, always_sample, latency, status_
 use Rattle.tail_settings.specs.RetryOnFailure.{RetryData, retry_of}
 use Rattle.tail_settings.specs.Section.{SectionData, section_of}
 use Rattle.tail_settings.specs.SendingQueue.{SendingQueueData, sending_queue_of}
-use Rattle.tail_settings.specs.Settings.{TenantData, SettingsData, new_name, name_of, tenant_of, tenants_of, spans_of, few_spans, settings_of_table, settings_from, settings_of}
-use Rattle.tail_settings.specs.Valid.{IsValidGlobal, IsValidLeaf, IsValidPolicy, IsValidTailSampling, IsValidBatch, IsValidSendingQueue, IsValidRetry, IsValidSection, AreSoundTenants, AreValidSettings}
+use Rattle.tail_settings.specs.Settings.{TenantData, SettingsData, new_name, name_of, numbered_tenant, tenant_of, tenants_of, spans_of, few_spans, settings_of_table, document_in, settings_of}
+use Rattle.tail_settings.specs.Valid.{IsValidGlobal, IsValidLeaf, IsValidPolicy, IsValidTailSampling, IsValidBatch, IsValidSendingQueue, IsValidRetry, IsValidSection, AreSoundTenants, AreByPlace, AreValidSettings}
 use Rattle.tail_settings.specs.TailSampling.{TailSamplingData, tail_sampling_of}
 use Rattle.tail_settings.specs.Texts.{is_name, is_address, is_header, is_attribute_key, address_at, header_at, attribute_key_at}
 
-ok_is : {A : Type 0} (x y : A) → (let r : Result A FaultData = Ok x in r) ≡ Ok y → x ≡ y
+pub ok_is : {A : Type 0} (x y : A) → (let r : Result A FaultData = Ok x in r) ≡ Ok y → x ≡ y
 ok_is x y h = cc
 
 -- what was read before a result
-bound : {A B : Type 0} (m : Result A FaultData) (k : A → Result B FaultData) (y : B) → (m >>= k) ≡ Ok y → (x : A) × (m ≡ Ok x) × (k x ≡ Ok y)
+pub bound : {A B : Type 0} (m : Result A FaultData) (k : A → Result B FaultData) (y : B) → (m >>= k) ≡ Ok y → (x : A) × (m ≡ Ok x) × (k x ≡ Ok y)
 bound (Ok x) k y h = (x, refl, h)
 bound (Err e) k y h = absurd (let no : ⊥ = cc in no)
 
-chosen : {A : Type 0} (b : Bool) (x y : A) (fault : FaultData) → (if b then Ok x else Err fault) ≡ Ok y → (b ≡ true) × (x ≡ y)
+pub chosen : {A : Type 0} (b : Bool) (x y : A) (fault : FaultData) → (if b then Ok x else Err fault) ≡ Ok y → (b ≡ true) × (x ≡ y)
 chosen true x y fault h = (refl, cc)
 chosen false x y fault h = absurd (let no : ⊥ = cc in no)
 
@@ -347,11 +348,11 @@ name_of-sound before table name h =
     (subst (λ n. is_name n ≡ true) (test.1 ∙ new.1) test.0, subst (λ n. list_any (λ t. bytes_eq n t.name) before ≡ false) new.1 new.0)
 
 tenant_of-sound : (before : List TenantData) (table : Members) (t : TenantData) → AreSoundTenants before → tenant_of before table ≡ Ok t → AreSoundTenants (before ++ t ∷ [])
-unfolding tenant_of
+unfolding numbered_tenant
 tenant_of-sound before table t sound h =
     let name = bound (name_of before table) _ t h in
     let section = bound (section_of table) _ t name.2 in
-    let read : TenantData = record { name = name.0; section = section.0 } in
+    let read : TenantData = record { number = length before; name = name.0; section = section.0 } in
     let same : read ≡ t = cc in
     let parts = name_of-sound before table name.0 name.1 in
     subst (λ x. AreSoundTenants (before ++ x ∷ [])) same (record {
@@ -360,6 +361,24 @@ tenant_of-sound before table t sound h =
       sections = All-push (λ u. IsValidSection u.section) before read sound.sections (section_of-sound table section.0 section.1);
     })
 
+-- a tenant has the number that was given
+pub numbered_tenant-number : (number : ℕ) (before : List TenantData) (table : Members) (t : TenantData) → numbered_tenant number before table ≡ Ok t → t.number ≡ number
+unfolding numbered_tenant
+numbered_tenant-number number before table t h =
+    let name = bound (name_of before table) _ t h in
+    let section = bound (section_of table) _ t name.2 in
+    let read : TenantData = record { number = number; name = name.0; section = section.0 } in
+    sym (ap (λ (u : TenantData). u.number) (ok_is read t section.2))
+
+-- tenants stay by place where the next has the next place for a number
+by_place-push : (before : List TenantData) (t : TenantData) → AreByPlace before → t.number ≡ length before → AreByPlace (before ++ t ∷ [])
+by_place-push before t all here i d short = elim (cases_lt i (length before)) [
+  | inl lt ↦ rw (get_or_append_left before (t ∷ []) d i lt) (all i d lt)
+  | inr le ↦
+      let last : length before ≡ i = omega (arith, length_push before t, short, le) in
+      rw (get_or_push before t d i last) (here ∙ last)
+]
+
 no_tenants-sound : AreSoundTenants []
 no_tenants-sound = record {
   names = λ k d short. absurd (omega arith);
@@ -367,7 +386,7 @@ no_tenants-sound = record {
   sections = λ k d short. absurd (omega arith);
 }
 
-tenants_of-sound : (document : Members) (tenants : List TenantData) → tenants_of document ≡ Ok tenants → (0 < length tenants) × (length tenants ≤ 1000) × AreSoundTenants tenants
+pub tenants_of-sound : (document : Members) (tenants : List TenantData) → tenants_of document ≡ Ok tenants → (0 < length tenants) × (length tenants ≤ 1000) × AreSoundTenants tenants × AreByPlace tenants
 unfolding tenants_of
 tenants_of-sound document tenants h =
     let found = bound (tables_at (codes "tenant") document) _ tenants h in
@@ -378,7 +397,8 @@ tenants_of-sound document tenants h =
     let many : length some.0 ≤ 1000 = leb-true (length some.0) 1000 limit.0 in
     let more : 0 < length some.0 = not_empty-length (missing_key (codes "tenant")) found.0 some.0 some.1 in
     let as_many = ap length limit.1 in
-    (omega arith, omega arith, each-keeps tenant_of AreSoundTenants tenant_of-sound [] few.0 tenants no_tenants-sound few.2)
+    let numbers = each-keeps tenant_of AreByPlace (λ before table t all read. by_place-push before t all (numbered_tenant-number (length before) before table t read)) [] few.0 tenants (λ i d short. absurd (omega (arith, short))) few.2 in
+    (omega arith, omega arith, each-keeps tenant_of AreSoundTenants tenant_of-sound [] few.0 tenants no_tenants-sound few.2, numbers)
 
 global_of-sound : (document : Members) (g : GlobalData) → global_of document ≡ Ok g → IsValidGlobal g
 unfolding global_of
@@ -410,18 +430,18 @@ settings_of_table-sound document s h =
     let found = bound (tenants_of document) _ s global.2 in
     let tenants = bound (few_spans found.0) _ s found.2 in
     let limit = chosen (nat_le (spans_of found.0) (2 ^ 31)) found.0 tenants.0 too_many tenants.1 in
-    let read : SettingsData = record { global = global.0; tenants = tenants.0 } in
+    let read : SettingsData = record { global = global.0; tenants = tenants.0; next = length tenants.0 } in
     let same : read ≡ s = cc in
     let parts = tenants_of-sound document found.0 found.1 in
     let few : spans_of found.0 ≤ 2 ^ 31 = leb-true (spans_of found.0) (2 ^ 31) limit.0 in
     subst AreValidSettings same
-    (subst (λ ts. AreValidSettings (record { global = global.0; tenants = ts })) limit.1
-    (record { global = global_of-sound document global.0 global.1; some_tenant = parts.0; few_tenants = parts.1; few_spans = few; tenants = parts.2 }))
+    (subst (λ ts. AreValidSettings (record { global = global.0; tenants = ts; next = length ts })) limit.1
+    (record { global = global_of-sound document global.0 global.1; some_tenant = parts.0; few_tenants = parts.1; few_spans = few; tenants = parts.2; numbers = parts.3; next = refl }))
 
-settings_from-sound : (o : Option Members) (s : SettingsData) → settings_from o ≡ Ok s → AreValidSettings s
-settings_from-sound None s h = absurd (let no : ⊥ = cc in no)
-settings_from-sound (Some document) s h = settings_of_table-sound document s h
+document_in-sound : (o : Option Members) (s : SettingsData) → (document_in o >>= settings_of_table) ≡ Ok s → AreValidSettings s
+document_in-sound None s h = absurd (let no : ⊥ = cc in no)
+document_in-sound (Some document) s h = settings_of_table-sound document s h
 
 pub settings_of-sound : (text : List ℕ) (s : SettingsData) → settings_of text ≡ Ok s → AreValidSettings s
 unfolding settings_of
-settings_of-sound text s h = settings_from-sound (parse_document text) s h
+settings_of-sound text s h = document_in-sound (parse_document text) s h

@@ -1,4 +1,5 @@
 pub mod Batch
+pub mod Change
 pub mod Examples
 pub mod Fault
 pub mod Global

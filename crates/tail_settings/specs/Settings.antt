@@ -1,36 +1,58 @@
 -- All settings, and what a TOML document means as settings: keys in this order, the first fault being the answer. The
 -- document is TOML 1.1's (toml.io); its keys and their order are this project's own rule.
-use Rattle.std.specs.Prelude.{codes, ℕ, ◌^◌, List, [], ◌∷◌, ◌++◌, map, sum_by, Option, Some, None, Result, Ok, Err, nat_le, string_bytes, String, if◌then◌else◌}
+use Rattle.std.specs.Prelude.{codes, ℕ, ◌==◌, ◌^◌, List, [], ◌∷◌, ◌++◌, length, map, find, sum_by, Option, Some, None, option_map, Result, Ok, Err, nat_le, string_bytes, String, if◌then◌else◌}
 use Rattle.std.specs.List.{list_any}
 use Rattle.std.specs.Str.{bytes_eq}
 use Rattle.std.specs.declared.alloc.Global.{Global}
 use Rattle.toml.specs.Data.{Members}
 use Rattle.toml.specs.Parse.{parse_document}
-use Rattle.tail_settings.specs.declared.section.Section.{Section}
 use Rattle.tail_settings.specs.declared.settings.Settings.{Settings}
+use Rattle.tail_settings.specs.declared.tenant.Tenant.{Tenant}
 use Rattle.tail_settings.specs.Fault.{FaultData, not_toml, missing_key, double_tenant, too_many, ◌>>=◌}
 use Rattle.tail_settings.specs.Global.{GlobalData, global_view, global_of}
 use Rattle.tail_settings.specs.Keys.{text_at, allowed, tables_at, not_empty, at_most, each}
 use Rattle.tail_settings.specs.Section.{SectionData, section_view, section_of}
 use Rattle.tail_settings.specs.Texts.{is_name}
 
--- a tenant's name and what its table says beside it
+-- a tenant's number, its name and what its table says beside it
 pub record TenantData : Type 0 where
+  pub number : ℕ
   pub name : List ℕ
   pub section : SectionData
 
--- what holds for all tenants, and the tenants; number i stands at place i, from 0
+-- what holds for all tenants, the tenants in the order of their numbers, and the number that the next one gets
 pub record SettingsData : Type 0 where
   pub global : GlobalData
   pub tenants : List TenantData
+  pub next : ℕ
 
 -- what a Rust entry says
-abbrev pub tenant_view : String Global × Section → TenantData
-tenant_view entry = record { name = string_bytes entry.0; section = section_view entry.1 }
+abbrev pub tenant_view : String Global × Tenant → TenantData
+tenant_view entry = record {
+  number = entry.1.number;
+  name = string_bytes entry.0;
+  section = section_view entry.1.section;
+}
 
 -- what a Rust value says
 abbrev pub settings_view : Settings → SettingsData
-settings_view s = record { global = global_view s.global; tenants = map tenant_view s.tenants.entries }
+settings_view s = record {
+  global = global_view s.global;
+  tenants = map tenant_view s.tenants.entries;
+  next = s.next;
+}
+
+-- the tenant with a number
+abbrev pub tenant_at : SettingsData → ℕ → Option TenantData
+tenant_at s number = find (λ t. t.number == number) s.tenants
+
+-- the section of the tenant with a number
+abbrev pub section_at : SettingsData → ℕ → Option SectionData
+section_at s number = option_map (λ t. t.section) (tenant_at s number)
+
+-- the number of the tenant of a name
+abbrev pub number_of : SettingsData → List ℕ → Option ℕ
+number_of s name = option_map (λ t. t.number) (find (λ t. bytes_eq name t.name) s.tenants)
 
 -- a name that no tenant before has
 abbrev pub new_name : List TenantData → List ℕ → Result (List ℕ) FaultData
@@ -43,12 +65,16 @@ name_of before table = do
   name ← allowed (codes "name") is_name text
   new_name before name
 
--- a tenant's table, behind those before it
-unfoldable pub tenant_of : List TenantData → Members → Result TenantData FaultData
-tenant_of before table = do
+-- a tenant's table, behind those before it; the tenant gets this number
+unfoldable pub numbered_tenant : ℕ → List TenantData → Members → Result TenantData FaultData
+numbered_tenant number before table = do
   name ← name_of before table
   section ← section_of table
-  Ok (record { name = name; section = section })
+  Ok (record { number = number; name = name; section = section })
+
+-- the same in a document, whose tenants are numbered from 0
+abbrev pub tenant_of : List TenantData → Members → Result TenantData FaultData
+tenant_of before table = numbered_tenant (length before) before table
 
 -- the tenants, with one more at the end
 abbrev pub with_tenant : List TenantData → Members → Result (List TenantData) FaultData
@@ -76,13 +102,13 @@ settings_of_table document = do
   global ← global_of document
   found ← tenants_of document
   tenants ← few_spans found
-  Ok (record { global = global; tenants = tenants })
+  Ok (record { global = global; tenants = tenants; next = length tenants })
 
--- the same, where a text may be no document
-abbrev pub settings_from : Option Members → Result SettingsData FaultData
-settings_from None = Err not_toml
-settings_from (Some document) = settings_of_table document
+-- the document of a text, where there is one
+abbrev pub document_in : Option Members → Result Members FaultData
+document_in None = Err not_toml
+document_in (Some document) = Ok document
 
 -- what a text means as settings, or the first fault
 unfoldable pub settings_of : List ℕ → Result SettingsData FaultData
-settings_of text = settings_from (parse_document text)
+settings_of text = document_in (parse_document text) >>= settings_of_table

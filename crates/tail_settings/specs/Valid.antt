@@ -1,5 +1,5 @@
 -- What holds of all settings that a document means: the ranges and counts of docs/SETTINGS.md. This project's own rule.
-use Rattle.std.specs.Prelude.{◌<◌, ◌≤◌, ◌≢◌, ◌^◌, List, length, All, AllPairs, IsTrue}
+use Rattle.std.specs.Prelude.{◌≡◌, ℕ, ◌<◌, ◌≤◌, ◌≢◌, ◌^◌, List, length, get_or, slice_get, All, AllPairs, IsTrue}
 use Rattle.tail_settings.specs.Global.{GlobalData}
 use Rattle.tail_settings.specs.Keys.{IsFrom}
 use Rattle.tail_settings.specs.Policy.{LeafData, always_sample, latency, status_code, string_attribute, numeric_attribute, PolicyData, leaf, and, leaves_of}
@@ -8,7 +8,7 @@ use Rattle.tail_settings.specs.Batch.{BatchData}
 use Rattle.tail_settings.specs.SendingQueue.{SendingQueueData}
 use Rattle.tail_settings.specs.RetryOnFailure.{RetryData}
 use Rattle.tail_settings.specs.Section.{SectionData}
-use Rattle.tail_settings.specs.Settings.{TenantData, SettingsData, spans_of}
+use Rattle.tail_settings.specs.Settings.{TenantData, SettingsData, tenant_at, spans_of}
 use Rattle.tail_settings.specs.Texts.{is_name, is_address, is_header, is_attribute_key}
 
 -- the table `global`
@@ -80,6 +80,10 @@ pub record AreSoundTenants (tenants : List TenantData) : Type 0 where
   pub distinct : AllPairs (λ t u. t.name ≢ u.name) tenants
   pub sections : All (λ t. IsValidSection t.section) tenants
 
+-- number i stands at place i, from 0
+abbrev pub AreByPlace : List TenantData → Type 0
+AreByPlace tenants = (i : ℕ) (d : TenantData) → i < length tenants → (get_or tenants i d).number ≡ i
+
 -- all settings
 pub record AreValidSettings (s : SettingsData) : Type 0 where
   pub global : IsValidGlobal s.global
@@ -87,3 +91,10 @@ pub record AreValidSettings (s : SettingsData) : Type 0 where
   pub few_tenants : length s.tenants ≤ 1000
   pub few_spans : spans_of s.tenants ≤ 2 ^ 31
   pub tenants : AreSoundTenants s.tenants
+  pub numbers : AreByPlace s.tenants
+  pub next : s.next ≡ length s.tenants
+
+-- where tenants stand by place, the tenant with a number is the one at that place
+abbrev pub AreFoundByPlace : Type 0
+AreFoundByPlace = (s : SettingsData) (number : ℕ) → AreByPlace s.tenants
+    → tenant_at s number ≡ slice_get s.tenants number

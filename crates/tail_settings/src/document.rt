@@ -7,29 +7,30 @@ ghost use Rattle.toml.specs.View.{table_view};
 ghost use Rattle.tail_settings.specs.Fault.{Tells, fault_view, not_toml};
 ghost use Rattle.tail_settings.specs.Keys.{keys_of};
 ghost use Rattle.tail_settings.specs.Section.{section_view, section_of};
-ghost use Rattle.tail_settings.specs.Settings.{name_of, with_tenant, tenants_of, tenant_view, spans_of, settings_view, settings_of};
+ghost use Rattle.tail_settings.specs.Settings.{name_of, numbered_tenant, with_tenant, tenants_of, tenant_view, spans_of, document_in, settings_view, settings_of};
 ghost use Rattle.tail_settings.specs.Valid.{AreValidSettings};
 
 use crate::fault::SettingsFault;
 use crate::global::GlobalSettings;
 use crate::section::Section;
 use crate::settings::Settings;
+use crate::tenant::Tenant;
 use crate::{keys, texts};
 use indexmap::IndexMap;
 use std::alloc::Global;
 use toml::Table;
 
 /// A document has no more tenants.
-const MAX_TENANTS: usize = 1000;
+pub(crate) const MAX_TENANTS: usize = 1000;
 
 /// All tenants together may hold no more spans.
-const MAX_SPANS: u64 = 1 << 31;
+pub(crate) const MAX_SPANS: u64 = 1 << 31;
 
 /// A tenant's name, which no tenant before it has.
 #[tactic(auto, using(crate::proofs::Told::tells_more), unfolding(crate::specs::Settings::name_of))]
 fn name(
     alloc: Global,
-    before: &IndexMap<String, Section>,
+    before: &IndexMap<String, Tenant>,
     tenant: Option<&Table>,
 ) -> Result<String, SettingsFault>
     ensures meaning { Tells string_bytes result
@@ -47,26 +48,45 @@ fn name(
     Ok(owned)
 }
 
+/// Reads a tenant's table. The tenant gets this number.
+#[tactic(auto, using(crate::proofs::Told::tells_more), unfolding(crate::specs::Settings::numbered_tenant))]
+pub(crate) fn numbered_tenant(
+    alloc: Global,
+    before: &IndexMap<String, Tenant>,
+    number: u32,
+    table: Option<&Table>,
+) -> Result<(String, Tenant), SettingsFault>
+    ensures meaning { Tells tenant_view result
+        (numbered_tenant number (map tenant_view before.now.entries) (keys_of table.entry)) }
+    ensures number { IfOk result (λ read. read.1.number ≡ number) }
+    ensures new { IfOk result (λ read. get_by_text before.now (string_bytes read.0) ≡ None) }
+{
+    let name = name(alloc, before, table)?;
+    let section = Section::read(alloc, table)?;
+    Ok((name, Tenant { number, section }))
+}
+
 /// Reads a tenant's table and puts the tenant behind the others.
-#[tactic(auto, using(crate::proofs::Told::tells_more), unfolding(crate::specs::Settings::tenant_of))]
+#[tactic(auto, using(crate::proofs::Told::tells_more))]
 fn add_tenant(
     alloc: Global,
-    tenants: &mut IndexMap<String, Section>,
-    tenant: Option<&Table>,
+    tenants: &mut IndexMap<String, Tenant>,
+    table: Option<&Table>,
 ) -> Result<(), SettingsFault>
+    requires { index_map_len tenants.old < 1000 }
     ensures meaning { Tells (λ _. map tenant_view tenants.new.entries) result
-        (with_tenant (map tenant_view tenants.old.entries) (keys_of tenant.entry)) }
+        (with_tenant (map tenant_view tenants.old.entries) (keys_of table.entry)) }
     ensures len { OnOk result (index_map_len tenants.new ≡ index_map_len tenants.old + 1) }
 {
-    let name = name(alloc, tenants, tenant)?;
-    let section = Section::read(alloc, tenant)?;
-    tenants.insert(name, section)?;
+    let number = tenants.len() as u32;
+    let (name, tenant) = numbered_tenant(alloc, tenants, number, table)?;
+    tenants.insert(name, tenant)?;
     Ok(())
 }
 
 /// The tenants of a document.
 #[tactic(auto, using(crate::proofs::Told::tells_more), unfolding(crate::specs::Settings::tenants_of))]
-fn tenants(alloc: Global, document: &Table) -> Result<IndexMap<String, Section>, SettingsFault>
+fn tenants(alloc: Global, document: &Table) -> Result<IndexMap<String, Tenant>, SettingsFault>
     ensures meaning { Tells (λ m. map tenant_view m.entries) result (tenants_of (table_view document.now)) }
     ensures not_empty { IfOk result (λ m. 0 < index_map_len m) }
     ensures at_most_1000 { IfOk result (λ m. index_map_len m ≤ 1000) }
@@ -86,15 +106,26 @@ fn tenants(alloc: Global, document: &Table) -> Result<IndexMap<String, Section>,
 }
 
 /// How many spans all tenants together may hold.
-fn spans(tenants: &IndexMap<String, Section>) -> u64
+pub(crate) fn spans(tenants: &IndexMap<String, Tenant>) -> u64
     requires { index_map_len tenants.now ≤ 1000 }
     ensures meaning { result ≡ spans_of (map tenant_view tenants.now.entries) }
-    ensures entries { result ≡ sum_by (λ entry. entry.1.max_spans) tenants.now.entries }
+    ensures entries { result ≡ sum_by (λ entry. entry.1.section.max_spans) tenants.now.entries }
 {
     tenants
         .values()
-        .map(|section| u64::from(section.max_spans))
+        .map(|tenant| u64::from(tenant.section.max_spans))
         .sum()
+}
+
+/// The table of a text.
+pub(crate) fn table(alloc: Global, text: &str) -> Result<Table, SettingsFault>
+    ensures { Tells table_view result (document_in (parse_document text.now)) }
+{
+    match toml::table_from_str(alloc, text) {
+        Ok(document) => Ok(document),
+        Err(error) if error.is_memory() => Err(SettingsFault::OutOfMemory),
+        Err(_) => Err(SettingsFault::NotToml),
+    }
 }
 
 /// The settings that a TOML document means, or the first fault in the order in which its keys are read.
@@ -104,21 +135,22 @@ pub fn load(alloc: Global, text: &str) -> Result<Settings, SettingsFault>
     ensures on_success { IfOk result (λ s. settings_of text.now ≡ Ok (settings_view s)) }
     ensures fault { IfErr result (λ e. IfSome (fault_view e) (λ f. settings_of text.now ≡ Err f)) }
 
-    // The ranges and counts of the document's keys, and names that differ.
+    // The ranges and counts of the document's keys, names that differ, and numbers by place.
     ensures valid { IfOk result (λ s. AreValidSettings (settings_view s)) }
 
     // Fault 10 is that of the texts that are no TOML document, and of no others.
     ensures not_toml { (settings_of text.now ≡ Err not_toml) ↔ (parse_document text.now ≡ None) }
 {
-    let document = match toml::table_from_str(alloc, text) {
-        Ok(document) => document,
-        Err(error) if error.is_memory() => return Err(SettingsFault::OutOfMemory),
-        Err(_) => return Err(SettingsFault::NotToml),
-    };
+    let document = table(alloc, text)?;
     let global = GlobalSettings::read(alloc, &document)?;
     let tenants = tenants(alloc, &document)?;
     if spans(&tenants) > MAX_SPANS {
         return Err(SettingsFault::TooMany);
     }
-    Ok(Settings { global, tenants })
+    let next = tenants.len() as u64;
+    Ok(Settings {
+        global,
+        tenants,
+        next,
+    })
 }

@@ -13,6 +13,7 @@
 #![tactic(auto)]
 
 mod batch;
+mod change;
 mod document;
 mod fault;
 mod global;
@@ -24,9 +25,11 @@ mod section;
 mod sending_queue;
 mod settings;
 mod tail_sampling;
+mod tenant;
 mod texts;
 
 pub use batch::Batch;
+pub use change::numbers_of_tenants;
 pub use document::load;
 pub use fault::{SettingsFault, equal_faults};
 pub use global::GlobalSettings;
@@ -36,3 +39,4 @@ pub use section::Section;
 pub use sending_queue::SendingQueue;
 pub use settings::Settings;
 pub use tail_sampling::TailSampling;
+pub use tenant::Tenant;

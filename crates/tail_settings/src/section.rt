@@ -10,7 +10,7 @@ use crate::retry_on_failure::RetryOnFailure;
 use crate::sending_queue::SendingQueue;
 use crate::tail_sampling::TailSampling;
 use crate::{keys, texts};
-use std::alloc::Global;
+use std::alloc::{AllocError, Global};
 use toml::Table;
 
 /// What a tenant's table says beside its name.
@@ -37,6 +37,7 @@ pub struct Section {
 }
 
 impl Section {
+    ghost use Rattle.std.specs.Prelude.{◌≡◌, IfOk};
     ghost use Rattle.tail_settings.specs.Fault.{Tells};
     ghost use Rattle.tail_settings.specs.Keys.{keys_of};
     ghost use Rattle.tail_settings.specs.Section.{section_view, section_of};
@@ -61,6 +62,29 @@ impl Section {
             batch,
             sending_queue,
             retry_on_failure,
+        })
+    }
+
+    /// A section that says the same and shares the policies.
+    pub fn copy(&self) -> Result<Section, AllocError>
+        ensures { IfOk result (λ copy. section_view copy ≡ section_view self.now) }
+    {
+        let endpoint = self.endpoint.clone()?;
+        let policies = self.tail_sampling.policies.clone()?;
+        Ok(Section {
+            endpoint,
+            max_spans: self.max_spans,
+            seed: self.seed,
+            tail_sampling: TailSampling {
+                decision_wait: self.tail_sampling.decision_wait,
+                num_traces: self.tail_sampling.num_traces,
+                sampled_cache_size: self.tail_sampling.sampled_cache_size,
+                non_sampled_cache_size: self.tail_sampling.non_sampled_cache_size,
+                policies,
+            },
+            batch: self.batch,
+            sending_queue: self.sending_queue,
+            retry_on_failure: self.retry_on_failure,
         })
     }
 }

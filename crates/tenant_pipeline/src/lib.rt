@@ -28,7 +28,6 @@ mod pipeline;
 mod place;
 mod post;
 mod reply;
-mod section;
 mod send;
 mod timers;
 mod undo;

@@ -19,7 +19,6 @@ ghost use Rattle.tenant_pipeline.specs.StateIn.{policies_of, state_of, state_in}
 ghost use Rattle.tenant_pipeline.specs.Invariant.{PipelineInvariantBy, PipelineInvariant, IsSwept};
 ghost use Rattle.tenant_pipeline.specs.Steps.{StandsFor, Answers, FollowsFromState};
 
-use crate::section::copied_section;
 use decision_cache::{DecisionCaches, HashKeys};
 use drop_ledger::Ledger;
 use otlp_prepare::Prepared;
@@ -84,7 +83,7 @@ impl Pipeline {
         ensures swept { IfOk result (λ made. IsSwept made) }
         ensures tenant { IfOk result (λ made. made.tenant ≡ tenant) }
     {
-        let section = copied_section(section)?;
+        let section = section.copy()?;
         let sender = SendQueue::new(alloc, &section.sending_queue, &section.retry_on_failure)?;
         let batcher = SpanBatcher::new(
             alloc,

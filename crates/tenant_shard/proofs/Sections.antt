@@ -2,8 +2,8 @@
 use Rattle.std.proofs.Common.{◌≡◌, ◌≢◌, ℕ, List, [], ◌∷◌, ◌++◌, refl, arith, Bool, true, false, eqb, cond, None, inl, inr, ◌⊎◌}
 use Rattle.std.specs.List.{list_any}
 use Rattle.std.proofs.lemmas.Bool.Decides.{nat_tests}
-use Rattle.tail_settings.specs.Settings.{SettingsData}
-use Rattle.tenant_shard.specs.Table.{section_at, section_of}
+use Rattle.tail_settings.specs.Settings.{SettingsData, section_at}
+use Rattle.tenant_shard.specs.Table.{section_of}
 
 any-push_other : (E : List ℕ) (t u : ℕ) → t ≢ u → list_any (λ m. eqb m u) (E ++ t ∷ []) ≡ list_any (λ m. eqb m u) E
 any-push_other [] t u other = grind (arith, nat_tests)

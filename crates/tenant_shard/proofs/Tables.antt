@@ -3,7 +3,7 @@ use Rattle.std.proofs.Common.{◌≡◌, ℕ, List, [], ◌∷◌, ◌++◌, ref
 use Rattle.std.proofs.lemmas.Bool.{cases_eq}
 use Rattle.std.specs.List.{insert}
 use Rattle.tail_settings.specs.Section.{SectionData}
-use Rattle.tail_settings.specs.Settings.{SettingsData}
+use Rattle.tail_settings.specs.Settings.{SettingsData, section_at}
 use Rattle.tail_policy.specs.declared.note.TraceNote.{TraceNote}
 use Rattle.tenant_rules.specs.State.{State}
 use Rattle.tenant_stores.specs.declared.stores.Stores.{Stores}
@@ -13,7 +13,7 @@ use Rattle.tenant_pipeline.specs.Steps.{StandsFor}
 use Rattle.tenant_shard.specs.View.{View, kept_of}
 use Rattle.tenant_shard.specs.Lists.{MemberStands, ShardStands}
 use Rattle.tenant_shard.specs.Members.{views, IsGapFor}
-use Rattle.tenant_shard.specs.Table.{section_at, section_of, opened}
+use Rattle.tenant_shard.specs.Table.{section_of, opened}
 use Rattle.tenant_shard.proofs.Frame.{kept_insert, kept_insert_other}
 use Rattle.tenant_shard.proofs.Sections.{section_of-push_other, section_of-push_same, section_of-is}
 

@@ -1,14 +1,10 @@
 -- The members of a shard, by the settings and a list of numbers, and which numbers stand in which shard's. This
 -- project's own rule.
-use Rattle.std.specs.Prelude.{◌≡◌, ℕ, zero, suc, ◌%◌, ◌==◌, true, List, [], ◌∷◌, ◌++◌, length, Option, None, if◌then◌else◌, option_map, slice_get}
+use Rattle.std.specs.Prelude.{◌≡◌, ℕ, ◌%◌, ◌==◌, true, List, [], map, filter, Option, None, if◌then◌else◌}
 use Rattle.std.specs.List.{list_any}
 use Rattle.tail_settings.specs.Section.{SectionData}
-use Rattle.tail_settings.specs.Settings.{SettingsData}
+use Rattle.tail_settings.specs.Settings.{SettingsData, section_at}
 use Rattle.tenant_shard.specs.Lists.{Lists}
-
--- the section of a tenant number of the table
-abbrev pub section_at : SettingsData → ℕ → Option SectionData
-section_at settings number = option_map (λ tenant. tenant.section) (slice_get settings.tenants number)
 
 -- a member is a tenant number of the table that stands in the list
 abbrev pub section_of : SettingsData → List ℕ → ℕ → Option SectionData
@@ -23,16 +19,10 @@ opened settings members = record {
   known = λ tenant. true;
 }
 
--- of the numbers below a count, those that leave a shard's number over when divided by the number of shards
-abbrev pub members_below : ℕ → ℕ → ℕ → List ℕ
-members_below shards shard zero = []
-members_below shards shard (suc tenant) =
-    if tenant % shards == shard then members_below shards shard tenant ++ tenant ∷ []
-    else members_below shards shard tenant
-
--- the numbers of a shard's tenants
+-- the numbers of a shard's tenants: those that leave the shard's over when divided by the number of shards
 abbrev pub members_of : SettingsData → ℕ → List ℕ
-members_of table shard = members_below table.global.shards shard (length table.tenants)
+members_of table shard =
+    filter (λ number. number % table.global.shards == shard) (map (λ tenant. tenant.number) table.tenants)
 
 -- each tenant of the table is in one shard, with its own section: in that whose number its own leaves over. Nobody else
 -- is in any

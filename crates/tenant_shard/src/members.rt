@@ -13,9 +13,9 @@ pub fn members_of(alloc: Global, settings: &Settings, shard: u32) -> Result<Vec<
     ensures { IfOk result (λ members. members.items ≡ members_of (settings_view settings.now) shard) }
 {
     let mut members = Vec::new(alloc);
-    for tenant in 0..settings.tenants_len() {
-        if tenant % settings.global.shards == shard {
-            members.push(tenant)?;
+    'tenants: for tenant in settings.tenants.values() {
+        if tenant.number % settings.global.shards == shard {
+            members.push(tenant.number)?;
         }
     }
     Ok(members)

@@ -1,7 +1,7 @@
 -- Each tenant's lines are what it alone is answered to its own commands.
 use Rattle.std.proofs.Common.{◌≡◌, ◌≢◌, ◌+◌, ◌%◌, ◌==◌, ◌⊎◌, ℕ, Bool, true, false, cond, nat_lt, List, [], ◌∷◌, ◌++◌, codes, Option, Some, None, refl, ap, sym, subst, ◌∙◌, inl, inr}
 use Rattle.std.specs.Bool.{MatchBool}
-use Rattle.std.specs.List.{slice_get, filter}
+use Rattle.std.specs.List.{filter}
 use Rattle.std.specs.Option.{option_map}
 use Rattle.std.specs.Str.{bytes_eq}
 use Rattle.std.proofs.lemmas.Bool.{ne_eqb, eq-eqb}
@@ -10,7 +10,7 @@ use Rattle.std.proofs.lemmas.List.{append-nil, append_assoc}
 use Rattle.std.proofs.lemmas.Option.{same_Some}
 use Rattle.std.proofs.lemmas.Slice.Eq.{bytes_eq-Decides}
 use Rattle.tail_settings.specs.Section.{SectionData}
-use Rattle.tail_settings.specs.Settings.{SettingsData, TenantData}
+use Rattle.tail_settings.specs.Settings.{SettingsData, TenantData, tenant_at, section_at, number_of}
 use Rattle.tenant_rules.specs.declared.reply.StepReply.{StepReply as What}
 use Rattle.tenant_rules.specs.declared.reply.StepReply.TheVariants as replies
 use Rattle.tenant_rules.specs.Own.{Own}
@@ -24,7 +24,6 @@ use Rattle.tenant_shard.specs.Outcomes.{OwnStep, plain, Answered, named, is_take
 use Rattle.tenant_shard.specs.Pick.{ready_after, ready_at}
 use Rattle.shard_agenda.specs.Pick.{IsPick}
 use Rattle.tenant_shard.specs.Run.{IsTurned, recorded}
-use Rattle.tenant_shard.specs.Table.{section_at}
 use Rattle.replay_script.specs.Command.{CommandData, Post, Turn, Answer, Report, Drain}
 use Rattle.replay_script.specs.Line.{Kind, Skipped, Says, Faulty, kind_of, lines_of}
 use Rattle.replay_script.specs.Answer.{reply_text}
@@ -33,14 +32,14 @@ use Rattle.replay_script.specs.Transcript as script
 use Rattle.replay_script.proofs.Lines.{line_ended}
 use Rattle.replay_script.proofs.Plain.{IsPlain}
 use Rattle.trace_collector.specs.Outcomes.{outcome_text, told_text, bad_protobuf}
-use Rattle.trace_collector.specs.Answered.{section_in, lists_of, joined, posted, IsStepped, IsSteppedFor, IsPosted, IsPostedTo, IsAskedOf, number_of}
+use Rattle.trace_collector.specs.Answered.{section_in, lists_of, joined, posted, IsStepped, IsSteppedFor, IsPosted, IsPostedTo, IsAskedOf}
 use Rattle.trace_collector.specs.Answered as collector
 use Rattle.trace_collector.specs.Own.{names, named_by, is_own, of_any_shard, commands_from, commands_of, own_among}
 use Rattle.trace_collector.specs.Alone.{IsStepAlone, IsPostAlone, IsReadyBy, IsAnsweredAlone, AnswersAlone, EachAlone}
 use Rattle.trace_collector.specs.Script.{ScriptText, BeginsScriptText, ScriptToldSoFar, no_steps}
 use Rattle.trace_collector.proofs.OneLine.{IsWord, IsLineOf, reply_line, told_line, idle_line}
 use Rattle.trace_collector.proofs.ToldPlain.{answer_plain}
-use Rattle.trace_collector.proofs.Named.{AreNamed, found_named, name_of_number}
+use Rattle.trace_collector.proofs.Named.{AreNamed, name_of_number}
 use Rattle.trace_collector.proofs.Places.{some_same}
 use Rattle.trace_collector.proofs.Taken.{own_policies, piped_told, joins, named_text, stepped_told, stepped_others}
 
@@ -59,14 +58,14 @@ is_false false e = refl
 
 -- a command of one tenant, as all see it
 one_tenant : (settings : SettingsData) (pasts later : ℕ → List Own) (command : CommandData) (line : List ℕ) (number : ℕ) (tenant : TenantData) → AreNamed settings
-    → slice_get settings.tenants number ≡ Some tenant → (is : IsLineOf tenant.name line)
+    → tenant_at settings number ≡ Some tenant → (is : IsLineOf tenant.name line)
     → ((other : List ℕ) → is_own other (named_by command) is.content ≡ bytes_eq tenant.name other)
     → IsAnsweredAlone tenant.name tenant.section (pasts number) (of_any_shard command) line (later number)
     → ((other : ℕ) → other ≢ number → later other ≡ pasts other)
-    → (other : ℕ) (seer : TenantData) → slice_get settings.tenants other ≡ Some seer → Sees seer command line (pasts other) (later other)
+    → (other : ℕ) (seer : TenantData) → tenant_at settings other ≡ Some seer → Sees seer command line (pasts other) (later other)
 one_tenant settings pasts later command line number tenant are at is owns alone others other seer at_other = elim (eqb_tells other number) [
   | inl here ↦
-      let same : tenant ≡ seer = some_same (slice_get settings.tenants number) tenant seer at (subst (λ n. slice_get settings.tenants n ≡ Some seer) here.1 at_other) in
+      let same : tenant ≡ seer = some_same (tenant_at settings number) tenant seer at (subst (λ n. tenant_at settings n ≡ Some seer) here.1 at_other) in
       let yes : bytes_eq tenant.name tenant.name ≡ true = (bytes_eq-Decides tenant.name tenant.name).1 refl in
       let sees : Sees tenant command line (pasts number) (later number) = record {
         content = is.content;
@@ -89,11 +88,11 @@ one_tenant settings pasts later command line number tenant are at is owns alone 
 some_line : (a b : List ℕ) → ◌≡◌ {A = Option (List ℕ)} (Some a) (Some b) → a ≡ b
 some_line a b e = same_Some a b e
 
-section_is : (settings : SettingsData) (number : ℕ) (tenant : TenantData) → slice_get settings.tenants number ≡ Some tenant → section_at settings number ≡ Some tenant.section
+section_is : (settings : SettingsData) (number : ℕ) (tenant : TenantData) → tenant_at settings number ≡ Some tenant → section_at settings number ≡ Some tenant.section
 section_is settings number tenant at = ap (option_map (λ t. t.section)) at
 
 -- what a step that names a tenant is answered is what the tenant alone is answered
-stepped_alone : (settings : SettingsData) (pasts later : ℕ → List Own) (number : ℕ) (tenant : TenantData) (step : OwnStep) (line : List ℕ) → slice_get settings.tenants number ≡ Some tenant
+stepped_alone : (settings : SettingsData) (pasts later : ℕ → List Own) (number : ℕ) (tenant : TenantData) (step : OwnStep) (line : List ℕ) → tenant_at settings number ≡ Some tenant
     → IsWord tenant.name → is_taken tenant.section step ≡ true → IsSteppedFor settings pasts number step (Some line) later
     → IsLineOf tenant.name line × IsStepAlone tenant.name tenant.section (pasts number) step.step line (later number)
 stepped_alone settings pasts later number tenant step line at word taken stepped =
@@ -107,7 +106,7 @@ stepped_alone settings pasts later number tenant step line at word taken stepped
 
 -- what a body is answered is what its tenant alone is answered
 posted_alone : (settings : SettingsData) (pasts later : ℕ → List Own) (number : ℕ) (tenant : TenantData) (name : List ℕ) (moment : ℕ) (body line : List ℕ)
-    → slice_get settings.tenants number ≡ Some tenant → name ≡ tenant.name → IsWord tenant.name → IsPosted settings pasts number name moment body (Some line) later
+    → tenant_at settings number ≡ Some tenant → name ≡ tenant.name → IsWord tenant.name → IsPosted settings pasts number name moment body (Some line) later
     → IsLineOf tenant.name line × IsPostAlone tenant.name tenant.section (pasts number) moment body line (later number)
 posted_alone settings pasts later number tenant name moment body line at same word (inl h) =
     let section : h.0 ≡ tenant.section = some_same (section_at settings number) h.0 tenant.section h.2 (section_is settings number tenant at) in
@@ -127,10 +126,10 @@ posted_others settings pasts later tenant name moment body line other apart (inr
 
 post_sees : (settings : SettingsData) (pasts later : ℕ → List Own) (found : Option ℕ) (name : List ℕ) (moment : ℕ) (body line : List ℕ) → AreNamed settings
     → number_of settings name ≡ found → IsPostedTo settings pasts found name moment body (Some line) later
-    → (other : ℕ) (seer : TenantData) → slice_get settings.tenants other ≡ Some seer → Sees seer (Post name moment body) line (pasts other) (later other)
+    → (other : ℕ) (seer : TenantData) → tenant_at settings other ≡ Some seer → Sees seer (Post name moment body) line (pasts other) (later other)
 post_sees settings pasts later None name moment body line are is posted other seer at_other = absurd (let never = posted.0 in cc)
 post_sees settings pasts later (Some number) name moment body line are is posted other seer at_other =
-    let found = found_named settings.tenants name number is in
+    let found = are.known name number is in
     let alone = posted_alone settings pasts later number found.0 name moment body line found.1 found.2 (are.words number found.0 found.1) posted in
     one_tenant settings pasts later (Post name moment body) line number found.0 are found.1 alone.0 (λ reader. ap (λ n. bytes_eq n reader) found.2) alone.1
     (λ reader apart. posted_others settings pasts later number name moment body (Some line) reader apart posted) other seer at_other
@@ -140,10 +139,10 @@ ask_sees : (settings : SettingsData) (pasts later : ℕ → List Own) (found : O
     → number_of settings name ≡ found → IsAskedOf settings pasts found step (Some line) later
     → ((reader content : List ℕ) → is_own reader (named_by command) content ≡ bytes_eq name reader)
     → ((n : List ℕ) (s : SectionData) (past behind : List Own) (l : List ℕ) → IsStepAlone n s past step l behind → IsAnsweredAlone n s past (of_any_shard command) l behind)
-    → (other : ℕ) (seer : TenantData) → slice_get settings.tenants other ≡ Some seer → Sees seer command line (pasts other) (later other)
+    → (other : ℕ) (seer : TenantData) → tenant_at settings other ≡ Some seer → Sees seer command line (pasts other) (later other)
 ask_sees settings pasts later None name command step line are is asked owns alone_is other seer at_other = absurd (let never = asked.0 in cc)
 ask_sees settings pasts later (Some number) name command step line are is asked owns alone_is other seer at_other =
-    let found = found_named settings.tenants name number is in
+    let found = are.known name number is in
     let alone = stepped_alone settings pasts later number found.0 (plain step) line found.1 (are.words number found.0 found.1) refl asked in
     one_tenant settings pasts later command line number found.0 are found.1 alone.0 (λ reader. owns reader alone.0.content ∙ ap (λ n. bytes_eq n reader) found.2)
     (alone_is found.0.name found.0.section (pasts number) (later number) line alone.1)
@@ -190,10 +189,10 @@ idle_sees settings pasts later shard moment outcome line idle is left other seer
     }
 
 worked_sees : (settings : SettingsData) (pasts later : ℕ → List Own) (shard moment number : ℕ) (section : SectionData) (tenant : TenantData) (outcome : Outcome) (line : List ℕ) → AreNamed settings
-    → section_in settings shard number ≡ Some section → IsReadyBy section (pasts number) moment → slice_get settings.tenants number ≡ Some tenant → tenant.section ≡ section
+    → section_in settings shard number ≡ Some section → IsReadyBy section (pasts number) moment → tenant_at settings number ≡ Some tenant → tenant.section ≡ section
     → outcome ≡ named number (Answered (answer section (pasts number) (own.Turn moment)))
     → line ≡ outcome_text settings shard outcome → later ≡ joined None (plain (own.Turn moment)) outcome (lists_of settings pasts shard)
-    → (other : ℕ) (seer : TenantData) → slice_get settings.tenants other ≡ Some seer → Sees seer (Turn shard moment) line (pasts other) (later other)
+    → (other : ℕ) (seer : TenantData) → tenant_at settings other ≡ Some seer → Sees seer (Turn shard moment) line (pasts other) (later other)
 worked_sees settings pasts later shard moment number section tenant outcome line are found ready_by at same_section told is left other seer at_other =
     let said = answer tenant.section (pasts number) (own.Turn moment) in
     let outcome_is : outcome ≡ named number (Answered (answer tenant.section (pasts number) (own.Turn moment))) =
@@ -215,24 +214,24 @@ worked_sees settings pasts later shard moment number section tenant outcome line
 turned_sees : (settings : SettingsData) (pasts later : ℕ → List Own) (shard moment : ℕ) (picked : Option ℕ) (outcome : Outcome) (line : List ℕ) → AreNamed settings
     → IsPick (ready_at (lists_of settings pasts shard) []) (own.moment_of (own.Turn moment)) picked → IsTurned (lists_of settings pasts shard) (plain (own.Turn moment)) picked outcome
     → line ≡ outcome_text settings shard outcome → later ≡ joined None (plain (own.Turn moment)) outcome (lists_of settings pasts shard)
-    → (other : ℕ) (seer : TenantData) → slice_get settings.tenants other ≡ Some seer → Sees seer (Turn shard moment) line (pasts other) (later other)
+    → (other : ℕ) (seer : TenantData) → tenant_at settings other ≡ Some seer → Sees seer (Turn shard moment) line (pasts other) (later other)
 turned_sees settings pasts later shard moment None outcome line are pick turned is left other seer at_other =
     idle_sees settings pasts later shard moment outcome line turned is left other seer
 turned_sees settings pasts later shard moment (Some number) outcome line are pick turned is left other seer at_other =
     let section = has_section (section_in settings shard number) (pasts number) None pick.0 pick.1 in
-    let tenant = tenant_of (slice_get settings.tenants number) section.0 (within_shard (number % settings.global.shards == shard) (section_at settings number) section.0 section.1) in
+    let tenant = tenant_of (tenant_at settings number) section.0 (within_shard (number % settings.global.shards == shard) (section_at settings number) section.0 section.1) in
     worked_sees settings pasts later shard moment number section.0 tenant.0 outcome line are section.1 (pick.0, section.2, pick.2) tenant.1 tenant.2
     (piped_told number section.0 (section_in settings shard number) (pasts number) (plain (own.Turn moment)) outcome section.1 refl turned) is left other seer at_other
 
 turn_sees : (settings : SettingsData) (pasts later : ℕ → List Own) (shard moment : ℕ) (below : Bool) (line : List ℕ) → AreNamed settings
     → MatchBool below (IsStepped settings pasts shard None (plain (own.Turn moment)) (Some line) later) ((◌≡◌ {A = Option (List ℕ)} (Some line) None) × (later ≡ pasts))
-    → (other : ℕ) (seer : TenantData) → slice_get settings.tenants other ≡ Some seer → Sees seer (Turn shard moment) line (pasts other) (later other)
+    → (other : ℕ) (seer : TenantData) → tenant_at settings other ≡ Some seer → Sees seer (Turn shard moment) line (pasts other) (later other)
 turn_sees settings pasts later shard moment true line are stepped other seer at_other =
     turned_sees settings pasts later shard moment stepped.1.0 stepped.0 line are stepped.1.1 stepped.1.2 (some_line _ _ stepped.2) stepped.3 other seer at_other
 turn_sees settings pasts later shard moment false line are none other seer at_other = absurd (let never = none.0 in cc)
 
 sees : (settings : SettingsData) (pasts later : ℕ → List Own) (command : CommandData) (line : List ℕ) → AreNamed settings → collector.IsAnswered settings pasts command (Some line) later
-    → (other : ℕ) (seer : TenantData) → slice_get settings.tenants other ≡ Some seer → Sees seer command line (pasts other) (later other)
+    → (other : ℕ) (seer : TenantData) → tenant_at settings other ≡ Some seer → Sees seer command line (pasts other) (later other)
 sees settings pasts later (Post name moment body) line are answered =
     post_sees settings pasts later (number_of settings name) name moment body line are refl answered
 sees settings pasts later (Turn shard moment) line are answered =
@@ -247,7 +246,7 @@ sees settings pasts later (Drain name moment) line are answered =
     ask_sees settings pasts later (number_of settings name) name (Drain name moment) (own.Drain moment) line are refl answered
     (λ reader content. refl) (λ n s past behind l alone. alone)
 
-module _ (settings : SettingsData) (are : AreNamed settings) (number : ℕ) (tenant : TenantData) (at : slice_get settings.tenants number ≡ Some tenant) where
+module _ (settings : SettingsData) (are : AreNamed settings) (number : ℕ) (tenant : TenantData) (at : tenant_at settings number ≡ Some tenant) where
   abbrev LinesAlone : List Own → List CommandData → List (List ℕ) → Type 0
   LinesAlone past commands lines = AnswersAlone tenant.name tenant.section past (own_among tenant.name commands lines) (filter (names tenant.name) lines)
 

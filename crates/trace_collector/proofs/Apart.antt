@@ -1,9 +1,11 @@
 -- A tenant's own commands in a collector of its own.
 use Rattle.std.proofs.Common.{◌≡◌, ◌%◌, ◌==◌, ℕ, zero, suc, Bool, true, false, cond, List, [], ◌∷◌, ◌++◌, codes, Option, Some, None, refl, ap, sym, subst, ◌∙◌, arith, inl, inr}
 use Rattle.std.specs.Str.{bytes_eq}
+use Rattle.std.proofs.lemmas.Bool.{ne_eqb}
 use Rattle.std.proofs.lemmas.Option.{same_Some}
 use Rattle.std.proofs.lemmas.Slice.Eq.{bytes_eq-Decides}
-use Rattle.tail_settings.specs.Settings.{SettingsData, TenantData}
+use Rattle.tail_settings.specs.Section.{SectionData}
+use Rattle.tail_settings.specs.Settings.{SettingsData, TenantData, section_at, number_of}
 use Rattle.tenant_rules.specs.declared.reply.StepReply.{StepReply}
 use Rattle.tenant_rules.specs.Own.{Own}
 use Rattle.tenant_rules.specs.Own as own
@@ -17,7 +19,7 @@ use Rattle.tenant_shard.specs.Run.{IsAnswered, IsTakenOrNot}
 use Rattle.replay_script.specs.Command.{CommandData, Post, Turn, Answer, Report, Drain}
 use Rattle.replay_script.specs.Line.{lines_of}
 use Rattle.trace_collector.specs.Outcomes.{outcome_text, told_text}
-use Rattle.trace_collector.specs.Answered.{lists_of, joined, posted, IsStepped, IsSteppedFor, IsPosted, IsPostedTo, IsAskedOf, number_of}
+use Rattle.trace_collector.specs.Answered.{lists_of, joined, posted, IsStepped, IsSteppedFor, IsPosted, IsPostedTo, IsAskedOf}
 use Rattle.trace_collector.specs.Answered as collector
 use Rattle.trace_collector.specs.Own.{named_by, is_own, of_any_shard, commands_of, own_among, own_commands, lines_for}
 use Rattle.trace_collector.specs.Alone.{IsReadyBy, IsStepAlone, IsPostAlone, IsAnsweredAlone, AnswersAlone}
@@ -97,7 +99,10 @@ module _ (settings : SettingsData) (tenant : TenantData) where
   -- no other tenant is ever ready
   no_other : (pasts : ℕ → List Own) (other moment : ℕ) → ready_at (lists_of (only settings tenant) pasts 0) [] (suc other) ≡ Some moment → ⊥
   no_other pasts other moment is =
-      let never : ◌≡◌ {A = Option ℕ} None (Some moment) = sym (none_either (suc other % 1 == 0) (pasts (suc other)) None) ∙ is in cc
+      let apart : (0 == suc other) ≡ false = ne_eqb 0 (suc other) (λ e. omega (arith, e)) in
+      let none : section_at (only settings tenant) (suc other) ≡ None = rw apart refl in
+      let found = subst (λ (section : Option SectionData). ready_after (cond (suc other % 1 == 0) section None) (pasts (suc other)) true None ≡ Some moment) none is in
+      let never : ◌≡◌ {A = Option ℕ} None (Some moment) = sym (none_either (suc other % 1 == 0) (pasts (suc other)) None) ∙ found in cc
 
   first_of_one : (pasts : ℕ → List Own) (least : ℕ) → ready (state tenant.section (pasts 0)) ≡ Some least → (other moment : ℕ)
       → ready_at (lists_of (only settings tenant) pasts 0) [] other ≡ Some moment → NotAfter least 0 moment other

@@ -51,7 +51,7 @@ module _ (one_value : (body : List ℕ) (v v' : RequestData) → IsValue body v 
   told_in : (name : List ℕ) (section : SectionData) (commands : List CommandData) (lines : List (List ℕ)) → IsToldIn name section commands lines → AnswersAlone name section [] commands lines
   told_in name section commands lines is =
       let alone : AnswersAlone name section [] (own_commands name is.script is.text) (lines_for name is.text) =
-      whole_alone is.settings is.script is.text is.fault (are_named is.settings_text is.settings is.means) is.told is.number (record { name = name; section = section }) is.tenant_is in
+      whole_alone is.settings is.script is.text is.fault (are_named is.settings_text is.settings is.means) is.told is.number (record { number = is.number; name = name; section = section }) is.tenant_is in
       subst (λ cs. AnswersAlone name section [] cs lines) is.commands_are
       (subst (λ ls. AnswersAlone name section [] (own_commands name is.script is.text) ls) is.lines_are alone)
 

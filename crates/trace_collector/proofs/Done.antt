@@ -5,7 +5,7 @@ use Rattle.otlp_trace.specs.Data.{RequestData}
 use Rattle.otlp_read.specs.Value.{IsValue}
 use Rattle.otlp_read.specs.declared.fault.ReadFault.{ReadFault}
 use Rattle.tail_settings.specs.Section.{SectionData}
-use Rattle.tail_settings.specs.Settings.{SettingsData, settings_view}
+use Rattle.tail_settings.specs.Settings.{SettingsData, settings_view, section_at, number_of}
 use Rattle.tenant_rules.specs.Own.{Own}
 use Rattle.tenant_rules.specs.Own as own
 use Rattle.otlp_prepare.specs.Prepared.{PreparedData, IsPrepared}
@@ -14,12 +14,11 @@ use Rattle.otlp_prepare.specs.declared.refusal.Refusal.TheVariants as refusal
 use Rattle.tenant_shard.specs.declared.step.Step.{Step}
 use Rattle.tenant_shard.specs.declared.step.Step.TheVariants as steps
 use Rattle.tenant_shard.specs.Outcomes.{plain, own_step, named_in}
-use Rattle.tenant_shard.specs.Table.{section_at}
 use Rattle.replay_script.specs.Command.{CommandData, Post, Turn}
 use Rattle.replay_script.specs.Answer.{reply_text}
 use Rattle.trace_collector.specs.declared.shards.Shards.{Shards}
 use Rattle.trace_collector.specs.Outcomes.{outcome_text, bad_protobuf}
-use Rattle.trace_collector.specs.Answered.{IsStepped, IsSteppedFor, HasNoValue, IsPosted, IsPostedTo, IsAskedOf, IsAnswered, number_of}
+use Rattle.trace_collector.specs.Answered.{IsStepped, IsSteppedFor, HasNoValue, IsPosted, IsPostedTo, IsAskedOf, IsAnswered}
 use Rattle.trace_collector.specs.Standing.{Answers, IsDone}
 use Rattle.trace_collector.proofs.Stands.{stands_after}
 

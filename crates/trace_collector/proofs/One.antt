@@ -7,19 +7,18 @@ use Rattle.otlp_trace.specs.Data.{RequestData}
 use Rattle.otlp_read.specs.Value.{IsValue, value_of}
 use Rattle.otlp_read.specs.declared.fault.ReadFault.{ReadFault}
 use Rattle.tail_settings.specs.Section.{SectionData}
-use Rattle.tail_settings.specs.Settings.{SettingsData}
+use Rattle.tail_settings.specs.Settings.{SettingsData, section_at, number_of}
 use Rattle.tenant_rules.specs.Own.{Own}
 use Rattle.tenant_rules.specs.Own as own
 use Rattle.tenant_shard.specs.declared.step.Outcome.{Outcome}
 use Rattle.shard_agenda.specs.Pick.{IsPick, NotAfter}
 use Rattle.tenant_shard.specs.Outcomes.{OwnStep, plain, is_taken}
 use Rattle.tenant_shard.specs.Run.{IsTakenOrNot, IsAnswered, IsTurned, IsOutcomeOf}
-use Rattle.tenant_shard.specs.Table.{section_at}
 use Rattle.replay_script.specs.Command.{CommandData, Post, Turn, Answer, Report, Drain}
 use Rattle.replay_script.specs.Line.{Kind, Skipped, Says, Faulty, kind_of}
 use Rattle.replay_script.specs.Transcript.{Answered, Goes, Told, BeginsTold}
 use Rattle.trace_collector.specs.Outcomes.{outcome_text}
-use Rattle.trace_collector.specs.Answered.{section_in, lists_of, joined, posted, IsStepped, IsSteppedFor, IsPosted, IsPostedTo, IsAskedOf, number_of}
+use Rattle.trace_collector.specs.Answered.{section_in, lists_of, joined, posted, IsStepped, IsSteppedFor, IsPosted, IsPostedTo, IsAskedOf}
 use Rattle.trace_collector.specs.Answered as of_script
 
 module _ {H : Type 0} (answers : H → CommandData → Option (List ℕ) → H → Type 0)

@@ -6,7 +6,7 @@ use Rattle.std.proofs.lemmas.Bool.Decides.{eqb_tells}
 use Rattle.std.proofs.lemmas.List.{length-set}
 use Rattle.std.proofs.lemmas.Option.{slice_get_within}
 use Rattle.tail_settings.specs.Section.{SectionData}
-use Rattle.tail_settings.specs.Settings.{SettingsData}
+use Rattle.tail_settings.specs.Settings.{SettingsData, section_at}
 use Rattle.tenant_rules.specs.Own.{Own}
 use Rattle.tenant_rules.specs.State.{State}
 use Rattle.tenant_shard.specs.declared.step.Step.{Step}
@@ -14,7 +14,6 @@ use Rattle.tenant_shard.specs.declared.step.Outcome.{Outcome}
 use Rattle.tenant_shard.specs.View.{View, kept_of}
 use Rattle.tenant_shard.specs.Lists.{MemberStands, ShardStands}
 use Rattle.tenant_shard.specs.Outcomes.{OwnStep, own_step, named_in, is_own}
-use Rattle.tenant_shard.specs.Table.{section_at}
 use Rattle.tenant_shard.specs.Run.{ShardSteps, recorded, after}
 use Rattle.trace_collector.specs.Outcomes.{outcome_text}
 use Rattle.trace_collector.specs.Answered.{section_in, lists_of, IsStepped}

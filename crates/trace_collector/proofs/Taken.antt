@@ -8,7 +8,7 @@ use Rattle.std.specs.Cmp.Lexicographic.{nat_list_eq_equiv, lists_equiv}
 use Rattle.otlp_parts.specs.Texts.{invalid_in}
 use Rattle.tail_settings.specs.Policy.{PolicyData}
 use Rattle.tail_settings.specs.Section.{SectionData}
-use Rattle.tail_settings.specs.Settings.{SettingsData}
+use Rattle.tail_settings.specs.Settings.{SettingsData, section_at}
 use Rattle.tenant_rules.specs.declared.reply.Reply.{Reply}
 use Rattle.tenant_rules.specs.declared.reply.StepReply.{StepReply}
 use Rattle.tenant_rules.specs.declared.reply.StepReply.TheVariants as replies
@@ -23,7 +23,6 @@ use Rattle.tenant_pipeline.specs.Prepared.{invalid_arrival}
 use Rattle.tenant_shard.specs.declared.step.Outcome.{Outcome}
 use Rattle.tenant_shard.specs.Outcomes.{OwnStep, is_taken, Answered, named}
 use Rattle.tenant_shard.specs.Run.{IsTakenOrNot, IsAnswered, recorded}
-use Rattle.tenant_shard.specs.Table.{section_at}
 use Rattle.trace_collector.specs.Outcomes.{name_at, outcome_text, told_text}
 use Rattle.trace_collector.specs.Answered.{section_in, IsSteppedFor, posted}
 use Rattle.trace_collector.specs.Law.{ValuesAreTaken}

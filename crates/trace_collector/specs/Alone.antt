@@ -1,9 +1,9 @@
 -- What each tenant is told in a replay, in which no other tenant occurs. This project's own rule.
-use Rattle.std.specs.Prelude.{◌≡◌, ◌⊎◌, ◌≤◌, ℕ, List, [], ◌∷◌, ◌++◌, Option, Some, Result, Ok, Err, slice_get, codes, replicate}
+use Rattle.std.specs.Prelude.{◌≡◌, ◌⊎◌, ◌≤◌, ℕ, List, [], ◌∷◌, ◌++◌, Option, Some, Result, Ok, Err, codes, replicate}
 use Rattle.otlp_trace.specs.Data.{RequestData}
 use Rattle.otlp_read.specs.Value.{IsValue}
 use Rattle.tail_settings.specs.Section.{SectionData}
-use Rattle.tail_settings.specs.Settings.{SettingsData, TenantData, settings_of}
+use Rattle.tail_settings.specs.Settings.{SettingsData, TenantData, tenant_at, settings_of}
 use Rattle.otlp_parts.specs.Texts.{invalid_in}
 use Rattle.tenant_rules.specs.Own.{Own}
 use Rattle.tenant_rules.specs.Own as own
@@ -66,7 +66,7 @@ AnswersAlone name section past (command ∷ commands) [] = ⊥
 -- each tenant's lines of the text are those that it would be answered alone to its own commands of the script, whatever
 -- the other tenants' sections and commands
 abbrev pub EachAlone : SettingsData → List ℕ → List ℕ → Type 0
-EachAlone settings script text = (number : ℕ) (tenant : TenantData) → slice_get settings.tenants number ≡ Some tenant
+EachAlone settings script text = (number : ℕ) (tenant : TenantData) → tenant_at settings number ≡ Some tenant
     → AnswersAlone tenant.name tenant.section [] (own_commands tenant.name script text) (lines_for tenant.name text)
 
 -- so it is of what a replay has written, by how it ended: after a failed call of a text that begins so
@@ -89,7 +89,7 @@ pub record IsToldIn (name : List ℕ) (section : SectionData) (commands : List C
   pub text : List ℕ
   pub fault : Option ℕ
   pub means : settings_of settings_text ≡ Ok settings
-  pub tenant_is : slice_get settings.tenants number ≡ Some (record { name = name; section = section })
+  pub tenant_is : tenant_at settings number ≡ Some (record { number = number; name = name; section = section })
   pub told : ScriptText settings script text fault
   pub commands_are : own_commands name script text ≡ commands
   pub lines_are : lines_for name text ≡ lines

@@ -1,11 +1,10 @@
 -- What a script's commands are answered, by the own steps that each tenant has had before, the newest first. This
 -- project's own rule.
-use Rattle.std.specs.Prelude.{◌≡◌, ℕ, ◌%◌, ◌==◌, ◌⊎◌, true, List, [], Option, Some, None, if◌then◌else◌, nat_lt, position, MatchBool}
-use Rattle.std.specs.Str.{bytes_eq}
+use Rattle.std.specs.Prelude.{◌≡◌, ℕ, ◌%◌, ◌==◌, ◌⊎◌, true, List, [], Option, Some, None, if◌then◌else◌, nat_lt, MatchBool}
 use Rattle.otlp_trace.specs.Data.{RequestData}
 use Rattle.otlp_read.specs.Value.{IsValue}
 use Rattle.tail_settings.specs.Section.{SectionData}
-use Rattle.tail_settings.specs.Settings.{SettingsData}
+use Rattle.tail_settings.specs.Settings.{SettingsData, section_at, number_of}
 use Rattle.tenant_rules.specs.Own.{Own}
 use Rattle.tenant_rules.specs.Own as own
 use Rattle.otlp_prepare.specs.Prepared.{prepared_of}
@@ -13,7 +12,6 @@ use Rattle.tenant_shard.specs.declared.step.Step.TheVariants as steps
 use Rattle.tenant_shard.specs.declared.step.Outcome.{Outcome}
 use Rattle.tenant_shard.specs.Lists.{Lists}
 use Rattle.tenant_shard.specs.Outcomes.{OwnStep, plain, own_step, whose, is_tenant}
-use Rattle.tenant_shard.specs.Table.{section_at}
 use Rattle.tenant_shard.specs.Run.{IsOutcomeOf, recorded}
 use Rattle.replay_script.specs.Command.{CommandData, Post, Turn, Answer, Report, Drain}
 use Rattle.replay_script.specs.Answer.{reply_text}
@@ -80,10 +78,6 @@ IsPostedTo settings pasts (Some tenant) name moment body line new =
 abbrev pub IsAskedOf : SettingsData → (ℕ → List Own) → Option ℕ → Own → Option (List ℕ) → (ℕ → List Own) → Type 0
 IsAskedOf settings pasts None step line new = (line ≡ None) × (new ≡ pasts)
 IsAskedOf settings pasts (Some tenant) step line new = IsSteppedFor settings pasts tenant (plain step) line new
-
--- the number of the tenant of a name
-abbrev pub number_of : SettingsData → List ℕ → Option ℕ
-number_of settings name = position (λ t. bytes_eq name t.name) settings.tenants
 
 -- the line of a command, none where it names no tenant or no shard, and the own steps afterwards
 abbrev pub IsAnswered : SettingsData → (ℕ → List Own) → CommandData → Option (List ℕ) → (ℕ → List Own) → Type 0

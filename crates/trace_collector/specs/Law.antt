@@ -3,13 +3,12 @@
 use Rattle.std.specs.Prelude.{◌≡◌, ◌⊎◌, ℕ, List, ◌∷◌, ◌++◌, Option, Some}
 use Rattle.otlp_trace.specs.Data.{RequestData}
 use Rattle.otlp_read.specs.Value.{IsValue}
-use Rattle.tail_settings.specs.Settings.{SettingsData}
+use Rattle.tail_settings.specs.Settings.{SettingsData, section_at}
 use Rattle.tail_settings.specs.Section.{SectionData}
 use Rattle.tenant_rules.specs.declared.reply.Reply.{Reply}
 use Rattle.tenant_rules.specs.declared.reply.StepReply.TheVariants as replies
 use Rattle.tenant_rules.specs.Own.{Own}
 use Rattle.tenant_rules.specs.Answers.{answer}
-use Rattle.tenant_shard.specs.Table.{section_at}
 use Rattle.replay_script.specs.Answer.{reply_text}
 use Rattle.trace_collector.specs.Outcomes.{name_at, bad_protobuf}
 use Rattle.trace_collector.specs.Alone.{post_alone}

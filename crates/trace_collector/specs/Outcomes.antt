@@ -1,8 +1,8 @@
 -- The lines that tell a script the outcomes of its steps. This project's own rule (docs/SCRIPT.md).
-use Rattle.std.specs.Prelude.{ℕ, List, [], codes, option_map, slice_get}
+use Rattle.std.specs.Prelude.{ℕ, List, [], codes, option_map}
 use Rattle.std.specs.Option.{unwrap_or}
 use Rattle.otlp_trace.specs.Text.{refusal_text}
-use Rattle.tail_settings.specs.Settings.{SettingsData}
+use Rattle.tail_settings.specs.Settings.{SettingsData, tenant_at}
 use Rattle.tenant_rules.specs.declared.reply.StepReply.{StepReply}
 use Rattle.tenant_rules.specs.declared.reply.StepReply.TheVariants as replies
 use Rattle.tenant_shard.specs.declared.step.Outcome.{Outcome}
@@ -12,7 +12,7 @@ use Rattle.replay_script.specs.Answer.{reply_text, job_text, worked_text, idle_t
 
 -- the name of a tenant number
 abbrev pub name_at : SettingsData → ℕ → List ℕ
-name_at settings tenant = unwrap_or (option_map (λ t. t.name) (slice_get settings.tenants tenant)) []
+name_at settings tenant = unwrap_or (option_map (λ t. t.name) (tenant_at settings tenant)) []
 
 -- the line of an outcome of this shard
 abbrev pub outcome_text : SettingsData → ℕ → Outcome → List ℕ

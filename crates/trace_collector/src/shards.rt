@@ -23,7 +23,7 @@ pub struct Shards<'a> {
 
 impl<'a> Shards<'a> {
     ghost use Rattle.replay_script.specs.Command as data_of;
-    ghost use Rattle.trace_collector.specs.Answered.{number_of};
+    ghost use Rattle.tail_settings.specs.Settings.{number_of};
     ghost use Rattle.trace_collector.specs.Script.{no_steps};
     ghost use Rattle.trace_collector.specs.Standing.{AllStand, Answers, IsDone};
 

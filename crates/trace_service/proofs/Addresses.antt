@@ -1,29 +1,20 @@
 -- Back ends' addresses, one tenant after the other.
-use Rattle.std.proofs.Common.{◌≡◌, ℕ, zero, suc, ◌<◌, List, [], ◌∷◌, ◌++◌, length, map, take, Option, Some, None, ap, sym, ◌∙◌, ◌+◌, add-one, arith}
-use Rattle.std.specs.Option.{option_map}
-use Rattle.std.specs.List.{slice_get}
-use Rattle.tail_settings.specs.Section.{SectionData}
-use Rattle.tail_settings.specs.Settings.{TenantData}
+use Rattle.std.proofs.Common.{◌≡◌, ℕ, List, [], ◌∷◌, ◌++◌, map, refl, ap, ◌∙◌, append_assoc, String, Global, string_bytes}
+use Rattle.std.specs.Map.{values_of}
+use Rattle.std.proofs.lemmas.List.{map-append}
+use Rattle.tail_settings.specs.declared.tenant.Tenant.{Tenant}
+use Rattle.tail_settings.specs.Settings.{tenant_view}
 
--- the section of the tenant of that number
-abbrev pub section_in : List TenantData → ℕ → Option SectionData
-section_in ts k = option_map (λ t. t.section) (slice_get ts k)
+abbrev pub address : Tenant → List ℕ
+address t = string_bytes t.section.endpoint
 
-abbrev pub endpoints : List TenantData → List (List ℕ)
-endpoints ts = map (λ t. t.section.endpoint) ts
+pub one_more : (before : List (String Global)) (x : String Global) (t : Tenant) (rest : List Tenant) → string_bytes x ≡ address t
+    → map string_bytes (before ++ x ∷ []) ++ map address rest ≡ map string_bytes before ++ map address (t ∷ rest)
+one_more before x t rest is =
+    ap (λ all. all ++ map address rest) (map-append string_bytes before (x ∷ []))
+    ∙ append_assoc (map string_bytes before) (string_bytes x ∷ []) (map address rest)
+    ∙ ap (λ a. map string_bytes before ++ a ∷ map address rest) is
 
-pub one_more : (ts : List TenantData) (k : ℕ) (s : SectionData) → Some s ≡ section_in ts k → endpoints (take (suc k) ts) ≡ endpoints (take k ts) ++ s.endpoint ∷ []
-one_more [] k s is = absurd (cc)
-one_more (t ∷ ts) zero s is =
-    let same : s ≡ t.section = cc in
-    ap (λ (x : SectionData). x.endpoint ∷ []) (sym same)
-one_more (t ∷ ts) (suc k) s is = ap (λ xs. t.section.endpoint ∷ xs) (one_more ts k s is)
-
-pub is_there : (ts : List TenantData) (k : ℕ) → k < length ts → None ≡ section_in ts k → ⊥
-is_there [] k below none = omega arith
-is_there (t ∷ ts) zero below none = absurd (cc)
-is_there (t ∷ ts) (suc k) below none = is_there ts k (omega arith) none
-
-pub pushed : (ts : List TenantData) (k : ℕ) (s : SectionData) (before after : List (List ℕ)) (x : List ℕ) → Some s ≡ section_in ts k → before ≡ endpoints (take k ts) → after ≡ before ++ x ∷ [] → x ≡ s.endpoint → after ≡ endpoints (take (k + 1) ts)
-pushed ts k s before after x at same more is =
-    rw add-one (more ∙ ap (λ e. before ++ e ∷ []) is ∙ ap (λ b. b ++ s.endpoint ∷ []) same ∙ sym (one_more ts k s at))
+pub addresses-entries : (es : List (String Global × Tenant)) → map address (values_of es) ≡ map (λ t. t.section.endpoint) (map tenant_view es)
+addresses-entries [] = refl
+addresses-entries (e ∷ es) = ap (λ all. address e.1 ∷ all) (addresses-entries es)

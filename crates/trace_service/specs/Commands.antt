@@ -1,14 +1,14 @@
 -- What the input asks for, and what is done for it and at its end. This project's own rule.
-use Rattle.std.specs.Prelude.{◌≡◌, ℕ, zero, suc, ◌%◌, ◌<◌, List, [], ◌∷◌, ◌++◌, length, take, ◌==◌, if◌then◌else◌, codes, Bool, true, false, Option, Some, None, IfSome, option_map, position, slice_get}
+use Rattle.std.specs.Prelude.{◌≡◌, ℕ, zero, suc, ◌%◌, ◌<◌, List, [], ◌∷◌, ◌++◌, length, take, ◌==◌, if◌then◌else◌, codes, Bool, true, false, Option, Some, None, IfSome, option_map}
 use Rattle.std.specs.Io.BufRead.{drop_through}
-use Rattle.std.specs.Str.{IsUtf8, bytes_eq}
+use Rattle.std.specs.Str.{IsUtf8}
 use Rattle.std.specs.Io.KnownBytes.{Appends}
 use Rattle.export_edge.specs.Work.{Through}
 use Rattle.machine_hub.specs.declared.receipt.Receipt.{Receipt}
 use Rattle.machine_hub.specs.Hub.{IsRefusedOn}
 use Rattle.replay_script.specs.Answer.{report_text}
 use Rattle.shared_hub.specs.Logs.{CallerState, IsStepOn, IsEmptyOn}
-use Rattle.tail_settings.specs.Settings.{SettingsData}
+use Rattle.tail_settings.specs.Settings.{SettingsData, tenant_at, number_of}
 use Rattle.tenant_shard.specs.declared.step.Step.{Step}
 use Rattle.tenant_shard.specs.declared.step.Step.TheVariants as steps
 use Rattle.tenant_shard.specs.declared.step.Outcome.{Outcome}
@@ -18,10 +18,6 @@ use Rattle.trace_service.specs.declared.input.ReadResult.TheVariants.{Byte, Noth
 use Rattle.trace_service.specs.declared.chore.Chore.{Chore}
 use Rattle.trace_service.specs.declared.chore.Chore.TheVariants.{Report, Drain}
 use Rattle.trace_service.specs.Moments.{Rises}
-
--- the number of the tenant of this name
-abbrev pub number_of : SettingsData → List ℕ → Option ℕ
-number_of settings name = position (λ t. bytes_eq name t.name) settings.tenants
 
 -- the line asks for the counters of the tenant of this number: `report`, a space and its name
 abbrev pub Asks : SettingsData → List ℕ → ℕ → Type 0
@@ -57,7 +53,7 @@ Comes old new End = IfSome old (λ text. (text ≡ []) × (new ≡ Some []))
 
 -- the name of the tenant of this number
 abbrev pub name_at : SettingsData → ℕ → Option (List ℕ)
-name_at settings tenant = option_map (λ t. t.name) (slice_get settings.tenants tenant)
+name_at settings tenant = option_map (λ t. t.name) (tenant_at settings tenant)
 
 -- what is printed of a report's outcome: the tenant's line, with the counters that the shard gave
 abbrev pub report_line : Option (List ℕ) → Outcome → List ℕ

@@ -9,8 +9,7 @@ use Rattle.otlp_read.specs.Value.{IsValue}
 use Rattle.otlp_trace.specs.Data.{RequestData}
 use Rattle.shared_hub.specs.Logs.{CallerState, IsStepOn}
 use Rattle.tail_settings.specs.Section.{SectionData}
-use Rattle.tail_settings.specs.Settings.{SettingsData}
-use Rattle.tenant_shard.specs.Table.{section_at}
+use Rattle.tail_settings.specs.Settings.{SettingsData, section_at}
 use Rattle.tenant_shard.specs.declared.step.Step.TheVariants as steps
 use Rattle.tenant_shard.specs.declared.step.Outcome.{Outcome}
 use Rattle.tenant_shard.specs.declared.step.Outcome.TheVariants as outcomes

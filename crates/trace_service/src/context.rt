@@ -204,8 +204,7 @@ impl<'h, J: Naming, R: Wait + Clock> Handler for WorkerContext<'h, J, R> {
 impl<'h, J: Naming, R: Wait + Clock> WorkerContext<'h, J, R> {
     ghost use Rattle.std.specs.Prelude.{◌≡◌, length};
     ghost use Rattle.http_edge.specs.Seen.{response_of};
-    ghost use Rattle.tail_settings.specs.Settings.{settings_view};
-    ghost use Rattle.tenant_shard.specs.Table.{section_at};
+    ghost use Rattle.tail_settings.specs.Settings.{settings_view, section_at};
     ghost use Rattle.trace_service.specs.Post.{IsSent};
 
     /// Posts a body to a tenant, at the moment that it now is.

@@ -377,10 +377,8 @@ fn addresses_of(alloc: Global, settings: &Settings) -> Result<Vec<String>, Alloc
         ≡ map (λ t. t.section.endpoint) (settings_view settings.now).tenants) }
 {
     let mut addresses = Vec::new(alloc);
-    for tenant in 0..settings.tenants_len() {
-        if let Some(section) = settings.section(tenant) {
-            addresses.push(section.endpoint.clone()?)?;
-        }
+    'tenants: for tenant in settings.tenants.values() {
+        addresses.push(tenant.section.endpoint.clone()?)?;
     }
     Ok(addresses)
 }

@@ -1,9 +1,11 @@
 use Rattle.std.proofs.Common.{◌≡◌, ◌↔◌, ◌==◌, ◌%◌, ℕ, zero, suc, ◌<◌, Bool, true, false, List, [], ◌∷◌, ◌++◌, Option, Some, None, Ok, Err, is_ok, length, subst, refl, sym, ap, ◌∙◌, arith, inl, inr}
 use Rattle.std.specs.Prelude.{codes, if◌then◌else◌}
+use Rattle.std.proofs.lemmas.Bool.{ne_eqb}
 use Rattle.otlp_trace.specs.Data.{RequestData}
 use Rattle.otlp_read.specs.Value.{value_of, IsValue}
 use Rattle.tail_settings.specs.Fault.{FaultData, not_toml, too_many}
-use Rattle.tail_settings.specs.Settings.{SettingsData, settings_of}
+use Rattle.tail_settings.specs.Section.{SectionData}
+use Rattle.tail_settings.specs.Settings.{SettingsData, section_at, settings_of}
 use Rattle.send_retry.specs.Class.{Failed}
 use Rattle.tenant_rules.specs.Own.{Own}
 use Rattle.tenant_rules.specs.Own as own
@@ -65,7 +67,11 @@ none_either false past seen = refl
 
 -- no other tenant is ever ready
 no_other : (pasts : ℕ → List Own) (n : ℕ) → ready_at (lists_of one_tenant pasts 0) [] (suc n) ≡ None
-no_other pasts n = none_either (suc n % 1 == 0) (pasts (suc n)) None
+no_other pasts n =
+    let apart : (0 == suc n) ≡ false = ne_eqb 0 (suc n) (λ e. omega (arith, e)) in
+    let none : section_at one_tenant (suc n) ≡ None = rw apart refl in
+    subst (λ (section : Option SectionData). ready_after (if suc n % 1 == 0 then section else None) (pasts (suc n)) true None ≡ None) (sym none)
+    (none_either (suc n % 1 == 0) (pasts (suc n)) None)
 
 post_is_answered : Exact → IsAnswered one_tenant no_steps (Post (codes "a") 0 (body 17 33)) (Some (codes "reply a 200 -\n")) after_post
 unfolding pipelines_on_literals answers_on_literals

@@ -4,7 +4,7 @@ use Rattle.toml.proofs.Views.{view-Table}
 use Rattle.toml.specs.Data.{table}
 use Rattle.toml.specs.View.{view}
 use Rattle.toml.specs.declared.value.Value.TheVariants.{Table}
-use Rattle.tail_settings.specs.declared.section.Section.{Section}
+use Rattle.tail_settings.specs.declared.tenant.Tenant.{Tenant}
 use Rattle.tail_settings.specs.Settings.{TenantData, tenant_view}
 use Rattle.settings_check.specs.Document.{tenant_table}
 use Rattle.settings_check.proofs.Put.{next_made}
@@ -12,7 +12,7 @@ use Rattle.settings_check.proofs.document.tenant_array.Goals as goal
 
 pub tenants-preserved : goal.tenants-preserved
 tenants-preserved c =
-    let e : String Global × Section = (c.in-Some.name.now, c.in-Some.section.now) in
+    let e : String Global × Tenant = (c.in-Some.name.now, c.in-Some.tenant.now) in
     let made = c.tenants.tables.items in
     let v = Table c.in_ok-section_table.field-0 in
     let iter : c.tenants.name-iterator ≡ e ∷ c.next.new.self = grind (arith, common_steps) in

@@ -1,10 +1,10 @@
-use Rattle.std.proofs.Common.{◌≢◌, ◌≤◌, ◌^◌, codes, [], ◌∷◌, AllPairs, IsTrue, bytes_eq, refl, ap, true≢false, arith, lit<, lit≤}
+use Rattle.std.proofs.Common.{◌≢◌, zero, suc, ◌≤◌, ◌^◌, codes, [], ◌∷◌, AllPairs, IsTrue, bytes_eq, refl, ap, true≢false, arith, lit<, lit≤}
 use Rattle.std.proofs.lemmas.List.Elements.{All-nil, All-cons}
 use Rattle.std.proofs.lemmas.List.Kept.{AllPairs-cons}
 use Rattle.tail_settings.specs.Texts.{is_name}
 use Rattle.tail_settings.specs.Policy.{leaf, always_sample}
 use Rattle.tail_settings.specs.Settings.{TenantData}
-use Rattle.tail_settings.specs.Valid.{IsValidPolicy, IsValidTailSampling, IsValidSection, AreSoundTenants}
+use Rattle.tail_settings.specs.Valid.{IsValidPolicy, IsValidTailSampling, IsValidSection, AreSoundTenants, AreByPlace}
 use Rattle.settings_tests.specs.Examples.{default_section, named}
 use Rattle.settings_tests.proofs.definitions.definitions_on_small_inputs.Goals as goal
 
@@ -54,20 +54,24 @@ HasName t = IsTrue (is_name t.name)
 abbrev HasSection : TenantData → Type 0
 HasSection t = IsValidSection t.section
 
-one_is : AreSoundTenants (named (codes "a") ∷ [])
+one_is : AreSoundTenants (named 0 (codes "a") ∷ [])
 one_is = record {
-  names = All-cons HasName (named (codes "a")) [] refl (All-nil HasName);
-  distinct = AllPairs-cons Differ (named (codes "a")) [] (All-nil (Differ (named (codes "a")))) no_pairs;
-  sections = All-cons HasSection (named (codes "a")) [] section_is (All-nil HasSection);
+  names = All-cons HasName (named 0 (codes "a")) [] refl (All-nil HasName);
+  distinct = AllPairs-cons Differ (named 0 (codes "a")) [] (All-nil (Differ (named 0 (codes "a")))) no_pairs;
+  sections = All-cons HasSection (named 0 (codes "a")) [] section_is (All-nil HasSection);
 }
+
+first_is : AreByPlace (named 0 (codes "a") ∷ [])
+first_is zero d short = refl
+first_is (suc i) d short = absurd (omega (arith, short))
 
 a-not-b : codes "a" ≢ codes "b"
 a-not-b same = true≢false (ap (bytes_eq (codes "a")) same)
 
-a_and_b : AreSoundTenants (named (codes "a") ∷ named (codes "b") ∷ [])
+a_and_b : AreSoundTenants (named 0 (codes "a") ∷ named 1 (codes "b") ∷ [])
 a_and_b =
-    let a = named (codes "a") in
-    let b = named (codes "b") in
+    let a = named 0 (codes "a") in
+    let b = named 1 (codes "b") in
     record {
       names = All-cons HasName a (b ∷ []) refl (All-cons HasName b [] refl (All-nil HasName));
       distinct = AllPairs-cons Differ a (b ∷ []) (All-cons (Differ a) b [] a-not-b (All-nil (Differ a))) (AllPairs-cons Differ b [] (All-nil (Differ b)) no_pairs);
@@ -91,6 +95,8 @@ returns c = record {
       few_tenants = lit≤ tt;
       few_spans = lit≤ tt;
       tenants = one_is;
+      numbers = first_is;
+      next = refl;
     };
     slow_is = lit≤ tt;
     slow_is_not = λ sound. let short : 1099511627777 ≤ 2 ^ 40 = sound in omega (arith, short);
@@ -103,6 +109,6 @@ returns c = record {
     };
     batch_is_not = λ sound. let below : 8192 ≤ 8191 = sound.none_or_more (lit< tt) in omega (arith, below);
     tenants_are = a_and_b;
-    tenants_are_not = λ sound. sound.distinct 0 1 (named (codes "a")) (lit< tt) (lit< tt) refl;
+    tenants_are_not = λ sound. sound.distinct 0 1 (named 0 (codes "a")) (lit< tt) (lit< tt) refl;
   };
 }

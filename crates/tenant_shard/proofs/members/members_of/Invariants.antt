@@ -1,7 +1,15 @@
-use Rattle.std.proofs.Common.{◌≡◌}
+use Rattle.std.proofs.Common.{◌≡◌, ◌%◌, ◌++◌, eqb, map, filter}
+use Rattle.std.specs.Map.{values_of}
+use Rattle.tail_settings.specs.declared.tenant.Tenant.{Tenant}
 use Rattle.tail_settings.specs.Settings.{settings_view}
-use Rattle.tenant_shard.specs.Table.{members_below}
 use Rattle.tenant_shard.proofs.members.members_of.Given as goal
 
-abbrev pub invariant-loop-tenant : goal.invariant-loop-tenant
-invariant-loop-tenant l = l.members.items ≡ members_below (settings_view l.settings).global.shards l.shard l.tenant
+abbrev pub invariant-tenants : goal.invariant-tenants
+invariant-tenants l =
+    let mine = λ n. eqb (n % (settings_view l.settings).global.shards) l.shard in
+    record {
+      can : goal.iterator-tenants.can_next l.tenant-iterator;
+      finite : goal.iterator-tenants.is_finite l.tenant-iterator;
+      members : l.members.items ++ filter mine (map (λ (t : Tenant). t.number) l.tenant-iterator)
+          ≡ filter mine (map (λ (t : Tenant). t.number) (values_of l.settings.tenants.entries));
+    }

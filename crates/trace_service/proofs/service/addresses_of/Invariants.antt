@@ -1,9 +1,11 @@
-use Rattle.std.proofs.Common.{◌≡◌, map, take}
-use Rattle.std.specs.Prelude.{string_bytes}
-use Rattle.tail_settings.specs.Settings.{settings_view}
-use Rattle.trace_service.proofs.Addresses.{endpoints}
+use Rattle.std.proofs.Common.{◌≡◌, ◌++◌, map, string_bytes}
+use Rattle.std.specs.Map.{values_of}
+use Rattle.trace_service.proofs.Addresses.{address}
 use Rattle.trace_service.proofs.service.addresses_of.Given as goal
 
-abbrev pub invariant-loop-tenant : goal.invariant-loop-tenant
-invariant-loop-tenant l =
-    map string_bytes l.addresses.items ≡ endpoints (take l.tenant (settings_view l.settings).tenants)
+abbrev pub invariant-tenants : goal.invariant-tenants
+invariant-tenants l = record {
+  can : goal.iterator-tenants.can_next l.tenant-iterator;
+  finite : goal.iterator-tenants.is_finite l.tenant-iterator;
+  made : map string_bytes l.addresses.items ++ map address l.tenant-iterator ≡ map address (values_of l.settings.tenants.entries);
+}

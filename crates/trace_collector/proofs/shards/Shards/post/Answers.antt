@@ -1,9 +1,15 @@
 use Rattle.std.proofs.Common.{refl, sym, subst, ◌∙◌}
 use Rattle.tail_settings.specs.Section.{section_view}
+use Rattle.tail_settings.specs.Settings.{settings_view}
 use Rattle.otlp_prepare.specs.Prepared.{IsPrepared}
 use Rattle.trace_collector.specs.Answered.{HasNoValue}
 use Rattle.trace_collector.proofs.Done.{done_posts, bad_posts, bad_none}
+use Rattle.trace_collector.proofs.Named.{named_section}
 use Rattle.trace_collector.proofs.shards.Shards.post.Goals as goal
+
+pub unreachable-requires : goal.unreachable-requires
+unreachable-requires g c =
+    named_section (settings_view c.args.self.now.settings.now) c.args.name.now c.in-Some.tenant (sym c.number.ensures ∙ c.in-Some.is) (sym c.in_default-section.ensures)
 
 pub returns-in_ok-step_and_put-in-Ok-clause-on_success : goal.returns-in_ok-step_and_put-in-Ok-clause-on_success
 returns-in_ok-step_and_put-in-Ok-clause-on_success g c =

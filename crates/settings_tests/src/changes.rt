@@ -1,0 +1,144 @@
+//! Tenants that come to settings in force, and tenants that leave them.
+
+use std::alloc::{AllocError, Global};
+use std::test::Fail;
+use tail_settings::{Section, Settings, load};
+
+const A_AND_B: &str =
+    "tenant = [{ name = 'a', max_spans = 100, tail_sampling = { policy = [{ type = 'always_sample' }] } },
+{ name = 'b', max_spans = 100, tail_sampling = { policy = [{ type = 'always_sample' }] } }]";
+
+/// Changes and what is told of each: the number of who comes, the `max_spans` of who leaves, or a fault.
+const STORY: &str = "x = => settings fault 10
+x = 1 => settings fault 11 tenant
+tenant = 1 => settings fault 12 tenant
+tenant = [] => settings fault 11 tenant
+tenant = [1, 2] => settings fault 12 tenant
+tenant = [{}, {}] => settings fault 13 tenant
+tenant = [{}] => settings fault 11 name
+tenant = [{ name = '' }] => settings fault 13 name
+tenant = [{ name = 'a' }] => settings fault 14 a
+tenant = [{ name = 'c' }] => settings fault 11 policy
+tenant = [{ name = 'c', max_spans = 100, tail_sampling = { policy = [{ type = 'always_sample' }] } }] => 2
+tenant = [{ name = 'c', max_spans = 100, tail_sampling = { policy = [{ type = 'always_sample' }] } }] => \
+settings fault 14 c
+strike 2 => 100
+strike 2 => none
+tenant = [{ name = 'c', max_spans = 100, tail_sampling = { policy = [{ type = 'always_sample' }] } }] => 3
+strike 0 => 100
+tenant = [{ name = 'a', max_spans = 2147483449, tail_sampling = { policy = [{ type = 'always_sample' }] } }] => \
+settings fault 15
+tenant = [{ name = 'a', max_spans = 2147483448, tail_sampling = { policy = [{ type = 'always_sample' }] } }] => 4
+tenant = [{ name = 'd', max_spans = 1, tail_sampling = { policy = [{ type = 'always_sample' }] } }] => \
+settings fault 15
+strike 4 => 2147483448";
+
+/// The same where a thousand tenants, each of one span, are present.
+const A_THOUSAND: &str = "tenant = [{}] => settings fault 15
+strike 999 => 1
+tenant = [{}] => settings fault 11 name
+tenant = [{ name = 'new', tail_sampling = { policy = [{ type = 'always_sample' }] } }] => 1000
+tenant = [{}] => settings fault 15";
+
+fn told_of_strike(alloc: Global, section: Option<Section>) -> Result<String, AllocError> {
+    match section {
+        Some(section) => format!(in alloc; "{}", section.max_spans),
+        None => String::from_str(alloc, "none"),
+    }
+}
+
+fn told_of_admit(alloc: Global, settings: &mut Settings, text: &str) -> Result<String, AllocError> {
+    match settings.admit(alloc, text) {
+        Ok(number) => format!(in alloc; "{number}"),
+        Err(fault) => format!(in alloc; "{fault}"),
+    }
+}
+
+/// Makes a change, and what is told of it.
+fn told(alloc: Global, settings: &mut Settings, change: &str) -> Result<String, AllocError> {
+    match change.strip_prefix("strike ") {
+        Some(number) => {
+            let section = settings.strike(number.parse().unwrap_or(u32::MAX));
+            told_of_strike(alloc, section)
+        }
+        None => told_of_admit(alloc, settings, change),
+    }
+}
+
+/// Makes the changes of a story, a line each, up to the first of which something else is told.
+fn first_wrong(
+    alloc: Global,
+    settings: &mut Settings,
+    story: &'static str,
+) -> Result<&'static str, AllocError> {
+    for line in story.lines() {
+        let Some((change, wanted)) = line.split_once(" => ") else {
+            return Ok(line);
+        };
+        let told = told(alloc, settings, change)?;
+        if told.as_str() != wanted {
+            return Ok(line);
+        }
+    }
+    Ok("")
+}
+
+/// There are the tenants `b` and `c`, and nobody has the numbers of those who left.
+fn are_b_and_c(settings: &Settings) -> bool {
+    settings.tenants_len() == 2
+        && settings.number("a").is_none()
+        && settings.number("b") == Some(1)
+        && settings.number("c") == Some(3)
+        && settings.name(0).is_none()
+        && settings.name(2).is_none()
+        && settings.name(3) == Some("c")
+        && settings.section(4).is_none()
+}
+
+#[test]
+fn a_number_stays_with_its_tenant(rt: HostRuntime) -> Result<(), Fail> {
+    let mut settings = load(rt.alloc(), A_AND_B)?;
+    assert_eq!(rt; first_wrong(rt.alloc(), &mut settings, STORY)?, "");
+    assert!(rt; are_b_and_c(&settings));
+    Ok(())
+}
+
+fn tenant_text(alloc: Global, number: u32) -> Result<String, AllocError> {
+    format!(in alloc;
+        "{{ name = 't{number}', max_spans = 1, tail_sampling = {{ policy = [{{ type = 'always_sample' }}] }} }},\n"
+    )
+}
+
+/// A document with so many tenants.
+fn tenants_text(alloc: Global, count: u32) -> Result<String, AllocError> {
+    let mut text = String::from_str(alloc, "tenant = [\n")?;
+    for number in 0..count {
+        let tenant = tenant_text(alloc, number)?;
+        text.push_str(tenant.as_str())?;
+    }
+    text.push_str("]")?;
+    Ok(text)
+}
+
+#[test]
+fn at_most_a_thousand_are_present(rt: HostRuntime) -> Result<(), Fail> {
+    let text = tenants_text(rt.alloc(), 1000)?;
+    let mut settings = load(rt.alloc(), text.as_str())?;
+    assert_eq!(rt; first_wrong(rt.alloc(), &mut settings, A_THOUSAND)?, "");
+    Ok(())
+}
+
+fn is_copied(alloc: Global, section: &Section) -> Result<bool, AllocError> {
+    let copy = section.copy()?;
+    let told = format!(in alloc; "{section:?}")?;
+    let copied = format!(in alloc; "{copy:?}")?;
+    Ok(told.as_str() == copied.as_str())
+}
+
+#[test]
+fn a_section_is_copied(rt: HostRuntime) -> Result<(), Fail> {
+    let settings = load(rt.alloc(), A_AND_B)?;
+    let section = settings.section(1).ok_or("no section")?;
+    assert!(rt; is_copied(rt.alloc(), section)?);
+    Ok(())
+}
