@@ -50,7 +50,7 @@ never t (x ∷ xs) least u k is = by_test (eqb x.tenant u) refl (never t xs leas
     by_test false e rec = let is' : ready_of xs u ≡ Some k = rw e at is in rec is'
 
 -- who stands at a place has the moment that stands there
-is_member-at : (es : List AgendaEntry) (j : ℕ) (x : AgendaEntry) → slice_get es j ≡ Some x → is_member es x.tenant ≡ true
+pub is_member-at : (es : List AgendaEntry) (j : ℕ) (x : AgendaEntry) → slice_get es j ≡ Some x → is_member es x.tenant ≡ true
 is_member-at [] j x at = absurd (cc)
 is_member-at (y ∷ ys) zero x at = let same : y ≡ x = cc in subst (λ (z : AgendaEntry). is_member (y ∷ ys) z.tenant ≡ true) same (grind (arith, nat_tests))
 is_member-at (y ∷ ys) (suc j) x at = grind (arith, nat_tests, is_member-at ys j x at)

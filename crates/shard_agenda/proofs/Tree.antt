@@ -1,8 +1,11 @@
 -- The tree of first entries: what its top tells, and what a change leaves of it.
 use Rattle.std.proofs.Common.{◌≡◌, ◌≢◌, ℕ, zero, suc, ◌+◌, ◌-◌, ◌*◌, ◌/◌, ◌%◌, ◌<◌, ◌≤◌, List, [], ◌∷◌, ◌++◌, length, set, refl, sym, ap, ◌∙◌, arith, Bool, true, false, Option, Some, None, eqb, inl, inr, ◌⊎◌, subst}
 use Rattle.std.proofs.lemmas.Bool.Decides.{nat_tests}
-use Rattle.std.proofs.lemmas.Option.{slice_get_within}
-use Rattle.std.specs.Prelude.{slice_get}
+use Rattle.std.specs.Option.{option_to_list}
+use Rattle.std.proofs.lemmas.List.{length_push}
+use Rattle.std.proofs.lemmas.Bool.{cases_lt}
+use Rattle.std.proofs.lemmas.Option.{slice_get_past, slice_get_within}
+use Rattle.std.specs.Prelude.{slice_get, IsSome}
 use Rattle.shard_agenda.specs.declared.AgendaEntry.{AgendaEntry}
 use Rattle.shard_agenda.specs.Firsts.{is_before, precedes, first_of, first_below, IsRight, IsRightBut}
 
@@ -184,3 +187,34 @@ right_behind es fs e even right = λ k ne ne' ne''.
     let second = slice_get-behind fs (2 * k + 2) e (omega (arith, even, ne'')) in
     let own = slice_get-behind es k e ne in
     rw (same, own, left, second) (right k)
+
+-- without the last entry, its place is wrong in the one above it alone
+pub right_without : (es fs : List AgendaEntry) (e f : AgendaEntry) → length fs ≡ length es → IsRight (es ++ e ∷ []) (fs ++ f ∷ []) → IsRightBut ((length es - 1) / 2) es fs
+right_without es fs e f even right k ne _ _ = elim (cases_lt k (length es)) [
+  | inl lt ↦
+      let same = slice_get-behind fs k f (λ last. omega (arith, even, lt, last)) in
+      let own = slice_get-behind es k e (λ last. omega (arith, lt, last)) in
+      let left = slice_get-behind fs (2 * k + 1) f (λ last. ne (omega (arith, even, last))) in
+      let second = slice_get-behind fs (2 * k + 2) f (λ last. ne (omega (arith, even, last))) in
+      sym same ∙ right k ∙ rw (own, left, second) refl
+  | inr le ↦
+      let none = slice_get_past fs k (omega (arith, even, le)) in
+      let own = slice_get_past es k le in
+      let left = slice_get_past fs (2 * k + 1) (omega (arith, even, le)) in
+      let second = slice_get_past fs (2 * k + 2) (omega (arith, even, le)) in
+      rw (none, own, left, second) refl
+]
+
+-- what two lists are that lost their last, if the second had one
+pub popped : (es xs fs ys : List AgendaEntry) (e : AgendaEntry) (o : Option AgendaEntry) → es ≡ xs ++ e ∷ [] → fs ≡ ys ++ option_to_list o → IsSome o → length fs ≡ length es → IsRight es fs
+    → (length ys ≡ length xs) × IsRightBut ((length xs - 1) / 2) xs ys
+popped es xs fs ys e None entries firsts some even right = absurd (let no : ⊥ = cc in no)
+popped es xs fs ys e (Some f) entries firsts some even right =
+    let long : length ys ≡ length xs = omega (arith, ap length entries, ap length firsts, length_push xs e, length_push ys f, even) in
+    let whole : IsRight (xs ++ e ∷ []) (ys ++ f ∷ []) = subst (λ (l : List AgendaEntry). IsRight l (ys ++ f ∷ [])) entries (subst (λ (l : List AgendaEntry). IsRight es l) firsts right) in
+    (long, right_without xs ys e f long whole)
+
+pub right_empty : (xs ys : List AgendaEntry) → length xs ≡ 0 → length ys ≡ 0 → IsRight xs ys
+right_empty [] [] none none' k = refl
+right_empty [] (y ∷ ys) none none' k = absurd (omega (arith, none'))
+right_empty (x ∷ xs) ys none none' k = absurd (omega (arith, none))

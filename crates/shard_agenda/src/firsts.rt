@@ -1,6 +1,7 @@
 //! The first of the entries below each place, kept right where one entry changed.
 
-ghost use Rattle.std.specs.Prelude.{◌≡◌, ◌<◌, Some, length};
+ghost use Rattle.std.specs.Prelude.{◌≡◌, ◌<◌, ◌++◌, Some, length};
+ghost use Rattle.std.specs.Option.{option_to_list};
 ghost use Rattle.shard_agenda.specs.Firsts.{precedes, first_of, first_below, IsRight, IsRightBut};
 
 use crate::AgendaEntry;
@@ -50,4 +51,24 @@ pub fn mend(entries: &[AgendaEntry], firsts: &mut [AgendaEntry], mut at: usize)
         }
         at = (at - 1) / 2;
     }
+}
+
+/// Takes out the last entry, if there is one. It takes no memory and gives none back.
+pub fn pop(entries: &mut Vec<AgendaEntry>, firsts: &mut Vec<AgendaEntry>) -> Option<AgendaEntry>
+    requires even { length firsts.old.items ≡ length entries.old.items }
+    requires right { IsRight entries.old.items firsts.old.items }
+    ensures entries { entries.old.items ≡ entries.new.items ++ option_to_list result }
+    ensures even { length firsts.new.items ≡ length entries.new.items }
+    ensures right { IsRight entries.new.items firsts.new.items }
+{
+    let Some(last) = entries.pop() else {
+        return None;
+    };
+    let _first = firsts.pop();
+    let count = entries.len();
+    if count == 0 {
+        return Some(last);
+    }
+    mend(entries.as_slice(), firsts.as_mut_slice(), (count - 1) / 2);
+    Some(last)
 }

@@ -2,19 +2,19 @@
 //!
 //! An agenda holds each member once, with the moment at which it is ready next. Room for a member is made when it is
 //! admitted: after that, setting its moment and asking who is first take no memory, so a step that changed a tenant
-//! can always say so here. Moments are milliseconds. Admitting a member and setting its moment take as many steps as
-//! the logarithm of how many members there are, and asking who is first takes one.
+//! can always say so here. Moments are milliseconds. Admitting and dismissing a member and setting its moment take as
+//! many steps as the logarithm of how many members there are, and asking who is first takes one.
 //!
 //! It stands on no other crate. Whom a turn goes to is this project's own rule.
 #![tactic(auto)]
 
-ghost use Rattle.std.specs.Prelude.{◌≡◌, ◌||◌, ◌==◌, ℕ, OnOk, OnErr, true, []};
+ghost use Rattle.std.specs.Prelude.{◌≡◌, ◌||◌, ◌&&◌, ◌==◌, ℕ, not, OnOk, OnErr, true, None, []};
 ghost use Rattle.shard_agenda.specs.Agenda.{ready_of, is_member, with_ready};
 ghost use Rattle.shard_agenda.specs.Pick.{IsPick};
 
 mod firsts;
 
-use crate::firsts::mend;
+use crate::firsts::{mend, pop};
 use std::alloc::{AllocError, Global};
 use std::collections::BTreeMap;
 use std::marker::Model;
@@ -101,6 +101,29 @@ impl Agenda {
             unreachable!()
         };
         self.entries[at] = AgendaEntry { ready, tenant };
+        mend(&self.entries, &mut self.firsts, at);
+    }
+
+    /// The member goes; nothing changes where it is none. It takes no memory, and gives back that of its place.
+    pub fn dismiss(&mut self, tenant: u32)
+        ensures members { (other : ℕ) →
+            is_member self.new other ≡ (not (tenant == other) && is_member self.old other) }
+        ensures ready { ready_of self.new ≡ with_ready tenant None (ready_of self.old) }
+    {
+        let Some(at) = self.places.remove(&tenant) else {
+            return;
+        };
+        let Some(last) = pop(&mut self.entries, &mut self.firsts) else {
+            unreachable!()
+        };
+        let count = self.entries.len();
+        if at == count {
+            return;
+        }
+        let Ok(_) = self.places.insert(last.tenant, at) else {
+            unreachable!()
+        };
+        self.entries[at] = last;
         mend(&self.entries, &mut self.firsts, at);
     }
 

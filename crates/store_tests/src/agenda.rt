@@ -1,6 +1,7 @@
 //! Whose turn it is, as an agenda tells it.
 
 use shard_agenda::Agenda;
+use std::alloc::{AllocError, Global};
 use std::test::Fail;
 
 #[test]
@@ -18,5 +19,35 @@ fn the_least_moment_and_number_goes_first(rt: HostRuntime) -> Result<(), Fail> {
     assert!(rt; agenda.first_due(9) == Some(5));
     agenda.set(5, None);
     assert!(rt; agenda.first_due(9) == Some(3));
+    Ok(())
+}
+
+/// An agenda of the tenants 1 to 5, of whom the higher number is ready first.
+fn five(alloc: Global) -> Result<Agenda, AllocError> {
+    let mut agenda = Agenda::new(alloc);
+    for tenant in 1..6u32 {
+        agenda.admit(tenant)?;
+        agenda.set(tenant, Some(u64::from(6 - tenant)));
+    }
+    Ok(agenda)
+}
+
+#[test]
+fn who_was_dismissed_has_no_turn(rt: HostRuntime) -> Result<(), Fail> {
+    let mut agenda = five(rt.alloc())?;
+    assert!(rt; agenda.first_due(9) == Some(5));
+    agenda.dismiss(5);
+    agenda.dismiss(1);
+    assert!(rt; agenda.first_due(9) == Some(4));
+    agenda.dismiss(4);
+    agenda.dismiss(4);
+    assert!(rt; agenda.first_due(9) == Some(3));
+    agenda.set(2, Some(1));
+    assert!(rt; agenda.first_due(1) == Some(2));
+    agenda.dismiss(2);
+    agenda.dismiss(3);
+    assert!(rt; agenda.first_due(9) == None);
+    agenda.admit(5)?;
+    assert!(rt; agenda.first_due(9) == None);
     Ok(())
 }

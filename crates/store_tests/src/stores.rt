@@ -76,6 +76,10 @@ fn given_at_once(stores: &mut Stores<u64>, step: &Step<'_>) -> Numbers {
         "keep" => kept(stores, tenant, number),
         "drop" => one(stores.drop_row(tenant, number)),
         "sweep" => one(stores.sweep(tenant, number)),
+        "vanish" => {
+            stores.vanish(tenant, number, step.other as u64);
+            one(0)
+        }
         _ => seen(stores, step),
     }
 }
@@ -139,7 +143,7 @@ fn tell(rt: &impl Abort, alloc: Global, story: &str) -> Result<(), AllocError> {
 /// - `hold`: the keys of a resource and a scope; `release` lets go of those texts whose scope is at a key;
 /// - `open`, `join` with the number of a row and a span: the span's key, and the trace's row or the row's note before;
 /// - `late` with the key of a scope and a span: the span's key; `flush` a span's key;
-/// - `keep` a row: its keys; `drop`, `sweep` a row: how many spans leave with it;
+/// - `keep` a row: its keys; `drop`, `sweep` a row: how many spans leave with it; `vanish` rows by two numbers;
 /// - `row`: how many spans it has, its note, 1, and whether it was sampled; `seats`: the rows of two traces;
 /// - `spans` at the first six keys, 0 for none; `texts` at the first six, the resource as 4, the scope as 5.
 const STORIES: &str = "\
@@ -206,7 +210,22 @@ spans 8 = 0 0 0 0 1 2
 texts 7 = 5 4 0 0
 texts 8 = 0 0 5 4
 row 7 1 = 2 2 1 0
-row 8 2 = 1 1 1 0";
+row 8 2 = 1 1 1 0
+
+open 7 1 1 = 0 0
+join 7 1 2 = 1 1
+open 7 2 1 = 2 1
+open 7 3 2 = 3 2
+open 8 1 3 = 4 0
+sweep 7 1 = 2
+vanish 7 1 3 = 0
+row 7 2 = 0
+row 7 3 = 0
+seats 7 = 0
+spans 7 = 0 0 0 0 0 0
+spans 8 = 0 0 0 0 3 0
+row 8 1 = 1 1 1 0
+seats 8 = 1";
 
 // Each run with one allocation refused has to end well, too.
 #[test]

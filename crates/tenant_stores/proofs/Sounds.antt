@@ -1,12 +1,13 @@
 -- A part stays sound as spans come and leave, and as rows open, are decided and leave.
-use Rattle.std.proofs.Common.{◌≡◌, ◌≢◌, ℕ, zero, suc, ◌+◌, ◌-◌, ◌<◌, ◌≤◌, List, [], ◌∷◌, ◌++◌, refl, sym, ap, ◌∙◌, arith, Bool, true, false, Option, Some, None, subst, add-one}
+use Rattle.std.proofs.Common.{◌≡◌, ◌≢◌, ℕ, zero, suc, ◌+◌, ◌-◌, ◌<◌, ◌≤◌, List, [], ◌∷◌, ◌++◌, refl, sym, ap, ◌∙◌, arith, Bool, true, false, Option, Some, None, subst, add-one, inl, inr}
+use Rattle.std.proofs.lemmas.Bool.{cases_lt}
 use Rattle.span_pool.specs.Stored.{StoredData}
 use Rattle.span_pool.specs.Pool.{with_span, without}
 use Rattle.text_pool.specs.declared.pool.CountedText.{CountedText}
 use Rattle.trace_rows.specs.declared.table.Row.{Row}
 use Rattle.trace_rows.specs.Part.{with_at, with_latest_row, joined, settled, keys_of, without_latest_row, trace_in}
 use Rattle.tenant_stores.specs.Part.{Part}
-use Rattle.tenant_stores.specs.Counts.{Counts, AreInOrder, no_rows, one_opened, one_decided, one_swept, in_table, range, count}
+use Rattle.tenant_stores.specs.Counts.{Counts, AreInOrder, no_rows, all_left, one_opened, one_decided, one_swept, in_table, range, count}
 use Rattle.tenant_stores.specs.View.{keys_in, text_keys, text_keys_of, text_keys_at}
 use Rattle.tenant_stores.specs.Invariant.{one, uses_of, if_of, last_of, latest_row_in, named_keys, StoreInvariant}
 use Rattle.tenant_stores.specs.Changes.{texts_without, Joins, Opens, Waits, new_row, Settles, Leaves, Drops, Sweeps}
@@ -219,3 +220,40 @@ module _ {N : Type 0} where
     where
       not_last : (number s : ℕ) → number ≢ suc s → number ≤ s + 1 → number ≤ s
       not_last number s ne le = omega (arith, ne, le)
+
+-- a tenant goes: all its rows may leave the table, and then nothing is left
+module _ {N : Type 0} (p : Part N) (n : Counts) where
+  pub all_may_leave : StoreInvariant n [] [] p → StoreInvariant (all_left n.swept n) [] [] p
+  all_may_leave sound = record {
+    order = record {
+      swept = omega (arith, sound.order.swept, sound.order.first, sound.order.decided);
+      first = omega arith;
+      decided = omega arith;
+    };
+    named = sound.named;
+    bare = λ number above below. absurd (omega (arith, above, below));
+    used = sound.used;
+    kept = sound.kept;
+    latest_rows = sound.latest_rows;
+    there = sound.there;
+    vacant = sound.vacant;
+    left = sound.left;
+  }
+
+  pub none_is_left : StoreInvariant (all_left n.opened n) [] [] p → StoreInvariant no_rows [] [] p
+  none_is_left sound =
+      let none : n.opened - n.opened ≡ 0 = omega arith in
+      record {
+        order = record { swept = omega arith; first = omega arith; decided = omega arith };
+        named = λ key. subst (λ (k : ℕ). count key (keys_in p.rows (range n.opened k) ++ []) ≡ one (p.spans key)) none (sound.named key);
+        bare = λ number above below. absurd (omega (arith, above, below));
+        used = λ key. subst (λ (k : ℕ). count key (text_keys_at p.spans (keys_in p.rows (range n.opened k) ++ [])) + count key [] ≡ uses_of (p.texts key)) none (sound.used key);
+        kept = sound.kept;
+        latest_rows = λ trace. subst (λ (k : ℕ). p.latest_rows trace ≡ latest_row_in p.rows (range n.opened k) trace) none (sound.latest_rows trace);
+        there = λ number above below. absurd (omega (arith, above, below));
+        vacant = λ number above. elim (cases_lt n.opened number) [
+          | inl lt ↦ sound.vacant number lt
+          | inr le ↦ sound.left number le
+        ];
+        left = λ number below. sound.left number (omega (arith, below));
+      }

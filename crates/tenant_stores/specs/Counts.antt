@@ -30,6 +30,10 @@ one_decided n = record n { decided = n.decided + 1 }
 abbrev pub one_swept : Counts → Counts
 one_swept n = record n { swept = n.swept + 1 }
 
+-- none of the rows waits, nor is any present; so many have left the table
+abbrev pub all_left : ℕ → Counts → Counts
+all_left swept n = record { swept = swept; first = n.opened; decided = n.opened; opened = n.opened }
+
 -- with room for one more where at most so many are present: what is no longer present stays in the table for now
 abbrev pub room_made : ℕ → Counts → Counts
 room_made most n = record n { first = n.opened + 1 - most; decided = max n.decided (n.opened + 1 - most) }

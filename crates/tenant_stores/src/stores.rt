@@ -363,6 +363,18 @@ impl<N: Drop> Stores<N> {
         keys.as_slice().len()
     }
 
+    /// All rows of a tenant leave the table, with their spans: those after the first so many, up to so many. Where none
+    /// of its spans waits for a batch, nothing of the tenant is left. It takes no memory, and a step for each row.
+    pub fn vanish(&mut self, tenant: u32, swept: u64, opened: u64)
+        ensures gone { (n : Counts) → swept ≡ n.swept → opened ≡ n.opened
+            → StoreInvariant n [] [] (part tenant self.old) → StoreInvariant no_rows [] [] (part tenant self.new) }
+        ensures others_unchanged { (other : ℕ) → other ≢ tenant → part other self.new ≡ part other self.old }
+    {
+        for before in swept..opened {
+            self.sweep(tenant, before + 1);
+        }
+    }
+
     /// Takes back what one span changed, and the texts that were held for it. It takes no memory.
     pub fn take_back(&mut self, tenant: u32, placed: UndoEntry<N>)
         ensures back { (start : Part N) → IsUndone placed start (part tenant self.old) → part tenant self.new ≡ start }
