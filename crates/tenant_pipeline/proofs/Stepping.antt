@@ -14,7 +14,8 @@ use Rattle.tenant_rules.specs.Answers.{turn_told, heard}
 use Rattle.tenant_rules.specs.Batching.{rules_of}
 use Rattle.tenant_rules.specs.Limits.{IsWithinLimits}
 use Rattle.tenant_rules.specs.Machine.{all_moved, effective, next, settled, told, turned, turned_by}
-use Rattle.tenant_rules.specs.Own.{Own, Turn, Answer, Report}
+use Rattle.tenant_rules.specs.Own.{Own, Turn, Answer, Report, Retire}
+use Rattle.tenant_rules.specs.Retiring.{retire_told}
 use Rattle.tenant_rules.specs.Sender.{Choice, Retried, Oldest, NoBatch, choice, in_flight}
 use Rattle.tenant_rules.specs.Sending.{EndedData, ended_in_flight}
 use Rattle.tenant_rules.specs.State.{State, state}
@@ -152,6 +153,14 @@ report_stepped now s mid q rows counted within ok reached =
     let e = effective (Report now) s in
     stepped (Report now) (λ (z : State). z) e s mid mid q refl rows counted within ok reached (none_sent mid) refl
 
+pub retire_stepped : (now : ℕ) (s : State) (mid : Pipeline) (q : Part TraceNote) → 0 < s.section.tail_sampling.num_traces → IsCounted s → IsWithinLimits s →
+    state_of mid q ≡ ran (enough s) (effective (Retire now) s) s → PipelineInvariantAt (effective (Retire now) s) [] [] mid q →
+    Stepped (Retire now) s (record mid { clock = effective (Retire now) s }) q
+unfolding next
+retire_stepped now s mid q rows counted within ok reached =
+    let e = effective (Retire now) s in
+    stepped (Retire now) (λ (z : State). z) e s mid mid q refl rows counted within ok reached (none_sent mid) refl
+
 -- ---- over the stores
 
 -- a step is done: what is told and left follows from the state before it, and what always holds goes on to hold
@@ -220,6 +229,20 @@ report_done now moment s mid stores finds = subst (ReportDone now s mid stores) 
     then ok reached = done_over (Report now) s (replies.Report (report_text mid.ledger)) mid (record mid { clock = effective (Report now) s }) stores refl
         (ap (λ (z : State). replies.Report (report_text z.ledger)) ok)
         (report_stepped now s mid (part_in mid stores) finds.rows finds.counted finds.within ok reached)
+
+abbrev RetireDone : ℕ → State → Pipeline → Stores TraceNote → ℕ → Type 0
+RetireDone now s mid stores moment = state_in mid stores ≡ ran (enough s) moment s → PipelineInvariantAt moment [] [] mid (part_in mid stores) →
+    Done (Retire now) s (retire_told mid.drained mid.ledger) (record mid { clock = moment }) stores
+
+pub retire_done : (now moment : ℕ) (s : State) (mid : Pipeline) (stores : Stores TraceNote) → Finds (Retire now) moment s mid stores →
+    Done (Retire now) s (retire_told mid.drained mid.ledger) (record mid { clock = moment }) stores
+unfolding told
+retire_done now moment s mid stores finds = subst (RetireDone now s mid stores) (sym finds.at) then finds.ok finds.reached
+  where
+    then : RetireDone now s mid stores (effective (Retire now) s)
+    then ok reached = done_over (Retire now) s (retire_told mid.drained mid.ledger) mid (record mid { clock = effective (Retire now) s }) stores refl
+        (ap (λ (z : State). retire_told z.drained z.ledger) ok)
+        (retire_stepped now s mid (part_in mid stores) finds.rows finds.counted finds.within ok reached)
 
 -- the settings of a tenant are in their ranges
 pub ranges : (own : Pipeline) (stores : Stores TraceNote) → AreInRange (state_in own stores).section

@@ -316,6 +316,41 @@ impl Pipeline {
         Ok(StepReply::Done)
     }
 
+    /// The tenant is to retire, at a moment in milliseconds: it is told its last report where it was drained and holds no
+    /// span, and else that it has to wait. Where memory is refused, timers that were due may have run.
+    pub fn retire(
+        &mut self,
+        stores: &mut Stores<TraceNote>,
+        now: u64,
+    ) -> Result<StepReply, AllocError>
+        requires invariant { PipelineInvariant self.old stores.old }
+
+        // What is told is what the settings and the own steps say, and the state is what they and this step give. Where
+        // no own steps leave the old state, as after refused memory, both follow from that state.
+        ensures on_success { IfOk result (λ told.
+            Answers (step.Retire now) (state_in self.old stores.old) told (state_in self.new stores.new)) }
+        ensures from_state { IfOk result (λ told.
+            FollowsFromState (step.Retire now) (state_in self.old stores.old) told (state_in self.new stores.new)) }
+
+        // Some first due timers have run, and all else is as before.
+        ensures on_refusal { OnErr result (let taken = step.Retire now in let old = state_in self.old stores.old in
+            IsFront (effective taken old) old (state_in self.new stores.new)) }
+
+        // What always holds goes on to hold, and nothing of other tenants changes.
+        ensures invariant { PipelineInvariant self.new stores.new }
+        ensures swept { IsSwept self.old → IsSwept self.new }
+        ensures others_unchanged { (other : ℕ) → other ≢ self.old.tenant
+            → part other stores.new ≡ part other stores.old }
+        ensures tenant { self.new.tenant ≡ self.old.tenant }
+        ensures section { self.new.section ≡ self.old.section }
+    {
+        let moment = self.effective(now);
+        self.run_due(stores, moment)?;
+        let told = self.retire_told()?;
+        self.clock = moment;
+        Ok(told)
+    }
+
     /// When there is next something to do, in milliseconds: the moment of the next timer, or that from which on there
     /// is a job.
     pub fn ready(&self, stores: &Stores<TraceNote>) -> Option<u64>

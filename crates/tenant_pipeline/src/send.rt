@@ -6,6 +6,7 @@ ghost use Rattle.send_retry.specs.Class.{answer_view};
 ghost use Rattle.send_queue.specs.Sender.{in_flight};
 ghost use Rattle.tenant_rules.specs.Answers.{turn_told, heard};
 ghost use Rattle.tenant_rules.specs.Machine.{turned, settled, all_moved};
+ghost use Rattle.tenant_rules.specs.Retiring.{retire_told};
 ghost use Rattle.tenant_rules.specs.Sender.{sizes, active_sizes};
 ghost use Rattle.tenant_rules.specs.Sending.{ended_by};
 ghost use Rattle.tenant_rules.specs.declared.reply.StepReply.TheVariants as replies;
@@ -79,6 +80,17 @@ impl Pipeline {
                 self.ledger
                     .move_spans(Place::Active, Place::RetryExhausted, spans);
             }
+        }
+    }
+
+    /// What a retirement tells: the last report, or that the tenant wasn't drained or holds spans.
+    pub(crate) fn retire_told(&self) -> Result<StepReply, AllocError>
+        ensures { IfOk result (λ told. told ≡ retire_told self.now.drained self.now.ledger) }
+    {
+        if self.drained && self.is_empty() {
+            self.report_told()
+        } else {
+            Ok(StepReply::NotEmpty)
         }
     }
 

@@ -6,7 +6,7 @@ use Rattle.send_queue.specs.declared.settled.Settled.TheVariants as settleds
 use Rattle.span_batcher.specs.Batches.{rest_in}
 use Rattle.span_batcher.specs.State.{state_of}
 use Rattle.span_batcher.specs.State as batcher
-use Rattle.tenant_rules.specs.Own.{Own, Post, Turn, Answer, Report, Drain}
+use Rattle.tenant_rules.specs.Own.{Own, Post, Turn, Answer, Report, Drain, Retire}
 use Rattle.tenant_rules.specs.Groups.{groups}
 use Rattle.tenant_rules.specs.Sender.{ActiveData, sizes, active_sizes, Choice, Retried, Oldest, NoBatch, choice, under, without, sent_again, sent_first, FateData, Leaves, Stays, fate, settled_by, in_flight, left_by, answered_by}
 use Rattle.tenant_rules.specs.Batching.{pending}
@@ -78,6 +78,7 @@ acts_counted m (Turn now) s is = counted_from s (turned m s) is (λ k. turned_by
 acts_counted m (Answer now ticket word given) s is = counted_from s (settled ticket m word given s) is (λ k. settled_kept (fixed_of s) ticket m word given s k)
 acts_counted m (Report now) s is = is
 acts_counted m (Drain now) s is = counted_from s (drain m s) is (λ k. drain_kept (fixed_of s) m s k)
+acts_counted m (Retire now) s is = is
 
 pub steps_count : StepsCount
 unfolding next

@@ -11,7 +11,7 @@ use Rattle.span_batcher.specs.Machine.{threshold, some_cuts, cuts, added, fired}
 use Rattle.span_batcher.specs.Machine as machine
 use Rattle.span_batcher.specs.Timers.{is_due}
 use Rattle.tenant_rules.specs.Arrivals.{Arrival, valid, trace_of}
-use Rattle.tenant_rules.specs.Own.{Own, Post, Turn, Answer, Report, Drain, clock}
+use Rattle.tenant_rules.specs.Own.{Own, Post, Turn, Answer, Report, Drain, Retire, clock}
 use Rattle.tenant_rules.specs.Fate.{SettledData, WaitingData, are_sampled}
 use Rattle.tenant_rules.specs.Sender.{BatchData, ActiveData, SenderData, Choice, Retried, Oldest, NoBatch, choice, is_full, in_flight, answered_by}
 use Rattle.tenant_rules.specs.Batching.{all_sent}
@@ -204,6 +204,7 @@ acts_formed e (Turn now) s by = turned_formed e (choice e s.sender) s by
 acts_formed e (Answer now ticket word given) s by = settled_formed e word given (in_flight ticket s.sender) s by
 acts_formed e (Report now) s by = by
 acts_formed e (Drain now) s by = drain_formed e s by
+acts_formed e (Retire now) s by = by
 
 next_formed : (e : ℕ) (step : Own) (s : State) → Formed e s → Formed e (acts e step (advanced e s))
 next_formed e step s by = acts_formed e step (advanced e s) (ran_formed (enough s) e s by)

@@ -3,7 +3,7 @@ use Rattle.std.proofs.Common.{ℕ, ◌≤◌, List, [], ◌∷◌, arith, Bool, 
 use Rattle.std.specs.Prelude.{is_some, unwrap_or, nat_lt}
 use Rattle.tail_settings.specs.Section.{SectionData}
 use Rattle.tenant_rules.specs.Arrivals.{Arrival, valid}
-use Rattle.tenant_rules.specs.Own.{Own, Post, Turn, Answer, Report, Drain, clock, drained}
+use Rattle.tenant_rules.specs.Own.{Own, Post, Turn, Answer, Report, Drain, Retire, clock, drained}
 use Rattle.tenant_rules.specs.Rows.{Taken}
 use Rattle.tenant_rules.specs.Batching.{held}
 use Rattle.tenant_rules.specs.Intake.{taken_after, IntakeData, Verdict, shutting_down, counter_limit, exhausted, accepted, verdict, intake_by, intake}
@@ -33,6 +33,7 @@ TakenBy-intake w (Turn now ∷ past) = TakenBy_more (clock past) (clock (Turn no
 TakenBy-intake w (Answer now ticket word given ∷ past) = TakenBy_more (clock past) (clock (Answer now ticket word given ∷ past)) (intake w past).spans (omega arith) (TakenBy-intake w past)
 TakenBy-intake w (Report now ∷ past) = TakenBy_more (clock past) (clock (Report now ∷ past)) (intake w past).spans (omega arith) (TakenBy-intake w past)
 TakenBy-intake w (Drain now ∷ past) = TakenBy_more (clock past) (clock (Drain now ∷ past)) (intake w past).spans (omega arith) (TakenBy-intake w past)
+TakenBy-intake w (Retire now ∷ past) = TakenBy_more (clock past) (clock (Retire now ∷ past)) (intake w past).spans (omega arith) (TakenBy-intake w past)
 
 -- a drain was no later than the clock, and no span was taken after it
 abbrev pub DrainedBy : Option ℕ → ℕ → List Taken → Type 0
@@ -60,3 +61,4 @@ DrainedBy-intake w (Turn now ∷ past) = DrainedBy_more (drained past) (clock pa
 DrainedBy-intake w (Answer now ticket word given ∷ past) = DrainedBy_more (drained past) (clock past) (clock (Answer now ticket word given ∷ past)) (intake w past).spans (omega arith) (DrainedBy-intake w past)
 DrainedBy-intake w (Report now ∷ past) = DrainedBy_more (drained past) (clock past) (clock (Report now ∷ past)) (intake w past).spans (omega arith) (DrainedBy-intake w past)
 DrainedBy-intake w (Drain now ∷ past) = DrainedBy_first (drained past) (clock past) (clock (Drain now ∷ past)) (intake w past).spans (omega arith) (TakenBy-intake w past) (DrainedBy-intake w past)
+DrainedBy-intake w (Retire now ∷ past) = DrainedBy_more (drained past) (clock past) (clock (Retire now ∷ past)) (intake w past).spans (omega arith) (DrainedBy-intake w past)

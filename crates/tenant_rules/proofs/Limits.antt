@@ -14,7 +14,7 @@ use Rattle.span_batcher.specs.Timers.{is_due}
 use Rattle.drop_ledger.specs.declared.places.Place.{Place}
 use Rattle.drop_ledger.specs.declared.places.Place.TheVariants.{Undecided, Pending, Queued, NotSampled, QueueFull}
 use Rattle.tenant_rules.specs.Arrivals.{Arrival, valid, trace_of}
-use Rattle.tenant_rules.specs.Own.{Own, Post, Turn, Answer, Report, Drain}
+use Rattle.tenant_rules.specs.Own.{Own, Post, Turn, Answer, Report, Drain, Retire}
 use Rattle.tenant_rules.specs.Fate.{SettledData, WaitingData, are_sampled}
 use Rattle.tenant_rules.specs.Sender.{BatchData, ActiveData, SenderData, is_full, has_consumer, has_tickets, first_retry, due_by, under, without, replaced, retried, oldest, Choice, Retried, Oldest, NoBatch, choice_by, choice, sent_again, sent_first, FateData, Leaves, Stays, fate, in_flight, left_by, answered_by}
 use Rattle.tenant_rules.specs.Batching.{all_sent}
@@ -308,6 +308,7 @@ acts_within n m (Turn now) s some k = turned_by_within n m (choice m s.sender) s
 acts_within n m (Answer now ticket word given) s some k = settled_by_within n ticket m word given (in_flight ticket s.sender) s refl k
 acts_within n m (Report now) s some k = k
 acts_within n m (Drain now) s some k = drain_within n m s k
+acts_within n m (Retire now) s some k = k
 
 next_within : (n : ℕ) (step : Own) (s : State) → 0 < n → Within n s → Within n (next step s)
 unfolding next

@@ -3,7 +3,7 @@ use Rattle.std.proofs.Common.{◌≡◌, ℕ, ◌≤◌, List, [], ◌∷◌, le
 use Rattle.std.specs.Prelude.{is_some, unwrap_or}
 use Rattle.tail_settings.specs.Section.{SectionData}
 use Rattle.tenant_rules.specs.Arrivals.{Arrival}
-use Rattle.tenant_rules.specs.Own.{Own, Post, Turn, Answer, Report, Drain, moment_of, clock, drained}
+use Rattle.tenant_rules.specs.Own.{Own, Post, Turn, Answer, Report, Drain, Retire, moment_of, clock, drained}
 use Rattle.tenant_rules.specs.Fate.{settled}
 use Rattle.tenant_rules.specs.Events.{caches_of}
 use Rattle.tenant_rules.specs.Placement.{opened, placements, spans_in_rows}
@@ -69,6 +69,7 @@ moment_as (Turn now) = refl
 moment_as (Answer now ticket word given) = refl
 moment_as (Report now) = refl
 moment_as (Drain now) = refl
+moment_as (Retire now) = refl
 
 clock_as : (past : List Own) → clock past ≡ clock (map as_report past)
 clock_as [] = refl
@@ -85,6 +86,7 @@ drained_as (Turn now ∷ past) = drained_as past
 drained_as (Answer now ticket word given ∷ past) = drained_as past
 drained_as (Report now ∷ past) = drained_as past
 drained_as (Drain now ∷ past) = first_drain (drained past) (drained (map as_report past)) (clock (Drain now ∷ past)) (clock (Drain now ∷ map as_report past)) (drained_as past) (clock_with (Drain now) past)
+drained_as (Retire now ∷ past) = drained_as past
 
 intake_as : (w : SectionData) (past : List Own) → intake w past ≡ intake w (map as_report past)
 intake_as w [] = refl
@@ -94,6 +96,7 @@ intake_as w (Turn now ∷ past) = intake_as w past
 intake_as w (Answer now ticket word given ∷ past) = intake_as w past
 intake_as w (Report now ∷ past) = intake_as w past
 intake_as w (Drain now ∷ past) = intake_as w past
+intake_as w (Retire now ∷ past) = intake_as w past
 
 pub moments_count : MomentsCount
 moments_count w past = (
@@ -110,6 +113,7 @@ clock_without (Turn now ∷ past) = omega (arith, clock_without past)
 clock_without (Answer now ticket word given ∷ past) = omega (arith, clock_without past)
 clock_without (Report now ∷ past) = omega (arith, clock_without past)
 clock_without (Drain now ∷ past) = omega (arith, clock_without past)
+clock_without (Retire now ∷ past) = omega (arith, clock_without past)
 
 -- at a step whose moment doesn't fall the clock is the same
 clock_same : (step : Own) (past : List Own) → clock past ≤ moment_of step → clock (step ∷ past) ≡ clock (step ∷ without_others past)
@@ -122,6 +126,7 @@ drained_without (Turn now ∷ past) rise = drained_without past rise.1
 drained_without (Answer now ticket word given ∷ past) rise = drained_without past rise.1
 drained_without (Report now ∷ past) rise = drained_without past rise.1
 drained_without (Drain now ∷ past) rise = first_drain (drained past) (drained (without_others past)) (clock (Drain now ∷ past)) (clock (Drain now ∷ without_others past)) (drained_without past rise.1) (clock_same (Drain now) past rise.0)
+drained_without (Retire now ∷ past) rise = drained_without past rise.1
 
 intake_without : (w : SectionData) (past : List Own) → NeverFall past → intake w past ≡ intake w (without_others past)
 intake_without w [] rise = refl
@@ -131,6 +136,7 @@ intake_without w (Turn now ∷ past) rise = intake_without w past rise.1
 intake_without w (Answer now ticket word given ∷ past) rise = intake_without w past rise.1
 intake_without w (Report now ∷ past) rise = intake_without w past rise.1
 intake_without w (Drain now ∷ past) rise = intake_without w past rise.1
+intake_without w (Retire now ∷ past) rise = intake_without w past rise.1
 
 -- two such pasts
 drained_same : (one other : List Own) → NeverFall one → NeverFall other → without_others one ≡ without_others other → drained one ≡ drained other

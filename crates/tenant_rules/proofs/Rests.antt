@@ -6,7 +6,7 @@ use Rattle.tail_settings.specs.Section.{SectionData}
 use Rattle.span_batcher.specs.Batches.{AreValidRules}
 use Rattle.span_batcher.specs.Timers.{is_due}
 use Rattle.tenant_rules.specs.Arrivals.{Arrival}
-use Rattle.tenant_rules.specs.Own.{Own, Post, Report, Drain, clock, drained}
+use Rattle.tenant_rules.specs.Own.{Own, Post, Report, Drain, Retire, clock, drained}
 use Rattle.tenant_rules.specs.Placement.{opened, spans_in_rows}
 use Rattle.tenant_rules.specs.Sender.{BatchData, SenderData}
 use Rattle.tenant_rules.specs.Batching.{rules_of, formed, waiting_rows}
@@ -70,6 +70,12 @@ report_rests w past x now sound is =
     let step = Report now in
     rests_with w (intake w past) x (clock past) (clock (step ∷ past)) (drained past) (drained past) (sender w past) (ended w past) (newly_formed w step past) sound (omega arith) is refl (DrainedBy-intake w past) refl
 
+retire_rests : (w : SectionData) (past : List Own) (x now : ℕ) → AreValidRules (rules_of w) → drained past ≡ Some x → ChangesClockAlone w past (Retire now)
+unfolding state sender ended
+retire_rests w past x now sound is =
+    let step = Retire now in
+    rests_with w (intake w past) x (clock past) (clock (step ∷ past)) (drained past) (drained past) (sender w past) (ended w past) (newly_formed w step past) sound (omega arith) is refl (DrainedBy-intake w past) refl
+
 drain_rests : (w : SectionData) (past : List Own) (x now : ℕ) → AreValidRules (rules_of w) → drained past ≡ Some x → ChangesClockAlone w past (Drain now)
 unfolding state sender ended
 drain_rests w past x now sound is =
@@ -90,4 +96,5 @@ drained_rests w sound past x is now = record {
   drain = drain_rests w past x now sound is;
   post = λ arrivals. post_rests w past x now arrivals sound is;
   report = report_rests w past x now sound is;
+  retire = retire_rests w past x now sound is;
 }

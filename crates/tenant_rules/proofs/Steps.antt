@@ -14,7 +14,8 @@ use Rattle.send_retry.specs.Delay.{StateData, NextData, Delay, GiveUp, next_dela
 use Rattle.send_queue.specs.declared.active.Retry.{Retry}
 use Rattle.send_queue.specs.declared.settled.Settled.TheVariants as settleds
 use Rattle.span_batcher.specs.Batches.{AreValidRules}
-use Rattle.tenant_rules.specs.Own.{Own, Turn, Answer, Report, clock, drained}
+use Rattle.tenant_rules.specs.Own.{Own, Turn, Answer, Report, Retire, clock, drained}
+use Rattle.tenant_rules.specs.Retiring.{retire_told}
 use Rattle.tenant_rules.specs.Rows.{Taken}
 use Rattle.tenant_rules.specs.Sender.{BatchData, ActiveData, SenderData, sizes, active_sizes, first_retry, due_by, has_consumer, has_tickets, under, retried, oldest, Choice, Retried, Oldest, NoBatch, choice_by, choice, without, replaced, sent_again, sent_first, handed_of, asked, FateData, Leaves, Stays, fate_next, fate_by, fate, settled_by, flying, in_flight, left_by, answered_by, answered}
 use Rattle.tenant_rules.specs.Batching.{rules_of, formed}
@@ -273,6 +274,10 @@ pub report_goes_on : (w : SectionData) (past : List Own) (now : ℕ) → 0 < w.t
 unfolding state next sender ended
 report_goes_on w past now pos sound = at_step w past (clock (Report now ∷ past)) (newly_formed w (Report now) past) pos sound (omega arith) refl
 
+pub retire_goes_on : (w : SectionData) (past : List Own) (now : ℕ) → 0 < w.tail_sampling.num_traces → AreValidRules (rules_of w) → state w (Retire now ∷ past) ≡ next (Retire now) (state w past)
+unfolding state next sender ended
+retire_goes_on w past now pos sound = at_step w past (clock (Retire now ∷ past)) (newly_formed w (Retire now) past) pos sound (omega arith) refl
+
 pub turn_goes_on : (w : SectionData) (past : List Own) (now : ℕ) → 0 < w.tail_sampling.num_traces → AreValidRules (rules_of w) → state w (Turn now ∷ past) ≡ next (Turn now) (state w past)
 unfolding state next sender ended
 turn_goes_on w past now pos sound =
@@ -296,6 +301,10 @@ answer_goes_on w past now ticket word given pos sound =
 pub report_told : (w : SectionData) (past : List Own) (now : ℕ) → 0 < w.tail_sampling.num_traces → AreValidRules (rules_of w) → answer w past (Report now) ≡ told (Report now) (state w past)
 unfolding state answer told sender ended
 report_told w past now pos sound = ap (λ (s : State). replies.Report (report_text s.ledger)) (at_step w past (clock (Report now ∷ past)) (newly_formed w (Report now) past) pos sound (omega arith) refl)
+
+pub retire_told_is : (w : SectionData) (past : List Own) (now : ℕ) → 0 < w.tail_sampling.num_traces → AreValidRules (rules_of w) → answer w past (Retire now) ≡ told (Retire now) (state w past)
+unfolding state answer told sender ended
+retire_told_is w past now pos sound = ap (λ (s : State). retire_told s.drained s.ledger) (at_step w past (clock (Retire now ∷ past)) (newly_formed w (Retire now) past) pos sound (omega arith) refl)
 
 pub turn_told_is : (w : SectionData) (past : List Own) (now : ℕ) → 0 < w.tail_sampling.num_traces → AreValidRules (rules_of w) → answer w past (Turn now) ≡ told (Turn now) (state w past)
 unfolding state answer told

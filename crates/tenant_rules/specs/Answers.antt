@@ -8,10 +8,11 @@ use Rattle.drop_ledger.specs.Report.{report_text}
 use Rattle.tenant_rules.specs.declared.reply.Reply.{Reply}
 use Rattle.tenant_rules.specs.declared.reply.StepReply.{StepReply}
 use Rattle.tenant_rules.specs.declared.reply.StepReply.TheVariants as replies
-use Rattle.tenant_rules.specs.Own.{Own, Post, Turn, Answer, Report, Drain, clock, drained}
+use Rattle.tenant_rules.specs.Own.{Own, Post, Turn, Answer, Report, Drain, Retire, clock, drained}
 use Rattle.tenant_rules.specs.Intake.{Verdict, shutting_down, counter_limit, exhausted, accepted, verdict, intake}
 use Rattle.tenant_rules.specs.Sender.{ActiveData, SenderData, Choice, Retried, Oldest, NoBatch, choice, in_flight}
 use Rattle.tenant_rules.specs.Sending.{before_acting, sender}
+use Rattle.tenant_rules.specs.Retiring.{retire_told}
 use Rattle.tenant_rules.specs.State.{ledger}
 
 -- a refusal's status code, and as its content the canonical text of a Status (google.rpc.Status) with the message
@@ -69,3 +70,4 @@ answer section past (Answer now ticket word given) =
     heard (in_flight ticket (before_acting section (Answer now ticket word given) past (sender section past)))
 answer section past (Report now) = replies.Report (report_text (ledger section (Report now ∷ past)))
 answer section past (Drain now) = replies.Done
+answer section past (Retire now) = retire_told (is_some (drained past)) (ledger section (Retire now ∷ past))

@@ -4,7 +4,7 @@ use Rattle.std.specs.Prelude.{ℕ, ◌+◌, ◌-◌, Bool, List, [], ◌∷◌, 
 use Rattle.tail_settings.specs.Section.{SectionData}
 use Rattle.drop_ledger.specs.Ledger.{most_counted}
 use Rattle.tenant_rules.specs.Arrivals.{Arrival, valid}
-use Rattle.tenant_rules.specs.Own.{Own, Post, Turn, Answer, Report, Drain, clock, drained}
+use Rattle.tenant_rules.specs.Own.{Own, Post, Turn, Answer, Report, Drain, Retire, clock, drained}
 use Rattle.tenant_rules.specs.Rows.{Taken}
 use Rattle.tenant_rules.specs.Batching.{held}
 
@@ -72,3 +72,4 @@ intake section (Turn now ∷ past) = intake section past
 intake section (Answer now ticket word answer ∷ past) = intake section past
 intake section (Report now ∷ past) = intake section past
 intake section (Drain now ∷ past) = intake section past
+intake section (Retire now ∷ past) = intake section past

@@ -4,7 +4,7 @@ use Rattle.tail_settings.specs.Section.{SectionData}
 use Rattle.send_retry.specs.Class.{AnswerData}
 use Rattle.span_batcher.specs.Batches.{AreValidRules}
 use Rattle.tenant_rules.specs.Arrivals.{Arrival}
-use Rattle.tenant_rules.specs.Own.{Own, Post, Turn, Answer, Report, Drain}
+use Rattle.tenant_rules.specs.Own.{Own, Post, Turn, Answer, Report, Drain, Retire}
 use Rattle.tenant_rules.specs.Batching.{rules_of}
 use Rattle.tenant_rules.specs.State.{state}
 use Rattle.tenant_rules.specs.Answers.{answer}
@@ -35,6 +35,11 @@ AnswersFollow = (section : SectionData) → 0 < section.tail_sampling.num_traces
 abbrev pub DrainsFollow : Type 0
 DrainsFollow = (section : SectionData) → 0 < section.tail_sampling.num_traces → AreValidRules (rules_of section) →
     (past : List Own) (now : ℕ) → Follows section past (Drain now)
+
+-- those of a retirement, before which nothing but time goes on
+abbrev pub RetiresFollow : Type 0
+RetiresFollow = (section : SectionData) → 0 < section.tail_sampling.num_traces → AreValidRules (rules_of section) →
+    (past : List Own) (now : ℕ) → Follows section past (Retire now)
 
 -- those of a post, whose spans join rows, open rows, leave late or are dropped, one after the other; or none of them is
 -- taken. A row waits for its decision, for at least a millisecond

@@ -10,7 +10,7 @@ use Rattle.span_batcher.specs.Machine as batcher
 use Rattle.tenant_rules.specs.declared.reply.StepReply.{StepReply}
 use Rattle.tenant_rules.specs.declared.reply.StepReply.TheVariants as replies
 use Rattle.tenant_rules.specs.Arrivals.{Arrival, valid, trace_of}
-use Rattle.tenant_rules.specs.Own.{Own, Post, Turn, Answer, Report, Drain, moment_of}
+use Rattle.tenant_rules.specs.Own.{Own, Post, Turn, Answer, Report, Drain, Retire, moment_of}
 use Rattle.tenant_rules.specs.Fate.{SettledData, WaitingData}
 use Rattle.decision_cache.specs.Caches.{found}
 use Rattle.tenant_rules.specs.Batching.{all_sent}
@@ -19,6 +19,7 @@ use Rattle.tenant_rules.specs.Sender.{Choice, Retried, Oldest, NoBatch, choice, 
 use Rattle.tenant_rules.specs.Sending.{EndedData, ended_in_flight}
 use Rattle.tenant_rules.specs.State.{State}
 use Rattle.tenant_rules.specs.Answers.{reply_of, turn_told, heard}
+use Rattle.tenant_rules.specs.Retiring.{retire_told}
 use Rattle.tenant_rules.specs.Timers.{recount, all_queued, grouped, decide_row, remembered, advanced}
 
 -- ---- a span comes
@@ -190,6 +191,7 @@ acts moment (Turn now) s = turned moment s
 acts moment (Answer now ticket word answer) s = settled ticket moment word answer s
 acts moment (Report now) s = s
 acts moment (Drain now) s = drain moment s
+acts moment (Retire now) s = s
 
 -- the state after a step
 unfoldable pub next : Own → State → State
@@ -202,6 +204,7 @@ told_at moment (Turn now) s = turn_told moment s.sender
 told_at moment (Answer now ticket word answer) s = heard (in_flight ticket s.sender)
 told_at moment (Report now) s = replies.Report (report_text s.ledger)
 told_at moment (Drain now) s = replies.Done
+told_at moment (Retire now) s = retire_told s.drained s.ledger
 
 -- what is told of a step
 unfoldable pub told : Own → State → StepReply

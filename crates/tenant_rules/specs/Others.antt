@@ -1,10 +1,10 @@
--- What posts are told, and what becomes of their spans up to their batches, doesn't depend on turns, answers and
--- reports but for their moments; and where moments never fall, not on these either. A law of this project's own.
+-- What posts are told, and what becomes of their spans up to their batches, doesn't depend on turns, answers, reports and
+-- retirements but for their moments; and where moments never fall, not on these either. A law of this project's own.
 use Rattle.std.specs.Prelude.{◌≡◌, ◌≤◌, ℕ, List, [], ◌∷◌, map}
 use Rattle.tail_settings.specs.Section.{SectionData}
 use Rattle.drop_ledger.specs.declared.places.Places.{Places}
 use Rattle.tenant_rules.specs.Arrivals.{Arrival}
-use Rattle.tenant_rules.specs.Own.{Own, Post, Turn, Answer, Report, Drain, moment_of, clock, drained}
+use Rattle.tenant_rules.specs.Own.{Own, Post, Turn, Answer, Report, Drain, Retire, moment_of, clock, drained}
 use Rattle.tenant_rules.specs.Groups.{groups}
 use Rattle.tenant_rules.specs.Intake.{intake}
 use Rattle.tenant_rules.specs.Sender.{SenderData}
@@ -12,13 +12,14 @@ use Rattle.tenant_rules.specs.Sending.{formed_by}
 use Rattle.tenant_rules.specs.State.{ledger_at, state}
 use Rattle.tenant_rules.specs.Answers.{answer}
 
--- turns and answers as reports: what is left of them is their moment
+-- turns, answers and retirements as reports: what is left of them is their moment
 abbrev pub as_report : Own → Own
 as_report (Post now arrivals) = Post now arrivals
 as_report (Turn now) = Report now
 as_report (Answer now ticket word given) = Report now
 as_report (Report now) = Report now
 as_report (Drain now) = Drain now
+as_report (Retire now) = Report now
 
 -- posts and drains alone
 abbrev pub without_others : List Own → List Own
@@ -28,6 +29,7 @@ without_others (Turn now ∷ past) = without_others past
 without_others (Answer now ticket word given ∷ past) = without_others past
 without_others (Report now ∷ past) = without_others past
 without_others (Drain now ∷ past) = Drain now ∷ without_others past
+without_others (Retire now ∷ past) = without_others past
 
 -- moments never fall: each step asks for the greatest moment so far or a later one
 abbrev pub NeverFall : List Own → Type 0
@@ -56,7 +58,7 @@ abbrev pub AreToldAlike : SectionData → List Own → List Own → Type 0
 AreToldAlike section one other = (now : ℕ) (arrivals : List Arrival) →
     answer section one (Post now arrivals) ≡ answer section other (Post now arrivals)
 
--- turns and answers count as reports
+-- turns, answers and retirements count as reports
 abbrev pub MomentsCount : Type 0
 MomentsCount = (section : SectionData) (past : List Own) →
     AreAlike section past (map as_report past) × AreToldAlike section past (map as_report past)

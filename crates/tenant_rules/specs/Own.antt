@@ -5,14 +5,15 @@ use Rattle.send_retry.specs.Class.{AnswerData}
 use Rattle.tenant_rules.specs.Arrivals.{Arrival}
 
 -- at a moment in milliseconds: a body's spans come; a worker asks for a job; the back end's answer to the job of a
--- ticket comes, with a word of 32 bits that picks the delay before another attempt; the counters are asked for; or the
--- tenant takes no more spans and sends all it holds
+-- ticket comes, with a word of 32 bits that picks the delay before another attempt; the counters are asked for; the
+-- tenant takes no more spans and sends all it holds; or it is to retire
 pub data Own : Type 0 where
   Post : ℕ → List Arrival → Own
   Turn : ℕ → Own
   Answer : ℕ → ℕ → ℕ → AnswerData → Own
   Report : ℕ → Own
   Drain : ℕ → Own
+  Retire : ℕ → Own
 
 -- a later moment than this is taken as this
 abbrev pub latest_moment : ℕ
@@ -25,6 +26,7 @@ asked (Turn now) = now
 asked (Answer now ticket word answer) = now
 asked (Report now) = now
 asked (Drain now) = now
+asked (Retire now) = now
 
 -- as it is taken
 abbrev pub moment_of : Own → ℕ
@@ -43,3 +45,4 @@ drained (Turn now ∷ past) = drained past
 drained (Answer now ticket word answer ∷ past) = drained past
 drained (Report now ∷ past) = drained past
 drained (Drain now ∷ past) = Some (unwrap_or (drained past) (clock (Drain now ∷ past)))
+drained (Retire now ∷ past) = drained past

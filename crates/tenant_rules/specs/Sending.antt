@@ -8,7 +8,7 @@ use Rattle.drop_ledger.specs.declared.places.Place.TheVariants.{Exported, QueueF
 use Rattle.send_retry.specs.Class.{AnswerData}
 use Rattle.send_queue.specs.declared.settled.Settled.{Settled}
 use Rattle.send_queue.specs.declared.settled.Settled.TheVariants.{Taken, Waits, Refused, Exhausted}
-use Rattle.tenant_rules.specs.Own.{Own, Post, Turn, Answer, Report, Drain, clock, drained}
+use Rattle.tenant_rules.specs.Own.{Own, Post, Turn, Answer, Report, Drain, Retire, clock, drained}
 use Rattle.tenant_rules.specs.Batching.{formed}
 use Rattle.tenant_rules.specs.Intake.{intake}
 use Rattle.tenant_rules.specs.Sender.{BatchData, ActiveData, SenderData, no_batches, is_full, offered, asked, fate, settled_by, in_flight, answered}
@@ -39,6 +39,7 @@ acted moment (Turn now) s = asked moment s
 acted moment (Answer now ticket word answer) s = answered ticket moment word answer s
 acted moment (Report now) s = s
 acted moment (Drain now) s = s
+acted moment (Retire now) s = s
 
 -- the sender just before a step acts
 abbrev pub before_acting : SectionData → Own → List Own → SenderData → SenderData
@@ -81,6 +82,7 @@ ended_at moment (Turn now) s = []
 ended_at moment (Answer now ticket word answer) s = ended_in_flight moment word answer (in_flight ticket s)
 ended_at moment (Report now) s = []
 ended_at moment (Drain now) s = []
+ended_at moment (Retire now) s = []
 
 -- where the spans of all batches ended that are neither in the queue nor active, the last one first
 unfoldable pub ended : SectionData → List Own → List EndedData

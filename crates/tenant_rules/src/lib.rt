@@ -1,7 +1,7 @@
 //! One tenant's rules, whole.
 //!
-//! A tenant's own steps are posts of spans, turns of workers, answers of its back end, reports and drains. What it is
-//! told of each depends on its settings and its own steps alone: `specs/State` says what it is after any list of own
+//! A tenant's own steps are posts of spans, turns of workers, answers of its back end, reports, drains and its
+//! retirement. What it is told of each depends on its settings and its own steps alone: `specs/State` says what it is after any list of own
 //! steps, with its fourteen counters, `specs/Answers` what it is told of the next one, and `specs/Ready` when it next
 //! has something to do. Rows of traces wait for their decision and leave to make room for others, two caches may keep
 //! the latest verdicts, a budget bounds the spans that are held, groups of spans become batches, batches wait in a
@@ -18,7 +18,7 @@
 ghost use Rattle.tenant_rules.specs.Fronts.{FrontsAre};
 ghost use Rattle.tenant_rules.specs.InOrder.{RowsWaitInOrder, NoneIsDue};
 ghost use Rattle.tenant_rules.specs.Law.{ReportsFollow, TurnsFollow, AnswersFollow, DrainsFollow};
-ghost use Rattle.tenant_rules.specs.Law.{PostsFollow, StepsFollow};
+ghost use Rattle.tenant_rules.specs.Law.{RetiresFollow, PostsFollow, StepsFollow};
 ghost use Rattle.tenant_rules.specs.Sum.{FirstIsCounted, StepsCount, FrontsCount, PastsCount};
 ghost use Rattle.tenant_rules.specs.Limits.{StepsStayWithin, FrontsStayWithin, PastsStayWithin};
 ghost use Rattle.tenant_rules.specs.Least.{ReadyIsLeast, ReadyIsNext, DueTurnsAct};
@@ -49,6 +49,12 @@ pub fn answers_follow()
 /// clock alone: a law over the definitions.
 pub fn drains_follow()
     ensures { DrainsFollow }
+{}
+
+/// As time goes on before a retirement, due timers run, and it changes nothing else; the tenant is told its last report
+/// where it was drained and holds no span: a law over the definitions.
+pub fn retires_follow()
+    ensures { RetiresFollow }
 {}
 
 /// A post's spans are taken one after the other where the budget allows, each as its row or a cache has it, and the

@@ -23,8 +23,10 @@ pub enum StepReply {
     Worked,
     /// Of an answer or a drain.
     Done,
-    /// Of a report: the counters' line, without its end.
+    /// Of a report, or of a retirement: the counters' line, without its end.
     Report(Octets),
     /// Of an answer: its ticket names no batch in flight, and nothing but due timers has happened.
     UnknownTicket,
+    /// Of a retirement: the tenant wasn't drained or holds spans, and nothing but due timers has happened.
+    NotEmpty,
 }

@@ -71,6 +71,7 @@ told_whom-named t (Answered replies.Worked) = refl
 told_whom-named t (Answered replies.Done) = refl
 told_whom-named t (Answered (replies.Report text)) = refl
 told_whom-named t (Answered replies.UnknownTicket) = refl
+told_whom-named t (Answered replies.NotEmpty) = refl
 told_whom-named t (NotTaken number) = refl
 
 whom_told : (t : ℕ) (step : Own) (old new : List View) (outcome : Outcome) → IsStepOf t step old outcome new → told_whom outcome ≡ Some t

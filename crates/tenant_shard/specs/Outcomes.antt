@@ -60,6 +60,10 @@ not_member = 22
 abbrev pub other_policies : ℕ
 other_policies = 23
 
+-- the number of the refusal of a retirement of a tenant that wasn't drained or holds spans
+abbrev pub not_empty : ℕ
+not_empty = 26
+
 -- what a tenant is told of a step: what its pipeline answers, or that it was refused, by the refusal's number
 pub data Answer : Type 0 where
   Answered : StepReply → Answer
@@ -73,6 +77,7 @@ named tenant (Answered replies.Worked) = Worked tenant
 named tenant (Answered replies.Done) = Done tenant
 named tenant (Answered (replies.Report text)) = Report tenant text
 named tenant (Answered replies.UnknownTicket) = Refused tenant unknown_ticket
+named tenant (Answered replies.NotEmpty) = Refused tenant not_empty
 named tenant (NotTaken number) = Refused tenant number
 
 -- the tenant whom an outcome names

@@ -21,6 +21,9 @@ use tenant_stores::Stores;
 /// The number of the refusal of an answer to a job that isn't in flight.
 const UNKNOWN_TICKET: u8 = 21;
 
+/// The number of the refusal of a retirement of a tenant that wasn't drained or holds spans.
+const NOT_EMPTY: u8 = 26;
+
 /// What a pipeline told, with the number of the tenant whose it is.
 pub fn named(tenant: u32, told: StepReply) -> Outcome
     ensures { result ≡ named tenant (Answered told) }
@@ -32,6 +35,7 @@ pub fn named(tenant: u32, told: StepReply) -> Outcome
         StepReply::Done => Outcome::Done(tenant),
         StepReply::Report(text) => Outcome::Report(tenant, text),
         StepReply::UnknownTicket => Outcome::Refused(tenant, UNKNOWN_TICKET),
+        StepReply::NotEmpty => Outcome::Refused(tenant, NOT_EMPTY),
     }
 }
 

@@ -155,6 +155,7 @@ turned_whom number replies.Worked = refl
 turned_whom number replies.Done = refl
 turned_whom number (replies.Report report) = refl
 turned_whom number replies.UnknownTicket = refl
+turned_whom number replies.NotEmpty = refl
 
 -- who is ready has a section
 has_section : (found : Option SectionData) (past : List Own) (seen : Option ℕ) (least : ℕ) → ready_after found past true seen ≡ Some least

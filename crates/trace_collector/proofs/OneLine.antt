@@ -7,7 +7,7 @@ use Rattle.std.proofs.lemmas.List.Elements.{All-nil, All-append}
 use Rattle.std.proofs.lemmas.List.Splits.{slice_split_at, slice_split_none}
 use Rattle.tenant_rules.specs.declared.reply.StepReply.{StepReply}
 use Rattle.tenant_rules.specs.declared.reply.StepReply.TheVariants as replies
-use Rattle.tenant_shard.specs.Outcomes.{unknown_ticket}
+use Rattle.tenant_shard.specs.Outcomes.{unknown_ticket, not_empty}
 use Rattle.replay_script.specs.Word.{words_of}
 use Rattle.replay_script.specs.Answer.{hex_text, reply_text, job_text, worked_text, idle_text, done_text, report_text, refused_text}
 use Rattle.replay_script.proofs.Plain.{IsPlain, plain_of, decimal_plain, hex_plain}
@@ -116,6 +116,7 @@ IsPlainTold (replies.Job ticket payload) = Unit
 IsPlainTold replies.Worked = Unit
 IsPlainTold replies.Done = Unit
 IsPlainTold replies.UnknownTicket = Unit
+IsPlainTold replies.NotEmpty = Unit
 
 pub told_line : (name : List ℕ) (what : StepReply) → IsWord name → IsPlainTold what → IsLineOf name (told_text name what)
 told_line name (replies.Reply reply) is plain = reply_line name reply.status reply.body is
@@ -124,6 +125,7 @@ told_line name replies.Worked is plain = worked_line name is
 told_line name replies.Done is plain = done_line name is
 told_line name (replies.Report report) is plain = report_line name report is plain
 told_line name replies.UnknownTicket is plain = refused_line name unknown_ticket is
+told_line name replies.NotEmpty is plain = refused_line name not_empty is
 
 none_named : (other : List ℕ) (words : List (List ℕ)) → is_named_in other (codes "idle" ∷ words) ≡ false
 none_named other [] = refl

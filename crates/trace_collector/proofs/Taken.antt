@@ -58,6 +58,7 @@ named_text settings shard number replies.Worked = refl
 named_text settings shard number replies.Done = refl
 named_text settings shard number (replies.Report report) = refl
 named_text settings shard number replies.UnknownTicket = refl
+named_text settings shard number replies.NotEmpty = refl
 
 pub stepped_told : (settings : SettingsData) (pasts later : ℕ → List Own) (tenant : ℕ) (section : SectionData) (step : OwnStep) (line : Option (List ℕ)) → section_at settings tenant ≡ Some section
     → is_taken section step ≡ true → IsSteppedFor settings pasts tenant step line later

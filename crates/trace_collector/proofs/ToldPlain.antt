@@ -66,6 +66,10 @@ heard_plain : (found : Option ActiveData) → IsPlainTold (heard found)
 heard_plain None = tt
 heard_plain (Some a) = tt
 
+retire_plain : (may : Bool) (l : LedgerData) → IsPlainTold (if may then replies.Report (report_text l) else replies.NotEmpty)
+retire_plain true l = (report_plain l).is
+retire_plain false l = tt
+
 pub answer_plain : (section : SectionData) (past : List Own) (step : Own) → IsPlainTold (answer section past step)
 unfolding answer
 answer_plain section past (own.Post now arrivals) = tt
@@ -76,3 +80,6 @@ answer_plain section past (own.Answer now ticket word given) =
     heard_plain (in_flight ticket (before_acting section (own.Answer now ticket word given) past (sender section past)))
 answer_plain section past (own.Report now) = (report_plain (ledger section (own.Report now ∷ past))).is
 answer_plain section past (own.Drain now) = tt
+answer_plain section past (own.Retire now) =
+    let l = ledger section (own.Retire now ∷ past) in
+    retire_plain (is_some (drained past) && holds_none l.places) l

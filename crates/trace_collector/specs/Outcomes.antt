@@ -7,7 +7,7 @@ use Rattle.tenant_rules.specs.declared.reply.StepReply.{StepReply}
 use Rattle.tenant_rules.specs.declared.reply.StepReply.TheVariants as replies
 use Rattle.tenant_shard.specs.declared.step.Outcome.{Outcome}
 use Rattle.tenant_shard.specs.declared.step.Outcome.TheVariants.{Reply, Job, Worked, Idle, Done, Report, Refused}
-use Rattle.tenant_shard.specs.Outcomes.{unknown_ticket}
+use Rattle.tenant_shard.specs.Outcomes.{unknown_ticket, not_empty}
 use Rattle.replay_script.specs.Answer.{reply_text, job_text, worked_text, idle_text, done_text, report_text, refused_text}
 
 -- the name of a tenant number
@@ -32,6 +32,7 @@ told_text name replies.Worked = worked_text name
 told_text name replies.Done = done_text name
 told_text name (replies.Report report) = report_text name report
 told_text name replies.UnknownTicket = refused_text name unknown_ticket
+told_text name replies.NotEmpty = refused_text name not_empty
 
 -- what a body without a value is answered: the text of a refusal with this message
 abbrev pub bad_protobuf : List ℕ
