@@ -5,6 +5,7 @@ pub mod Numbers
 pub mod OnLiterals
 pub mod Policies
 pub mod Rules
+pub mod Sections
 pub mod Sound
 pub mod Tenants
 pub mod Told

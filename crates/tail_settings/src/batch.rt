@@ -8,7 +8,7 @@ use crate::keys;
 use toml::Table;
 
 /// How many spans are sent together, and how long they wait for more.
-#[derive(Clone, Copy, Debug)]
+#[derive(Clone, Copy, Debug, PartialEq)]
 pub struct Batch {
     /// As soon as so many spans are pending they are sent, 1 to 1,000,000.
     pub send_batch_size: u32,

@@ -15,6 +15,7 @@
 mod batch;
 mod change;
 mod document;
+mod equal;
 mod fault;
 mod global;
 mod keys;
@@ -31,6 +32,7 @@ mod texts;
 pub use batch::Batch;
 pub use change::numbers_of_tenants;
 pub use document::load;
+pub use equal::equal_sections;
 pub use fault::{SettingsFault, equal_faults};
 pub use global::GlobalSettings;
 pub use policy::{LeafPolicy, PolicySpec, StatusCode, equal_policies, same_policies};

@@ -8,7 +8,7 @@ use crate::keys;
 use toml::Table;
 
 /// When a batch is sent again.
-#[derive(Clone, Copy, Debug)]
+#[derive(Clone, Copy, Debug, PartialEq)]
 pub struct RetryOnFailure {
     /// The first interval between two attempts, in milliseconds, 1 to 86,400,000.
     pub initial_interval: u64,

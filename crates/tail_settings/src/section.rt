@@ -14,7 +14,7 @@ use std::alloc::{AllocError, Global};
 use toml::Table;
 
 /// What a tenant's table says beside its name.
-#[derive(Debug, Drop)]
+#[derive(Debug, PartialEq, Drop)]
 pub struct Section {
     /// Where the tenant's batches are sent: a host and a port, as `127.0.0.1:4319`. 1 to 255 printable bytes of ASCII
     /// without the space.

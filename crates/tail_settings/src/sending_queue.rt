@@ -7,7 +7,7 @@ use crate::keys;
 use toml::Table;
 
 /// How many batches wait to be sent, and how many are being sent.
-#[derive(Clone, Copy, Debug)]
+#[derive(Clone, Copy, Debug, PartialEq)]
 pub struct SendingQueue {
     /// How many batches wait at most, 1 to 100,000.
     pub queue_size: u32,

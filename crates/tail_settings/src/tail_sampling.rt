@@ -13,7 +13,7 @@ use std::sync::ArcSlice;
 use toml::Table;
 
 /// How a tenant chooses the traces that it keeps.
-#[derive(Debug, Drop)]
+#[derive(Debug, PartialEq, Drop)]
 pub struct TailSampling {
     /// How long a trace waits for its decision, in milliseconds, 1 to 86,400,000.
     pub decision_wait: u64,
