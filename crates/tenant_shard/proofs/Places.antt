@@ -1,6 +1,6 @@
 -- Where a member stands among members by number.
 use Rattle.std.proofs.Common.{◌≡◌, ℕ, zero, suc, ◌<◌, ◌≤◌, List, [], ◌∷◌, length, get_or, set, sym, ap, ◌∙◌, arith, Result, Ok, Err, IfOk, IfErr, OnErr}
-use Rattle.std.specs.List.{insert}
+use Rattle.std.specs.List.{insert, remove}
 use Rattle.std.specs.List.Sorted.{IsSearchInRange, IsBinarySearchResult, IsNonDecreasingBy}
 use Rattle.std.specs.Ordering.{nat_cmp, ordering_index}
 use Rattle.std.proofs.lemmas.Cmp.{ranked}
@@ -90,6 +90,22 @@ AreInOrder-insert [] zero m gap order = (tt, tt)
 AreInOrder-insert [] (suc i) m gap order = absurd gap
 AreInOrder-insert (x ∷ ms) zero m gap order = ((gap, lower x.tenant m.tenant ms order.0 (omega (arith, gap))), order)
 AreInOrder-insert (x ∷ ms) (suc i) m gap order = (AllAbove-insert x.tenant ms i m gap.1 gap.0 order.0, AreInOrder-insert ms i m gap.1 order.1)
+
+AllAbove-remove : (n t : ℕ) (ms : List Pipeline) (i : ℕ) → IsPlaceOf t ms i → AllAbove n ms → AllAbove n (remove ms i)
+AllAbove-remove n t [] i p above = absurd p
+AllAbove-remove n t (x ∷ ms) zero p above = above.1
+AllAbove-remove n t (x ∷ ms) (suc i) p above = (above.0, AllAbove-remove n t ms i p.1 above.1)
+
+pub AreInOrder-remove : (t : ℕ) (ms : List Pipeline) (i : ℕ) → IsPlaceOf t ms i → AreInOrder ms → AreInOrder (remove ms i)
+AreInOrder-remove t [] i p order = absurd p
+AreInOrder-remove t (x ∷ ms) zero p order = order.1
+AreInOrder-remove t (x ∷ ms) (suc i) p order = (AllAbove-remove x.tenant t ms i p.1 order.0, AreInOrder-remove t ms i p.1 order.1)
+
+-- a change of the member at a place keeps the place
+pub IsPlaceOf-set : (t : ℕ) (ms : List Pipeline) (i : ℕ) (m : Pipeline) → IsPlaceOf t ms i → m.tenant ≡ t → IsPlaceOf t (set ms i m) i
+IsPlaceOf-set t [] i m p same = absurd p
+IsPlaceOf-set t (x ∷ ms) zero m p same = same
+IsPlaceOf-set t (x ∷ ms) (suc i) m p same = (p.0, IsPlaceOf-set t ms i m p.1 same)
 
 -- a fact that holds holds on an error
 pub on_err : {T E P : Type 0} (r : Result T E) → P → OnErr r P

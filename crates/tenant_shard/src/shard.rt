@@ -66,7 +66,7 @@ pub struct Stopped {
 }
 
 impl Model for Shard {
-    ghost use Rattle.std.specs.Prelude.{List};
+    ghost use Rattle.std.specs.Prelude.{List, vec_capacity};
     ghost use Rattle.tenant_shard.specs.View.{View};
     ghost use Rattle.tenant_shard.specs.Members.{all_views};
     ghost use Rattle.tenant_shard.specs.Whole.{IsShard};
