@@ -114,6 +114,11 @@ was_some t stores ms state is = was_kept t stores ms ∙ ap is_some is
 pub was_none : (t : ℕ) (stores : Stores TraceNote) (ms : List Pipeline) → kept_of t (views stores ms) ≡ None → was_of t (views stores ms) ≡ false
 was_none t stores ms is = was_kept t stores ms ∙ ap is_some is
 
+pub was_placed : (t : ℕ) (stores : Stores TraceNote) (ms : List Pipeline) (i : ℕ) → IsPlaceOf t ms i → was_of t (views stores ms) ≡ true
+was_placed t stores [] i p = absurd p
+was_placed t stores (x ∷ ms) zero p = let test : eqb x.tenant t ≡ true = grind (arith, nat_tests) in rw test refl
+was_placed t stores (x ∷ ms) (suc i) p = let test : eqb x.tenant t ≡ false = let other = p.0 in grind (arith, nat_tests) in rw test (was_placed t stores ms i p.1)
+
 -- the member at a place is changed, in the stores too
 pub kept_place : (t : ℕ) (stores : Stores TraceNote) (ms : List Pipeline) (i : ℕ) (own : Pipeline) → IsPlaceOf t ms i → own ≡ get_or ms i own → kept_of t (views stores ms) ≡ Some (state_in own stores)
 kept_place t stores ms i own p is = kept_at t stores ms i own p ∙ ap (λ (m : Pipeline). Some (state_in m stores)) (sym is)

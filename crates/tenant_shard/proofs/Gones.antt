@@ -1,23 +1,31 @@
 -- The numbers of the tenants that have gone, behind the members.
-use Rattle.std.proofs.Common.{◌≡◌, ◌≢◌, ℕ, zero, suc, ◌+◌, ◌≤◌, ◌<◌, List, [], ◌∷◌, ◌++◌, length, get_or, map, refl, sym, ap, ◌∙◌, arith, Bool, true, false, eqb, cond, Option, Some, None, Result, Ok, Err, inl, inr, ◌⊎◌}
+use Rattle.std.proofs.Common.{◌≡◌, ◌≢◌, ℕ, zero, suc, ◌+◌, ◌≤◌, ◌<◌, List, [], ◌∷◌, ◌++◌, length, get_or, map, refl, sym, subst, ap, ◌∙◌, arith, Bool, true, false, eqb, cond, Option, Some, None, Result, Ok, Err, inl, inr, ◌⊎◌}
 use Rattle.std.proofs.lemmas.Bool.{cases_eq}
 use Rattle.std.proofs.lemmas.Bool.Decides.{nat_tests}
 use Rattle.std.proofs.lemmas.List.Edits.{length-insert, length-remove}
 use Rattle.std.proofs.lemmas.List.Folds.{list_any_at}
 use Rattle.std.proofs.lemmas.List.Sorted.{searched, IsNonDecreasingBy-insert, IsPermutation-insert, list_any-IsPermutation}
-use Rattle.std.specs.Prelude.{◌||◌}
+use Rattle.std.specs.Prelude.{◌||◌, option_and_then, IfSome}
 use Rattle.std.specs.List.{insert, remove, list_any}
 use Rattle.std.specs.List.Sorted.{IsNonDecreasing, IsBinarySearchResult}
 use Rattle.std.specs.Ordering.{nat_cmp}
-use Rattle.std.specs.Result.{MatchResult}
+use Rattle.std.specs.Result.{MatchResult, is_ok}
+use Rattle.shard_agenda.specs.declared.AgendaEntry.{AgendaEntry}
+use Rattle.shard_agenda.specs.Agenda.{ready_of}
 use Rattle.tail_policy.specs.declared.note.TraceNote.{TraceNote}
 use Rattle.tenant_stores.specs.declared.stores.Stores.{Stores}
+use Rattle.tenant_rules.specs.declared.reply.StepReply.{StepReply}
+use Rattle.tenant_rules.specs.Own.{Own}
 use Rattle.tenant_rules.specs.State.{State}
+use Rattle.tenant_rules.specs.Ready.{ready}
+use Rattle.tenant_rules.specs.Sum.{IsCounted}
 use Rattle.tenant_pipeline.specs.declared.pipeline.Pipeline.{Pipeline}
 use Rattle.tenant_shard.specs.View.{View, kept_of, was_of, StaysOf}
 use Rattle.tenant_shard.specs.Members.{views, gone_view, all_views, is_gone}
-use Rattle.tenant_shard.specs.Steps.{IsChangeOf, IsAdditionOf, IsDepartureOf}
-use Rattle.tenant_shard.specs.Whole.{AreGone}
+use Rattle.tenant_shard.specs.Steps.{IsChangeOf, IsToldOf, IsAdditionOf, IsDepartureOf}
+use Rattle.tenant_shard.specs.Whole.{IsWhole, AreGone, AllCounted}
+use Rattle.tenant_shard.specs.Pick.{ready_in}
+use Rattle.tenant_shard.proofs.Frame.{all_counted}
 use Rattle.tail_settings.specs.Section.{SectionData}
 
 -- numbers of tenants that have gone change nothing of what is kept, and were members
@@ -45,6 +53,20 @@ pub was_behind : (t : ℕ) (vs : List View) (gs : List ℕ) → was_of t (vs ++ 
 was_behind t [] gs = all_were t gs
 was_behind t (v ∷ vs) gs = rw (was_behind t vs gs) (or_assoc (eqb v.tenant t) (was_of t vs) (is_gone t gs))
 
+or_true : (b : Bool) → (b || true) ≡ true
+or_true true = refl
+or_true false = refl
+
+-- who is or was a member, by both
+pub was_front : (t : ℕ) (vs : List View) (gs : List ℕ) → was_of t vs ≡ true → was_of t (vs ++ map gone_view gs) ≡ true
+was_front t vs gs is = was_behind t vs gs ∙ ap (λ b. b || is_gone t gs) is
+
+pub was_end : (t : ℕ) (vs : List View) (gs : List ℕ) → is_gone t gs ≡ true → was_of t (vs ++ map gone_view gs) ≡ true
+was_end t vs gs is = was_behind t vs gs ∙ (ap (λ b. was_of t vs || b) is ∙ or_true (was_of t vs))
+
+pub was_neither : (t : ℕ) (vs : List View) (gs : List ℕ) → was_of t vs ≡ false → is_gone t gs ≡ false → was_of t (vs ++ map gone_view gs) ≡ false
+was_neither t vs gs front end = was_behind t vs gs ∙ (ap (λ b. b || is_gone t gs) front ∙ end)
+
 pub stays_behind : (u : ℕ) (vs ws : List View) (gs : List ℕ) → StaysOf u vs ws → StaysOf u (vs ++ map gone_view gs) (ws ++ map gone_view gs)
 stays_behind u vs ws gs same = (
   kept_behind u ws gs ∙ (same.0 ∙ sym (kept_behind u vs gs)),
@@ -61,6 +83,15 @@ change_behind t before after kept vs ws gs change = record {
   others = λ other ne. stays_behind other vs ws gs (change.others other ne);
 }
 
+pub told_behind : (t : ℕ) (step : Own) (vs : List View) (told : StepReply) (ws : List View) (gs : List ℕ) → IsToldOf t step vs told ws → IsToldOf t step (vs ++ map gone_view gs) told (ws ++ map gone_view gs)
+told_behind t step vs told ws gs tells = record {
+  before = tells.before;
+  after = tells.after;
+  change = change_behind t tells.before tells.after (Some tells.after) vs ws gs tells.change;
+  answers = tells.answers;
+  from_state = tells.from_state;
+}
+
 pub addition_behind : (t : ℕ) (section : SectionData) (vs ws : List View) (gs : List ℕ) → IsAdditionOf t section vs ws → IsAdditionOf t section (vs ++ map gone_view gs) (ws ++ map gone_view gs)
 addition_behind t section vs ws gs added = record {
   is_now = kept_behind t ws gs ∙ added.is_now;
@@ -68,13 +99,17 @@ addition_behind t section vs ws gs added = record {
   others = λ other ne. stays_behind other vs ws gs (added.others other ne);
 }
 
+-- when each tenant is ready
+pub ready_all : (stores : Stores TraceNote) (es : List AgendaEntry) (ms : List Pipeline) (gs : List ℕ) → IsWhole stores es ms → (t : ℕ) → ready_of es t ≡ ready_in (views stores ms ++ map gone_view gs) t
+ready_all stores es ms gs whole t = whole.ready t ∙ ap (option_and_then ready) (sym (kept_behind t (views stores ms) gs))
+
+-- each member's spans are counted once
+pub counted_all : (stores : Stores TraceNote) (es : List AgendaEntry) (ms : List Pipeline) (gs : List ℕ) → IsWhole stores es ms → AllCounted (all_views stores ms gs)
+counted_all stores es ms gs whole = λ t. subst (λ (o : Option State). IfSome o IsCounted) (sym (kept_behind t (views stores ms) gs)) (all_counted stores es ms whole t)
+
 -- one number more
 is_gone-insert : (u t : ℕ) (gs : List ℕ) (i : ℕ) → is_gone u (insert gs i t) ≡ (eqb t u || is_gone u gs)
 is_gone-insert u t gs i = sym (list_any-IsPermutation (λ g. eqb g u) (t ∷ gs) (insert gs i t) (IsPermutation-insert gs i t))
-
-or_true : (b : Bool) → (b || true) ≡ true
-or_true true = refl
-or_true false = refl
 
 pub departure : (t : ℕ) (vs ws : List View) (gs : List ℕ) (i : ℕ) → kept_of t ws ≡ None → ((u : ℕ) → u ≢ t → StaysOf u vs ws) → IsDepartureOf t (vs ++ map gone_view gs) (ws ++ map gone_view (insert gs i t))
 departure t vs ws gs i none others = record {
@@ -87,7 +122,7 @@ departure t vs ws gs i none others = record {
 }
   where
     own : is_gone t (insert gs i t) ≡ true
-    own = is_gone-insert t t gs i ∙ ap (λ b. b || is_gone t gs) (grind (arith, nat_tests))
+    own = let test : eqb t t ≡ true = grind (arith, nat_tests) in is_gone-insert t t gs i ∙ ap (λ b. b || is_gone t gs) test
 
     apart : (u : ℕ) → u ≢ t → is_gone u (insert gs i t) ≡ is_gone u gs
     apart u ne = let test : eqb t u ≡ false = grind (arith, nat_tests) in is_gone-insert u t gs i ∙ ap (λ b. b || is_gone u gs) test
@@ -121,6 +156,14 @@ finds t gs r rise position = by_result r (searched gs t r position (λ i j le lt
       where
         cases_lt : (a b : ℕ) → (a < b) ⊎ (b ≤ a)
         cases_lt a b = grind arith
+
+pub found_ok : (t : ℕ) (gs : List ℕ) (r : Result ℕ ℕ) → Finds t gs r → is_ok r ≡ true → is_gone t gs ≡ true
+found_ok t gs (Ok i) found is = found
+found_ok t gs (Err i) found is = absurd (cc)
+
+pub found_err : (t : ℕ) (gs : List ℕ) (r : Result ℕ ℕ) → Finds t gs r → is_ok r ≡ false → is_gone t gs ≡ false
+found_err t gs (Ok i) found is = absurd (cc)
+found_err t gs (Err i) found is = found.1
 
 -- what always holds of the numbers goes on to hold
 pub gone_stays : (old new : Stores TraceNote) (ms ns : List Pipeline) (gs : List ℕ) (room room' : ℕ) (t : ℕ) → AreGone old ms gs room → kept_of t (views old ms) ≢ None → ((u : ℕ) → u ≢ t → kept_of u (views new ns) ≡ kept_of u (views old ms)) → length ns ≡ length ms → room ≤ room' → AreGone new ns gs room'

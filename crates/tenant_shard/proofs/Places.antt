@@ -1,5 +1,5 @@
 -- Where a member stands among members by number.
-use Rattle.std.proofs.Common.{◌≡◌, ℕ, zero, suc, ◌<◌, ◌≤◌, List, [], ◌∷◌, length, get_or, set, sym, ap, ◌∙◌, arith, Result, Ok, Err, IfOk, IfErr, OnErr}
+use Rattle.std.proofs.Common.{◌≡◌, ℕ, zero, suc, ◌<◌, ◌≤◌, List, [], ◌∷◌, length, get_or, set, refl, sym, ap, ◌∙◌, arith, Result, Ok, Err, IfOk, IfErr, OnOk, OnErr}
 use Rattle.std.specs.List.{insert, remove}
 use Rattle.std.specs.List.Sorted.{IsSearchInRange, IsBinarySearchResult, IsNonDecreasingBy}
 use Rattle.std.specs.Ordering.{nat_cmp, ordering_index}
@@ -107,7 +107,25 @@ IsPlaceOf-set t [] i m p same = absurd p
 IsPlaceOf-set t (x ∷ ms) zero m p same = same
 IsPlaceOf-set t (x ∷ ms) (suc i) m p same = (p.0, IsPlaceOf-set t ms i m p.1 same)
 
+pub get_set : (ms : List Pipeline) (i : ℕ) (m d : Pipeline) → i < length ms → get_or (set ms i m) i d ≡ m
+get_set [] i m d within = absurd (omega arith)
+get_set (x ∷ ms) zero m d within = refl
+get_set (x ∷ ms) (suc i) m d within = get_set ms i m d (omega (arith, within))
+
 -- a fact that holds holds on an error
 pub on_err : {T E P : Type 0} (r : Result T E) → P → OnErr r P
 on_err (Ok x) fact = tt
 on_err (Err e) fact = fact
+
+-- what holds where a call succeeded, from what held there
+pub on_ok : {T E P Q : Type 0} (r : Result T E) → (P → Q) → OnOk r P → OnOk r Q
+on_ok (Ok x) f fact = f fact
+on_ok (Err e) f fact = tt
+
+pub on_error : {T E P Q : Type 0} (r : Result T E) → (P → Q) → OnErr r P → OnErr r Q
+on_error (Ok x) f fact = tt
+on_error (Err e) f fact = f fact
+
+pub if_ok : {T E : Type 0} (r : Result T E) (P Q : T → Type 0) → ((x : T) → P x → Q x) → IfOk r P → IfOk r Q
+if_ok (Ok x) P Q f fact = f x fact
+if_ok (Err e) P Q f fact = tt

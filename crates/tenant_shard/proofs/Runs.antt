@@ -1,9 +1,10 @@
 -- From what a step does to what is kept to what it is for all lives that the shard stands for.
-use Rattle.std.proofs.Common.{◌≡◌, ℕ, ◌<◌, List, [], ◌∷◌, refl, sym, subst, ap, ◌∙◌, arith, Bool, true, false, eqb, Option, Some, None, inl, inr}
+use Rattle.std.proofs.Common.{◌≡◌, ℕ, ◌<◌, List, [], ◌∷◌, refl, sym, subst, ap, ◌∙◌, arith, Bool, true, false, eqb, Option, Some, None, inl, inr, Result, Ok, Err, IfOk, OnErr}
 use Rattle.std.proofs.lemmas.Bool.{cases_eq}
 use Rattle.std.proofs.lemmas.Bool.Decides.{nat_tests}
-use Rattle.std.specs.Prelude.{option_and_then, min, if◌then◌else◌}
+use Rattle.std.specs.Prelude.{option_and_then, min, if◌then◌else◌, IsOk}
 use Rattle.std.specs.Option.{unwrap_or}
+use Rattle.std.specs.declared.alloc.AllocError.{AllocError}
 use Rattle.tail_settings.specs.Section.{SectionData}
 use Rattle.tenant_rules.specs.declared.reply.StepReply.{StepReply}
 use Rattle.tenant_rules.specs.declared.reply.StepReply.TheVariants as replies
@@ -23,7 +24,7 @@ use Rattle.shard_agenda.specs.Pick.{IsPick}
 use Rattle.tenant_shard.specs.Run.{IsTakenOrNot, IsAnswered, IsAnswerTo, IsOutcomeOf, IsOutcome, came, lived_by, lived, AllKnown, OthersStay, ShardSteps, after}
 use Rattle.tenant_shard.specs.Refusal.{IsStepFor, IsNobodys, Reaches, ReachesNone, IsNewcomer, ShardRefuses}
 use Rattle.tenant_shard.specs.Follows.{ShardFollows}
-use Rattle.tenant_shard.specs.Steps.{kept_after, IsStepOf, IsLossOf, IsAdditionOf}
+use Rattle.tenant_shard.specs.Steps.{kept_after, IsStepOf, IsLossOf, IsAdditionOf, IsComingOf}
 
 -- of whom something is kept is or was a member
 pub kept_was : (t : ℕ) (vs : List View) (kept : State) → kept_of t vs ≡ Some kept → was_of t vs ≡ true
@@ -329,7 +330,7 @@ add_goes_on t s section old new name asks is_new added = inr (inr (
 ))
 
 pub idle_goes_on : (now : ℕ) (s : Step) (old : List View) → named_in s ≡ None → asked_in s ≡ Piped (plain (own.Turn now)) → IsPick (ready_in old) (moment_of (own.Turn now)) None → ShardFollows s old Idle old
-idle_goes_on now s old name asks pick = inl (record { whose = rw (name, asks) pick; outcome_is = rw (name, asks) refl; new_is = refl })
+idle_goes_on now s old name asks pick = inl (record { whose = rw (name, asks) pick; outcome_is = rw name refl; new_is = refl })
 
 -- a step that reaches a pipeline is not nobody's
 pub not_nobodys : (t : ℕ) (s : Step) (step : OwnStep) (old : List View) → named_in s ≡ Some t → asked_in s ≡ Piped step → Reaches step (kept_of t old) → IsNobodys s old → ⊥
@@ -386,3 +387,17 @@ loss_refuses t s step old new asks whose is = inl (
 
 pub newcomer_refused : (t : ℕ) (s : Step) (section : SectionData) (old new : List View) → named_in s ≡ Some t → asked_in s ≡ Comes section → was_of t old ≡ false → new ≡ old → ShardRefuses s old new
 newcomer_refused t s section old new name asks is_new same = inr ((t, record { section = section; names = name; comes = asks; is_new = is_new }), same)
+
+-- a tenant that comes
+pub coming_steps : (t : ℕ) (s : Step) (section : SectionData) (old : List View) (o : Outcome) (new : List View) → named_in s ≡ Some t → asked_in s ≡ Comes section → IsComingOf t section old o new → ShardSteps s old o new
+coming_steps t s section old o new name asks (inl again) = rw (again.1, again.2) (used_steps t s section old name asks again.0)
+coming_steps t s section old o new name asks (inr comes) = rw comes.1 (add_steps t s section old new name asks comes.0 comes.2)
+
+pub coming_goes_on : (t : ℕ) (s : Step) (section : SectionData) (old : List View) (o : Outcome) (new : List View) → named_in s ≡ Some t → asked_in s ≡ Comes section → IsComingOf t section old o new → ShardFollows s old o new
+coming_goes_on t s section old o new name asks (inl again) = rw (again.1, again.2) (used_goes_on t s section old name asks again.0)
+coming_goes_on t s section old o new name asks (inr comes) = rw comes.1 (add_goes_on t s section old new name asks comes.0 comes.2)
+
+pub comes_again : (t : ℕ) (s : Step) (section : SectionData) (old new : List View) (r : Result Outcome AllocError) → named_in s ≡ Some t → asked_in s ≡ Comes section → IsNobodys s old → IfOk r (λ o. IsComingOf t section old o new) → OnErr r ((was_of t old ≡ false) × (new ≡ old)) → IsOk r × (new ≡ old)
+comes_again t s section old new (Ok o) name asks nobody (inl again) lost = (tt, again.2)
+comes_again t s section old new (Ok o) name asks nobody (inr comes) lost = absurd (not_again t s section old name asks comes.0 nobody)
+comes_again t s section old new (Err e) name asks nobody came lost = absurd (not_again t s section old name asks lost.0 nobody)

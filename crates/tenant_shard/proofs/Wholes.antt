@@ -125,7 +125,7 @@ tells_own : (t : ℕ) (lives : Lives) (views : List View) (s : Step) (o : Outcom
 tells_own t lives views s o sure is holds = tells_of t (named_in s) lives views (asked_in s) o sure is holds
 
 -- whether it is the counters
-reports-named : (t : ℕ) (said : Answer) → reports (named t said) ≡ is_report said
+pub reports-named : (t : ℕ) (said : Answer) → reports (named t said) ≡ is_report said
 reports-named t (Answered (replies.Reply reply)) = refl
 reports-named t (Answered (replies.Job ticket payload)) = refl
 reports-named t (Answered replies.Worked) = refl
