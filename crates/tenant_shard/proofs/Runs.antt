@@ -398,6 +398,6 @@ coming_goes_on t s section old o new name asks (inl again) = rw (again.1, again.
 coming_goes_on t s section old o new name asks (inr comes) = rw comes.1 (add_goes_on t s section old new name asks comes.0 comes.2)
 
 pub comes_again : (t : ℕ) (s : Step) (section : SectionData) (old new : List View) (r : Result Outcome AllocError) → named_in s ≡ Some t → asked_in s ≡ Comes section → IsNobodys s old → IfOk r (λ o. IsComingOf t section old o new) → OnErr r ((was_of t old ≡ false) × (new ≡ old)) → IsOk r × (new ≡ old)
-comes_again t s section old new (Ok o) name asks nobody (inl again) lost = (tt, again.2)
+comes_again t s section old new (Ok o) name asks nobody (inl again) lost = (refl, again.2)
 comes_again t s section old new (Ok o) name asks nobody (inr comes) lost = absurd (not_again t s section old name asks comes.0 nobody)
 comes_again t s section old new (Err e) name asks nobody came lost = absurd (not_again t s section old name asks lost.0 nobody)

@@ -96,7 +96,7 @@ returns-clause-on_success c =
     let gs = c.args.gone.now.items in
     let told = c.in_ok-told.told in
     let asked = asked_in c.args.step.now in
-    rw c.named.ensures (with_piped asked (λ (s : OwnStep). IsStepOf t s.step (all_views c.args.stores.now c.args.members.now.items gs) (named t (Answered told)) (all_views c.let_go.new.stores c.let_go.new.members.items c.let_go.new.gone.items)) (λ s is.
+    rw c.named-2.ensures (with_piped asked (λ (s : OwnStep). IsStepOf t s.step (all_views c.args.stores.now c.args.members.now.items gs) (named t (Answered told)) (all_views c.let_go.new.stores c.let_go.new.members.items c.let_go.new.gone.items)) (λ s is.
         let tells = piped_at asked (λ (w : OwnStep). IsToldOf t w.step vs told ws) s is c.in_ok-told.ensures.on_success in
         let test : ends (asked_in c.args.step.now) told ≡ true = sym c.ends.ensures ∙ c.if-not-ends.false in
         leaves_told t s _ _ _ told (rw is at test) (told_behind t s.step vs told ws gs tells) c.let_go.ensures.left))
