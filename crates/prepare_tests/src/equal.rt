@@ -1,6 +1,6 @@
 //! When bodies that were prepared are equal.
 
-use crate::sections::{ALWAYS, THREE, section_of};
+use crate::sections::{FIRST, THREE, section_of};
 use bytes::Bytes;
 use otlp_prepare::{Prepared, equal_bodies_are_the_same, prepare};
 use std::alloc::Global;
@@ -65,31 +65,32 @@ fn bodies_are_equal_by_their_value(rt: HostRuntime) -> Result<(), Fail> {
     Ok(())
 }
 
-/// Whether a body is told from the same one for another tenant and for other policies.
+/// Whether a body is told from the same one for another tenant and for fewer policies, of which it has the first.
 fn differs_by_tenant_and_policies<R: Threads + Sync>(
     rt: &R,
     alloc: Global,
     three: &Section,
-    always: &Section,
+    first: &Section,
 ) -> Result<bool, Fail> {
     let one = ready(rt, alloc, 1, three, ONE)?;
     let second = ready(rt, alloc, 2, three, ONE)?;
-    let other = ready(rt, alloc, 1, always, ONE)?;
+    let other = ready(rt, alloc, 1, first, ONE)?;
     equal_bodies_are_the_same(&one, &other);
     Ok(
         one != second
             && second.tenant() == 2
             && one != other
             && one.has_policies(three.tail_sampling.policies.as_slice())
-            && !one.has_policies(always.tail_sampling.policies.as_slice()),
+            && !one.has_policies(first.tail_sampling.policies.as_slice())
+            && !other.has_policies(three.tail_sampling.policies.as_slice()),
     )
 }
 
 #[test]
 fn bodies_of_other_tenants_and_policies_differ(rt: HostRuntime) -> Result<(), Fail> {
     let three = section_of(rt.alloc(), THREE)?;
-    let always = section_of(rt.alloc(), ALWAYS)?;
-    assert!(rt; differs_by_tenant_and_policies(&rt, rt.alloc(), &three, &always)?);
+    let first = section_of(rt.alloc(), FIRST)?;
+    assert!(rt; differs_by_tenant_and_policies(&rt, rt.alloc(), &three, &first)?);
     Ok(())
 }
 

@@ -4,15 +4,15 @@ use std::alloc::Global;
 use std::test::Fail;
 use tail_settings::{Section, Settings, load};
 
-/// Samples each trace.
-pub const ALWAYS: &str = "{ type = \"always_sample\" }";
-
 /// An attribute `a` whose value is the string `w`, traces of 5 ms or more, and traces with an error, which have an
 /// attribute `a` as well whose value is the string `v`.
 pub const THREE: &str = "{ type = \"string_attribute\", key = \"a\", values = [\"w\"] }, \
 { type = \"latency\", threshold_ms = 5 }, { type = \"and\", and_sub_policy = [\
 { type = \"status_code\", status_codes = [\"ERROR\"] }, \
 { type = \"string_attribute\", key = \"a\", values = [\"v\"] }] }";
+
+/// The first of these alone.
+pub const FIRST: &str = "{ type = \"string_attribute\", key = \"a\", values = [\"w\"] }";
 
 fn first_section(settings: Settings) -> Option<Section> {
     let (_name, tenant) = settings.tenants.into_iter().next()?;

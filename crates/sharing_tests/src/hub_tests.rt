@@ -51,7 +51,7 @@ fn three_calls<R: Wait>(
 fn two_threads<R: Threads + Wait + Sync>(
     rt: &R,
     alloc: Global,
-) -> Result<(u64, [u64; 3], [u64; 3]), Fail> {
+) -> Result<(usize, [u64; 3], [u64; 3]), Fail> {
     let mut machines = Vec::new(alloc);
     machines.push(logged(alloc))?;
     let (hub, keeper, mut callers) = Hub::open(rt, alloc, machines, 2)?;
@@ -86,7 +86,8 @@ fn two_threads<R: Threads + Wait + Sync>(
     let Some(shard) = shards.pop() else {
         return Err("a shard".into());
     };
-    Ok((shard.made(), ones, others))
+    let (_counter, log) = shard.into_parts();
+    Ok((log.kept.len(), ones, others))
 }
 
 /// A bit for each of the first six positions.

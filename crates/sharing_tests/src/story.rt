@@ -69,6 +69,7 @@ not_sampled=0 too_early=0 queue_full=0 retry_exhausted=0 back_end_refused=0 back
 1 turn 0 7457 0 0 caller = idle 0 0
 1 turn 0 7458 0 0 caller = job 1 2 0a20121e121c0a101111111111111111111111111111111112083131313131313131
 1 answer 1 7458 2 515166382 drawn 200 = done 1 0
+- empty 1 = no
 1 turn 0 7458 0 0 caller = job 1 3 0a20121e121c0a101212121212121212121212121212121212083232323232323232
 1 answer 1 7458 3 4224707908 drawn 200 = done 1 0
 1 report 1 7458 0 0 caller = report 1 0 accepted=2 undecided=0 pending=0 queued=0 active=0 exported=2 \

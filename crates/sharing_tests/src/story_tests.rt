@@ -146,7 +146,7 @@ fn each_call_has_its_entry(rt: HostRuntime) -> Result<(), Fail> {
     let settings = load(rt.alloc(), SETTINGS)?;
     assert_eq!(rt;
         run_story(&rt, rt.alloc(), &settings, true),
-        Some((37, "", true))
+        Some((38, "", true))
     );
     Ok(())
 }
@@ -157,7 +157,7 @@ fn calls_are_told_the_same_without_logs(rt: HostRuntime) -> Result<(), Fail> {
     let settings = load(rt.alloc(), SETTINGS)?;
     assert_eq!(rt;
         run_story(&rt, rt.alloc(), &settings, false),
-        Some((37, "", true))
+        Some((38, "", true))
     );
     Ok(())
 }

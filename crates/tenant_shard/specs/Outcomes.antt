@@ -1,13 +1,14 @@
 -- Whose a step is, and whom an outcome names. This project's own rule.
-use Rattle.std.specs.Prelude.{ℕ, Bool, true, false, List, Option, Some, None, ◌==◌}
+use Rattle.std.specs.Prelude.{ℕ, Bool, true, false, List, Option, Some, None, ◌==◌, ◌&&◌}
 use Rattle.send_retry.specs.Class.{answer_view}
 use Rattle.tail_settings.specs.Policy.{PolicyData}
-use Rattle.tail_settings.specs.Section.{SectionData}
+use Rattle.tail_settings.specs.Section.{SectionData, section_view}
 use Rattle.tenant_rules.specs.declared.reply.StepReply.{StepReply}
 use Rattle.tenant_rules.specs.declared.reply.StepReply.TheVariants as replies
 use Rattle.tenant_rules.specs.Own.{Own}
 use Rattle.tenant_rules.specs.Own as own
 use Rattle.otlp_prepare.specs.Equal.{same_policies}
+use Rattle.otlp_prepare.specs.Prepared.{PreparedData}
 use Rattle.tenant_pipeline.specs.Prepared.{post_of}
 use Rattle.tenant_shard.specs.declared.step.Step.{Step}
 use Rattle.tenant_shard.specs.declared.step.Step.TheVariants as steps
@@ -23,13 +24,24 @@ pub record OwnStep : Type 0 where
 abbrev pub plain : Own → OwnStep
 plain step = record { step = step; made_for = None }
 
--- a step of a shard as the step of the tenant whose it is
-abbrev pub own_step : Step → OwnStep
-own_step (steps.Post now prepared) = record { step = post_of now prepared; made_for = Some prepared.policies }
-own_step (steps.Turn now) = plain (own.Turn now)
-own_step (steps.Answer tenant now ticket word answer) = plain (own.Answer now ticket word (answer_view answer))
-own_step (steps.Report tenant now) = plain (own.Report now)
-own_step (steps.Drain tenant now) = plain (own.Drain now)
+-- a body's spans come
+abbrev pub own_post : ℕ → PreparedData → OwnStep
+own_post now prepared = record { step = post_of now prepared; made_for = Some prepared.policies }
+
+-- what is asked of a tenant: a step of its pipeline, or that it comes with this section
+pub data Asked : Type 0 where
+  Piped : OwnStep → Asked
+  Comes : SectionData → Asked
+
+-- what a step of a shard asks of the tenant whose it is
+abbrev pub asked_in : Step → Asked
+asked_in (steps.Post now prepared) = Piped (own_post now prepared)
+asked_in (steps.Turn now) = Piped (plain (own.Turn now))
+asked_in (steps.Answer tenant now ticket word answer) = Piped (plain (own.Answer now ticket word (answer_view answer)))
+asked_in (steps.Report tenant now) = Piped (plain (own.Report now))
+asked_in (steps.Drain tenant now) = Piped (plain (own.Drain now))
+asked_in (steps.Add tenant section) = Comes (section_view section)
+asked_in (steps.Retire tenant now) = Piped (plain (own.Retire now))
 
 -- the tenant that a step names; a turn names none
 abbrev pub named_in : Step → Option ℕ
@@ -38,6 +50,8 @@ named_in (steps.Turn now) = None
 named_in (steps.Answer tenant now ticket word answer) = Some tenant
 named_in (steps.Report tenant now) = Some tenant
 named_in (steps.Drain tenant now) = Some tenant
+named_in (steps.Add tenant section) = Some tenant
+named_in (steps.Retire tenant now) = Some tenant
 
 -- whether a tenant with this section has the policies that a body was prepared for, where there is one
 abbrev pub are_for : SectionData → Option (List PolicyData) → Bool
@@ -59,6 +73,10 @@ not_member = 22
 -- the number of the refusal of a body that was prepared for other policies than the tenant's
 abbrev pub other_policies : ℕ
 other_policies = 23
+
+-- the number of the refusal of a tenant that comes and is or was a member
+abbrev pub number_used : ℕ
+number_used = 25
 
 -- the number of the refusal of a retirement of a tenant that wasn't drained or holds spans
 abbrev pub not_empty : ℕ
@@ -103,3 +121,37 @@ whose (Some tenant) outcome = Some tenant
 -- a tenant's own steps are those that name it and the turns whose outcome names it
 abbrev pub is_own : ℕ → Step → Outcome → Bool
 is_own tenant step outcome = is_tenant tenant (whose (named_in step) outcome)
+
+-- whether a step retires its tenant
+abbrev pub is_retirement : Own → Bool
+is_retirement (own.Post now arrivals) = false
+is_retirement (own.Turn now) = false
+is_retirement (own.Answer now ticket word answer) = false
+is_retirement (own.Report now) = false
+is_retirement (own.Drain now) = false
+is_retirement (own.Retire now) = true
+
+-- whether a tenant is told its counters
+abbrev pub is_report : Answer → Bool
+is_report (Answered (replies.Reply reply)) = false
+is_report (Answered (replies.Job ticket payload)) = false
+is_report (Answered replies.Worked) = false
+is_report (Answered replies.Done) = false
+is_report (Answered (replies.Report text)) = true
+is_report (Answered replies.UnknownTicket) = false
+is_report (Answered replies.NotEmpty) = false
+is_report (NotTaken number) = false
+
+-- the same by the outcome
+abbrev pub reports : Outcome → Bool
+reports (Reply tenant reply) = false
+reports (Job tenant ticket payload) = false
+reports (Worked tenant) = false
+reports Idle = false
+reports (Done tenant) = false
+reports (Report tenant text) = true
+reports (Refused tenant number) = false
+
+-- a tenant goes where its retirement is told its counters
+abbrev pub has_left : Own → Bool → Bool
+has_left step reported = is_retirement step && reported

@@ -5,7 +5,7 @@ use Rattle.tenant_rules.specs.Own.{Own}
 use Rattle.tenant_rules.specs.State.{state}
 use Rattle.tenant_rules.specs.Ready.{ready}
 use Rattle.tenant_shard.specs.View.{View, kept_of}
-use Rattle.tenant_shard.specs.Lists.{Lists}
+use Rattle.tenant_shard.specs.Lives.{Life, Lives}
 
 -- when a tenant is next ready, by what is kept of it; never where it is no member
 abbrev pub ready_in : List View → ℕ → Option ℕ
@@ -17,7 +17,10 @@ ready_after None past known seen = None
 ready_after (Some section) past true seen = ready (state section past)
 ready_after (Some section) past false seen = seen
 
+-- the same by its life
+abbrev pub ready_by : Life → Option ℕ → Option ℕ
+ready_by life seen = ready_after life.section life.past life.known seen
+
 -- the same of each tenant
-abbrev pub ready_at : Lists → List View → ℕ → Option ℕ
-ready_at lists views tenant =
-    ready_after (lists.sections tenant) (lists.pasts tenant) (lists.known tenant) (ready_in views tenant)
+abbrev pub ready_at : Lives → List View → ℕ → Option ℕ
+ready_at lives views tenant = ready_by (lives tenant) (ready_in views tenant)

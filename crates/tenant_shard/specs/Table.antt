@@ -1,23 +1,19 @@
 -- The members of a shard, by the settings and a list of numbers, and which numbers stand in which shard's. This
 -- project's own rule.
-use Rattle.std.specs.Prelude.{◌≡◌, ℕ, ◌%◌, ◌==◌, true, List, [], map, filter, Option, None, if◌then◌else◌}
+use Rattle.std.specs.Prelude.{◌≡◌, ℕ, ◌%◌, ◌==◌, List, map, filter, Option, None, if◌then◌else◌}
 use Rattle.std.specs.List.{list_any}
 use Rattle.tail_settings.specs.Section.{SectionData}
 use Rattle.tail_settings.specs.Settings.{SettingsData, section_at}
-use Rattle.tenant_shard.specs.Lists.{Lists}
+use Rattle.tenant_shard.specs.Lives.{new_life, Lives}
 
 -- a member is a tenant number of the table that stands in the list
 abbrev pub section_of : SettingsData → List ℕ → ℕ → Option SectionData
 section_of settings members tenant =
     if list_any (λ member. member == tenant) members then section_at settings tenant else None
 
--- a shard that was opened stands for no steps
-abbrev pub opened : SettingsData → List ℕ → Lists
-opened settings members = record {
-  sections = section_of settings members;
-  pasts = λ tenant. [];
-  known = λ tenant. true;
-}
+-- a shard that was opened stands for no steps, and no other number was used than the members'
+abbrev pub opened : SettingsData → List ℕ → Lives
+opened settings members tenant = new_life (section_of settings members tenant)
 
 -- the numbers of a shard's tenants: those that leave the shard's over when divided by the number of shards
 abbrev pub members_of : SettingsData → ℕ → List ℕ

@@ -1,5 +1,6 @@
 -- What always holds of a shard's stores, agenda and members together. This project's own rule.
-use Rattle.std.specs.Prelude.{◌≡◌, ℕ, List, [], ◌∷◌, None, IfSome, is_some}
+use Rattle.std.specs.Prelude.{◌≡◌, ◌≤◌, ◌+◌, ℕ, true, List, [], ◌∷◌, None, IfSome, is_some, length}
+use Rattle.std.specs.List.Sorted.{IsNonDecreasing}
 use Rattle.shard_agenda.specs.declared.AgendaEntry.{AgendaEntry}
 use Rattle.shard_agenda.specs.Agenda.{ready_of, is_member}
 use Rattle.tail_policy.specs.declared.note.TraceNote.{TraceNote}
@@ -11,7 +12,7 @@ use Rattle.tenant_stores.specs.Invariant.{StoreInvariant}
 use Rattle.tenant_pipeline.specs.declared.pipeline.Pipeline.{Pipeline}
 use Rattle.tenant_pipeline.specs.Invariant.{PipelineInvariant, IsSwept}
 use Rattle.tenant_shard.specs.View.{View, kept_of}
-use Rattle.tenant_shard.specs.Members.{AreInOrder, views}
+use Rattle.tenant_shard.specs.Members.{AreInOrder, views, is_gone}
 use Rattle.tenant_shard.specs.Pick.{ready_in}
 
 -- what always holds of a tenant holds of each of these
@@ -35,6 +36,19 @@ pub record IsWhole (stores : Stores TraceNote) (agenda : List AgendaEntry) (memb
       StoreInvariant no_rows [] [] (part tenant stores)
   pub listed : (tenant : ℕ) → is_member agenda tenant ≡ is_some (kept_of tenant (views stores members))
   pub ready : (tenant : ℕ) → ready_of agenda tenant ≡ ready_in (views stores members) tenant
+
+-- the numbers of the tenants that have gone rise, none of them is a member's, and there is room for each member's
+-- among them
+pub record AreGone (stores : Stores TraceNote) (members : List Pipeline) (gone : List ℕ) (room : ℕ) : Type 0 where
+  pub rise : IsNonDecreasing gone
+  pub apart : (tenant : ℕ) → is_gone tenant gone ≡ true → kept_of tenant (views stores members) ≡ None
+  pub has_room : length gone + length members ≤ room
+
+-- both
+pub record IsShard (stores : Stores TraceNote) (agenda : List AgendaEntry) (members : List Pipeline)
+    (gone : List ℕ) (room : ℕ) : Type 0 where
+  pub whole : IsWhole stores agenda members
+  pub gone_are : AreGone stores members gone room
 
 -- each span that a member has taken is counted in exactly one place
 abbrev pub AllCounted : List View → Type 0

@@ -6,10 +6,11 @@ ghost use Rattle.tenant_rules.specs.Machine.{effective};
 ghost use Rattle.tenant_rules.specs.Timers.{IsFront};
 ghost use Rattle.tenant_stores.specs.Part.{part};
 ghost use Rattle.tenant_pipeline.specs.StateIn.{state_in};
-ghost use Rattle.tenant_pipeline.specs.Invariant.{PipelineInvariant, IsSwept};
+ghost use Rattle.tenant_pipeline.specs.Invariant.{PipelineInvariant, IsSwept, HasNonePending};
 ghost use Rattle.tenant_pipeline.specs.Steps.{Answers, FollowsFromState};
 ghost use Rattle.tenant_shard.specs.Members.{AreInOrder, IsPlaceOf, IsGapFor};
-ghost use Rattle.tenant_shard.specs.Outcomes.{Answered, is_taken, named, own_step};
+ghost use Rattle.tenant_shard.specs.Outcomes.{Answered, asked_in, is_taken, named};
+ghost use Rattle.tenant_shard.specs.Steps.{IfPiped, IsForPipeline, ends};
 
 use crate::step::{Outcome, Step};
 use std::alloc::AllocError;
@@ -50,11 +51,21 @@ pub fn place_of(members: &[Pipeline], tenant: u32) -> Result<usize, usize>
 
 /// Whether a step reaches the member's pipeline: a body does that was prepared for its policies, and any other step.
 pub fn takes(own: &Pipeline, step: &Step) -> bool
-    ensures { result ≡ is_taken (section_view own.now.section) (own_step step.now) }
+    ensures { IfPiped (asked_in step.now) (λ asked. result ≡ is_taken (section_view own.now.section) asked) }
 {
     match step {
         Step::Post { prepared, .. } => own.is_for(prepared),
         _ => true,
+    }
+}
+
+/// Whether a member goes that was told this.
+pub fn ends(step: &Step, told: &StepReply) -> bool
+    ensures { result ≡ ends (asked_in step.now) told.now }
+{
+    match step {
+        Step::Retire { .. } => matches!(told, StepReply::Report(_)),
+        _ => false,
     }
 }
 
@@ -65,13 +76,16 @@ pub fn apply_step(
     step: &Step,
 ) -> Result<StepReply, AllocError>
     requires invariant { PipelineInvariant own.old stores.old }
-    requires taken { is_taken (section_view own.old.section) (own_step step.now) ≡ true }
-    ensures on_success { IfOk result (λ told.
-        Answers (own_step step.now).step (state_in own.old stores.old) told (state_in own.new stores.new)) }
-    ensures from_state { IfOk result (λ told.
-        FollowsFromState (own_step step.now).step (state_in own.old stores.old) told (state_in own.new stores.new)) }
-    ensures on_refusal { OnErr result (let taken = (own_step step.now).step in let old = state_in own.old stores.old in
-        IsFront (effective taken old) old (state_in own.new stores.new)) }
+    requires piped { IsForPipeline (asked_in step.now) }
+    requires taken { IfPiped (asked_in step.now) (λ asked.
+        is_taken (section_view own.old.section) asked ≡ true) }
+    ensures on_success { IfOk result (λ told. IfPiped (asked_in step.now) (λ asked.
+        Answers asked.step (state_in own.old stores.old) told (state_in own.new stores.new))) }
+    ensures from_state { IfOk result (λ told. IfPiped (asked_in step.now) (λ asked.
+        FollowsFromState asked.step (state_in own.old stores.old) told (state_in own.new stores.new))) }
+    ensures may_leave { IfOk result (λ told. ends (asked_in step.now) told ≡ true → HasNonePending own.new) }
+    ensures on_refusal { OnErr result (IfPiped (asked_in step.now) (λ asked. let old = state_in own.old stores.old in
+        IsFront (effective asked.step old) old (state_in own.new stores.new))) }
     ensures invariant { PipelineInvariant own.new stores.new }
     ensures swept { IsSwept own.old → IsSwept own.new }
     ensures others_unchanged { (other : ℕ) → other ≢ own.old.tenant → part other stores.new ≡ part other stores.old }
@@ -93,5 +107,7 @@ pub fn apply_step(
         } => own.answer(stores, *now, *ticket, *word, answer),
         Step::Report { now, .. } => own.report(stores, *now),
         Step::Drain { now, .. } => own.drain(stores, *now),
+        Step::Retire { now, .. } => own.retire(stores, *now),
+        Step::Add { .. } => unreachable!(),
     }
 }

@@ -1,22 +1,22 @@
 //! The shard.
 
-ghost use Rattle.std.specs.Prelude.{◌≡◌, ◌≢◌, ℕ, List, [], ◌∷◌, ◌++◌, ◌<◌, IfOk, OnOk, OnErr, IsOk, IfErr};
-ghost use Rattle.std.specs.Prelude.{Option, Some, None, min, length};
+ghost use Rattle.std.specs.Prelude.{◌≡◌, ◌<◌, ℕ, true, Some, None, length, slice_index_or, vec_capacity, IfOk, OnErr, IsOk, IfErr};
 ghost use Rattle.tail_settings.specs.Settings.{settings_view};
-ghost use Rattle.tenant_rules.specs.Own.{moment_of};
-ghost use Rattle.shard_agenda.specs.Pick.{IsPick};
+ghost use Rattle.tenant_rules.specs.Own as own;
+ghost use Rattle.tenant_pipeline.specs.Invariant.{HasNonePending};
 ghost use Rattle.tenant_shard.specs.View.{View, kept_of};
-ghost use Rattle.tenant_shard.specs.Lists.{ShardStands};
-ghost use Rattle.tenant_shard.specs.Members.{IsPlaceOf, views};
-ghost use Rattle.tenant_shard.specs.Outcomes.{named_in, own_step};
+ghost use Rattle.tenant_shard.specs.Lives.{ShardStands};
+ghost use Rattle.tenant_shard.specs.Members.{IsPlaceOf, views, all_views};
+ghost use Rattle.tenant_shard.specs.Outcomes.{Piped, plain, asked_in, named_in};
 ghost use Rattle.tenant_shard.specs.Run.{ShardSteps};
 ghost use Rattle.tenant_shard.specs.Refusal.{Reaches, ShardRefuses, IsNobodys};
 ghost use Rattle.tenant_shard.specs.Follows.{ShardFollows};
-ghost use Rattle.tenant_shard.specs.Steps.{IsStepOf, IsLossOf};
+ghost use Rattle.tenant_shard.specs.Steps.{IfPiped, IsForPipeline, ends, IsToldOf, IsStepOf, IsLossOf};
 ghost use Rattle.tenant_shard.specs.Table.{opened};
-ghost use Rattle.tenant_shard.specs.Whole.{IsWhole};
+ghost use Rattle.tenant_shard.specs.Whole.{IsWhole, IsShard};
 
-use crate::member::{apply_step, named, place_of, takes};
+use crate::comings::{add, let_go, open_member};
+use crate::member::{apply_step, ends, named, place_of, takes};
 use crate::step::{Outcome, Step};
 use decision_cache::HashKeys;
 use shard_agenda::Agenda;
@@ -25,6 +25,7 @@ use std::marker::Model;
 use tail_policy::TraceNote;
 use tail_settings::Settings;
 use tenant_pipeline::{LATEST_MOMENT, Pipeline};
+use tenant_rules::StepReply;
 use tenant_stores::Stores;
 use thiserror::Error;
 
@@ -41,14 +42,18 @@ const FIXED_KEYS: HashKeys = HashKeys {
 };
 
 /// The pipelines of several tenants, by number, over one pool of spans, one of texts, and one table of rows. Of each
-/// member it keeps what its rules see.
+/// member it keeps what its rules see, and of a tenant that has gone its number.
 #[derive(Drop)]
 pub struct Shard {
     alloc: Global,
+    // What trace ids are hashed with.
+    keys: HashKeys,
     stores: Stores<TraceNote>,
     // When each member is ready next.
     agenda: Agenda,
     members: Vec<Pipeline>,
+    // The numbers of the tenants that have gone, in rising order. There is room for each member's.
+    gone: Vec<u32>,
 }
 
 /// Memory was refused: for the outcomes' room before the first step, or at a step, after the
@@ -63,14 +68,14 @@ pub struct Stopped {
 impl Model for Shard {
     ghost use Rattle.std.specs.Prelude.{List};
     ghost use Rattle.tenant_shard.specs.View.{View};
-    ghost use Rattle.tenant_shard.specs.Members.{views};
-    ghost use Rattle.tenant_shard.specs.Whole.{IsWhole};
+    ghost use Rattle.tenant_shard.specs.Members.{all_views};
+    ghost use Rattle.tenant_shard.specs.Whole.{IsShard};
 
     ghost Value = { List View };
 
-    ghost view = { λ s. views s.stores s.members.items };
+    ghost view = { λ s. all_views s.stores s.members.items s.gone.items };
 
-    ghost invariant = { λ s. IsWhole s.stores s.agenda s.members.items };
+    ghost invariant = { λ s. IsShard s.stores s.agenda s.members.items s.gone.items (vec_capacity s.gone) };
 }
 
 impl Shard {
@@ -81,7 +86,7 @@ impl Shard {
     ghost use Rattle.tenant_shard.specs.Whole.{AllCounted};
 
     /// Opens a shard of the tenants of the settings whose numbers stand in `members`, with no steps
-    /// so far. Other numbers count for nothing, and one that stands there twice counts once. Trace
+    /// so far. Other numbers count for nothing, also none is used, and one that stands there twice counts once. Trace
     /// ids are hashed with keys that anyone knows: strangers' ids are for `open_with_keys`.
     pub fn open(alloc: Global, settings: &Settings, members: &[u32]) -> Result<Self, AllocError>
         ensures stands { IfOk result (ShardStands (opened (settings_view settings.now) members.now)) }
@@ -104,6 +109,7 @@ impl Shard {
         let stores = Stores::new(alloc);
         let mut agenda = Agenda::new(alloc);
         let mut opened = Vec::new(alloc);
+        let mut gone = Vec::new(alloc);
         for tenant in members {
             open_member(
                 alloc,
@@ -112,20 +118,23 @@ impl Shard {
                 &stores,
                 &mut agenda,
                 &mut opened,
+                &mut gone,
                 *tenant,
             )?;
         }
         Ok(Shard {
             alloc,
+            keys,
             stores,
             agenda,
             members: opened,
+            gone,
         })
     }
 
     /// Does one step. Where memory is refused, of the step's own tenant some first due timers may
-    /// have run, and all else is as before. A step that reaches no member's pipeline takes no memory
-    /// and changes nothing: no timer runs, and no clock goes on.
+    /// have run, and all else is as before; who comes is then no member. A step that reaches no member's pipeline and
+    /// lets nobody in takes no memory and changes nothing: no timer runs, and no clock goes on.
     pub fn step(&mut self, step: &Step) -> Result<Outcome, AllocError>
         // The outcome is what the members' own steps say. Where no own steps leave what is kept of the step's tenant,
         // as after refused memory, it follows from that.
@@ -139,7 +148,15 @@ impl Shard {
         // In every state each span that was taken is counted once.
         ensures counted { AllCounted self.new }
     {
-        step_in(&mut self.stores, &mut self.agenda, &mut self.members, step)
+        step_in(
+            self.alloc,
+            self.keys,
+            &mut self.stores,
+            &mut self.agenda,
+            &mut self.members,
+            &mut self.gone,
+            step,
+        )
     }
 
     /// Does the steps one after the other: each member is told exactly what a pipeline of its own
@@ -191,25 +208,41 @@ impl Shard {
 
 /// A step goes to the tenant that it names, or a turn to the member that is ready first.
 fn step_in(
+    alloc: Global,
+    keys: HashKeys,
     stores: &mut Stores<TraceNote>,
     agenda: &mut Agenda,
     members: &mut Vec<Pipeline>,
+    gone: &mut Vec<u32>,
     step: &Step,
 ) -> Result<Outcome, AllocError>
-    requires { IsWhole stores.old agenda.old members.old.items }
+    requires { IsShard stores.old agenda.old members.old.items gone.old.items (vec_capacity gone.old) }
     ensures on_success { IfOk result (λ outcome. ShardSteps step.now
-        (views stores.old members.old.items) outcome (views stores.new members.new.items)) }
+        (all_views stores.old members.old.items gone.old.items) outcome
+        (all_views stores.new members.new.items gone.new.items)) }
     ensures from_state { IfOk result (λ outcome. ShardFollows step.now
-        (views stores.old members.old.items) outcome (views stores.new members.new.items)) }
+        (all_views stores.old members.old.items gone.old.items) outcome
+        (all_views stores.new members.new.items gone.new.items)) }
     ensures on_refusal { OnErr result (ShardRefuses step.now
-        (views stores.old members.old.items) (views stores.new members.new.items)) }
-    ensures on_no_member { IsNobodys step.now (views stores.old members.old.items) →
-        (IsOk result) × (views stores.new members.new.items ≡ views stores.old members.old.items) }
-    ensures whole { IsWhole stores.new agenda.new members.new.items }
+        (all_views stores.old members.old.items gone.old.items)
+        (all_views stores.new members.new.items gone.new.items)) }
+    ensures on_no_member { IsNobodys step.now (all_views stores.old members.old.items gone.old.items) → (IsOk result)
+        × (all_views stores.new members.new.items gone.new.items
+          ≡ all_views stores.old members.old.items gone.old.items) }
+    ensures whole { IsShard stores.new agenda.new members.new.items gone.new.items (vec_capacity gone.new) }
 {
-    match step.tenant() {
-        Some(tenant) => step_of(stores, agenda, members, tenant, step),
-        None => turn(stores, agenda, members, step),
+    match step {
+        Step::Post { prepared, .. } => {
+            step_of(stores, agenda, members, gone, prepared.tenant(), step)
+        }
+        Step::Turn { now } => turn(stores, agenda, members, gone, *now, step),
+        Step::Answer { tenant, .. } => step_of(stores, agenda, members, gone, *tenant, step),
+        Step::Report { tenant, .. } => step_of(stores, agenda, members, gone, *tenant, step),
+        Step::Drain { tenant, .. } => step_of(stores, agenda, members, gone, *tenant, step),
+        Step::Add { tenant, section } => {
+            add(alloc, keys, stores, agenda, members, gone, *tenant, section)
+        }
+        Step::Retire { tenant, .. } => step_of(stores, agenda, members, gone, *tenant, step),
     }
 }
 
@@ -218,20 +251,26 @@ fn step_of(
     stores: &mut Stores<TraceNote>,
     agenda: &mut Agenda,
     members: &mut Vec<Pipeline>,
+    gone: &mut Vec<u32>,
     tenant: u32,
     step: &Step,
 ) -> Result<Outcome, AllocError>
-    requires whole { IsWhole stores.old agenda.old members.old.items }
+    requires whole { IsShard stores.old agenda.old members.old.items gone.old.items (vec_capacity gone.old) }
     requires whose { named_in step.now ≡ Some tenant }
+    requires piped { IsForPipeline (asked_in step.now) }
     ensures on_success { IfOk result (λ outcome. ShardSteps step.now
-        (views stores.old members.old.items) outcome (views stores.new members.new.items)) }
+        (all_views stores.old members.old.items gone.old.items) outcome
+        (all_views stores.new members.new.items gone.new.items)) }
     ensures from_state { IfOk result (λ outcome. ShardFollows step.now
-        (views stores.old members.old.items) outcome (views stores.new members.new.items)) }
+        (all_views stores.old members.old.items gone.old.items) outcome
+        (all_views stores.new members.new.items gone.new.items)) }
     ensures on_refusal { OnErr result (ShardRefuses step.now
-        (views stores.old members.old.items) (views stores.new members.new.items)) }
-    ensures on_no_member { IsNobodys step.now (views stores.old members.old.items) →
-        (IsOk result) × (views stores.new members.new.items ≡ views stores.old members.old.items) }
-    ensures whole { IsWhole stores.new agenda.new members.new.items }
+        (all_views stores.old members.old.items gone.old.items)
+        (all_views stores.new members.new.items gone.new.items)) }
+    ensures on_no_member { IsNobodys step.now (all_views stores.old members.old.items gone.old.items) → (IsOk result)
+        × (all_views stores.new members.new.items gone.new.items
+          ≡ all_views stores.old members.old.items gone.old.items) }
+    ensures whole { IsShard stores.new agenda.new members.new.items gone.new.items (vec_capacity gone.new) }
 {
     let Ok(i) = place_of(members, tenant) else {
         return Ok(Outcome::Refused(tenant, NOT_MEMBER));
@@ -239,7 +278,7 @@ fn step_of(
     if !takes(&members[i], step) {
         return Ok(Outcome::Refused(tenant, OTHER_POLICIES));
     }
-    let outcome = step_at(stores, agenda, members, i, tenant, step)?;
+    let outcome = step_at(stores, agenda, members, gone, i, tenant, step)?;
     Ok(outcome)
 }
 
@@ -248,47 +287,92 @@ fn turn(
     stores: &mut Stores<TraceNote>,
     agenda: &mut Agenda,
     members: &mut Vec<Pipeline>,
+    gone: &mut Vec<u32>,
+    now: u64,
     step: &Step,
 ) -> Result<Outcome, AllocError>
-    requires whole { IsWhole stores.old agenda.old members.old.items }
+    requires whole { IsShard stores.old agenda.old members.old.items gone.old.items (vec_capacity gone.old) }
     requires whose { named_in step.now ≡ None }
+    requires asked { asked_in step.now ≡ Piped (plain (own.Turn now)) }
     ensures on_success { IfOk result (λ outcome. ShardSteps step.now
-        (views stores.old members.old.items) outcome (views stores.new members.new.items)) }
+        (all_views stores.old members.old.items gone.old.items) outcome
+        (all_views stores.new members.new.items gone.new.items)) }
     ensures from_state { IfOk result (λ outcome. ShardFollows step.now
-        (views stores.old members.old.items) outcome (views stores.new members.new.items)) }
+        (all_views stores.old members.old.items gone.old.items) outcome
+        (all_views stores.new members.new.items gone.new.items)) }
     ensures on_refusal { OnErr result (ShardRefuses step.now
-        (views stores.old members.old.items) (views stores.new members.new.items)) }
-    ensures on_no_member { IsNobodys step.now (views stores.old members.old.items) →
-        (IsOk result) × (views stores.new members.new.items ≡ views stores.old members.old.items) }
-    ensures whole { IsWhole stores.new agenda.new members.new.items }
+        (all_views stores.old members.old.items gone.old.items)
+        (all_views stores.new members.new.items gone.new.items)) }
+    ensures on_no_member { IsNobodys step.now (all_views stores.old members.old.items gone.old.items) → (IsOk result)
+        × (all_views stores.new members.new.items gone.new.items
+          ≡ all_views stores.old members.old.items gone.old.items) }
+    ensures whole { IsShard stores.new agenda.new members.new.items gone.new.items (vec_capacity gone.new) }
 {
-    let Some(tenant) = agenda.first_due(step.now().min(LATEST_MOMENT)) else {
+    let Some(tenant) = agenda.first_due(now.min(LATEST_MOMENT)) else {
         return Ok(Outcome::Idle);
     };
     let Ok(i) = place_of(members, tenant) else {
         unreachable!()
     };
-    let outcome = step_at(stores, agenda, members, i, tenant, step)?;
+    let outcome = step_at(stores, agenda, members, gone, i, tenant, step)?;
     Ok(outcome)
 }
 
-/// The member does a step that reaches it, and the agenda follows.
+/// The member does a step that reaches it, and goes where its retirement is told its counters.
 fn step_at(
+    stores: &mut Stores<TraceNote>,
+    agenda: &mut Agenda,
+    members: &mut Vec<Pipeline>,
+    gone: &mut Vec<u32>,
+    i: usize,
+    tenant: u32,
+    step: &Step,
+) -> Result<Outcome, AllocError>
+    requires whole { IsShard stores.old agenda.old members.old.items gone.old.items (vec_capacity gone.old) }
+    requires piped { IsForPipeline (asked_in step.now) }
+    requires within { i < length members.old.items }
+    requires place { IsPlaceOf tenant members.old.items i }
+    requires taken { IfPiped (asked_in step.now) (λ asked.
+        Reaches asked (kept_of tenant (all_views stores.old members.old.items gone.old.items))) }
+    ensures on_success { IfOk result (λ outcome. IfPiped (asked_in step.now) (λ asked. IsStepOf tenant asked.step
+        (all_views stores.old members.old.items gone.old.items) outcome
+        (all_views stores.new members.new.items gone.new.items))) }
+    ensures on_refusal { OnErr result (IfPiped (asked_in step.now) (λ asked. IsLossOf tenant asked.step
+        (all_views stores.old members.old.items gone.old.items)
+        (all_views stores.new members.new.items gone.new.items))) }
+    ensures whole { IsShard stores.new agenda.new members.new.items gone.new.items (vec_capacity gone.new) }
+{
+    let told = tell(stores, agenda, members, i, tenant, step)?;
+    if !ends(step, &told) {
+        return Ok(named(tenant, told));
+    }
+    let_go(stores, agenda, members, gone, i, tenant);
+    Ok(named(tenant, told))
+}
+
+/// The member's pipeline does a step that reaches it, and the agenda follows.
+fn tell(
     stores: &mut Stores<TraceNote>,
     agenda: &mut Agenda,
     members: &mut Vec<Pipeline>,
     i: usize,
     tenant: u32,
     step: &Step,
-) -> Result<Outcome, AllocError>
+) -> Result<StepReply, AllocError>
     requires whole { IsWhole stores.old agenda.old members.old.items }
+    requires piped { IsForPipeline (asked_in step.now) }
     requires within { i < length members.old.items }
     requires place { IsPlaceOf tenant members.old.items i }
-    requires taken { Reaches (own_step step.now) (kept_of tenant (views stores.old members.old.items)) }
-    ensures on_success { IfOk result (λ outcome. IsStepOf tenant (own_step step.now).step
-        (views stores.old members.old.items) outcome (views stores.new members.new.items)) }
-    ensures on_refusal { OnErr result (IsLossOf tenant (own_step step.now).step
-        (views stores.old members.old.items) (views stores.new members.new.items)) }
+    requires taken { IfPiped (asked_in step.now) (λ asked.
+        Reaches asked (kept_of tenant (views stores.old members.old.items))) }
+    ensures on_success { IfOk result (λ told. IfPiped (asked_in step.now) (λ asked. IsToldOf tenant asked.step
+        (views stores.old members.old.items) told (views stores.new members.new.items))) }
+    ensures may_leave { IfOk result (λ told. ends (asked_in step.now) told ≡ true →
+        (d : Pipeline) → HasNonePending (slice_index_or members.new.items i d)) }
+    ensures on_refusal { OnErr result (IfPiped (asked_in step.now) (λ asked. IsLossOf tenant asked.step
+        (views stores.old members.old.items) (views stores.new members.new.items))) }
+    ensures place { IsPlaceOf tenant members.new.items i }
+    ensures count { length members.new.items ≡ length members.old.items }
     ensures whole { IsWhole stores.new agenda.new members.new.items }
 {
     let own = &mut members[i];
@@ -296,41 +380,5 @@ fn step_at(
     let ready = own.ready(stores);
     agenda.set(tenant, ready);
     let told = result?;
-    Ok(named(tenant, told))
-}
-
-/// One more member, unless it is there or is no number of the table.
-fn open_member(
-    alloc: Global,
-    settings: &Settings,
-    keys: HashKeys,
-    stores: &Stores<TraceNote>,
-    agenda: &mut Agenda,
-    members: &mut Vec<Pipeline>,
-    tenant: u32,
-) -> Result<(), AllocError>
-    requires { IsWhole stores.now agenda.old members.old.items }
-    ensures whole { OnOk result (IsWhole stores.now agenda.new members.new.items) }
-    ensures stands { OnOk result ((earlier : List ℕ) → let table = settings_view settings.now in
-        ShardStands (opened table earlier) (views stores.now members.old.items) →
-        ShardStands (opened table (earlier ++ tenant ∷ [])) (views stores.now members.new.items)) }
-
-    // Where memory is refused nothing has changed.
-    ensures on_refusal { OnErr result ((members.new.items ≡ members.old.items) × (agenda.new ≡ agenda.old)) }
-{
-    let Err(at) = place_of(members, tenant) else {
-        return Ok(());
-    };
-    let Some(section) = settings.section(tenant) else {
-        return Ok(());
-    };
-    let pipeline = Pipeline::new(alloc, tenant, section, keys)?;
-    members.reserve(1)?;
-    agenda.admit(tenant)?;
-    let ready = pipeline.ready(stores);
-    agenda.set(tenant, ready);
-    let Ok(()) = members.insert(at, pipeline) else {
-        unreachable!()
-    };
-    Ok(())
+    Ok(told)
 }

@@ -2,13 +2,12 @@
 
 ghost use Rattle.std.specs.Prelude.{◌≡◌, ◌↔◌, true};
 ghost use Rattle.tenant_shard.specs.Equal.{AreSame};
-ghost use Rattle.tenant_rules.specs.Own.{asked};
-ghost use Rattle.tenant_shard.specs.Outcomes.{named_in, own_step};
 
 use bytes::Bytes;
 use otlp_prepare::{Prepared, equal_bodies_are_the_same};
 use otlp_trace::Octets;
 use send_retry::Answer;
+use tail_settings::{Section, equal_sections};
 use tenant_rules::Reply;
 
 /// One step of a shard. A moment is in milliseconds, and one above 2^62 is taken as 2^62.
@@ -41,34 +40,16 @@ pub enum Step {
         tenant: u32,
         now: u64,
     },
-}
-
-impl Step {
-    /// The number of the tenant that the step names. A turn names none.
-    pub(crate) fn tenant(&self) -> Option<u32>
-        ensures { result ≡ named_in self.now }
-    {
-        match self {
-            Step::Post { prepared, .. } => Some(prepared.tenant()),
-            Step::Turn { .. } => None,
-            Step::Answer { tenant, .. } => Some(*tenant),
-            Step::Report { tenant, .. } => Some(*tenant),
-            Step::Drain { tenant, .. } => Some(*tenant),
-        }
-    }
-
-    /// When it is asked for, in milliseconds.
-    pub(crate) fn now(&self) -> u64
-        ensures { result ≡ asked (own_step self.now).step }
-    {
-        match self {
-            Step::Post { now, .. } => *now,
-            Step::Turn { now } => *now,
-            Step::Answer { now, .. } => *now,
-            Step::Report { now, .. } => *now,
-            Step::Drain { now, .. } => *now,
-        }
-    }
+    /// A tenant comes, with its own settings. Its number must be new to the shard.
+    Add {
+        tenant: u32,
+        section: Section,
+    },
+    /// A tenant is to go, after a drain and once it holds no span.
+    Retire {
+        tenant: u32,
+        now: u64,
+    },
 }
 
 /// What a step gives, with the number of the tenant whose step it was.
@@ -82,12 +63,13 @@ pub enum Outcome {
     Worked(u32),
     /// No member was ready.
     Idle,
-    /// The tenant's answer was heard, or it was drained.
+    /// The tenant's answer was heard, it was drained, or it came and is a member.
     Done(u32),
-    /// The tenant's counters, as one line without its end.
+    /// The tenant's counters, as one line without its end. Told of a retirement, the tenant has gone.
     Report(u32, Octets),
-    /// The answer's ticket names no job in flight (21), and nothing but due timers has happened; or nothing was done:
-    /// the tenant is no member (22), or the body was prepared for other policies than the tenant's (23).
+    /// The answer's ticket names no job in flight (21), or a tenant that is to go wasn't drained or holds spans (26), and
+    /// nothing but due timers has happened; or nothing was done: the tenant is no member (22), the body was prepared for
+    /// other policies than the tenant's (23), or the tenant that comes is or was a member (25).
     Refused(u32, u8),
 }
 
@@ -100,4 +82,5 @@ pub fn equal_steps_are_the_same(one: &Step, other: &Step)
             equal_bodies_are_the_same(prepared, with);
         }
     }
+    equal_sections();
 }
