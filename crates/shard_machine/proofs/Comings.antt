@@ -1,5 +1,5 @@
 -- Tenants that come and go.
-use Rattle.std.proofs.Common.{◌≡◌, ℕ, List, [], ◌&&◌, ◌⊎◌, inl, inr, Bool, true, false, not, Option, Some, None, is_some, Result, Ok, Err, refl, sym, ap, ◌∙◌, subst, tt}
+use Rattle.std.proofs.Common.{◌≡◌, ℕ, List, [], ◌&&◌, ◌⊎◌, inl, inr, Bool, true, false, not, Option, Some, None, is_some, Result, Ok, Err, refl, sym, ap, ◌∙◌, subst}
 use Rattle.std.specs.Prelude.{IfOk, OnErr, is_none, if◌then◌else◌, ◌≢◌}
 use Rattle.tail_settings.specs.declared.section.Section.{Section}
 use Rattle.tail_settings.specs.Section.{SectionData, section_view}
@@ -12,13 +12,14 @@ use Rattle.tenant_shard.specs.declared.step.Outcome.TheVariants.{Done, Refused}
 use Rattle.tenant_shard.specs.View.{View, kept_of, was_of, StaysOf}
 use Rattle.tenant_shard.specs.Outcomes.{OwnStep, Piped, Comes, plain, asked_in, reports, is_retirement, number_used}
 use Rattle.tenant_shard.specs.Refusal.{ShardRefuses}
+use Rattle.tenant_shard.specs.Run.{ShardSteps}
 use Rattle.tenant_shard.specs.Follows.{refusal_number, ShardFollows}
 use Rattle.tenant_shard.specs.Chain.{ShardDoes}
-use Rattle.shard_machine.specs.Jitter.{start, TenantGenerator, generator_of, without, IsSeeded, IsForgotten}
+use Rattle.shard_machine.specs.Jitter.{start, TenantGenerator, generator_of, without, IsSeeded, IsRemoved}
 use Rattle.shard_machine.specs.Drawing.{is_let_in, StepIsRefused}
 use Rattle.shard_machine.specs.MachineState.{ComesIn, Retires, GeneratorsGoOn, AreMembers, lets_in}
 use Rattle.shard_machine.proofs.Members.{never_kept, stay_same, StayMembers, members_at_refusal, with_same_words, with_one, no_words, piped_is, never_comes}
-use Rattle.shard_machine.proofs.Going.{Goes}
+use Rattle.shard_machine.proofs.Going.{IsPlain, plain_goes_on, plain_members, members_refused}
 
 some_same : (one other : ℕ) → Some one ≡ Some other → one ≡ other
 some_same one other same = cc
@@ -97,17 +98,17 @@ came step t section words tried left newly views views' (Err fault) is are tries
 
 -- its generator went, where it was told its counters
 pub record IsDismissed (t : ℕ) (words : List TenantGenerator) (leaves : Bool) (left : List TenantGenerator) : Type 0 where
-  pub forgotten : leaves ≡ true → IsForgotten t words left
+  pub removed : leaves ≡ true → IsRemoved t words left
   pub others : leaves ≡ false → left ≡ words
 
 module _ (t now : ℕ) (words left : List TenantGenerator) (views views' : List View) (are : AreMembers words views) (o : Outcome) (dismissed : IsDismissed t words (reports o) left) where
   -- whether it went
-  by_leaving : (b : Bool) → reports o ≡ b → (b ≡ true → IsForgotten t words left) → (b ≡ false → left ≡ words) → Retires t b words left
-  by_leaving true is forgotten others = forgotten refl
-  by_leaving false is forgotten others = others refl
+  by_leaving : (b : Bool) → reports o ≡ b → (b ≡ true → IsRemoved t words left) → (b ≡ false → left ≡ words) → Retires t b words left
+  by_leaving true is removed others = removed refl
+  by_leaving false is removed others = others refl
 
   goes : Retires t (reports o) words left
-  goes = by_leaving (reports o) refl dismissed.forgotten dismissed.others
+  goes = by_leaving (reports o) refl dismissed.removed dismissed.others
 
   -- it was no member
   nobody : reports o ≡ false → views' ≡ views → AreMembers left views'
@@ -128,7 +129,7 @@ module _ (t now : ℕ) (words left : List TenantGenerator) (views views' : List 
 
       by : (b : Bool) → reports o ≡ b → AreMembers left views'
       by true is =
-          let gone = dismissed.forgotten is in
+          let gone = dismissed.removed is in
           with_one t words left views views' are (ap is_some gone.own ∙ sym (ap is_some (mine true is))) gone.others rest
       by false is =
           let same_words = dismissed.others is in
@@ -141,9 +142,26 @@ module _ (t now : ℕ) (words left : List TenantGenerator) (views views' : List 
       member u m.before m.after m.whose.0 m.was (m.is_now ∙ ap (λ (b : Bool). if b && reports o then None else Some m.after) retires) m.others
   leaves (inr (inr (u, a))) = absurd (never_comes (asked_in (steps.Retire t now)) (plain (own.Retire now)) a.whose.section refl a.whose.comes)
 
-pub left_goes : (step : Step) (t now : ℕ) (words left : List TenantGenerator) (views views' : List View) (o : Outcome) → step ≡ steps.Retire t now → AreMembers words views → IsDismissed t words (reports o) left → ShardDoes step views o views' → Goes step words views o left views'
-left_goes step t now words left views views' o is are dismissed does = record {
-  does = does;
-  go_on = subst (λ s. GeneratorsGoOn s o words left) (sym is) (goes t now words left views views' are o dismissed);
-  members = leaves t now words left views views' are o dismissed (subst (λ s. ShardFollows s views o views') is does.from_state);
-}
+pub left_go_on : (step : Step) (t now : ℕ) (words left : List TenantGenerator) (views views' : List View) (o : Outcome) → step ≡ steps.Retire t now → AreMembers words views → IsDismissed t words (reports o) left → GeneratorsGoOn step o words left
+left_go_on step t now words left views views' o is are dismissed = subst (λ s. GeneratorsGoOn s o words left) (sym is) (goes t now words left views views' are o dismissed)
+
+pub left_members : (step : Step) (t now : ℕ) (words left : List TenantGenerator) (views views' : List View) (o : Outcome) → step ≡ steps.Retire t now → AreMembers words views → IsDismissed t words (reports o) left → ShardFollows step views o views' → AreMembers left views'
+left_members step t now words left views views' o is are dismissed follows = leaves t now words left views views' are o dismissed (subst (λ s. ShardFollows s views o views') is follows)
+
+-- ---- by what a step of the shard told
+
+pub does_told : {E : Type 0} (step : Step) (views views' : List View) (told : Result Outcome E) → IfOk told (λ o. ShardSteps step views o views') → IfOk told (λ o. ShardFollows step views o views') → IfOk told (λ o. ShardDoes step views o views')
+does_told step views views' (Ok o) by_own_steps follows = record { by_own_steps = by_own_steps; from_state = follows }
+does_told step views views' (Err fault) by_own_steps follows = tt
+
+pub refused_told : {E : Type 0} (step : Step) (views views' : List View) (told : Result Outcome E) → OnErr told (ShardRefuses step views views') → OnErr told (StepIsRefused step views views')
+refused_told step views views' (Ok o) refuses = tt
+refused_told step views views' (Err fault) refuses = inl refuses
+
+pub goes_told : {E : Type 0} (step : Step) (words : List TenantGenerator) (told : Result Outcome E) → IsPlain step → IfOk told (λ o. GeneratorsGoOn step o words words)
+goes_told step words (Ok o) is_plain = plain_goes_on step o words is_plain
+goes_told step words (Err fault) is_plain = tt
+
+pub members_told : {E : Type 0} (step : Step) (words : List TenantGenerator) (views views' : List View) (told : Result Outcome E) → IsPlain step → AreMembers words views → IfOk told (λ o. ShardFollows step views o views') → OnErr told (ShardRefuses step views views') → AreMembers words views'
+members_told step words views views' (Ok o) is_plain are follows refuses = plain_members step words views o views' is_plain are follows
+members_told step words views views' (Err fault) is_plain are follows refuses = members_refused step words words views views' are refl (inl refuses)

@@ -12,7 +12,7 @@ use Rattle.std.specs.BTreeMap.{BTreeMap}
 use Rattle.std.specs.BTreeMap as tree
 use Rattle.rand_pcg.specs.Lcg.{Lcg}
 use Rattle.rand_pcg.specs.Pcg.{pcg32}
-use Rattle.shard_machine.specs.Jitter.{start, next_word, moved, first_words, after_words, TenantGenerator, generator_of, or_start, without, IsDraw, IsSeeded, IsForgotten, Drawn, words_of, EachHasItsOwn}
+use Rattle.shard_machine.specs.Jitter.{start, next_word, moved, first_words, after_words, TenantGenerator, generator_of, or_start, without, IsDraw, IsSeeded, IsRemoved, Drawn, words_of, EachHasItsOwn}
 
 -- what the map has at a tenant is the tenant's generator
 pub at_tenant : (m : BTreeMap ℕ Lcg) (tenant : ℕ) → tree.get nat_cmp m tenant ≡ generator_of tenant m.entries
@@ -61,8 +61,8 @@ seeded_before tenant seed sources has = record { own = still (generator_of tenan
     still None never = absurd (cc)
     still (Some g) has = refl
 
-pub forgotten : (m n : BTreeMap ℕ Lcg) (tenant : ℕ) → tree.Updates nat_cmp m n tenant None → IsForgotten tenant m.entries n.entries
-forgotten m n tenant updates = record { own = own m n tenant None updates; others = others m n tenant None updates }
+pub removed : (m n : BTreeMap ℕ Lcg) (tenant : ℕ) → tree.Updates nat_cmp m n tenant None → IsRemoved tenant m.entries n.entries
+removed m n tenant updates = record { own = own m n tenant None updates; others = others m n tenant None updates }
 
 -- whether a key is the tenant's, as the map asks for it
 abbrev is_tenants : ℕ → ℕ → Bool

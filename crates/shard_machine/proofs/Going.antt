@@ -87,7 +87,7 @@ other_of (steps.Drain tenant now) plain_one = record { asked = plain (own.Drain 
 other_of (steps.Add tenant section) plain_one = absurd (plain_one.no_add tenant section refl)
 other_of (steps.Retire tenant now) plain_one = absurd (plain_one.no_retirement tenant now refl)
 
-plain_goes_on : (step : Step) (o : Outcome) (words : List TenantGenerator) → IsPlain step → GeneratorsGoOn step o words words
+pub plain_goes_on : (step : Step) (o : Outcome) (words : List TenantGenerator) → IsPlain step → GeneratorsGoOn step o words words
 plain_goes_on (steps.Post now prepared) o words plain_one = refl
 plain_goes_on (steps.Turn now) o words plain_one = refl
 plain_goes_on (steps.Answer tenant now ticket drawn answer) o words plain_one = refl
@@ -98,20 +98,10 @@ plain_goes_on (steps.Retire tenant now) o words plain_one = absurd (plain_one.no
 
 -- ---- what a step does, and what is left of one that was refused memory
 
--- a step was done, with what came of the generators
-pub record Goes (step : Step) (words : List TenantGenerator) (views : List View) (o : Outcome) (words' : List TenantGenerator) (views' : List View) : Type 0 where
-  pub does : ShardDoes step views o views'
-  pub go_on : GeneratorsGoOn step o words words'
-  pub members : AreMembers words' views'
-
-pub plain_goes : (step : Step) (words : List TenantGenerator) (views : List View) (o : Outcome) (views' : List View) → IsPlain step → AreMembers words views → ShardDoes step views o views' → Goes step words views o words views'
-plain_goes step words views o views' plain_one are does =
+pub plain_members : (step : Step) (words : List TenantGenerator) (views : List View) (o : Outcome) (views' : List View) → IsPlain step → AreMembers words views → ShardFollows step views o views' → AreMembers words views'
+plain_members step words views o views' plain_one are follows =
     let other = other_of step plain_one in
-    record {
-      does = does;
-      go_on = plain_goes_on step o words plain_one;
-      members = with_same_words words words views views' are refl (members_stay step views o views' other.asked other.asks other.stays does.from_state);
-    }
+    with_same_words words words views views' are refl (members_stay step views o views' other.asked other.asks other.stays follows)
 
 pub members_refused : (step : Step) (words words' : List TenantGenerator) (views views' : List View) → AreMembers words views → words' ≡ words → StepIsRefused step views views' → AreMembers words' views'
 members_refused step words words' views views' are same refused = with_same_words words words' views views' are same (members_at_refusal step views views' refused)

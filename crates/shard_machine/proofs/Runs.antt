@@ -9,7 +9,7 @@ use Rattle.tail_settings.specs.declared.section.Section.{Section}
 use Rattle.tail_settings.specs.Section.{SectionData, section_view}
 use Rattle.tenant_rules.specs.Own as own
 use Rattle.machine_hub.specs.Runs.{Runs}
-use Rattle.shard_machine.specs.Jitter.{start, next_word, moved, first_words, TenantGenerator, generator_of, or_start, IsDraw, IsSeeded, IsForgotten}
+use Rattle.shard_machine.specs.Jitter.{start, next_word, moved, first_words, TenantGenerator, generator_of, or_start, IsDraw, IsSeeded, IsRemoved}
 use Rattle.tenant_shard.specs.declared.step.Step.{Step}
 use Rattle.tenant_shard.specs.declared.step.Step.TheVariants as steps
 use Rattle.tenant_shard.specs.declared.step.Outcome.{Outcome}
@@ -145,15 +145,15 @@ let_in_step t u section old next later rest lets comes are = by (eqb u t) lets r
 -- a tenant goes
 gone_step : (t u : ℕ) (old next : List TenantGenerator) (later : Option SectionData) (rest : List ℕ) (leaves : Bool) → (u ≡ t → leaves ≡ true → later ≡ None) → Retires u leaves old next → AreOf t next later rest → AreOf t old later rest
 gone_step t u old next later rest false never same are = same_all t old next later rest same are
-gone_step t u old next later rest true never forgotten are = by (cases_eq t u)
+gone_step t u old next later rest true never removed are = by (cases_eq t u)
   where
     by : (t ≡ u) ⊎ (t ≢ u) → AreOf t old later rest
     by (inl same) =
-        let none : generator_of t next ≡ None = ap (λ x. generator_of x next) same ∙ forgotten.own in
+        let none : generator_of t next ≡ None = ap (λ x. generator_of x next) same ∙ removed.own in
         let end : later ≡ None = never (sym same) refl in
         let nothing : rest ≡ [] = subst (λ o. AreFirstWords (option_or o (started None)) rest) none (subst (λ s. AreOf t next s rest) end are) in
         subst (λ ws. AreOf t old later ws) (sym nothing) (none_drawn (option_or (generator_of t old) (started later)))
-    by (inr apart) = unmoved t old next later rest (forgotten.others t apart) are
+    by (inr apart) = unmoved t old next later rest (removed.others t apart) are
 
 words_step : (t : ℕ) (w : WordSource) (step : Step) (o : Outcome) (old next : List TenantGenerator) (later : Option SectionData) (rest : List ℕ) → ((now : ℕ) → step ≡ steps.Retire t now → reports o ≡ true → later ≡ None) → GeneratorsMove w step o old next → AreOf t next later rest
     → AreOf t old (option_or (came_by t step o) later) (with_word t w step rest)

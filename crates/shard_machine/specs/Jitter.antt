@@ -61,7 +61,7 @@ abbrev pub without : ℕ → List TenantGenerator → List TenantGenerator
 without tenant sources = remove_entry (λ other. tenant == other) sources
 
 -- a tenant has no generator any more, and all others have what they had
-pub record IsForgotten (tenant : ℕ) (old new : List TenantGenerator) : Type 0 where
+pub record IsRemoved (tenant : ℕ) (old new : List TenantGenerator) : Type 0 where
   pub own : generator_of tenant new ≡ None
   pub others : (other : ℕ) → other ≢ tenant → generator_of other new ≡ generator_of other old
 

@@ -4,7 +4,7 @@ use Rattle.std.specs.Prelude.{◌≡◌, ◌≢◌, ℕ, Bool, true, false, List
 use Rattle.rand_pcg.specs.Lcg.{Lcg}
 use Rattle.tail_settings.specs.Section.{SectionData}
 use Rattle.tail_settings.specs.Settings.{SettingsData}
-use Rattle.shard_machine.specs.Jitter.{start, TenantGenerator, generator_of, IsDraw, IsSeeded, IsForgotten}
+use Rattle.shard_machine.specs.Jitter.{start, TenantGenerator, generator_of, IsDraw, IsSeeded, IsRemoved}
 use Rattle.tenant_shard.specs.declared.step.Step.{Step}
 use Rattle.tenant_shard.specs.declared.step.Step.TheVariants as steps
 use Rattle.tenant_shard.specs.declared.step.Outcome.{Outcome}
@@ -42,7 +42,7 @@ ComesIn tenant seed false old new = new ≡ old
 
 -- a tenant is to go: where it was told its counters, so that it has gone, its generator has gone too
 abbrev pub Retires : ℕ → Bool → List TenantGenerator → List TenantGenerator → Type 0
-Retires tenant true old new = IsForgotten tenant old new
+Retires tenant true old new = IsRemoved tenant old new
 Retires tenant false old new = new ≡ old
 
 -- generators come and go with their tenants, and no other step changes any

@@ -1,7 +1,7 @@
 //! The generators of several tenants.
 
 ghost use Rattle.std.specs.Prelude.{◌≡◌, [], true, false, is_none, IfOk, OnOk, OnErr};
-ghost use Rattle.shard_machine.specs.Jitter.{generator_of, without, IsDraw, IsSeeded, IsForgotten};
+ghost use Rattle.shard_machine.specs.Jitter.{generator_of, without, IsDraw, IsSeeded, IsRemoved};
 
 use rand_core::SeedableRng;
 use rand_core::utils::NextWord;
@@ -53,8 +53,8 @@ impl JitterGenerators {
     }
 
     /// Takes a tenant's generator away, if it has one.
-    pub fn forget(&mut self, tenant: u32)
-        ensures forgotten { IsForgotten tenant self.old self.new }
+    pub fn remove(&mut self, tenant: u32)
+        ensures removed { IsRemoved tenant self.old self.new }
         ensures without { self.new ≡ without tenant self.old }
     {
         self.generators.remove(&tenant);

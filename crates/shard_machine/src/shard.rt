@@ -7,7 +7,7 @@ ghost use Rattle.tenant_shard.specs.Lives.{ShardStands};
 ghost use Rattle.tenant_shard.specs.Outcomes.{reports};
 ghost use Rattle.tenant_shard.specs.Table.{opened};
 ghost use Rattle.tenant_shard.specs.declared.step.Step.TheVariants as steps;
-ghost use Rattle.shard_machine.specs.Jitter.{without, IsForgotten};
+ghost use Rattle.shard_machine.specs.Jitter.{without, IsRemoved};
 ghost use Rattle.shard_machine.specs.MachineState.{AreMembers, AreSeeded, AsksFor, GeneratorsGoOn};
 ghost use Rattle.shard_machine.specs.Drawing.{is_let_in, IsReady, StepIsRefused};
 
@@ -182,8 +182,8 @@ fn let_in(
 {
     let newly = words.seed(tenant, section.seed)?;
     let told = shard.step(step);
-    let forgets = is_kept_out(newly, &told);
-    forget_if(words, tenant, forgets);
+    let removes = is_kept_out(newly, &told);
+    remove_if(words, tenant, removes);
     told
 }
 
@@ -204,7 +204,7 @@ fn retire(
 {
     let outcome = shard.step(step)?;
     let leaves = reports(&outcome);
-    forget_if(words, tenant, leaves);
+    remove_if(words, tenant, leaves);
     Ok(outcome)
 }
 
@@ -223,12 +223,12 @@ fn reports(outcome: &Outcome) -> bool
 }
 
 /// Takes a tenant's generator away, or leaves all as they are.
-fn forget_if(words: &mut JitterGenerators, tenant: u32, forgets: bool)
-    ensures forgotten { forgets ≡ true → IsForgotten tenant words.old words.new }
-    ensures without { words.new ≡ (if forgets then without tenant words.old else words.old) }
+fn remove_if(words: &mut JitterGenerators, tenant: u32, removes: bool)
+    ensures removed { removes ≡ true → IsRemoved tenant words.old words.new }
+    ensures without { words.new ≡ (if removes then without tenant words.old else words.old) }
 {
-    if forgets {
-        words.forget(tenant);
+    if removes {
+        words.remove(tenant);
     }
 }
 

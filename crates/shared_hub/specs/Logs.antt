@@ -157,8 +157,8 @@ abbrev pub answered : LoggedShard → List Logged
 answered s = s.entries ++ entries_in s.later
 
 -- what a shard of these tenants did from before its first step, with the calls that were refused memory: one chain of
--- what is kept. Each of these calls costs one tenant at most, and each other tenant was told exactly what its life alone
--- says of the steps that were its own
+-- what is kept. Each of these calls costs one tenant at most, and each other tenant was told exactly what its life
+-- alone says of the steps that were its own
 pub record IsHistoryOf (table : SettingsData) (members : List ℕ) (s : LoggedShard) : Type 0 where
   pub first : MachineState
   pub fresh : IsFresh table members first
