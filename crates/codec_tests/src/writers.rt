@@ -51,19 +51,32 @@ fn fields_around_texts(rt: HostRuntime) -> Result<(), Fail> {
     Ok(())
 }
 
+/// Whether octets are the bytes that they were made of, equal by these alone, and none at first.
+fn are_octets(alloc: Global, bytes: &Octets) -> Result<bool, Fail> {
+    let copy = bytes.clone()?;
+    let other = Octets::from_slice(alloc, b"ba")?;
+    Ok(
+        bytes.as_slice() == b"ab".as_slice()
+            && *bytes == copy
+            && *bytes != other
+            && Octets::new(alloc).as_slice().is_empty(),
+    )
+}
+
+/// The same of a list of numbers, and that it is let go of whole.
+fn are_numbers(alloc: Global, numbers: Repeated<u8>) -> Result<bool, Fail> {
+    let same = repeated_bytes(alloc, b"ab")?;
+    let shorter = repeated_bytes(alloc, b"a")?;
+    let is_so = numbers.as_slice() == b"ab".as_slice() && numbers == same && numbers != shorter;
+    Ok(is_so && numbers.into_vec().len() == 2 && Repeated::<u8>::new(alloc).as_slice().is_empty())
+}
+
 #[test]
 fn lists(rt: HostRuntime) -> Result<(), Fail> {
     let alloc = rt.alloc();
     let bytes = Octets::from_vec(Octets::from_slice(alloc, b"ab")?.into_vec());
-    assert!(rt; bytes.as_slice() == b"ab".as_slice());
-    assert!(rt; bytes == bytes.clone()? && bytes != Octets::from_slice(alloc, b"ba")?);
-    assert!(rt; Octets::new(alloc).as_slice().is_empty());
-    let numbers = Repeated::from_vec(bytes.into_vec());
-    assert!(rt; numbers.as_slice() == b"ab".as_slice());
-    assert!(rt; numbers == repeated_bytes(alloc, b"ab")?);
-    assert!(rt; numbers != repeated_bytes(alloc, b"a")?);
-    assert!(rt; numbers.into_vec().len() == 2);
-    assert!(rt; Repeated::<u8>::new(alloc).as_slice().is_empty());
+    assert!(rt; are_octets(alloc, &bytes)?);
+    assert!(rt; are_numbers(alloc, Repeated::from_vec(bytes.into_vec()))?);
     Ok(())
 }
 

@@ -179,11 +179,11 @@ module _ (l : AgendaEntry) (es : List AgendaEntry) (apart : AreApart (es ++ l �
   before (x ∷ xs) u e = ap (λ (o : Option ℕ). if eqb x.tenant u then x.ready else o) (before xs u e)
 
   last_ready : (xs : List AgendaEntry) → is_member xs l.tenant ≡ false → (u : ℕ) → eqb l.tenant u ≡ true → ready_of (xs ++ l ∷ []) u ≡ l.ready
-  last_ready [] no u e = rw e refl
-  last_ready (x ∷ xs) no u e =
-      let other : eqb x.tenant u ≡ false = grind (arith, nat_tests, no, e) in
-      let no' : is_member xs l.tenant ≡ false = grind (arith, nat_tests, no) in
-      rw other (last_ready xs no' u e)
+  last_ready [] none u e = rw e refl
+  last_ready (x ∷ xs) none u e =
+      let other : eqb x.tenant u ≡ false = grind (arith, nat_tests, none, e) in
+      let none' : is_member xs l.tenant ≡ false = grind (arith, nat_tests, none) in
+      rw other (last_ready xs none' u e)
 
   pub ready_without_last : (u : ℕ) → ready_of es u ≡ (if eqb l.tenant u then None else ready_of (es ++ l ∷ []) u)
   ready_without_last u = by (eqb l.tenant u) refl
@@ -270,6 +270,29 @@ module _ (l : AgendaEntry) (es : List AgendaEntry) (apart : AreApart (es ++ l �
           absurd (apart_from (let same : length es ≡ at = cc in sym same))
       by false e = place_at t es at (sym (rw e at is) ∙ h)
 
+  -- the last has a place still, once another has gone
+  pub last_stays : (t at : ℕ) → place t (es ++ l ∷ []) ≡ Some at → at ≢ length es → (middle : BTreeMap ℕ ℕ) → tree.Updates nat_cmp old middle t None → tree.get nat_cmp middle l.tenant ≢ None
+  last_stays t at h apart_from middle leaves gone = by (eqb t l.tenant) refl
+    where
+      own : place l.tenant (es ++ l ∷ []) ≡ Some (length es)
+      own = own_by (eqb l.tenant l.tenant) refl
+        where
+          own_by : (b : Bool) → eqb l.tenant l.tenant ≡ b → place l.tenant (es ++ l ∷ []) ≡ Some (length es)
+          own_by true e = place-behind l es l.tenant (last_is_none l l es apart) ∙ rw e refl
+          own_by false e = absurd (grind (arith, nat_tests, e))
+
+      left : tree.get nat_cmp middle l.tenant ≡ (if eqb t l.tenant then None else tree.get nat_cmp old l.tenant)
+      left = without old middle t leaves l.tenant
+
+      by : (b : Bool) → eqb t l.tenant ≡ b → ⊥
+      by true e =
+          let same : t ≡ l.tenant = grind (arith, nat_tests, e) in
+          let end : Some at ≡ Some (length es) = sym h ∙ (ap (λ (u : ℕ). place u (es ++ l ∷ [])) same ∙ own) in
+          apart_from (cc)
+      by false e =
+          let there : Some (length es) ≡ None = sym own ∙ (sym (placed l.tenant) ∙ (sym (rw e at left) ∙ gone)) in
+          cc
+
   pub placed_moved : (x : AgendaEntry) (at : ℕ) → slice_get es at ≡ Some x → (middle new : BTreeMap ℕ ℕ) → tree.Updates nat_cmp old middle x.tenant None → tree.Updates nat_cmp middle new l.tenant (Some at) → (u : ℕ) → tree.get nat_cmp new u ≡ place u (set es at l)
   placed_moved x at is middle new leaves comes u =
       put middle new l.tenant at comes u
@@ -278,18 +301,11 @@ module _ (l : AgendaEntry) (es : List AgendaEntry) (apart : AreApart (es ++ l �
 
 -- ---- who is no member
 
-pub placed_none : (old new : BTreeMap ℕ ℕ) (es : List AgendaEntry) (t : ℕ) → place t es ≡ None → ((u : ℕ) → tree.get nat_cmp old u ≡ place u es) → tree.Updates nat_cmp old new t None → (u : ℕ) → tree.get nat_cmp new u ≡ place u es
-placed_none old new es t nowhere placed updates u = without old new t updates u ∙ by (eqb t u) refl
-  where
-    by : (b : Bool) → eqb t u ≡ b → (if eqb t u then None else tree.get nat_cmp old u) ≡ place u es
-    by true e = let same : t ≡ u = grind (arith, nat_tests, e) in rw e (sym (ap (λ (v : ℕ). place v es) (sym same) ∙ nowhere))
-    by false e = rw e (placed u)
-
 pub members_none : (es : List AgendaEntry) (t : ℕ) → is_member es t ≡ false → (u : ℕ) → is_member es u ≡ (not (eqb t u) && is_member es u)
-members_none es t no u = by (eqb t u) refl
+members_none es t none u = by (eqb t u) refl
   where
     by : (b : Bool) → eqb t u ≡ b → is_member es u ≡ (not (eqb t u) && is_member es u)
-    by true e = let same : t ≡ u = grind (arith, nat_tests, e) in rw e (ap (is_member es) (sym same) ∙ no)
+    by true e = let same : t ≡ u = grind (arith, nat_tests, e) in rw e (ap (is_member es) (sym same) ∙ none)
     by false e = rw e refl
 
 flipped : (a b : ℕ) → eqb a b ≡ eqb b a
@@ -306,8 +322,8 @@ pub ready_none : (t : ℕ) (old : ℕ → Option ℕ) (u : ℕ) → (if eqb t u 
 ready_none t old u = ap (λ (b : Bool). if b then None else old u) (flipped t u)
 
 pub ready_unchanged : (es : List AgendaEntry) (t : ℕ) → is_member es t ≡ false → (u : ℕ) → ready_of es u ≡ with_ready t None (ready_of es) u
-ready_unchanged es t no u = by (eqb t u) refl ∙ ready_none t (ready_of es) u
+ready_unchanged es t none u = by (eqb t u) refl ∙ ready_none t (ready_of es) u
   where
     by : (b : Bool) → eqb t u ≡ b → ready_of es u ≡ (if eqb t u then None else ready_of es u)
-    by true e = let same : t ≡ u = grind (arith, nat_tests, e) in rw e (ap (ready_of es) (sym same) ∙ no_moment es t no)
+    by true e = let same : t ≡ u = grind (arith, nat_tests, e) in rw e (ap (ready_of es) (sym same) ∙ no_moment es t none)
     by false e = rw e refl

@@ -1,6 +1,6 @@
 //! The first of the entries below each place, kept right where one entry changed.
 
-ghost use Rattle.std.specs.Prelude.{◌≡◌, ◌<◌, ◌++◌, Some, length};
+ghost use Rattle.std.specs.Prelude.{◌≡◌, ◌<◌, ◌++◌, [], Some, IfNone, length};
 ghost use Rattle.std.specs.Option.{option_to_list};
 ghost use Rattle.shard_agenda.specs.Firsts.{precedes, first_of, first_below, IsRight, IsRightBut};
 
@@ -58,6 +58,7 @@ pub fn pop(entries: &mut Vec<AgendaEntry>, firsts: &mut Vec<AgendaEntry>) -> Opt
     requires even { length firsts.old.items ≡ length entries.old.items }
     requires right { IsRight entries.old.items firsts.old.items }
     ensures entries { entries.old.items ≡ entries.new.items ++ option_to_list result }
+    ensures empty { IfNone result (entries.old.items ≡ []) }
     ensures even { length firsts.new.items ≡ length entries.new.items }
     ensures right { IsRight entries.new.items firsts.new.items }
 {

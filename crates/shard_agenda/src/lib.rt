@@ -28,7 +28,7 @@ pub struct AgendaEntry {
     pub tenant: u32,
 }
 
-/// All members, in the order in which they were admitted.
+/// All members: the last takes the place of one that goes.
 #[derive(Drop)]
 pub struct Agenda {
     entries: Vec<AgendaEntry>,

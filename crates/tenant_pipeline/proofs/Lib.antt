@@ -28,3 +28,4 @@ pub mod Verdicts
 pub mod Draining
 pub mod Closing
 pub mod AfterDrain
+pub mod Retiring

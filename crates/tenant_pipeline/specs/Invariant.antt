@@ -62,3 +62,7 @@ PipelineInvariantBy own p = PipelineInvariantAt own.clock [] [] own p
 -- of a tenant over the stores
 abbrev pub PipelineInvariant : Pipeline → Stores TraceNote → Type 0
 PipelineInvariant own stores = PipelineInvariantBy own (part_in own stores)
+
+-- no span waits for a batch
+abbrev pub HasNonePending : Pipeline → Type 0
+HasNonePending own = own.batcher.spans ≡ []

@@ -1,6 +1,6 @@
 //! What is a tenant's own.
 
-ghost use Rattle.std.specs.Prelude.{◌≡◌, ◌≢◌, ◌^◌, ◌≤◌, ℕ, [], max, min, map, IfOk, OnErr, IsTrue, ◌↔◌, ◌==◌, ◌&&◌};
+ghost use Rattle.std.specs.Prelude.{◌≡◌, ◌≢◌, ◌^◌, ◌≤◌, ℕ, List, [], max, min, map, IfOk, OnErr, IsTrue, ◌↔◌};
 ghost use Rattle.tail_settings.specs.Policy.{policy_view};
 ghost use Rattle.tail_settings.specs.Section.{section_view};
 ghost use Rattle.tail_policy.specs.declared.note.TraceNote.{TraceNote as Note};
@@ -12,11 +12,12 @@ ghost use Rattle.tenant_rules.specs.Own.{latest_moment};
 ghost use Rattle.tenant_rules.specs.Own as step;
 ghost use Rattle.tenant_rules.specs.Machine.{effective};
 ghost use Rattle.tenant_rules.specs.Ready.{ready};
+ghost use Rattle.tenant_rules.specs.Retiring.{holds_none};
 ghost use Rattle.tenant_rules.specs.Timers.{IsFront};
 ghost use Rattle.tenant_rules.specs.declared.reply.StepReply.TheVariants as replies;
 ghost use Rattle.tenant_pipeline.specs.Prepared.{post_of};
 ghost use Rattle.tenant_pipeline.specs.StateIn.{policies_of, state_of, state_in};
-ghost use Rattle.tenant_pipeline.specs.Invariant.{PipelineInvariantBy, PipelineInvariant, IsSwept};
+ghost use Rattle.tenant_pipeline.specs.Invariant.{PipelineInvariantBy, PipelineInvariant, IsSwept, HasNonePending};
 ghost use Rattle.tenant_pipeline.specs.Steps.{StandsFor, Answers, FollowsFromState};
 
 use decision_cache::{DecisionCaches, HashKeys};
@@ -316,8 +317,8 @@ impl Pipeline {
         Ok(StepReply::Done)
     }
 
-    /// The tenant is to retire, at a moment in milliseconds: it is told its last report where it was drained and holds no
-    /// span, and else that it has to wait. Where memory is refused, timers that were due may have run.
+    /// The tenant is to retire, at a moment in milliseconds: it is told its last report where it was drained and holds
+    /// no span, and else that it has to wait. Where memory is refused, timers that were due may have run.
     pub fn retire(
         &mut self,
         stores: &mut Stores<TraceNote>,
@@ -343,12 +344,27 @@ impl Pipeline {
             → part other stores.new ≡ part other stores.old }
         ensures tenant { self.new.tenant ≡ self.old.tenant }
         ensures section { self.new.section ≡ self.old.section }
+
+        // Where it is told its last report, it may leave the stores.
+        ensures may_leave { IfOk result (λ told. (text : List ℕ) → told ≡ replies.Report text
+            → HasNonePending self.new) }
     {
         let moment = self.effective(now);
         self.run_due(stores, moment)?;
         let told = self.retire_told()?;
         self.clock = moment;
         Ok(told)
+    }
+
+    /// A tenant that was told its last report leaves the stores, with its rows and their spans, as if it had never
+    /// been. It takes no memory, and a step for each row that the table has.
+    pub fn leave(self, stores: &mut Stores<TraceNote>)
+        requires invariant { PipelineInvariant self stores.old }
+        requires may_leave { HasNonePending self }
+        ensures gone { StoreInvariant no_rows [] [] (part self.tenant stores.new) }
+        ensures others_unchanged { (other : ℕ) → other ≢ self.tenant → part other stores.new ≡ part other stores.old }
+    {
+        stores.vanish(self.tenant, self.rows.swept, self.rows.opened);
     }
 
     /// When there is next something to do, in milliseconds: the moment of the next timer, or that from which on there
@@ -362,8 +378,7 @@ impl Pipeline {
 
     /// Whether none of its spans waits for anything: each that was taken was exported or dropped.
     pub fn is_empty(&self) -> bool
-        ensures { result ≡ (self.now.ledger.places.undecided == 0 && self.now.ledger.places.pending == 0
-            && self.now.ledger.places.queued == 0 && self.now.ledger.places.active == 0) }
+        ensures { result ≡ holds_none self.now.ledger.places }
     {
         let places = self.ledger.places();
         places.undecided == 0 && places.pending == 0 && places.queued == 0 && places.active == 0

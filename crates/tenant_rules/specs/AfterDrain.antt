@@ -1,5 +1,5 @@
--- After a drain nothing but the clock changes at another drain, at a post, at a report and at a
--- retirement. This project's own rule.
+-- After a drain nothing but the clock changes at another drain, at a post, at a report and at a retirement. This
+-- project's own rule.
 use Rattle.std.specs.Prelude.{◌≡◌, ℕ, List, ◌∷◌, Some}
 use Rattle.tail_settings.specs.Section.{SectionData}
 use Rattle.span_batcher.specs.Batches.{AreValidRules}

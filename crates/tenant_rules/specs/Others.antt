@@ -1,5 +1,5 @@
--- What posts are told, and what becomes of their spans up to their batches, doesn't depend on turns, answers, reports and
--- retirements but for their moments; and where moments never fall, not on these either. A law of this project's own.
+-- What posts are told, and what becomes of their spans up to their batches, doesn't depend on turns, answers, reports
+-- and retirements but for their moments; and where moments never fall, not on these either: a law of this project's.
 use Rattle.std.specs.Prelude.{◌≡◌, ◌≤◌, ℕ, List, [], ◌∷◌, map}
 use Rattle.tail_settings.specs.Section.{SectionData}
 use Rattle.drop_ledger.specs.declared.places.Places.{Places}

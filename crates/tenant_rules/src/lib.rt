@@ -1,11 +1,11 @@
 //! One tenant's rules, whole.
 //!
 //! A tenant's own steps are posts of spans, turns of workers, answers of its back end, reports, drains and its
-//! retirement. What it is told of each depends on its settings and its own steps alone: `specs/State` says what it is after any list of own
-//! steps, with its fourteen counters, `specs/Answers` what it is told of the next one, and `specs/Ready` when it next
-//! has something to do. Rows of traces wait for their decision and leave to make room for others, two caches may keep
-//! the latest verdicts, a budget bounds the spans that are held, groups of spans become batches, batches wait in a
-//! queue, are sent and sent again, and every span that was taken is counted in one place.
+//! retirement. What it is told of each depends on its settings and its own steps alone: `specs/State` says what it is
+//! after any list of own steps, with its fourteen counters, `specs/Answers` what it is told of the next one, and
+//! `specs/Ready` when it next has something to do. Rows of traces wait for their decision and leave to make room for
+//! others, two caches may keep the latest verdicts, a budget bounds the spans that are held, groups of spans become
+//! batches, batches wait in a queue, are sent and sent again, and every span that was taken is counted in one place.
 //!
 //! `specs/Machine` goes from state to state, one timer at a time. The functions here have no bodies: their clauses are
 //! laws that tie the two. It knows nothing of how spans and rows are stored, and nothing of other tenants.
@@ -110,15 +110,15 @@ pub fn ready_is_least()
     ensures turns { DueTurnsAct }
 {}
 
-/// What posts are told, and rows, groups and batches, depend on turns, answers and reports by their moments alone, and
-/// where moments never fall not even by these: a law over the definitions.
+/// What posts are told, and rows, groups and batches, depend on turns, answers, reports and retirements by their
+/// moments alone, and where moments never fall not even by these: a law over the definitions.
 pub fn posts_stand_alone()
     ensures moments { MomentsCount }
     ensures others_unchanged { OthersDontCount }
     ensures replies { RepliesDontChange }
 {}
 
-/// After a drain another drain, a post and a report change the clock alone: a law over the definitions.
+/// After a drain another drain, a post, a report and a retirement change the clock alone: a law over the definitions.
 pub fn rests_after_drain()
     ensures { DrainedRests }
 {}

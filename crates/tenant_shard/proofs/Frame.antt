@@ -1,13 +1,14 @@
 -- What a step of one member leaves of the others, and what always holds after it.
 use Rattle.std.proofs.Common.{◌≡◌, ◌≢◌, ℕ, zero, suc, ◌≤◌, List, [], ◌∷◌, refl, sym, ap, ◌∙◌, arith, Bool, true, false, Option, Some, None, eqb, cond, set, subst, get_or, inl, inr}
 use Rattle.std.proofs.lemmas.Bool.{cases_eq}
-use Rattle.std.specs.Prelude.{is_some, option_and_then, IfSome, ◌||◌}
-use Rattle.std.specs.List.{insert}
+use Rattle.std.specs.Prelude.{is_some, option_and_then, IfSome, not, ◌||◌, ◌&&◌}
+use Rattle.std.specs.List.{insert, remove}
 use Rattle.std.proofs.lemmas.Bool.Decides.{nat_tests}
 use Rattle.shard_agenda.specs.declared.AgendaEntry.{AgendaEntry}
 use Rattle.shard_agenda.specs.Agenda.{ready_of, is_member, with_ready}
 use Rattle.tail_policy.specs.declared.note.TraceNote.{TraceNote}
 use Rattle.tail_settings.specs.Section.{section_view}
+use Rattle.tenant_rules.specs.State.{State}
 use Rattle.tenant_rules.specs.Ready.{ready}
 use Rattle.tenant_rules.specs.Sum.{IsCounted}
 use Rattle.tenant_stores.specs.declared.stores.Stores.{Stores}
@@ -17,12 +18,12 @@ use Rattle.tenant_stores.specs.Invariant.{StoreInvariant}
 use Rattle.tenant_pipeline.specs.declared.pipeline.Pipeline.{Pipeline}
 use Rattle.tenant_pipeline.specs.StateIn.{state_of, state_in}
 use Rattle.tenant_pipeline.specs.Invariant.{PipelineInvariantBy, PipelineInvariant, IsSwept}
-use Rattle.tenant_shard.specs.View.{kept_of}
+use Rattle.tenant_shard.specs.View.{kept_of, was_of, StaysOf}
 use Rattle.tenant_shard.specs.Members.{views, AllAbove, AreInOrder, IsPlaceOf, IsGapFor}
 use Rattle.tenant_shard.specs.Pick.{ready_in}
 use Rattle.tenant_shard.specs.Steps.{IsChangeOf}
 use Rattle.tenant_shard.specs.Whole.{AllHeld, AllSwept, IsWhole, AllCounted}
-use Rattle.tenant_shard.proofs.Places.{AreInOrder-set, AreInOrder-insert}
+use Rattle.tenant_shard.proofs.Places.{AreInOrder-set, AreInOrder-insert, AreInOrder-remove}
 
 -- a member whose part is the same is seen the same, and what holds of it holds
 state_same : (old new : Stores TraceNote) (m : Pipeline) → part m.tenant new ≡ part m.tenant old → state_in m new ≡ state_in m old
@@ -95,17 +96,41 @@ kept_gap t stores [] i order gap = refl
 kept_gap t stores (x ∷ ms) zero order gap = kept_rest t stores x ms (λ e. omega (arith, gap, e)) ∙ not_above x.tenant t stores ms order.0 (omega (arith, gap))
 kept_gap t stores (x ∷ ms) (suc i) order gap = kept_rest t stores x ms (λ e. omega (arith, gap.0, e)) ∙ kept_gap t stores ms i order.1 gap.1
 
+-- a member alone is or was one of these views
+was_kept : (t : ℕ) (stores : Stores TraceNote) (ms : List Pipeline) → was_of t (views stores ms) ≡ is_some (kept_of t (views stores ms))
+was_kept t stores [] = refl
+was_kept t stores (x ∷ ms) = by_test (eqb x.tenant t) (was_kept t stores ms)
+  where
+    by_test : (b : Bool) → was_of t (views stores ms) ≡ is_some (kept_of t (views stores ms)) → (b || was_of t (views stores ms)) ≡ is_some (cond b (Some (state_in x stores)) (kept_of t (views stores ms)))
+    by_test true rest = refl
+    by_test false rest = rest
+
+pub stays : (u : ℕ) (old new : Stores TraceNote) (ms ns : List Pipeline) → kept_of u (views new ns) ≡ kept_of u (views old ms) → StaysOf u (views old ms) (views new ns)
+stays u old new ms ns same = (same, was_kept u new ns ∙ (ap is_some same ∙ sym (was_kept u old ms)))
+
+pub was_some : (t : ℕ) (stores : Stores TraceNote) (ms : List Pipeline) (state : State) → kept_of t (views stores ms) ≡ Some state → was_of t (views stores ms) ≡ true
+was_some t stores ms state is = was_kept t stores ms ∙ ap is_some is
+
+pub was_none : (t : ℕ) (stores : Stores TraceNote) (ms : List Pipeline) → kept_of t (views stores ms) ≡ None → was_of t (views stores ms) ≡ false
+was_none t stores ms is = was_kept t stores ms ∙ ap is_some is
+
+pub was_placed : (t : ℕ) (stores : Stores TraceNote) (ms : List Pipeline) (i : ℕ) → IsPlaceOf t ms i → was_of t (views stores ms) ≡ true
+was_placed t stores [] i p = absurd p
+was_placed t stores (x ∷ ms) zero p = let test : eqb x.tenant t ≡ true = grind (arith, nat_tests) in rw test refl
+was_placed t stores (x ∷ ms) (suc i) p = let test : eqb x.tenant t ≡ false = let other = p.0 in grind (arith, nat_tests) in rw test (was_placed t stores ms i p.1)
+
 -- the member at a place is changed, in the stores too
 pub kept_place : (t : ℕ) (stores : Stores TraceNote) (ms : List Pipeline) (i : ℕ) (own : Pipeline) → IsPlaceOf t ms i → own ≡ get_or ms i own → kept_of t (views stores ms) ≡ Some (state_in own stores)
 kept_place t stores ms i own p is = kept_at t stores ms i own p ∙ ap (λ (m : Pipeline). Some (state_in m stores)) (sym is)
 
 pub change_at : (t : ℕ) (old new : Stores TraceNote) (ms : List Pipeline) (i : ℕ) (own m : Pipeline) → IsPlaceOf t ms i → own ≡ get_or ms i own → m.tenant ≡ t → Others t old new → m.section ≡ own.section →
-    IsChangeOf t (state_in own old) (state_in m new) (views old ms) (views new (set ms i m))
+    IsChangeOf t (state_in own old) (state_in m new) (Some (state_in m new)) (views old ms) (views new (set ms i m))
 change_at t old new ms i own m p is same others section = record {
   was = kept_place t old ms i own p is;
   is_now = kept_own t new ms i m p same;
   section = ap section_view section;
-  others = λ other ne. kept_other t other old new ms i m p same others ne;
+  was_now = was_some t new (set ms i m) (state_in m new) (kept_own t new ms i m p same);
+  others = λ other ne. stays other old new ms (set ms i m) (kept_other t other old new ms i m p same others ne);
 }
 
 -- what always holds of the member at a place
@@ -235,3 +260,66 @@ whole_insert stores es es' ms i m whole gap held swept at members = record {
     by_ready u false e =
         let other : m.tenant ≢ u = λ is. absurd (grind (arith, nat_tests, e, is)) in
         whole.ready u ∙ sym (ap (option_and_then ready) (kept_insert_other u stores ms i m gap other))
+
+-- a member at its place goes
+kept_gone : (t : ℕ) (stores : Stores TraceNote) (ms : List Pipeline) (i : ℕ) → IsPlaceOf t ms i → AreInOrder ms → kept_of t (views stores (remove ms i)) ≡ None
+kept_gone t stores [] i p order = absurd p
+kept_gone t stores (x ∷ ms) zero p order = not_above x.tenant t stores ms order.0 (omega (arith, p))
+kept_gone t stores (x ∷ ms) (suc i) p order = kept_rest t stores x (remove ms i) p.0 ∙ kept_gone t stores ms i p.1 order.1
+
+kept_removed : (t u : ℕ) (stores : Stores TraceNote) (ms : List Pipeline) (i : ℕ) → IsPlaceOf t ms i → u ≢ t → kept_of u (views stores (remove ms i)) ≡ kept_of u (views stores ms)
+kept_removed t u stores [] i p other = absurd p
+kept_removed t u stores (x ∷ ms) zero p other = sym (kept_rest u stores x ms (λ e. other (sym e ∙ p)))
+kept_removed t u stores (x ∷ ms) (suc i) p other = rest_same u stores x (remove ms i) ms (kept_removed t u stores ms i p.1 other)
+
+kept_left : (t u : ℕ) (old new : Stores TraceNote) (ms : List Pipeline) (i : ℕ) → IsPlaceOf t ms i → Others t old new → u ≢ t → kept_of u (views new (remove ms i)) ≡ kept_of u (views old ms)
+kept_left t u old new ms i p others other = kept_removed t u new ms i p other ∙ kept_same u old new ms (others u other)
+
+held_remove : (t : ℕ) (old new : Stores TraceNote) (ms : List Pipeline) (i : ℕ) → IsPlaceOf t ms i → Others t old new → AreInOrder ms → AllHeld old ms → AllHeld new (remove ms i)
+held_remove t old new [] i p others order all = absurd p
+held_remove t old new (x ∷ ms) zero p others order all = held_rest t x.tenant old new ms others order.0 (omega (arith, p)) all.1
+held_remove t old new (x ∷ ms) (suc i) p others order all = (held_same old new x (others x.tenant p.0) all.0, held_remove t old new ms i p.1 others order.1 all.1)
+
+swept_remove : (t : ℕ) (ms : List Pipeline) (i : ℕ) → IsPlaceOf t ms i → AllSwept ms → AllSwept (remove ms i)
+swept_remove t [] i p all = absurd p
+swept_remove t (x ∷ ms) zero p all = all.1
+swept_remove t (x ∷ ms) (suc i) p all = (all.0, swept_remove t ms i p.1 all.1)
+
+pub whole_remove : (t : ℕ) (old new : Stores TraceNote) (es es' : List AgendaEntry) (ms : List Pipeline) (i : ℕ) → IsWhole old es ms → IsPlaceOf t ms i → Others t old new → StoreInvariant no_rows [] [] (part t new) →
+    ready_of es' ≡ with_ready t None (ready_of es) → ((u : ℕ) → is_member es' u ≡ (not (eqb t u) && is_member es u)) → IsWhole new es' (remove ms i)
+whole_remove t old new es es' ms i whole p others none at members = record {
+  order = AreInOrder-remove t ms i p whole.order;
+  held = held_remove t old new ms i p others whole.order whole.held;
+  swept = swept_remove t ms i p whole.swept;
+  strangers = λ u missing. elim (cases_eq u t) [
+    | inl is ↦ subst (λ (v : ℕ). StoreInvariant no_rows [] [] (part v new)) (sym is) none
+    | inr other ↦
+        let missing' : kept_of u (views old ms) ≡ None = sym (kept_left t u old new ms i p others other) ∙ missing in
+        subst (λ (q : Part TraceNote). StoreInvariant no_rows [] [] q) (sym (others u other)) (whole.strangers u missing')
+  ];
+  listed = λ u. members u ∙ by_listed u (eqb t u) refl;
+  ready = λ u. ap (λ (f : ℕ → Option ℕ). f u) at ∙ by_ready u (eqb u t) refl;
+}
+  where
+    by_listed : (u : ℕ) (b : Bool) → eqb t u ≡ b → (not b && is_member es u) ≡ is_some (kept_of u (views new (remove ms i)))
+    by_listed u true e =
+        let is : t ≡ u = grind (arith, nat_tests, e) in
+        subst (λ (v : ℕ). false ≡ is_some (kept_of v (views new (remove ms i)))) is (sym (ap is_some (kept_gone t new ms i p whole.order)))
+    by_listed u false e =
+        let other : u ≢ t = λ is. absurd (grind (arith, nat_tests, e, is)) in
+        whole.listed u ∙ ap is_some (sym (kept_left t u old new ms i p others other))
+
+    by_ready : (u : ℕ) (b : Bool) → eqb u t ≡ b → cond b None (ready_of es u) ≡ ready_in (views new (remove ms i)) u
+    by_ready u true e =
+        let is : u ≡ t = grind (arith, nat_tests, e) in
+        subst (λ (v : ℕ). None ≡ ready_in (views new (remove ms i)) v) (sym is) (sym (ap (option_and_then ready) (kept_gone t new ms i p whole.order)))
+    by_ready u false e =
+        let other : u ≢ t = λ is. absurd (grind (arith, nat_tests, e, is)) in
+        whole.ready u ∙ sym (ap (option_and_then ready) (kept_left t u old new ms i p others other))
+
+-- what is kept of a member that has gone, and of the others
+pub gone_is_none : (t : ℕ) (stores : Stores TraceNote) (ms : List Pipeline) (i : ℕ) → IsPlaceOf t ms i → AreInOrder ms → kept_of t (views stores (remove ms i)) ≡ None
+gone_is_none t stores ms i p order = kept_gone t stores ms i p order
+
+pub others_left : (t u : ℕ) (old new : Stores TraceNote) (ms : List Pipeline) (i : ℕ) → IsPlaceOf t ms i → Others t old new → u ≢ t → StaysOf u (views old ms) (views new (remove ms i))
+others_left t u old new ms i p others other = stays u old new ms (remove ms i) (kept_left t u old new ms i p others other)

@@ -1,6 +1,6 @@
 -- Where a member stands among members by number.
-use Rattle.std.proofs.Common.{◌≡◌, ℕ, zero, suc, ◌<◌, ◌≤◌, List, [], ◌∷◌, length, get_or, set, sym, ap, ◌∙◌, arith, Result, Ok, Err, IfOk, IfErr, OnErr}
-use Rattle.std.specs.List.{insert}
+use Rattle.std.proofs.Common.{◌≡◌, ℕ, zero, suc, ◌<◌, ◌≤◌, List, [], ◌∷◌, length, get_or, set, refl, sym, ap, ◌∙◌, arith, Result, Ok, Err, IfOk, IfErr, OnOk, OnErr}
+use Rattle.std.specs.List.{insert, remove}
 use Rattle.std.specs.List.Sorted.{IsSearchInRange, IsBinarySearchResult, IsNonDecreasingBy}
 use Rattle.std.specs.Ordering.{nat_cmp, ordering_index}
 use Rattle.std.proofs.lemmas.Cmp.{ranked}
@@ -91,7 +91,41 @@ AreInOrder-insert [] (suc i) m gap order = absurd gap
 AreInOrder-insert (x ∷ ms) zero m gap order = ((gap, lower x.tenant m.tenant ms order.0 (omega (arith, gap))), order)
 AreInOrder-insert (x ∷ ms) (suc i) m gap order = (AllAbove-insert x.tenant ms i m gap.1 gap.0 order.0, AreInOrder-insert ms i m gap.1 order.1)
 
+AllAbove-remove : (n t : ℕ) (ms : List Pipeline) (i : ℕ) → IsPlaceOf t ms i → AllAbove n ms → AllAbove n (remove ms i)
+AllAbove-remove n t [] i p above = absurd p
+AllAbove-remove n t (x ∷ ms) zero p above = above.1
+AllAbove-remove n t (x ∷ ms) (suc i) p above = (above.0, AllAbove-remove n t ms i p.1 above.1)
+
+pub AreInOrder-remove : (t : ℕ) (ms : List Pipeline) (i : ℕ) → IsPlaceOf t ms i → AreInOrder ms → AreInOrder (remove ms i)
+AreInOrder-remove t [] i p order = absurd p
+AreInOrder-remove t (x ∷ ms) zero p order = order.1
+AreInOrder-remove t (x ∷ ms) (suc i) p order = (AllAbove-remove x.tenant t ms i p.1 order.0, AreInOrder-remove t ms i p.1 order.1)
+
+-- a change of the member at a place keeps the place
+pub IsPlaceOf-set : (t : ℕ) (ms : List Pipeline) (i : ℕ) (m : Pipeline) → IsPlaceOf t ms i → m.tenant ≡ t → IsPlaceOf t (set ms i m) i
+IsPlaceOf-set t [] i m p same = absurd p
+IsPlaceOf-set t (x ∷ ms) zero m p same = same
+IsPlaceOf-set t (x ∷ ms) (suc i) m p same = (p.0, IsPlaceOf-set t ms i m p.1 same)
+
+pub get_set : (ms : List Pipeline) (i : ℕ) (m d : Pipeline) → i < length ms → get_or (set ms i m) i d ≡ m
+get_set [] i m d within = absurd (omega arith)
+get_set (x ∷ ms) zero m d within = refl
+get_set (x ∷ ms) (suc i) m d within = get_set ms i m d (omega (arith, within))
+
 -- a fact that holds holds on an error
 pub on_err : {T E P : Type 0} (r : Result T E) → P → OnErr r P
 on_err (Ok x) fact = tt
 on_err (Err e) fact = fact
+
+-- what holds where a call succeeded, from what held there
+pub on_ok : {T E P Q : Type 0} (r : Result T E) → (P → Q) → OnOk r P → OnOk r Q
+on_ok (Ok x) f fact = f fact
+on_ok (Err e) f fact = tt
+
+pub on_error : {T E P Q : Type 0} (r : Result T E) → (P → Q) → OnErr r P → OnErr r Q
+on_error (Ok x) f fact = tt
+on_error (Err e) f fact = f fact
+
+pub if_ok : {T E : Type 0} (r : Result T E) (P Q : T → Type 0) → ((x : T) → P x → Q x) → IfOk r P → IfOk r Q
+if_ok (Ok x) P Q f fact = f x fact
+if_ok (Err e) P Q f fact = tt

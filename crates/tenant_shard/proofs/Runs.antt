@@ -1,29 +1,39 @@
--- From what a step does to what is kept to what it is for all own steps that the shard stands for.
-use Rattle.std.proofs.Common.{◌≡◌, ℕ, ◌<◌, List, [], ◌∷◌, refl, sym, ap, ◌∙◌, arith, Bool, true, false, eqb, Option, Some, None, inl, inr}
+-- From what a step does to what is kept to what it is for all lives that the shard stands for.
+use Rattle.std.proofs.Common.{◌≡◌, ℕ, ◌<◌, List, [], ◌∷◌, refl, sym, subst, ap, ◌∙◌, arith, Bool, true, false, eqb, Option, Some, None, inl, inr, Result, Ok, Err, IfOk, OnErr}
 use Rattle.std.proofs.lemmas.Bool.{cases_eq}
 use Rattle.std.proofs.lemmas.Bool.Decides.{nat_tests}
-use Rattle.std.specs.Prelude.{option_and_then, min, if◌then◌else◌}
+use Rattle.std.specs.Prelude.{option_and_then, min, if◌then◌else◌, IsOk}
 use Rattle.std.specs.Option.{unwrap_or}
+use Rattle.std.specs.declared.alloc.AllocError.{AllocError}
 use Rattle.tail_settings.specs.Section.{SectionData}
 use Rattle.tenant_rules.specs.declared.reply.StepReply.{StepReply}
 use Rattle.tenant_rules.specs.declared.reply.StepReply.TheVariants as replies
-use Rattle.tenant_rules.specs.Own.{Own, asked, latest_moment, moment_of}
+use Rattle.tenant_rules.specs.Own.{Own, latest_moment, moment_of}
+use Rattle.tenant_rules.specs.Own as own
 use Rattle.tenant_rules.specs.State.{State, state}
 use Rattle.tenant_rules.specs.Ready.{ready}
 use Rattle.tenant_pipeline.specs.Steps.{Answers}
 use Rattle.tenant_shard.specs.declared.step.Step.{Step}
-use Rattle.tenant_shard.specs.declared.step.Step.TheVariants as steps
 use Rattle.tenant_shard.specs.declared.step.Outcome.{Outcome}
-use Rattle.tenant_shard.specs.declared.step.Outcome.TheVariants.{Idle, Refused}
-use Rattle.tenant_shard.specs.View.{View, kept_of}
-use Rattle.tenant_shard.specs.Lists.{Lists, MemberStands, ShardStands}
-use Rattle.tenant_shard.specs.Outcomes.{OwnStep, own_step, named_in, are_for, is_taken, not_member, other_policies, Answer, Answered, NotTaken, named, told_whom, whose, is_tenant, is_own}
+use Rattle.tenant_shard.specs.declared.step.Outcome.TheVariants.{Idle, Done, Refused}
+use Rattle.tenant_shard.specs.View.{View, kept_of, was_of}
+use Rattle.tenant_shard.specs.Lives.{Life, gone, Lives, MemberStands, LifeStands, ShardStands}
+use Rattle.tenant_shard.specs.Outcomes.{OwnStep, plain, Asked, Piped, Comes, asked_in, named_in, are_for, is_taken, not_member, other_policies, number_used, Answer, Answered, NotTaken, named, told_whom, whose, is_tenant, is_own, reports, has_left}
 use Rattle.tenant_shard.specs.Pick.{ready_in, ready_after, ready_at}
 use Rattle.shard_agenda.specs.Pick.{IsPick}
-use Rattle.tenant_shard.specs.Run.{IsTakenOrNot, IsAnswered, IsAnswerTo, IsOutcomeOf, IsOutcome, recorded, AllKnown, OthersStay, ShardSteps, after}
-use Rattle.tenant_shard.specs.Refusal.{IsStepFor, IsNobodys, Reaches, ReachesNone, ShardRefuses}
+use Rattle.tenant_shard.specs.Run.{IsTakenOrNot, IsAnswered, IsAnswerTo, IsOutcomeOf, IsOutcome, came, lived_by, lived, AllKnown, OthersStay, ShardSteps, after}
+use Rattle.tenant_shard.specs.Refusal.{IsStepFor, IsNobodys, Reaches, ReachesNone, IsNewcomer, ShardRefuses}
 use Rattle.tenant_shard.specs.Follows.{ShardFollows}
-use Rattle.tenant_shard.specs.Steps.{IsStepOf, IsLossOf}
+use Rattle.tenant_shard.specs.Steps.{kept_after, IsStepOf, IsLossOf, IsAdditionOf, IsComingOf}
+
+-- of whom something is kept is or was a member
+pub kept_was : (t : ℕ) (vs : List View) (kept : State) → kept_of t vs ≡ Some kept → was_of t vs ≡ true
+kept_was t [] kept is = absurd (cc)
+kept_was t (v ∷ vs) kept is = by_test (eqb v.tenant t) refl (kept_was t vs kept)
+  where
+    by_test : (b : Bool) → eqb v.tenant t ≡ b → (kept_of t vs ≡ Some kept → was_of t vs ≡ true) → was_of t (v ∷ vs) ≡ true
+    by_test true e rest = rw e refl
+    by_test false e rest = rw e (rest (rw e at is))
 
 -- what is kept of a member says its section
 keeps_section : (section : SectionData) (past : List Own) (known : Bool) (kept : State) → MemberStands (Some section) past known (Some kept) → kept.section ≡ section
@@ -32,11 +42,11 @@ keeps_section section past true kept stands = ap (λ (s : State). s.section) sta
 keeps_section section past false kept stands = stands
 
 -- a member's own step that reaches its pipeline
-own_answer : (t : ℕ) (section : Option SectionData) (past : List Own) (known : Bool) (kept : Option State) (step : OwnStep) (before after : State) (said : StepReply) →
-    MemberStands section past known kept → kept ≡ Some before → is_taken before.section step ≡ true → Answers step.step before said after → after.section ≡ before.section →
-    IsAnswered t section past known step (named t (Answered said)) × MemberStands section (recorded section step past) known (Some after)
-own_answer t None past known kept step before after said stands is takes_it answers stay = absurd (let stands' : MemberStands None past known (Some before) = rw is at stands in stands')
-own_answer t (Some section) past known kept step before after said stands is takes_it answers stay = by_known known stands'
+own_answer : (t : ℕ) (section : Option SectionData) (past : List Own) (known used : Bool) (kept : Option State) (step : OwnStep) (before after : State) (said : StepReply) (o : Outcome) →
+    MemberStands section past known kept → used ≡ true → kept ≡ Some before → is_taken before.section step ≡ true → Answers step.step before said after → after.section ≡ before.section → o ≡ named t (Answered said) →
+    IsAnswered t section past known step o × LifeStands (lived_by section step (reports o) (record { section = section; past = past; known = known; used = used })) (kept_after step.step o after) true
+own_answer t None past known used kept step before after said o stands was is takes_it answers stay told = absurd (let stands' : MemberStands None past known (Some before) = rw is at stands in stands')
+own_answer t (Some section) past known used kept step before after said o stands was is takes_it answers stay told = by_known known stands'
   where
     stands' : MemberStands (Some section) past known (Some before)
     stands' = rw is at stands
@@ -47,20 +57,33 @@ own_answer t (Some section) past known kept step before after said stands is tak
     test : is_taken section step ≡ true
     test = ap (λ s. is_taken s step) (sym keeps) ∙ takes_it
 
+    by_left : (k b : Bool) → MemberStands (Some section) (step.step ∷ past) k (Some after) →
+        LifeStands (if b then gone else record { section = Some section; past = step.step ∷ past; known = k; used = used }) (if b then None else Some after) true
+    by_left k true here = (tt, refl)
+    by_left k false here = (here, was)
+
     by_known : (k : Bool) → MemberStands (Some section) past k (Some before) →
-        IsTakenOrNot (is_taken section step) t section past k step.step (named t (Answered said)) × MemberStands (Some section) (if is_taken section step then step.step ∷ past else past) k (Some after)
-    by_known true known_stands = let both = answers section past known_stands in rw test (ap (λ told. named t (Answered told)) both.0, both.1)
-    by_known false known_stands = rw test ((said, refl), stay ∙ keeps)
+        IsTakenOrNot (is_taken section step) t section past k step.step o × LifeStands (lived_by (Some section) step (reports o) (record { section = Some section; past = past; known = k; used = used })) (kept_after step.step o after) true
+    by_known true known_stands =
+        let both = answers section past known_stands in
+        rw test (told ∙ ap (λ s. named t (Answered s)) both.0, by_left true (has_left step.step (reports o)) both.1)
+    by_known false known_stands = rw test ((said, told), by_left false (has_left step.step (reports o)) (stay ∙ keeps))
 
 -- every tenant after a member's own step
-all_stand : (t : ℕ) (s : Step) (old new : List View) (outcome : Outcome) (lists : Lists) → ((u : ℕ) → is_own u s outcome ≡ eqb t u) → (is : IsStepOf t (own_step s).step old outcome new) → is_taken is.before.section (own_step s) ≡ true →
-    ShardStands lists old → IsAnswerTo t lists (own_step s) outcome × ShardStands (after s outcome lists) new
-all_stand t s old new outcome lists whose is takes_it stands =
-    let own = own_answer t (lists.sections t) (lists.pasts t) (lists.known t) (kept_of t old) (own_step s) is.before is.after is.said (stands t) is.change.was takes_it is.answers is.change.section in (
-      rw is.outcome_is own.0,
+all_stand : (t : ℕ) (s : Step) (step : OwnStep) (old new : List View) (outcome : Outcome) (lives : Lives) → asked_in s ≡ Piped step → ((u : ℕ) → is_own u s outcome ≡ eqb t u) → (is : IsStepOf t step.step old outcome new) → is_taken is.before.section step ≡ true →
+    ShardStands lives old → IsAnswerTo t (lives t) (Piped step) outcome × ShardStands (after s outcome lives) new
+all_stand t s step old new outcome lives asks whose is takes_it stands =
+    let used : (lives t).used ≡ true = (stands t).1 ∙ kept_was t old is.before is.change.was in
+    let own = own_answer t (lives t).section (lives t).past (lives t).known (lives t).used (kept_of t old) step is.before is.after is.said outcome (stands t).0 used is.change.was takes_it is.answers is.change.section is.outcome_is in (
+      own.0,
       λ u. elim (cases_eq t u) [
-        | inl same ↦ let test : is_own u s outcome ≡ true = whose u ∙ grind (arith, nat_tests) in rw test (rw (← same) (rw is.change.is_now own.1))
-        | inr other ↦ let test : is_own u s outcome ≡ false = whose u ∙ grind (arith, nat_tests) in rw test (rw (is.change.others u (λ e. other (sym e))) (stands u))
+        | inl same ↦
+            let test : is_own u s outcome ≡ true = whose u ∙ grind (arith, nat_tests) in
+            rw (test, asks) (rw (← same) (rw (is.change.is_now, is.change.was_now) own.1))
+        | inr other ↦
+            let test : is_own u s outcome ≡ false = whose u ∙ grind (arith, nat_tests) in
+            let stay = is.change.others u (λ e. other (sym e)) in
+            rw test (rw (stay.0, stay.1) (stands u))
       ],
     )
 
@@ -93,8 +116,8 @@ pub IsPick-same : (f g : ℕ → Option ℕ) (now : ℕ) (picked : Option ℕ) �
 IsPick-same f g now None same is = λ t m h. is t m (sym (same t) ∙ h)
 IsPick-same f g now (Some t) same is = (is.0, same t ∙ is.1, is.2, λ u m h. is.3 u m (sym (same u) ∙ h))
 
-pick_at : (lists : Lists) (views : List View) (now : ℕ) (picked : Option ℕ) → ShardStands lists views → IsPick (ready_in views) now picked → IsPick (ready_at lists views) now picked
-pick_at lists views now picked stands is = IsPick-same (ready_in views) (ready_at lists views) now picked (λ u. ready_same (lists.sections u) (lists.pasts u) (lists.known u) (kept_of u views) (stands u)) is
+pick_at : (lives : Lives) (views : List View) (now : ℕ) (picked : Option ℕ) → ShardStands lives views → IsPick (ready_in views) now picked → IsPick (ready_at lives views) now picked
+pick_at lives views now picked stands is = IsPick-same (ready_in views) (ready_at lives views) now picked (λ u. ready_same (lives u).section (lives u).past (lives u).known (kept_of u views) (stands u).0) is
 
 -- where every member's own steps are known, what is kept doesn't count
 ready_unseen : (section : Option SectionData) (past : List Own) (known : Bool) (seen seen' : Option ℕ) → known ≡ true → ready_after section past known seen ≡ ready_after section past known seen'
@@ -102,19 +125,20 @@ ready_unseen None past known seen seen' all = refl
 ready_unseen (Some section) past true seen seen' all = refl
 ready_unseen (Some section) past false seen seen' all = absurd (cc)
 
-unseen_of : (whom : Option ℕ) (lists : Lists) (views views' : List View) (step : OwnStep) (o : Outcome) → AllKnown lists → IsOutcomeOf whom lists views step o → IsOutcomeOf whom lists views' step o
-unseen_of (Some t) lists views views' step o all is = is
-unseen_of None lists views views' step o all is = (
+unseen_of : (whom : Option ℕ) (lives : Lives) (views views' : List View) (asked : Asked) (o : Outcome) → AllKnown lives → IsOutcomeOf whom lives views asked o → IsOutcomeOf whom lives views' asked o
+unseen_of (Some t) lives views views' asked o all is = is
+unseen_of None lives views views' (Piped step) o all is = (
   is.0,
-  IsPick-same (ready_at lists views) (ready_at lists views') (moment_of step.step) is.0 (λ u. ready_unseen (lists.sections u) (lists.pasts u) (lists.known u) (ready_in views' u) (ready_in views u) (all u)) is.1,
+  IsPick-same (ready_at lives views) (ready_at lives views') (moment_of step.step) is.0 (λ u. ready_unseen (lives u).section (lives u).past (lives u).known (ready_in views' u) (ready_in views u) (all u)) is.1,
   is.2,
 )
+unseen_of None lives views views' (Comes section) o all is = absurd is
 
-pub IsOutcome-unseen : (lists : Lists) (views views' : List View) (s : Step) (o : Outcome) → AllKnown lists → IsOutcome lists views s o → IsOutcome lists views' s o
-IsOutcome-unseen lists views views' s o all is = unseen_of (named_in s) lists views views' (own_step s) o all is
+pub IsOutcome-unseen : (lives : Lives) (views views' : List View) (s : Step) (o : Outcome) → AllKnown lives → IsOutcome lives views s o → IsOutcome lives views' s o
+IsOutcome-unseen lives views views' s o all is = unseen_of (named_in s) lives views views' (asked_in s) o all is
 
-done : (s : Step) (old : List View) (o : Outcome) (new : List View) → ((lists : Lists) → ShardStands lists old → IsOutcome lists old s o × ShardStands (after s o lists) new) → OthersStay o old new → ShardSteps s old o new
-done s old o new stands others = record { stands = stands; others = others; by_own_steps = λ lists before all. IsOutcome-unseen lists old [] s o all (stands lists before).0 }
+done : (s : Step) (old : List View) (o : Outcome) (new : List View) → ((lives : Lives) → ShardStands lives old → IsOutcome lives old s o × ShardStands (after s o lives) new) → OthersStay o old new → ShardSteps s old o new
+done s old o new stands others = record { stands = stands; others = others; by_own_steps = λ lives before all. IsOutcome-unseen lives old [] s o all (stands lives before).0 }
 
 -- a step that names a member and reaches it
 pub reached : (step : OwnStep) (kept : Option State) (before : State) → kept ≡ Some before → Reaches step kept → is_taken before.section step ≡ true
@@ -123,41 +147,51 @@ reached step kept before is reaches = let reaches' : Reaches step (Some before) 
 pub reaches_at : (step : OwnStep) (kept : Option State) (before : State) → kept ≡ Some before → is_taken before.section step ≡ true → Reaches step kept
 reaches_at step kept before is taken = rw is taken
 
-pub named_steps : (t : ℕ) (s : Step) (old new : List View) (outcome : Outcome) → named_in s ≡ Some t → Reaches (own_step s) (kept_of t old) → IsStepOf t (own_step s).step old outcome new → ShardSteps s old outcome new
-named_steps t s old new outcome name reaches is = done s old outcome new all (others_stay t (own_step s).step old new outcome is)
+pub named_steps : (t : ℕ) (s : Step) (step : OwnStep) (old new : List View) (outcome : Outcome) → named_in s ≡ Some t → asked_in s ≡ Piped step → Reaches step (kept_of t old) → IsStepOf t step.step old outcome new → ShardSteps s old outcome new
+named_steps t s step old new outcome name asks reaches is = done s old outcome new all (others_stay t step.step old new outcome is)
   where
-    all : (lists : Lists) → ShardStands lists old → IsOutcome lists old s outcome × ShardStands (after s outcome lists) new
-    all lists stands =
-        let both = all_stand t s old new outcome lists (λ u. ap (λ w. is_tenant u (whose w outcome)) name) is (reached (own_step s) (kept_of t old) is.before is.change.was reaches) stands in
-        (rw name both.0, both.1)
+    all : (lives : Lives) → ShardStands lives old → IsOutcome lives old s outcome × ShardStands (after s outcome lives) new
+    all lives stands =
+        let both = all_stand t s step old new outcome lives asks (λ u. ap (λ w. is_tenant u (whose w outcome)) name) is (reached step (kept_of t old) is.before is.change.was reaches) stands in
+        (rw (name, asks) both.0, both.1)
 
--- a step that names a tenant and reaches no pipeline: nothing changes, and nothing is recorded
-unmoved : (lists : Lists) (t : ℕ) (s : Step) (o : Outcome) (old : List View) → named_in s ≡ Some t → ((section : SectionData) → lists.sections t ≡ Some section → is_taken section (own_step s) ≡ false) → ShardStands lists old → ShardStands (after s o lists) old
-unmoved lists t s o old name none stands = λ u. elim (cases_eq t u) [
-  | inl same ↦
-      let test : is_own u s o ≡ true = ap (λ w. is_tenant u (whose w o)) name ∙ grind (arith, nat_tests) in
-      rw test (rw (← same) (by_section (lists.sections t) none (stands t)))
-  | inr other ↦ let test : is_own u s o ≡ false = ap (λ w. is_tenant u (whose w o)) name ∙ grind (arith, nat_tests) in rw test (stands u)
-]
+-- a step that names a tenant whose life it doesn't change
+unmoved : (lives : Lives) (t : ℕ) (s : Step) (o : Outcome) (old : List View) → named_in s ≡ Some t → lived (asked_in s) (reports o) (lives t) ≡ lives t → ShardStands lives old → ShardStands (after s o lives) old
+unmoved lives t s o old name stays stands = λ u. subst (λ (l : Life). LifeStands l (kept_of u old) (was_of u old)) (sym (same u)) (stands u)
   where
-    by_section : (section : Option SectionData) → ((w : SectionData) → section ≡ Some w → is_taken w (own_step s) ≡ false) → MemberStands section (lists.pasts t) (lists.known t) (kept_of t old) → MemberStands section (recorded section (own_step s) (lists.pasts t)) (lists.known t) (kept_of t old)
-    by_section None none' here = here
-    by_section (Some w) none' here = let test = none' w refl in rw test here
+    same : (u : ℕ) → after s o lives u ≡ lives u
+    same u = elim (cases_eq t u) [
+      | inl is ↦ let test : is_own u s o ≡ true = ap (λ w. is_tenant u (whose w o)) name ∙ grind (arith, nat_tests) in rw test (rw (← is) stays)
+      | inr other ↦ let test : is_own u s o ≡ false = ap (λ w. is_tenant u (whose w o)) name ∙ grind (arith, nat_tests) in rw test refl
+    ]
+
+not_lived : (section : Option SectionData) (step : OwnStep) (reported : Bool) (life : Life) → ((w : SectionData) → section ≡ Some w → is_taken w step ≡ false) → lived_by section step reported life ≡ life
+not_lived None step reported life none = refl
+not_lived (Some w) step reported life none = let test : is_taken w step ≡ false = none w refl in rw test refl
+
+-- a step that reaches no pipeline
+refused_steps : (t : ℕ) (s : Step) (step : OwnStep) (number : ℕ) (old : List View) → named_in s ≡ Some t → asked_in s ≡ Piped step →
+    ((lives : Lives) → ShardStands lives old → IsAnswerTo t (lives t) (Piped step) (Refused t number) × ((w : SectionData) → (lives t).section ≡ Some w → is_taken w step ≡ false)) → ShardSteps s old (Refused t number) old
+refused_steps t s step number old name asks refuses = done s old (Refused t number) old all (λ other ne. (refl, refl))
+  where
+    all : (lives : Lives) → ShardStands lives old → IsOutcome lives old s (Refused t number) × ShardStands (after s (Refused t number) lives) old
+    all lives stands =
+        let both = refuses lives stands in
+        let stays : lived (asked_in s) false (lives t) ≡ lives t = rw asks (not_lived (lives t).section step false (lives t) both.1) in
+        (rw (name, asks) both.0, unmoved lives t s (Refused t number) old name stays stands)
 
 none_kept : (section : Option SectionData) (past : List Own) (known : Bool) → MemberStands section past known None → section ≡ None
 none_kept None past known stands = refl
 none_kept (Some section) past true stands = absurd stands
 none_kept (Some section) past false stands = absurd stands
 
-pub stranger_steps : (t : ℕ) (s : Step) (old : List View) → named_in s ≡ Some t → kept_of t old ≡ None → ShardSteps s old (Refused t not_member) old
-stranger_steps t s old name none = done s old (Refused t not_member) old all (λ other ne. refl)
+pub stranger_steps : (t : ℕ) (s : Step) (step : OwnStep) (old : List View) → named_in s ≡ Some t → asked_in s ≡ Piped step → kept_of t old ≡ None → ShardSteps s old (Refused t not_member) old
+stranger_steps t s step old name asks none = refused_steps t s step not_member old name asks refuses
   where
-    all : (lists : Lists) → ShardStands lists old → IsOutcome lists old s (Refused t not_member) × ShardStands (after s (Refused t not_member) lists) old
-    all lists stands =
-        let missing : lists.sections t ≡ None = none_kept (lists.sections t) (lists.pasts t) (lists.known t) (rw none at (stands t)) in (
-          rw name (rw missing refl),
-          unmoved lists t s (Refused t not_member) old name (λ section is. absurd (cc)) stands,
-        )
+    refuses : (lives : Lives) → ShardStands lives old → IsAnswerTo t (lives t) (Piped step) (Refused t not_member) × ((w : SectionData) → (lives t).section ≡ Some w → is_taken w step ≡ false)
+    refuses lives stands =
+        let missing : (lives t).section ≡ None = none_kept (lives t).section (lives t).past (lives t).known (rw none at (stands t).0) in
+        (rw missing refl, λ section is. absurd (cc))
 
 -- a body for other policies
 not_taken : (t : ℕ) (section : Option SectionData) (past : List Own) (known : Bool) (kept : Option State) (step : OwnStep) (before : State) → MemberStands section past known kept → kept ≡ Some before → is_taken before.section step ≡ false →
@@ -177,68 +211,85 @@ not_taken t (Some section) past known kept step before stands is other = (
     some_section : (a b : SectionData) → Some b ≡ Some a → a ≡ b
     some_section a b e = sym (ap (λ o. unwrap_or o a) e)
 
-pub other_steps : (t : ℕ) (s : Step) (old : List View) (before : State) → named_in s ≡ Some t → kept_of t old ≡ Some before → is_taken before.section (own_step s) ≡ false → ShardSteps s old (Refused t other_policies) old
-other_steps t s old before name was other = done s old (Refused t other_policies) old all (λ u ne. refl)
+pub other_steps : (t : ℕ) (s : Step) (step : OwnStep) (old : List View) (before : State) → named_in s ≡ Some t → asked_in s ≡ Piped step → kept_of t old ≡ Some before → is_taken before.section step ≡ false → ShardSteps s old (Refused t other_policies) old
+other_steps t s step old before name asks was other =
+    refused_steps t s step other_policies old name asks (λ lives stands. not_taken t (lives t).section (lives t).past (lives t).known (kept_of t old) step before (stands t).0 was other)
+
+-- a tenant comes whose number was used, or whose number is new
+pub used_steps : (t : ℕ) (s : Step) (section : SectionData) (old : List View) → named_in s ≡ Some t → asked_in s ≡ Comes section → was_of t old ≡ true → ShardSteps s old (Refused t number_used) old
+used_steps t s section old name asks was = done s old (Refused t number_used) old all (λ other ne. (refl, refl))
   where
-    all : (lists : Lists) → ShardStands lists old → IsOutcome lists old s (Refused t other_policies) × ShardStands (after s (Refused t other_policies) lists) old
-    all lists stands =
-        let both = not_taken t (lists.sections t) (lists.pasts t) (lists.known t) (kept_of t old) (own_step s) before (stands t) was other in
-        (rw name both.0, unmoved lists t s (Refused t other_policies) old name both.1 stands)
+    all : (lives : Lives) → ShardStands lives old → IsOutcome lives old s (Refused t number_used) × ShardStands (after s (Refused t number_used) lives) old
+    all lives stands =
+        let used : (lives t).used ≡ true = (stands t).1 ∙ was in
+        let stays : lived (asked_in s) false (lives t) ≡ lives t = rw asks (rw used refl) in
+        (rw (name, asks) (rw used refl), unmoved lives t s (Refused t number_used) old name stays stands)
+
+pub add_steps : (t : ℕ) (s : Step) (section : SectionData) (old new : List View) → named_in s ≡ Some t → asked_in s ≡ Comes section → was_of t old ≡ false → IsAdditionOf t section old new → ShardSteps s old (Done t) new
+add_steps t s section old new name asks is_new added = done s old (Done t) new all (λ other ne. added.others other (λ e. ne (ap Some (sym e))))
+  where
+    all : (lives : Lives) → ShardStands lives old → IsOutcome lives old s (Done t) × ShardStands (after s (Done t) lives) new
+    all lives stands =
+        let unused : (lives t).used ≡ false = (stands t).1 ∙ is_new in (
+          rw (name, asks) (rw unused refl),
+          λ u. elim (cases_eq t u) [
+            | inl same ↦
+                let test : is_own u s (Done t) ≡ true = ap (λ w. is_tenant u (whose w (Done t))) name ∙ grind (arith, nat_tests) in
+                rw (test, asks) (rw (← same) (rw (unused, added.is_now, added.was_now) (refl, refl)))
+            | inr other ↦
+                let test : is_own u s (Done t) ≡ false = ap (λ w. is_tenant u (whose w (Done t))) name ∙ grind (arith, nat_tests) in
+                let stay = added.others u (λ e. other (sym e)) in
+                rw test (rw (stay.0, stay.1) (stands u))
+          ],
+        )
 
 -- a turn of a member
 turn_whose : (t u : ℕ) (s : Step) (step : Own) (old new : List View) (outcome : Outcome) → named_in s ≡ None → IsStepOf t step old outcome new → is_own u s outcome ≡ eqb t u
 turn_whose t u s step old new outcome name is = ap (λ w. is_tenant u (whose w outcome)) name ∙ ap (is_tenant u) (whom_told t step old new outcome is)
 
 -- a turn reaches any member
-made_for_none : (s : Step) → named_in s ≡ None → (own_step s).made_for ≡ None
-made_for_none (steps.Post now prepared) name = absurd (cc)
-made_for_none (steps.Turn now) name = refl
-made_for_none (steps.Answer tenant now ticket word answer) name = refl
-made_for_none (steps.Report tenant now) name = refl
-made_for_none (steps.Drain tenant now) name = refl
-
-pub turn_reaches : (t : ℕ) (s : Step) (old : List View) → named_in s ≡ None → ¬ (kept_of t old ≡ None) → Reaches (own_step s) (kept_of t old)
-turn_reaches t s old name there = by_kept (kept_of t old) there
+pub turn_reaches : (t now : ℕ) (old : List View) → ¬ (kept_of t old ≡ None) → Reaches (plain (own.Turn now)) (kept_of t old)
+turn_reaches t now old there = by_kept (kept_of t old) there
   where
-    by_kept : (kept : Option State) → ¬ (kept ≡ None) → Reaches (own_step s) kept
+    by_kept : (kept : Option State) → ¬ (kept ≡ None) → Reaches (plain (own.Turn now)) kept
     by_kept None some = absurd (some refl)
-    by_kept (Some kept) some = ap (are_for kept.section) (made_for_none s name)
+    by_kept (Some kept) some = refl
 
 -- a picked tenant is a member
 pub pick_is_kept : (vs : List View) (t m : ℕ) → ready_in vs t ≡ Some m → kept_of t vs ≡ None → ⊥
 pick_is_kept vs t m is none = let never : ready_in vs t ≡ None = rw none refl in cc
 
 -- who is first in the agenda is the pick
-pub picked_is : (s : Step) (agenda : ℕ → Option ℕ) (vs : List View) (now moment : ℕ) (found picked : Option ℕ) → ((t : ℕ) → agenda t ≡ ready_in vs t) → now ≡ asked (own_step s).step → moment ≡ min now latest_moment → IsPick agenda moment found → found ≡ picked →
-    IsPick (ready_in vs) (moment_of (own_step s).step) picked
-picked_is s agenda vs now moment found picked same at by pick is =
-    let when : moment ≡ moment_of (own_step s).step = by ∙ ap (λ n. min n latest_moment) at in
-    let pick' : IsPick agenda (moment_of (own_step s).step) picked = rw (when, is) at pick in
-    IsPick-same agenda (ready_in vs) (moment_of (own_step s).step) picked (λ t. sym (same t)) pick'
+pub picked_is : (agenda : ℕ → Option ℕ) (vs : List View) (now moment : ℕ) (found picked : Option ℕ) → ((t : ℕ) → agenda t ≡ ready_in vs t) → moment ≡ min now latest_moment → IsPick agenda moment found → found ≡ picked → IsPick (ready_in vs) (moment_of (own.Turn now)) picked
+picked_is agenda vs now moment found picked same by pick is =
+    let pick' : IsPick agenda (moment_of (own.Turn now)) picked = rw (by, is) at pick in
+    IsPick-same agenda (ready_in vs) (moment_of (own.Turn now)) picked (λ t. sym (same t)) pick'
 
-pub turn_steps : (t : ℕ) (s : Step) (old new : List View) (outcome : Outcome) → named_in s ≡ None → Reaches (own_step s) (kept_of t old) → IsPick (ready_in old) (moment_of (own_step s).step) (Some t) → IsStepOf t (own_step s).step old outcome new → ShardSteps s old outcome new
-turn_steps t s old new outcome name reaches pick is = done s old outcome new all (others_stay t (own_step s).step old new outcome is)
+pub turn_steps : (t now : ℕ) (s : Step) (old new : List View) (outcome : Outcome) → named_in s ≡ None → asked_in s ≡ Piped (plain (own.Turn now)) → Reaches (plain (own.Turn now)) (kept_of t old) → IsPick (ready_in old) (moment_of (own.Turn now)) (Some t) → IsStepOf t (own.Turn now) old outcome new → ShardSteps s old outcome new
+turn_steps t now s old new outcome name asks reaches pick is = done s old outcome new all (others_stay t (own.Turn now) old new outcome is)
   where
-    all : (lists : Lists) → ShardStands lists old → IsOutcome lists old s outcome × ShardStands (after s outcome lists) new
-    all lists stands =
-        let both = all_stand t s old new outcome lists (λ u. turn_whose t u s (own_step s).step old new outcome name is) is (reached (own_step s) (kept_of t old) is.before is.change.was reaches) stands in
-        (rw name (Some t, pick_at lists old (moment_of (own_step s).step) (Some t) stands pick, both.0), both.1)
+    all : (lives : Lives) → ShardStands lives old → IsOutcome lives old s outcome × ShardStands (after s outcome lives) new
+    all lives stands =
+        let both = all_stand t s (plain (own.Turn now)) old new outcome lives asks (λ u. turn_whose t u s (own.Turn now) old new outcome name is) is (reached (plain (own.Turn now)) (kept_of t old) is.before is.change.was reaches) stands in
+        (rw (name, asks) (Some t, pick_at lives old (moment_of (own.Turn now)) (Some t) stands pick, both.0), both.1)
 
-pub idle_steps : (s : Step) (old : List View) → named_in s ≡ None → IsPick (ready_in old) (moment_of (own_step s).step) None → ShardSteps s old Idle old
-idle_steps s old name pick = done s old Idle old all (λ other ne. refl)
+pub idle_steps : (now : ℕ) (s : Step) (old : List View) → named_in s ≡ None → asked_in s ≡ Piped (plain (own.Turn now)) → IsPick (ready_in old) (moment_of (own.Turn now)) None → ShardSteps s old Idle old
+idle_steps now s old name asks pick = done s old Idle old all (λ other ne. (refl, refl))
   where
-    all : (lists : Lists) → ShardStands lists old → IsOutcome lists old s Idle × ShardStands (after s Idle lists) old
-    all lists stands = (
-      rw name (None, pick_at lists old (moment_of (own_step s).step) None stands pick, refl),
+    all : (lives : Lives) → ShardStands lives old → IsOutcome lives old s Idle × ShardStands (after s Idle lives) old
+    all lives stands = (
+      rw (name, asks) (None, pick_at lives old (moment_of (own.Turn now)) None stands pick, refl),
       λ u. let test : is_own u s Idle ≡ false = ap (λ w. is_tenant u (whose w Idle)) name in rw test (stands u),
     )
 
 -- what was kept decides what a member's own step gives
-pub own_goes_on : (t : ℕ) (step : Step) (old new : List View) (outcome : Outcome) → IsStepFor t step old → IsStepOf t (own_step step).step old outcome new → ShardFollows step old outcome new
-own_goes_on t step old new outcome whose is = inr (
+pub own_goes_on : (t : ℕ) (s : Step) (step : OwnStep) (old new : List View) (outcome : Outcome) → asked_in s ≡ Piped step → IsStepFor t s old → IsStepOf t step.step old outcome new → ShardFollows s old outcome new
+own_goes_on t s step old new outcome asks whose is = inr (inl (
   t,
   record {
     whose = whose;
+    asked = step;
+    asks = asks;
     before = is.before;
     said = is.said;
     after = is.after;
@@ -246,32 +297,46 @@ own_goes_on t step old new outcome whose is = inr (
     from_state = is.from_state;
     outcome_is = is.outcome_is;
     is_now = is.change.is_now;
+    was_now = is.change.was_now;
     others = is.change.others;
   },
-)
+))
 
 -- whose step it is
-pub named_for : (t : ℕ) (s : Step) (old : List View) → named_in s ≡ Some t → Reaches (own_step s) (kept_of t old) → IsStepFor t s old
-named_for t s old name reaches = rw name (refl, reaches)
+pub named_for : (t : ℕ) (s : Step) (step : OwnStep) (old : List View) → named_in s ≡ Some t → asked_in s ≡ Piped step → Reaches step (kept_of t old) → IsStepFor t s old
+named_for t s step old name asks reaches = rw (name, asks) (refl, reaches)
 
-pub turn_for : (t : ℕ) (s : Step) (old : List View) → named_in s ≡ None → IsPick (ready_in old) (moment_of (own_step s).step) (Some t) → IsStepFor t s old
-turn_for t s old name pick = rw name pick
+pub turn_for : (t now : ℕ) (s : Step) (old : List View) → named_in s ≡ None → asked_in s ≡ Piped (plain (own.Turn now)) → IsPick (ready_in old) (moment_of (own.Turn now)) (Some t) → IsStepFor t s old
+turn_for t now s old name asks pick = rw (name, asks) pick
 
 -- a step that is nobody's
-pub stranger_goes_on : (t : ℕ) (s : Step) (old : List View) → named_in s ≡ Some t → kept_of t old ≡ None → ShardFollows s old (Refused t not_member) old
-stranger_goes_on t s old name none = inl (record { whose = rw name (rw none tt); outcome_is = rw name (rw none refl); new_is = refl })
+pub stranger_goes_on : (t : ℕ) (s : Step) (step : OwnStep) (old : List View) → named_in s ≡ Some t → asked_in s ≡ Piped step → kept_of t old ≡ None → ShardFollows s old (Refused t not_member) old
+stranger_goes_on t s step old name asks none = inl (record { whose = rw (name, asks) (rw none tt); outcome_is = rw (name, asks) (rw none refl); new_is = refl })
 
-pub other_goes_on : (t : ℕ) (s : Step) (old : List View) (before : State) → named_in s ≡ Some t → kept_of t old ≡ Some before → is_taken before.section (own_step s) ≡ false → ShardFollows s old (Refused t other_policies) old
-other_goes_on t s old before name was other = inl (record { whose = rw name (rw was other); outcome_is = rw name (rw was refl); new_is = refl })
+pub other_goes_on : (t : ℕ) (s : Step) (step : OwnStep) (old : List View) (before : State) → named_in s ≡ Some t → asked_in s ≡ Piped step → kept_of t old ≡ Some before → is_taken before.section step ≡ false → ShardFollows s old (Refused t other_policies) old
+other_goes_on t s step old before name asks was other = inl (record { whose = rw (name, asks) (rw was other); outcome_is = rw (name, asks) (rw was refl); new_is = refl })
 
-pub idle_goes_on : (s : Step) (old : List View) → named_in s ≡ None → IsPick (ready_in old) (moment_of (own_step s).step) None → ShardFollows s old Idle old
-idle_goes_on s old name pick = inl (record { whose = rw name pick; outcome_is = rw name refl; new_is = refl })
+pub used_goes_on : (t : ℕ) (s : Step) (section : SectionData) (old : List View) → named_in s ≡ Some t → asked_in s ≡ Comes section → was_of t old ≡ true → ShardFollows s old (Refused t number_used) old
+used_goes_on t s section old name asks was = inl (record { whose = rw (name, asks) was; outcome_is = rw (name, asks) refl; new_is = refl })
+
+pub add_goes_on : (t : ℕ) (s : Step) (section : SectionData) (old new : List View) → named_in s ≡ Some t → asked_in s ≡ Comes section → was_of t old ≡ false → IsAdditionOf t section old new → ShardFollows s old (Done t) new
+add_goes_on t s section old new name asks is_new added = inr (inr (
+  t,
+  record {
+    whose = record { section = section; names = name; comes = asks; is_new = is_new };
+    outcome_is = refl;
+    change = added;
+  },
+))
+
+pub idle_goes_on : (now : ℕ) (s : Step) (old : List View) → named_in s ≡ None → asked_in s ≡ Piped (plain (own.Turn now)) → IsPick (ready_in old) (moment_of (own.Turn now)) None → ShardFollows s old Idle old
+idle_goes_on now s old name asks pick = inl (record { whose = rw (name, asks) pick; outcome_is = rw name refl; new_is = refl })
 
 -- a step that reaches a pipeline is not nobody's
-pub not_nobodys : (t : ℕ) (s : Step) (old : List View) → named_in s ≡ Some t → Reaches (own_step s) (kept_of t old) → IsNobodys s old → ⊥
-not_nobodys t s old name reaches none = by_kept (kept_of t old) reaches (rw name at none)
+pub not_nobodys : (t : ℕ) (s : Step) (step : OwnStep) (old : List View) → named_in s ≡ Some t → asked_in s ≡ Piped step → Reaches step (kept_of t old) → IsNobodys s old → ⊥
+not_nobodys t s step old name asks reaches none = by_kept (kept_of t old) reaches (rw (name, asks) at none)
   where
-    by_kept : (kept : Option State) → Reaches (own_step s) kept → ReachesNone (own_step s) kept → ⊥
+    by_kept : (kept : Option State) → Reaches step kept → ReachesNone step kept → ⊥
     by_kept None some none' = some
     by_kept (Some kept) some none' = absurd (cc)
 
@@ -279,30 +344,60 @@ not_nobodys t s old name reaches none = by_kept (kept_of t old) reaches (rw name
 pub not_both : (f : ℕ → Option ℕ) (now t : ℕ) → IsPick f now (Some t) → IsPick f now None → ⊥
 not_both f now t some none = let later : now < some.0 = none t some.0 some.1 in omega (arith, later, some.2)
 
-pub not_idle : (t : ℕ) (s : Step) (old : List View) → named_in s ≡ None → IsPick (ready_in old) (moment_of (own_step s).step) (Some t) → IsNobodys s old → ⊥
-not_idle t s old name pick none = not_both (ready_in old) (moment_of (own_step s).step) t pick (rw name at none)
+pub not_idle : (t now : ℕ) (s : Step) (old : List View) → named_in s ≡ None → asked_in s ≡ Piped (plain (own.Turn now)) → IsPick (ready_in old) (moment_of (own.Turn now)) (Some t) → IsNobodys s old → ⊥
+not_idle t now s old name asks pick none = not_both (ready_in old) (moment_of (own.Turn now)) t pick (rw (name, asks) at none)
+
+-- who is new is not nobody
+pub not_again : (t : ℕ) (s : Step) (section : SectionData) (old : List View) → named_in s ≡ Some t → asked_in s ≡ Comes section → was_of t old ≡ false → IsNobodys s old → ⊥
+not_again t s section old name asks is_new none = absurd (let again : was_of t old ≡ true = rw (name, asks) at none in cc)
 
 -- after a refusal
 lost_stands : (section : Option SectionData) (past : List Own) (known : Bool) (kept : Option State) (before after : State) → MemberStands section past known kept → kept ≡ Some before → after.section ≡ before.section → MemberStands section past false (Some after)
 lost_stands None past known kept before after stands is stay = absurd (let stands' : MemberStands None past known (Some before) = rw is at stands in stands')
 lost_stands (Some section) past known kept before after stands is stay = stay ∙ keeps_section section past known before (rw is at stands)
 
-pub loss_refuses : (t : ℕ) (step : Step) (old new : List View) → IsStepFor t step old → IsLossOf t (own_step step).step old new → ShardRefuses step old new
-loss_refuses t step old new whose is = (
+pub loss_refuses : (t : ℕ) (s : Step) (step : OwnStep) (old new : List View) → asked_in s ≡ Piped step → IsStepFor t s old → IsLossOf t step.step old new → ShardRefuses s old new
+loss_refuses t s step old new asks whose is = inl (
   t,
   record {
     whose = whose;
+    asked = step;
+    asks = asks;
     before = is.before;
     after = is.after;
     was = is.change.was;
     is_now = is.change.is_now;
+    was_now = is.change.was_now;
     front = is.front;
     others = is.change.others;
-    stands = λ lists stands u. elim (cases_eq u t) [
+    stands = λ lives stands u. elim (cases_eq u t) [
       | inl same ↦
           let test : eqb u t ≡ true = grind (arith, nat_tests) in
-          rw test (rw same (rw is.change.is_now (lost_stands (lists.sections t) (lists.pasts t) (lists.known t) (kept_of t old) is.before is.after (stands t) is.change.was is.change.section)))
-      | inr other ↦ let test : eqb u t ≡ false = grind (arith, nat_tests) in rw test (rw (is.change.others u other) (stands u))
+          rw test (rw same (rw (is.change.is_now, is.change.was_now) (
+            lost_stands (lives t).section (lives t).past (lives t).known (kept_of t old) is.before is.after (stands t).0 is.change.was is.change.section,
+            (stands t).1 ∙ kept_was t old is.before is.change.was,
+          )))
+      | inr other ↦
+          let test : eqb u t ≡ false = grind (arith, nat_tests) in
+          let stay = is.change.others u other in
+          rw test (rw (stay.0, stay.1) (stands u))
     ];
   },
 )
+
+pub newcomer_refused : (t : ℕ) (s : Step) (section : SectionData) (old new : List View) → named_in s ≡ Some t → asked_in s ≡ Comes section → was_of t old ≡ false → new ≡ old → ShardRefuses s old new
+newcomer_refused t s section old new name asks is_new same = inr ((t, record { section = section; names = name; comes = asks; is_new = is_new }), same)
+
+-- a tenant that comes
+pub coming_steps : (t : ℕ) (s : Step) (section : SectionData) (old : List View) (o : Outcome) (new : List View) → named_in s ≡ Some t → asked_in s ≡ Comes section → IsComingOf t section old o new → ShardSteps s old o new
+coming_steps t s section old o new name asks (inl again) = rw (again.1, again.2) (used_steps t s section old name asks again.0)
+coming_steps t s section old o new name asks (inr comes) = rw comes.1 (add_steps t s section old new name asks comes.0 comes.2)
+
+pub coming_goes_on : (t : ℕ) (s : Step) (section : SectionData) (old : List View) (o : Outcome) (new : List View) → named_in s ≡ Some t → asked_in s ≡ Comes section → IsComingOf t section old o new → ShardFollows s old o new
+coming_goes_on t s section old o new name asks (inl again) = rw (again.1, again.2) (used_goes_on t s section old name asks again.0)
+coming_goes_on t s section old o new name asks (inr comes) = rw comes.1 (add_goes_on t s section old new name asks comes.0 comes.2)
+
+pub comes_again : (t : ℕ) (s : Step) (section : SectionData) (old new : List View) (r : Result Outcome AllocError) → named_in s ≡ Some t → asked_in s ≡ Comes section → IsNobodys s old → IfOk r (λ o. IsComingOf t section old o new) → OnErr r ((was_of t old ≡ false) × (new ≡ old)) → IsOk r × (new ≡ old)
+comes_again t s section old new (Ok o) name asks nobody (inl again) lost = (refl, again.2)
+comes_again t s section old new (Ok o) name asks nobody (inr comes) lost = absurd (not_again t s section old name asks comes.0 nobody)
+comes_again t s section old new (Err e) name asks nobody came lost = absurd (not_again t s section old name asks lost.0 nobody)

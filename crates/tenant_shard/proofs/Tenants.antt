@@ -1,11 +1,10 @@
 -- The tenants of a shard, one after another.
-use Rattle.std.proofs.Common.{◌≡◌, ℕ, ◌%◌, ◌&&◌, ◌||◌, List, [], ◌∷◌, ◌++◌, map, filter, Bool, true, false, eqb, cond, Option, Some, None, refl, ap, sym, ◌∙◌, append_assoc, String, Global}
+use Rattle.std.proofs.Common.{◌≡◌, ℕ, ◌%◌, ◌&&◌, ◌||◌, List, [], ◌∷◌, map, filter, Bool, true, false, eqb, cond, Option, Some, None, refl, ap, sym, ◌∙◌, String, Global}
 use Rattle.std.specs.Prelude.{find, is_some, option_map}
 use Rattle.std.specs.List.{list_any}
 use Rattle.std.specs.Map.{values_of}
 use Rattle.std.proofs.lemmas.Bool.{eqb-true}
 use Rattle.tail_settings.specs.declared.tenant.Tenant.{Tenant}
-use Rattle.tail_settings.specs.Section.{SectionData}
 use Rattle.tail_settings.specs.Settings.{TenantData, tenant_view, section_at}
 use Rattle.tenant_shard.specs.Table.{EachInItsShard}
 
@@ -50,10 +49,3 @@ in_its_shard table shard tenant =
 pub numbers_of-entries : (es : List (String Global × Tenant)) → map (λ (t : TenantData). t.number) (map tenant_view es) ≡ map (λ (t : Tenant). t.number) (values_of es)
 numbers_of-entries [] = refl
 numbers_of-entries (e ∷ es) = ap (λ ns. e.1.number ∷ ns) (numbers_of-entries es)
-
-module _ (p : ℕ → Bool) (before : List ℕ) (n : ℕ) (rest : List ℕ) where
-  pub member_taken : p n ≡ true → (before ++ n ∷ []) ++ filter p rest ≡ before ++ filter p (n ∷ rest)
-  member_taken passes = rw passes (append_assoc before (n ∷ []) (filter p rest))
-
-  pub member_left : p n ≡ false → before ++ filter p rest ≡ before ++ filter p (n ∷ rest)
-  member_left passes = rw passes refl

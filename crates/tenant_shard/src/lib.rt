@@ -2,18 +2,19 @@
 //!
 //! A step is a tenant's post, answer, report or drain, or a worker's turn, which goes to the member that is ready
 //! first, the lower number first where several are ready at one moment; or a tenant comes, or is to go. `Shard::run`
-//! promises what the whole collector is for: whatever the other tenants' settings and steps, and whoever else comes and
-//! goes, each member is told exactly what a pipeline of its own answers to the steps that were its own. `Shard::step`
-//! promises it one step at a time. Both say what is left where memory was refused, and what follows from that.
+//! promises what the whole collector is for: whatever the other tenants' settings and steps, and whoever else comes
+//! and goes, each member is told exactly what a pipeline of its own answers to the steps that were its own.
+//! `Shard::step` promises it one step at a time. Both say what is left where memory was refused, and what follows from
+//! that.
 //!
 //! All members' spans lie in one pool, their rows in one table, and when each is ready next in one agenda. Contracts
-//! see the members one by one, each as its rules see it, and the numbers of the tenants that have gone; what always holds
-//! of stores, agenda and members together is in `specs/Whole`.
+//! see the members one by one, each as its rules see it, and the numbers of the tenants that have gone; what always
+//! holds of stores, agenda and members together is in `specs/Whole`.
 //!
 //! A tenant that comes is let in with its own settings, whatever else is in the shard, unless its number is or was a
-//! member's: that is refused with 25, so no late post of an old tenant's comes to a new one. A tenant goes where it was
-//! drained and holds no span, told its counters last; else it is refused with 26. All that it had in the stores is then
-//! given back, and its number alone is kept.
+//! member's: that is refused with 25, so no late post of an old tenant's comes to a new one. A tenant goes where it
+//! was drained and holds no span, told its counters last; else it is refused with 26. All that it had in the stores is
+//! then given back, and its number alone is kept.
 //!
 //! A body is prepared before it is posted, for the policies that its tenant has then. One that was prepared for other
 //! policies than the member's is refused with the number 23, and a step of a tenant that is no member with 22: neither

@@ -66,7 +66,7 @@ pub struct Stopped {
 }
 
 impl Model for Shard {
-    ghost use Rattle.std.specs.Prelude.{List};
+    ghost use Rattle.std.specs.Prelude.{List, vec_capacity};
     ghost use Rattle.tenant_shard.specs.View.{View};
     ghost use Rattle.tenant_shard.specs.Members.{all_views};
     ghost use Rattle.tenant_shard.specs.Whole.{IsShard};
@@ -85,8 +85,8 @@ impl Shard {
     ghost use Rattle.tenant_shard.specs.Stop.{IsStopped};
     ghost use Rattle.tenant_shard.specs.Whole.{AllCounted};
 
-    /// Opens a shard of the tenants of the settings whose numbers stand in `members`, with no steps
-    /// so far. Other numbers count for nothing, also none is used, and one that stands there twice counts once. Trace
+    /// Opens a shard of the tenants of the settings whose numbers stand in `members`, with no steps so far, which are
+    /// the numbers that are used. Other numbers count for nothing, and one that stands there twice counts once. Trace
     /// ids are hashed with keys that anyone knows: strangers' ids are for `open_with_keys`.
     pub fn open(alloc: Global, settings: &Settings, members: &[u32]) -> Result<Self, AllocError>
         ensures stands { IfOk result (ShardStands (opened (settings_view settings.now) members.now)) }
@@ -132,9 +132,9 @@ impl Shard {
         })
     }
 
-    /// Does one step. Where memory is refused, of the step's own tenant some first due timers may
-    /// have run, and all else is as before; who comes is then no member. A step that reaches no member's pipeline and
-    /// lets nobody in takes no memory and changes nothing: no timer runs, and no clock goes on.
+    /// Does one step. Where memory is refused, of the step's own tenant some first due timers may have run, and all
+    /// else is as before; who comes is then no member. A step that reaches no member's pipeline and lets nobody in
+    /// takes no memory and changes nothing: no timer runs, and no clock goes on.
     pub fn step(&mut self, step: &Step) -> Result<Outcome, AllocError>
         // The outcome is what the members' own steps say. Where no own steps leave what is kept of the step's tenant,
         // as after refused memory, it follows from that.

@@ -67,9 +67,9 @@ pub enum Outcome {
     Done(u32),
     /// The tenant's counters, as one line without its end. Told of a retirement, the tenant has gone.
     Report(u32, Octets),
-    /// The answer's ticket names no job in flight (21), or a tenant that is to go wasn't drained or holds spans (26), and
-    /// nothing but due timers has happened; or nothing was done: the tenant is no member (22), the body was prepared for
-    /// other policies than the tenant's (23), or the tenant that comes is or was a member (25).
+    /// The answer's ticket names no job in flight (21), or a tenant that is to go wasn't drained or holds spans (26),
+    /// and nothing but due timers has happened; or nothing was done: the tenant is no member (22), the body was
+    /// prepared for other policies than the tenant's (23), or the tenant that comes is or was a member (25).
     Refused(u32, u8),
 }
 

@@ -1,16 +1,15 @@
 -- A part stays sound as spans come and leave, and as rows open, are decided and leave.
-use Rattle.std.proofs.Common.{◌≡◌, ◌≢◌, ℕ, zero, suc, ◌+◌, ◌-◌, ◌<◌, ◌≤◌, List, [], ◌∷◌, ◌++◌, refl, sym, ap, ◌∙◌, arith, Bool, true, false, Option, Some, None, subst, add-one, inl, inr}
+use Rattle.std.proofs.Common.{◌≡◌, ◌≢◌, ℕ, suc, ◌+◌, ◌-◌, ◌<◌, ◌≤◌, List, [], ◌∷◌, ◌++◌, refl, sym, ap, ◌∙◌, arith, Bool, Option, Some, None, subst, add-one, inl, inr}
 use Rattle.std.proofs.lemmas.Bool.{cases_lt}
 use Rattle.span_pool.specs.Stored.{StoredData}
 use Rattle.span_pool.specs.Pool.{with_span, without}
-use Rattle.text_pool.specs.declared.pool.CountedText.{CountedText}
 use Rattle.trace_rows.specs.declared.table.Row.{Row}
 use Rattle.trace_rows.specs.Part.{with_at, with_latest_row, joined, settled, keys_of, without_latest_row, trace_in}
 use Rattle.tenant_stores.specs.Part.{Part}
-use Rattle.tenant_stores.specs.Counts.{Counts, AreInOrder, no_rows, all_left, one_opened, one_decided, one_swept, in_table, range, count}
+use Rattle.tenant_stores.specs.Counts.{Counts, no_rows, all_left, one_opened, one_decided, one_swept, in_table, range, count}
 use Rattle.tenant_stores.specs.View.{keys_in, text_keys, text_keys_of, text_keys_at}
-use Rattle.tenant_stores.specs.Invariant.{one, uses_of, if_of, last_of, latest_row_in, named_keys, StoreInvariant}
-use Rattle.tenant_stores.specs.Changes.{texts_without, Joins, Opens, Waits, new_row, Settles, Leaves, Drops, Sweeps}
+use Rattle.tenant_stores.specs.Invariant.{one, uses_of, if_of, last_of, latest_row_in, StoreInvariant}
+use Rattle.tenant_stores.specs.Changes.{texts_without, Joins, Opens, Waits, new_row, Settles, Leaves}
 use Rattle.tenant_stores.proofs.Parts.{part_by, span_here}
 use Rattle.tenant_stores.proofs.Lists.{count-append, AreOther, range-above, range-below, front_of, last}
 use Rattle.tenant_stores.proofs.Uses.{one_most, one-without, one-put, names-append, names-by_count, names-put, names-without, uses-without, kept-without}

@@ -1,6 +1,5 @@
-use Rattle.std.proofs.Common.{◌≡◌, ◌<◌, ◌+◌, ◌-◌, ◌/◌, ◌++◌, ◌∷◌, [], ◌∙◌, ap, sym, subst, arith, ℕ, List, length, take, drop}
+use Rattle.std.proofs.Common.{◌≡◌, ◌-◌, ◌/◌, ◌∙◌, ap, sym, subst, arith, ℕ, List, length}
 use Rattle.std.specs.Prelude.{IsSome}
-use Rattle.std.proofs.Math.Seq.{take-append_seam}
 use Rattle.std.proofs.lemmas.List.{append-nil, length_push}
 use Rattle.shard_agenda.specs.declared.AgendaEntry.{AgendaEntry}
 use Rattle.shard_agenda.specs.Firsts.{IsRight, IsRightBut}
@@ -15,7 +14,20 @@ pub returns-then-count-eq0-clause-right : goal.returns-then-count-eq0-clause-rig
 returns-then-count-eq0-clause-right c =
     let es = c.args.entries.now.items in
     let xs = c.pop.new.self.items in
-    let some : IsSome c.pop-_first.result = c.pop-_first.ensures.variant.1 (omega (arith, c.requires.even, ap length c.in-Some.ensures.items, length_push xs c.in-Some.last, c.args.firsts.now.ok.0)) in
-    let both = popped es xs c.args.firsts.now.items c.pop-_first.new.self.items c.in-Some.last c.pop-_first.result c.in-Some.ensures.items c.pop-_first.ensures.items some c.requires.even c.requires.right in
+    let some : IsSome c.pop-first.result = c.pop-first.ensures.variant.1 (omega (arith, c.requires.even, ap length c.in-Some.ensures.items, length_push xs c.in-Some.last, c.args.firsts.now.ok.0)) in
+    let both = popped es xs c.args.firsts.now.items c.pop-first.new.self.items c.in-Some.last c.pop-first.result c.in-Some.ensures.items c.pop-first.ensures.items some c.requires.even c.requires.right in
     let none : length xs ≡ 0 = omega (arith, c.len-count.ensures, c.pop.new.self.ok.0) in
-    right_empty xs c.pop-_first.new.self.items none (both.0 ∙ none)
+    right_empty xs c.pop-first.new.self.items none (both.0 ∙ none)
+
+pub mend-requires-clause-right : goal.mend-requires-clause-right
+mend-requires-clause-right c =
+    let es = c.args.entries.now.items in
+    let xs = c.pop.new.self.items in
+    let ys = c.pop-first.new.self.items in
+    let some : IsSome c.pop-first.result = c.pop-first.ensures.variant.1 (omega (arith, c.requires.even, ap length c.in-Some.ensures.items, length_push xs c.in-Some.last, c.args.firsts.now.ok.0)) in
+    let both = popped es xs c.args.firsts.now.items ys c.in-Some.last c.pop-first.result c.in-Some.ensures.items c.pop-first.ensures.items some c.requires.even c.requires.right in
+    let count : c.len-count.result ≡ length xs = omega (arith, c.len-count.ensures, c.pop.new.self.ok.0) in
+    let xs' : c.as_slice.result.now ≡ xs = c.as_slice.ensures.value in
+    let ys' : c.as_mut_slice.result.now ≡ ys = c.as_mut_slice.ensures.value in
+    subst (λ (n : ℕ). IsRightBut ((n - 1) / 2) c.as_slice.result.now c.as_mut_slice.result.now) (sym count)
+    (subst (λ (l : List AgendaEntry). IsRightBut ((length xs - 1) / 2) l c.as_mut_slice.result.now) (sym xs') (subst (λ (l : List AgendaEntry). IsRightBut ((length xs - 1) / 2) xs l) (sym ys') both.1))

@@ -1,8 +1,9 @@
-use Rattle.std.proofs.Common.{ℕ, sym, subst}
+use Rattle.std.proofs.Common.{◌∙◌, ℕ, sym, subst}
 use Rattle.tenant_stores.proofs.Held.{on_err}
 use Rattle.tenant_rules.specs.Own as step
 use Rattle.tenant_rules.specs.Timers.{IsFront}
-use Rattle.tenant_pipeline.specs.StateIn.{state_in}
+use Rattle.tenant_pipeline.specs.StateIn.{part_in, state_in}
+use Rattle.tenant_pipeline.proofs.Retiring.{none_counted, none_pending}
 use Rattle.tenant_pipeline.proofs.Stepping.{Done, Finds, answers_of, ranges, retire_done}
 use Rattle.tenant_pipeline.proofs.pipeline.Pipeline.retire.Goals as goal
 
@@ -36,3 +37,9 @@ returns-clause-from_state c = (done c).from_state
 
 pub returns-clause-invariant : goal.returns-clause-invariant
 returns-clause-invariant c = (done c).held
+
+pub returns-clause-may_leave : goal.returns-clause-may_leave
+returns-clause-may_leave c = λ text told.
+    let mid = c.run_due.new.self in
+    none_pending (record mid { clock = c.effective-moment.result }) (part_in mid c.run_due.new.stores) (done c).held
+    (none_counted mid.drained mid.ledger text (sym c.in_ok-told.ensures ∙ told))

@@ -1,23 +1,31 @@
-use Rattle.std.proofs.Common.{◌≡◌, ◌∙◌, ℕ, List, take, length, refl, ap, subst, arith}
+use Rattle.std.proofs.Common.{◌≡◌, ◌∙◌, ℕ, List, [], take, length, refl, ap, subst, sym, arith}
 use Rattle.std.proofs.Math.Seq.{take-length}
 use Rattle.tail_settings.specs.Settings.{settings_view}
-use Rattle.tenant_shard.specs.Lists.{ShardStands}
-use Rattle.tenant_shard.specs.Members.{views}
+use Rattle.tenant_shard.specs.Lives.{ShardStands}
+use Rattle.tenant_shard.specs.Members.{all_views}
 use Rattle.tenant_shard.specs.Table.{opened}
-use Rattle.tenant_shard.proofs.Frame.{all_counted}
+use Rattle.tenant_shard.proofs.Gones.{counted_all}
 use Rattle.tenant_shard.proofs.shard.Shard.open_with_keys.Goals as goal
 
 pub loop-tenant-init : goal.loop-tenant-init
 loop-tenant-init c = record {
-  whole = rw (c.new-opened.ensures.items, c.new-agenda.ensures) (record {
-    order = tt;
-    held = tt;
-    swept = tt;
-    strangers = λ t none. c.new-stores.ensures t;
-    listed = λ t. refl;
-    ready = λ t. refl;
+  whole = rw (c.new-opened.ensures.items, c.new-agenda.ensures, c.new-gone.ensures.items) (record {
+    whole = record {
+      order = tt;
+      held = tt;
+      swept = tt;
+      strangers = λ t none. c.new-stores.ensures t;
+      listed = λ t. refl;
+      ready = λ t. refl;
+    };
+    gone_are = record {
+      rise = λ i j d le within. absurd (omega (arith, within));
+      apart = λ t is. refl;
+      has_room = omega arith;
+    };
   });
-  stands = λ t. rw c.new-opened.ensures.items tt;
+  nobody_left = c.new-gone.ensures.items;
+  stands = λ t. rw c.new-opened.ensures.items (tt, refl);
 }
 
 pub returns-clause-stands : goal.returns-clause-stands
@@ -27,7 +35,8 @@ returns-clause-stands c =
     let done = c.loop-tenant-test.false in
     let end : c.loop-tenant.tenant-index ≡ length numbers = omega (arith, most, done) in
     let all : take c.loop-tenant.tenant-index numbers ≡ numbers = ap (λ (n : ℕ). take n numbers) end ∙ take-length numbers in
-    subst (λ (ns : List ℕ). ShardStands (opened (settings_view c.args.settings.now) ns) (views c.new-stores.result c.loop-tenant.opened.items)) all c.loop-tenant.invariant.stands
+    let stands = subst (λ (ns : List ℕ). ShardStands (opened (settings_view c.args.settings.now) ns) (all_views c.new-stores.result c.loop-tenant.opened.items [])) all c.loop-tenant.invariant.stands in
+    subst (λ (gs : List ℕ). ShardStands (opened (settings_view c.args.settings.now) numbers) (all_views c.new-stores.result c.loop-tenant.opened.items gs)) (sym c.loop-tenant.invariant.nobody_left) stands
 
 pub returns-clause-counted : goal.returns-clause-counted
-returns-clause-counted c = all_counted c.new-stores.result c.loop-tenant.agenda c.loop-tenant.opened.items c.loop-tenant.invariant.whole
+returns-clause-counted c = counted_all c.new-stores.result c.loop-tenant.agenda c.loop-tenant.opened.items c.loop-tenant.gone.items c.loop-tenant.invariant.whole.whole

@@ -1,7 +1,7 @@
 use Rattle.std.proofs.Common.{◌≡◌, ◌≤◌, length, take, refl, arith}
 use Rattle.std.proofs.lemmas.List.{take_more, take_all}
 use Rattle.tenant_shard.specs.Chain.{ShardDoes, ShardRuns}
-use Rattle.tenant_shard.proofs.Frame.{all_counted}
+use Rattle.tenant_shard.proofs.Gones.{counted_all}
 use Rattle.tenant_shard.proofs.Wholes.{Chain-push, by_own_steps, stands_after, each_alone, stopped_at_start, stopped_at}
 use Rattle.tenant_shard.proofs.shard.Shard.run.Goals as goal
 
@@ -9,14 +9,14 @@ pub returns-in_default-clause-stopped : goal.returns-in_default-clause-stopped
 returns-in_default-clause-stopped c = rw c.new.ensures.items (stopped_at_start c.args.steps.now c.args.self.now)
 
 pub returns-in_default-clause-counted : goal.returns-in_default-clause-counted
-returns-in_default-clause-counted c = rw (← c.self.view_is) (all_counted c.self.inside.stores c.self.inside.agenda c.self.inside.members.items c.self.invariant)
+returns-in_default-clause-counted c = rw (← c.self.view_is) (counted_all c.self.inside.stores c.self.inside.agenda c.self.inside.members.items c.self.inside.gone.items c.self.invariant.whole)
 
 pub loop-step-init : goal.loop-step-init
 loop-step-init c = record {
   runs = rw c.in-Ok.ensures.items refl;
   count = c.in-Ok.ensures.len;
   room = omega (arith, c.in-Ok.ensures.capacity);
-  counted = rw (← c.self.view_is) (all_counted c.self.inside.stores c.self.inside.agenda c.self.inside.members.items c.self.invariant);
+  counted = rw (← c.self.view_is) (counted_all c.self.inside.stores c.self.inside.agenda c.self.inside.members.items c.self.inside.gone.items c.self.invariant.whole);
 }
 
 pub returns-clause-counted : goal.returns-clause-counted

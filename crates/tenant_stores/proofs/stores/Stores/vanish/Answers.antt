@@ -1,4 +1,4 @@
-use Rattle.std.proofs.Common.{◌≡◌, ◌≢◌, ◌≤◌, ◌∙◌, ap, sym, subst, refl, arith, ℕ, []}
+use Rattle.std.proofs.Common.{◌≡◌, ◌∙◌, sym, subst, refl, arith, ℕ, []}
 use Rattle.tenant_stores.specs.Part.{part}
 use Rattle.tenant_stores.specs.Counts.{all_left}
 use Rattle.tenant_stores.specs.Invariant.{StoreInvariant}

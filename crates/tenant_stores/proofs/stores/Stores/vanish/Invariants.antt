@@ -6,6 +6,6 @@ use Rattle.tenant_stores.proofs.stores.Stores.vanish.Given as goal
 
 abbrev pub invariant-loop-before : goal.invariant-loop-before
 invariant-loop-before g l = record {
-  sound : (n : Counts) → l.fn.swept ≡ n.swept → l.before-end ≡ n.opened → StoreInvariant n [] [] (part l.tenant l.fn.self) → StoreInvariant (all_left l.before n) [] [] (part l.tenant l.self);
+  sound : (n : Counts) → l.fn.swept ≡ n.swept → l.fn.opened ≡ n.opened → StoreInvariant n [] [] (part l.tenant l.fn.self) → StoreInvariant (all_left l.before n) [] [] (part l.tenant l.self);
   others : (other : ℕ) → other ≢ l.tenant → part other l.self ≡ part other l.fn.self;
 }
