@@ -3,16 +3,15 @@ use Rattle.std.proofs.Common.{◌≡◌, ◌≢◌, inl, inr, ℕ, ◌+◌, ◌�
 use Rattle.std.specs.Prelude.{if◌then◌else◌}
 use Rattle.std.proofs.lemmas.Bool.Decides.{nat_tests}
 use Rattle.tail_settings.specs.Section.{SectionData}
-use Rattle.tenant_rules.specs.declared.reply.StepReply.TheVariants as replies
 use Rattle.tenant_shard.specs.declared.step.Step.{Step}
 use Rattle.tenant_shard.specs.declared.step.Outcome.{Outcome}
 use Rattle.tenant_shard.specs.View.{View}
 use Rattle.tenant_shard.specs.Lives.{Life, new_life, gone, Lives, ShardStands}
 use Rattle.tenant_shard.specs.Run.{lived, lived_by, after}
-use Rattle.tenant_shard.specs.Outcomes.{OwnStep, Asked, Piped, Comes, asked_in, named_in, is_taken, Answer, Answered, NotTaken, named, told_whom, is_tenant, whose, is_own, has_left, is_report, reports}
+use Rattle.tenant_shard.specs.Outcomes.{OwnStep, Asked, Piped, Comes, asked_in, named_in, is_taken, named, told_whom, is_tenant, whose, is_own, has_left, is_report, reports}
 use Rattle.tenant_shard.specs.Alone.{said, alone, own_steps, told_to}
 use Rattle.tenant_shard.specs.Refusal.{without}
-use Rattle.tenant_shard.proofs.Wholes.{each_alone}
+use Rattle.tenant_shard.proofs.Wholes.{reports-named, each_alone}
 use Rattle.machine_hub.specs.Runs.{Runs, IsLoss, RunsWithLosses, entries_in, losses}
 use Rattle.shard_machine.specs.Drawing.{StepIsRefused, IsLostBySome}
 use Rattle.shard_machine.specs.MachineState.{MachineState, MachineDoes}
@@ -24,17 +23,6 @@ abbrev pub IsAlone : ℕ → Life → List Logged → Type 0
 IsAlone t life es = told_to t (outcomes_of es) ≡ map (named t) (alone life (own_steps t (steps_of es) (outcomes_of es)))
 
 -- ---- a step more at the front
-
--- counters are told under a tenant's name just where they are told
-reports-named : (t : ℕ) (answer : Answer) → reports (named t answer) ≡ is_report answer
-reports-named t (Answered (replies.Reply reply)) = refl
-reports-named t (Answered (replies.Job ticket payload)) = refl
-reports-named t (Answered replies.Worked) = refl
-reports-named t (Answered replies.Done) = refl
-reports-named t (Answered (replies.Report text)) = refl
-reports-named t (Answered replies.UnknownTicket) = refl
-reports-named t (Answered replies.NotEmpty) = refl
-reports-named t (NotTaken number) = refl
 
 first_is : (o other : Outcome) (os others : List Outcome) → o ∷ os ≡ other ∷ others → o ≡ other
 first_is o other os others same = cc
