@@ -1,16 +1,18 @@
 -- What a draw and a seed do to the generators.
-use Rattle.std.proofs.Common.{◌≡◌, ◌≢◌, ℕ, ◌==◌, List, [], ◌∷◌, length, Bool, true, false, eqb, Option, Some, None, is_some, refl, sym, ap, ◌∙◌, arith}
+use Rattle.std.proofs.Common.{◌≡◌, ◌≢◌, ℕ, ◌==◌, List, [], ◌∷◌, length, Bool, true, false, eqb, cond, Option, Some, None, is_some, refl, sym, ap, ◌∙◌, arith}
 use Rattle.std.specs.Prelude.{option_map, if◌then◌else◌}
 use Rattle.std.proofs.lemmas.Bool.Decides.{nat_tests}
 use Rattle.std.proofs.Math.Path.{fun_ext}
-use Rattle.std.specs.Ordering.{nat_cmp, is_eq}
+use Rattle.std.specs.Ordering.{nat_cmp, is_eq, match_ordering}
+use Rattle.std.specs.declared.cmp.Ordering.{Ordering}
+use Rattle.std.specs.declared.cmp.Ordering.TheVariants.{Less, Equal, Greater}
 use Rattle.std.specs.Cmp.{unsigned_ties}
-use Rattle.std.specs.Map.{lookup}
+use Rattle.std.specs.Map.{lookup, remove_entry}
 use Rattle.std.specs.BTreeMap.{BTreeMap}
 use Rattle.std.specs.BTreeMap as tree
 use Rattle.rand_pcg.specs.Lcg.{Lcg}
 use Rattle.rand_pcg.specs.Pcg.{pcg32}
-use Rattle.shard_machine.specs.Jitter.{start, next_word, moved, first_words, after_words, TenantGenerator, generator_of, or_start, IsDraw, IsSeeded, Drawn, words_of, EachHasItsOwn}
+use Rattle.shard_machine.specs.Jitter.{start, next_word, moved, first_words, after_words, TenantGenerator, generator_of, or_start, without, IsDraw, IsSeeded, IsRemoved, Drawn, words_of, EachHasItsOwn}
 
 -- what the map has at a tenant is the tenant's generator
 pub at_tenant : (m : BTreeMap ℕ Lcg) (tenant : ℕ) → tree.get nat_cmp m tenant ≡ generator_of tenant m.entries
@@ -58,6 +60,36 @@ seeded_before tenant seed sources has = record { own = still (generator_of tenan
     still : (o : Option Lcg) → is_some o ≡ true → o ≡ Some (or_start o seed)
     still None never = absurd (cc)
     still (Some g) has = refl
+
+pub removed : (m n : BTreeMap ℕ Lcg) (tenant : ℕ) → tree.Updates nat_cmp m n tenant None → IsRemoved tenant m.entries n.entries
+removed m n tenant updates = record { own = own m n tenant None updates; others = others m n tenant None updates }
+
+-- whether a key is the tenant's, as the map asks for it
+abbrev is_tenants : ℕ → ℕ → Bool
+is_tenants tenant other = is_eq (nat_cmp tenant other)
+
+pub removed_is : (tenant : ℕ) (es : List TenantGenerator) → remove_entry (is_tenants tenant) es ≡ without tenant es
+removed_is tenant es = ap (λ (test : ℕ → Bool). remove_entry test es) (fun_ext (λ other. sym (unsigned_ties tenant other)))
+
+-- what is put where there was none is taken out again
+undone_at : (tenant : ℕ) (g : Lcg) (es : List TenantGenerator) → lookup (is_tenants tenant) es ≡ None → remove_entry (is_tenants tenant) (tree.insert_entry nat_cmp es tenant g) ≡ es
+undone_at tenant g [] none = let own : is_tenants tenant tenant ≡ true = grind (arith, nat_tests) in rw own refl
+undone_at tenant g (e ∷ es) none = by (nat_cmp tenant e.0) refl (undone_at tenant g es)
+  where
+    by : (o : Ordering) → nat_cmp tenant e.0 ≡ o → (lookup (is_tenants tenant) es ≡ None → remove_entry (is_tenants tenant) (tree.insert_entry nat_cmp es tenant g) ≡ es)
+        → remove_entry (is_tenants tenant) (match_ordering o ((tenant, g) ∷ e ∷ es) ((e.0, g) ∷ es) (e ∷ tree.insert_entry nat_cmp es tenant g)) ≡ e ∷ es
+    by Less is rest = let own : is_tenants tenant tenant ≡ true = grind (arith, nat_tests) in rw own refl
+    by Equal is rest =
+        let here : is_tenants tenant e.0 ≡ true = ap is_eq is in
+        let found : Some e.1 ≡ None = sym (ap (λ b. cond b (Some e.1) (lookup (is_tenants tenant) es)) here) ∙ none in
+        absurd (cc)
+    by Greater is rest =
+        let other : is_tenants tenant e.0 ≡ false = ap is_eq is in
+        let later : lookup (is_tenants tenant) es ≡ None = sym (ap (λ b. cond b (Some e.1) (lookup (is_tenants tenant) es)) other) ∙ none in
+        rw other (ap (λ l. e ∷ l) (rest later))
+
+pub undone : (m n : BTreeMap ℕ Lcg) (tenant : ℕ) (g : Lcg) → tree.get nat_cmp m tenant ≡ None → n.entries ≡ tree.insert_entry nat_cmp m.entries tenant g → without tenant n.entries ≡ m.entries
+undone m n tenant g none is = ap (without tenant) is ∙ sym (removed_is tenant (tree.insert_entry nat_cmp m.entries tenant g)) ∙ undone_at tenant g m.entries none
 
 -- what one tenant drew, and where its generator stands then
 abbrev IsOwn : ℕ → List Drawn → List TenantGenerator → Lcg → Type 0

@@ -1,105 +1,148 @@
 -- A step with its word.
-use Rattle.std.proofs.Common.{◌≡◌, ℕ, List, ◌⊎◌, inl, inr, Option, Some, None, refl, sym, ap, ◌∙◌}
+use Rattle.std.proofs.Common.{◌≡◌, ℕ, List, ◌&&◌, ◌⊎◌, inl, inr, Bool, true, false, Option, Some, None, is_some, refl, sym, ap, ◌∙◌, subst}
 use Rattle.std.proofs.lemmas.Bool.{cases_eq}
 use Rattle.std.specs.Prelude.{option_map, ◌≢◌}
 use Rattle.rand_pcg.specs.Lcg.{Lcg}
 use Rattle.send_retry.specs.declared.answer.Answer.{Answer}
+use Rattle.send_retry.specs.Class.{answer_view}
+use Rattle.tail_settings.specs.declared.section.Section.{Section}
+use Rattle.tail_settings.specs.Section.{SectionData, section_view}
+use Rattle.tenant_rules.specs.Own as own
 use Rattle.shard_machine.specs.Jitter.{next_word, moved, TenantGenerator, generator_of, IsDraw}
 use Rattle.tenant_shard.specs.declared.step.Step.{Step}
 use Rattle.tenant_shard.specs.declared.step.Step.TheVariants as steps
 use Rattle.tenant_shard.specs.declared.step.Outcome.{Outcome}
 use Rattle.tenant_shard.specs.declared.step.Outcome.TheVariants.{Refused}
 use Rattle.tenant_shard.specs.View.{View, kept_of}
-use Rattle.tenant_shard.specs.Outcomes.{not_member}
-use Rattle.tenant_shard.specs.Refusal.{ShardRefuses}
+use Rattle.tenant_shard.specs.Outcomes.{OwnStep, Piped, plain, own_post, asked_in, is_retirement, not_member}
 use Rattle.tenant_shard.specs.Follows.{refusal_number, ShardFollows}
-use Rattle.tenant_shard.specs.Run.{ShardSteps}
-use Rattle.tenant_rules.specs.State.{State}
+use Rattle.tenant_shard.specs.Chain.{ShardDoes}
 use Rattle.shard_machine.specs.declared.step.WordSource.{WordSource}
 use Rattle.shard_machine.specs.declared.step.WordSource.TheVariants as word
 use Rattle.shard_machine.specs.declared.step.LoggedStep.{LoggedStep}
-use Rattle.shard_machine.specs.Drawing.{IsReady}
-use Rattle.shard_machine.specs.MachineState.{MachineState, GeneratorsMove, MachineDoes, AreMembers}
-
--- who is no member stays so
-abbrev StaysNone : List View → List View → Type 0
-StaysNone old new = (tenant : ℕ) → kept_of tenant old ≡ None → kept_of tenant new ≡ None
-
-stays_but : (own : ℕ) (before : State) (old new : List View) → kept_of own old ≡ Some before → ((other : ℕ) → other ≢ own → kept_of other new ≡ kept_of other old) → StaysNone old new
-stays_but own before old new was others tenant none = by (cases_eq tenant own)
-  where
-    by : (tenant ≡ own) ⊎ (tenant ≢ own) → kept_of tenant new ≡ None
-    by (inl same) = let there : kept_of tenant old ≡ Some before = ap (λ t. kept_of t old) same ∙ was in absurd (cc)
-    by (inr apart) = others tenant apart ∙ none
-
-stays_on : (step : Step) (old : List View) (outcome : Outcome) (new : List View) → ShardFollows step old outcome new → StaysNone old new
-stays_on step old outcome new (inl n) tenant none = ap (kept_of tenant) n.new_is ∙ none
-stays_on step old outcome new (inr m) tenant none = stays_but m.0 m.1.before old new m.1.was m.1.others tenant none
-
-stays_refused : (step : Step) (old new : List View) → ShardRefuses step old new → StaysNone old new
-stays_refused step old new r tenant none = stays_but r.0 r.1.before old new r.1.was r.1.others tenant none
+use Rattle.shard_machine.specs.Drawing.{IsReady, StepIsRefused}
+use Rattle.shard_machine.specs.MachineState.{MachineState, GeneratorsGoOn, GeneratorsMove, MachineDoes, AreMembers}
+use Rattle.shard_machine.proofs.Members.{members_stay, members_at_refusal, are_still, with_same_words, no_member, never_comes}
 
 -- who gets no word has no generator
 pub no_generator : (o : Option Lcg) → option_map next_word o ≡ None → o ≡ None
 no_generator None e = refl
 no_generator (Some g) e = absurd (cc)
 
-unmapped : (o : Option Lcg) → option_map moved o ≡ None → o ≡ None
-unmapped None e = refl
-unmapped (Some g) e = absurd (cc)
+-- ---- a draw
 
--- who has no generator had none
-draw_none : (own : ℕ) (word : Option ℕ) (old new : List TenantGenerator) → IsDraw own old word new → (tenant : ℕ) → generator_of tenant new ≡ None → generator_of tenant old ≡ None
-draw_none own word old new d tenant none = by (cases_eq tenant own)
+still_some : (o : Option Lcg) → is_some (option_map moved o) ≡ is_some o
+still_some None = refl
+still_some (Some g) = refl
+
+draw_stays : (t : ℕ) (drawn : Option ℕ) (old new : List TenantGenerator) → IsDraw t old drawn new → (tenant : ℕ) → is_some (generator_of tenant new) ≡ is_some (generator_of tenant old)
+draw_stays t drawn old new d tenant = by (cases_eq tenant t)
   where
-    by : (tenant ≡ own) ⊎ (tenant ≢ own) → generator_of tenant old ≡ None
-    by (inl same) = unmapped (generator_of tenant old) (ap (λ t. option_map moved (generator_of t old)) same ∙ sym d.own ∙ ap (λ t. generator_of t new) (sym same) ∙ none)
-    by (inr apart) = sym (d.others tenant apart) ∙ none
+    by : (tenant ≡ t) ⊎ (tenant ≢ t) → is_some (generator_of tenant new) ≡ is_some (generator_of tenant old)
+    by (inl same) = ap (λ x. is_some (generator_of x new)) same ∙ ap is_some d.own ∙ still_some (generator_of t old) ∙ ap (λ x. is_some (generator_of x old)) (sym same)
+    by (inr apart) = ap is_some (d.others tenant apart)
 
-ready_none : (w : WordSource) (step : Step) (old new : List TenantGenerator) → IsReady w step old new → (tenant : ℕ) → generator_of tenant new ≡ None → generator_of tenant old ≡ None
-ready_none word.Caller step old new ready tenant none = ap (generator_of tenant) (sym ready) ∙ none
-ready_none word.Generator (steps.Post now prepared) old new ready tenant none = absurd ready
-ready_none word.Generator (steps.Turn now) old new ready tenant none = absurd ready
-ready_none word.Generator (steps.Answer other now ticket drawn answer) old new ready tenant none = draw_none other (Some drawn) old new ready tenant none
-ready_none word.Generator (steps.Report other now) old new ready tenant none = absurd ready
-ready_none word.Generator (steps.Drain other now) old new ready tenant none = absurd ready
-ready_none word.Nobody (steps.Post now prepared) old new ready tenant none = absurd ready
-ready_none word.Nobody (steps.Turn now) old new ready tenant none = absurd ready
-ready_none word.Nobody (steps.Answer other now ticket drawn answer) old new ready tenant none = ap (generator_of tenant) (sym ready.2) ∙ none
-ready_none word.Nobody (steps.Report other now) old new ready tenant none = absurd ready
-ready_none word.Nobody (steps.Drain other now) old new ready tenant none = absurd ready
+same_stays : (old new : List TenantGenerator) → new ≡ old → (tenant : ℕ) → is_some (generator_of tenant new) ≡ is_some (generator_of tenant old)
+same_stays old new same tenant = ap (λ w. is_some (generator_of tenant w)) same
 
-pub members_after : (w : WordSource) (step : Step) (outcome : Outcome) (old new : List TenantGenerator) (views views' : List View) → AreMembers old views → IsReady w step old new → ShardFollows step views outcome views' → AreMembers new views'
-members_after w step outcome old new views views' are ready goes tenant none = stays_on step views outcome views' goes tenant (are tenant (ready_none w step old new ready tenant none))
+ready_stays : (w : WordSource) (step : Step) (old new : List TenantGenerator) → IsReady w step old new → (tenant : ℕ) → is_some (generator_of tenant new) ≡ is_some (generator_of tenant old)
+ready_stays word.Caller step old new ready = same_stays old new ready
+ready_stays word.Generator (steps.Post now prepared) old new ready = absurd ready
+ready_stays word.Generator (steps.Turn now) old new ready = absurd ready
+ready_stays word.Generator (steps.Answer other now ticket drawn answer) old new ready = draw_stays other (Some drawn) old new ready
+ready_stays word.Generator (steps.Report other now) old new ready = absurd ready
+ready_stays word.Generator (steps.Drain other now) old new ready = absurd ready
+ready_stays word.Generator (steps.Add other section) old new ready = absurd ready
+ready_stays word.Generator (steps.Retire other now) old new ready = absurd ready
+ready_stays word.Nobody (steps.Post now prepared) old new ready = absurd ready
+ready_stays word.Nobody (steps.Turn now) old new ready = absurd ready
+ready_stays word.Nobody (steps.Answer other now ticket drawn answer) old new ready = same_stays old new ready.2
+ready_stays word.Nobody (steps.Report other now) old new ready = absurd ready
+ready_stays word.Nobody (steps.Drain other now) old new ready = absurd ready
+ready_stays word.Nobody (steps.Add other section) old new ready = absurd ready
+ready_stays word.Nobody (steps.Retire other now) old new ready = absurd ready
 
-pub members_refused : (w : WordSource) (step : Step) (old new : List TenantGenerator) (views views' : List View) → AreMembers old views → IsReady w step old new → ShardRefuses step views views' → AreMembers new views'
-members_refused w step old new views views' are ready lost tenant none = stays_refused step views views' lost tenant (are tenant (ready_none w step old new ready tenant none))
+pub members_ready : (w : WordSource) (step : Step) (old new : List TenantGenerator) (views : List View) → AreMembers old views → IsReady w step old new → AreMembers new views
+members_ready w step old new views are ready = are_still old new views views are (ready_stays w step old new ready) (λ tenant. refl)
 
--- a step of no member that names a tenant
+-- ---- steps by which nobody comes or is to go
+
+-- a step that is neither
+pub record IsPlain (step : Step) : Type 0 where
+  pub no_add : (tenant : ℕ) (section : Section) → step ≡ steps.Add tenant section → ⊥
+  pub no_retirement : (tenant now : ℕ) → step ≡ steps.Retire tenant now → ⊥
+
+-- what it asks
+record IsOther (step : Step) : Type 0 where
+  asked : OwnStep
+  asks : asked_in step ≡ Piped asked
+  stays : is_retirement asked.step ≡ false
+
+other_of : (step : Step) → IsPlain step → IsOther step
+other_of (steps.Post now prepared) plain_one = record { asked = own_post now prepared; asks = refl; stays = refl }
+other_of (steps.Turn now) plain_one = record { asked = plain (own.Turn now); asks = refl; stays = refl }
+other_of (steps.Answer tenant now ticket drawn answer) plain_one = record { asked = plain (own.Answer now ticket drawn (answer_view answer)); asks = refl; stays = refl }
+other_of (steps.Report tenant now) plain_one = record { asked = plain (own.Report now); asks = refl; stays = refl }
+other_of (steps.Drain tenant now) plain_one = record { asked = plain (own.Drain now); asks = refl; stays = refl }
+other_of (steps.Add tenant section) plain_one = absurd (plain_one.no_add tenant section refl)
+other_of (steps.Retire tenant now) plain_one = absurd (plain_one.no_retirement tenant now refl)
+
+pub plain_goes_on : (step : Step) (o : Outcome) (words : List TenantGenerator) → IsPlain step → GeneratorsGoOn step o words words
+plain_goes_on (steps.Post now prepared) o words plain_one = refl
+plain_goes_on (steps.Turn now) o words plain_one = refl
+plain_goes_on (steps.Answer tenant now ticket drawn answer) o words plain_one = refl
+plain_goes_on (steps.Report tenant now) o words plain_one = refl
+plain_goes_on (steps.Drain tenant now) o words plain_one = refl
+plain_goes_on (steps.Add tenant section) o words plain_one = absurd (plain_one.no_add tenant section refl)
+plain_goes_on (steps.Retire tenant now) o words plain_one = absurd (plain_one.no_retirement tenant now refl)
+
+-- ---- what a step does, and what is left of one that was refused memory
+
+pub plain_members : (step : Step) (words : List TenantGenerator) (views : List View) (o : Outcome) (views' : List View) → IsPlain step → AreMembers words views → ShardFollows step views o views' → AreMembers words views'
+plain_members step words views o views' plain_one are follows =
+    let other = other_of step plain_one in
+    with_same_words words words views views' are refl (members_stay step views o views' other.asked other.asks other.stays follows)
+
+pub members_refused : (step : Step) (words words' : List TenantGenerator) (views views' : List View) → AreMembers words views → words' ≡ words → StepIsRefused step views views' → AreMembers words' views'
+members_refused step words words' views views' are same refused = with_same_words words words' views views' are same (members_at_refusal step views views' refused)
+
+-- ---- a step with its word
+
+-- an answer to the job of a tenant that is no member
 not_a_member : (tenant now ticket drawn : ℕ) (answer : Answer) (outcome : Outcome) (views views' : List View) → kept_of tenant views ≡ None → ShardFollows (steps.Answer tenant now ticket drawn answer) views outcome views' → outcome ≡ Refused tenant not_member
 not_a_member tenant now ticket drawn answer outcome views views' none (inl n) = n.outcome_is ∙ ap (λ k. Refused tenant (refusal_number k)) none
-not_a_member tenant now ticket drawn answer outcome views views' none (inr m) =
+not_a_member tenant now ticket drawn answer outcome views views' none (inr (inl m)) =
     let same : tenant ≡ m.0 = m.1.whose.0 in
     let there : kept_of tenant views ≡ Some m.1.before = ap (λ t. kept_of t views) same ∙ m.1.was in
     absurd (cc)
+not_a_member tenant now ticket drawn answer outcome views views' none (inr (inr a)) =
+    absurd (never_comes (asked_in (steps.Answer tenant now ticket drawn answer)) (plain (own.Answer now ticket drawn (answer_view answer))) a.1.whose.section refl a.1.whose.comes)
 
-words_go_on : (w : WordSource) (step : Step) (outcome : Outcome) (old new : List TenantGenerator) (views views' : List View) → AreMembers old views → IsReady w step old new → ShardFollows step views outcome views' → GeneratorsMove w step outcome old new
-words_go_on word.Caller step outcome old new views views' are ready goes = ready
-words_go_on word.Generator (steps.Post now prepared) outcome old new views views' are ready goes = absurd ready
-words_go_on word.Generator (steps.Turn now) outcome old new views views' are ready goes = absurd ready
-words_go_on word.Generator (steps.Answer other now ticket drawn answer) outcome old new views views' are ready goes = ready
-words_go_on word.Generator (steps.Report other now) outcome old new views views' are ready goes = absurd ready
-words_go_on word.Generator (steps.Drain other now) outcome old new views views' are ready goes = absurd ready
-words_go_on word.Nobody (steps.Post now prepared) outcome old new views views' are ready goes = absurd ready
-words_go_on word.Nobody (steps.Turn now) outcome old new views views' are ready goes = absurd ready
-words_go_on word.Nobody (steps.Answer other now ticket drawn answer) outcome old new views views' are ready goes =
-    (ready.0, ready.1, ready.2, not_a_member other now ticket drawn answer outcome views views' (are other ready.1) goes)
-words_go_on word.Nobody (steps.Report other now) outcome old new views views' are ready goes = absurd ready
-words_go_on word.Nobody (steps.Drain other now) outcome old new views views' are ready goes = absurd ready
+words_move : (w : WordSource) (step : Step) (outcome : Outcome) (old middle new : List TenantGenerator) (views views' : List View) → AreMembers old views → IsReady w step old middle → ShardFollows step views outcome views' → GeneratorsGoOn step outcome middle new
+    → GeneratorsMove w step outcome old new
+words_move word.Caller step outcome old middle new views views' are ready follows goes = subst (λ words. GeneratorsGoOn step outcome words new) ready goes
+words_move word.Generator (steps.Post now prepared) outcome old middle new views views' are ready follows goes = absurd ready
+words_move word.Generator (steps.Turn now) outcome old middle new views views' are ready follows goes = absurd ready
+words_move word.Generator (steps.Answer other now ticket drawn answer) outcome old middle new views views' are ready follows goes = subst (λ words. IsDraw other old (Some drawn) words) (sym goes) ready
+words_move word.Generator (steps.Report other now) outcome old middle new views views' are ready follows goes = absurd ready
+words_move word.Generator (steps.Drain other now) outcome old middle new views views' are ready follows goes = absurd ready
+words_move word.Generator (steps.Add other section) outcome old middle new views views' are ready follows goes = absurd ready
+words_move word.Generator (steps.Retire other now) outcome old middle new views views' are ready follows goes = absurd ready
+words_move word.Nobody (steps.Post now prepared) outcome old middle new views views' are ready follows goes = absurd ready
+words_move word.Nobody (steps.Turn now) outcome old middle new views views' are ready follows goes = absurd ready
+words_move word.Nobody (steps.Answer other now ticket drawn answer) outcome old middle new views views' are ready follows goes =
+    (ready.0, ready.1, goes ∙ ready.2, not_a_member other now ticket drawn answer outcome views views' (no_member old views other are ready.1) follows)
+words_move word.Nobody (steps.Report other now) outcome old middle new views views' are ready follows goes = absurd ready
+words_move word.Nobody (steps.Drain other now) outcome old middle new views views' are ready follows goes = absurd ready
+words_move word.Nobody (steps.Add other section) outcome old middle new views views' are ready follows goes = absurd ready
+words_move word.Nobody (steps.Retire other now) outcome old middle new views views' are ready follows goes = absurd ready
 
-pub worded_does : (old : MachineState) (made : LoggedStep) (outcome : Outcome) (new : MachineState) → AreMembers old.words old.views → IsReady made.word made.step old.words new.words → ShardSteps made.step old.views outcome new.views
-    → ShardFollows made.step old.views outcome new.views → MachineDoes old made outcome new
-worded_does old made outcome new are ready ok goes = record {
-  shard = record { by_own_steps = ok; from_state = goes };
-  words = words_go_on made.word made.step outcome old.words new.words old.views new.views are ready goes;
+pub machine_does : (old : MachineState) (made : LoggedStep) (outcome : Outcome) (new : MachineState) (middle : List TenantGenerator) → AreMembers old.words old.views → IsReady made.word made.step old.words middle → ShardDoes made.step old.views outcome new.views
+    → GeneratorsGoOn made.step outcome middle new.words → MachineDoes old made outcome new
+machine_does old made outcome new middle are ready does goes = record {
+  shard = does;
+  words = words_move made.word made.step outcome old.words middle new.words old.views new.views are ready does.from_state goes;
 }
+
+pub still_ready : (w : WordSource) (step : Step) (old middle new : List TenantGenerator) → IsReady w step old middle → new ≡ middle → IsReady w step old new
+still_ready w step old middle new ready same = subst (λ words. IsReady w step old words) (sym same) ready

@@ -1,4 +1,6 @@
 mod Draws
+mod Members
 mod Going
+mod Comings
 mod Seeding
 mod Runs

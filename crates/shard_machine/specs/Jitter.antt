@@ -2,7 +2,7 @@
 -- of simple fast space-efficient statistically good algorithms for random number generation"), started from a seed as
 -- `seed_from_u64` of Rust's `rand_pcg` starts it.
 use Rattle.std.specs.Prelude.{◌≡◌, ◌≢◌, ℕ, zero, suc, List, [], ◌∷◌, length, Option, Some, None, option_map, if◌then◌else◌, ◌==◌}
-use Rattle.std.specs.Map.{lookup}
+use Rattle.std.specs.Map.{lookup, remove_entry}
 use Rattle.rand_core.specs.Pcg32Seed.{pcg32_seed}
 use Rattle.rand_pcg.specs.Lcg.{Lcg}
 use Rattle.rand_pcg.specs.Pcg.{pcg32, pcg32_of_seed}
@@ -54,6 +54,15 @@ or_start (Some g) seed = g
 -- a tenant got a generator, at its start, unless it had one, and all others have what they had
 pub record IsSeeded (tenant seed : ℕ) (old new : List TenantGenerator) : Type 0 where
   pub own : generator_of tenant new ≡ Some (or_start (generator_of tenant old) seed)
+  pub others : (other : ℕ) → other ≢ tenant → generator_of other new ≡ generator_of other old
+
+-- the generators without a tenant's
+abbrev pub without : ℕ → List TenantGenerator → List TenantGenerator
+without tenant sources = remove_entry (λ other. tenant == other) sources
+
+-- a tenant has no generator any more, and all others have what they had
+pub record IsRemoved (tenant : ℕ) (old new : List TenantGenerator) : Type 0 where
+  pub own : generator_of tenant new ≡ None
   pub others : (other : ℕ) → other ≢ tenant → generator_of other new ≡ generator_of other old
 
 -- a word that was drawn, and for whom

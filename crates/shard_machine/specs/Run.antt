@@ -1,6 +1,8 @@
 -- What the log of such a machine is: a run of the shard, in which each tenant's drawn words are the first of its own
 -- generator. This project's own rule.
-use Rattle.std.specs.Prelude.{◌≡◌, ℕ, List, [], ◌∷◌, map, length, Some, if◌then◌else◌, ◌==◌}
+use Rattle.std.specs.Prelude.{◌≡◌, ℕ, List, [], ◌∷◌, map, length, Option, Some, None, if◌then◌else◌, ◌==◌, ◌&&◌}
+use Rattle.std.specs.Option.{option_or}
+use Rattle.tail_settings.specs.Section.{SectionData, section_view}
 use Rattle.rand_pcg.specs.Lcg.{Lcg}
 use Rattle.machine_hub.specs.declared.entry.Entry.{Entry}
 use Rattle.machine_hub.specs.Runs.{Runs}
@@ -12,7 +14,7 @@ use Rattle.tenant_shard.specs.Chain.{ShardRuns}
 use Rattle.shard_machine.specs.declared.step.WordSource.{WordSource}
 use Rattle.shard_machine.specs.declared.step.WordSource.TheVariants as word
 use Rattle.shard_machine.specs.declared.step.LoggedStep.{LoggedStep}
-use Rattle.shard_machine.specs.MachineState.{MachineState, MachineDoes}
+use Rattle.shard_machine.specs.MachineState.{MachineState, MachineDoes, lets_in, started}
 
 -- an entry of the log
 abbrev pub Logged : Type 0
@@ -42,8 +44,24 @@ abbrev pub RunsAreShardRuns : Type 0
 RunsAreShardRuns = (old new : MachineState) (es : List Logged) → Runs MachineDoes old es new →
     ShardRuns (steps_of es) old.views (outcomes_of es) new.views
 
--- in it the words that were drawn for a tenant are the first of its own generator
+-- the section with which a step let a tenant in, where it did
+abbrev pub came_by : ℕ → Step → Outcome → Option SectionData
+came_by tenant (steps.Add other section) outcome =
+    if other == tenant && lets_in outcome then Some (section_view section) else None
+came_by tenant _ outcome = None
+
+-- the section with which a tenant was let in first, where it was
+abbrev pub section_in : ℕ → List Logged → Option SectionData
+section_in tenant [] = None
+section_in tenant (e ∷ es) = option_or (came_by tenant e.step.step e.outcome) (section_in tenant es)
+
+-- words are the first of this generator; there are none where there is none
+abbrev pub AreFirstWords : Option Lcg → List ℕ → Type 0
+AreFirstWords None words = words ≡ []
+AreFirstWords (Some g) words = words ≡ first_words (length words) g
+
+-- in it the words that were drawn for a tenant are the first of its own generator: of the one that it had before, or,
+-- where it had none, of the one that it got when it was let in, which starts from its seed
 abbrev pub WordsAreInOrder : Type 0
-WordsAreInOrder = (tenant : ℕ) (old new : MachineState) (es : List Logged) (g : Lcg) → Runs MachineDoes old es new →
-    generator_of tenant old.words ≡ Some g →
-    drawn_for tenant es ≡ first_words (length (drawn_for tenant es)) g
+WordsAreInOrder = (tenant : ℕ) (old new : MachineState) (es : List Logged) → Runs MachineDoes old es new →
+    AreFirstWords (option_or (generator_of tenant old.words) (started (section_in tenant es))) (drawn_for tenant es)

@@ -1,7 +1,7 @@
 //! The generators of several tenants.
 
-ghost use Rattle.std.specs.Prelude.{◌≡◌, [], OnOk, OnErr};
-ghost use Rattle.shard_machine.specs.Jitter.{IsDraw, IsSeeded};
+ghost use Rattle.std.specs.Prelude.{◌≡◌, [], true, false, is_none, IfOk, OnOk, OnErr};
+ghost use Rattle.shard_machine.specs.Jitter.{generator_of, without, IsDraw, IsSeeded, IsRemoved};
 
 use rand_core::SeedableRng;
 use rand_core::utils::NextWord;
@@ -35,17 +35,29 @@ impl JitterGenerators {
         }
     }
 
-    /// Gives a tenant a generator, which starts from its seed, unless it has one. Where memory is refused, nothing
-    /// changes.
-    pub fn seed(&mut self, tenant: u32, seed: u64) -> Result<(), AllocError>
+    /// Gives a tenant a generator, which starts from its seed, unless it has one. Answers whether it had none. Where
+    /// memory is refused, nothing changes.
+    pub fn seed(&mut self, tenant: u32, seed: u64) -> Result<bool, AllocError>
         ensures seeded { OnOk result (IsSeeded tenant seed self.old self.new) }
+        ensures newly { IfOk result (λ newly. newly ≡ is_none (generator_of tenant self.old)) }
+        ensures undone { IfOk result (λ newly. newly ≡ true → without tenant self.new ≡ self.old) }
+        ensures had_one { IfOk result (λ newly. newly ≡ false → self.new ≡ self.old) }
         ensures on_refusal { OnErr result (self.new ≡ self.old) }
     {
-        if !self.generators.contains_key(&tenant) {
-            self.generators
-                .insert(tenant, Lcg64Xsh32::seed_from_u64(seed))?;
+        if self.generators.contains_key(&tenant) {
+            return Ok(false);
         }
-        Ok(())
+        self.generators
+            .insert(tenant, Lcg64Xsh32::seed_from_u64(seed))?;
+        Ok(true)
+    }
+
+    /// Takes a tenant's generator away, if it has one.
+    pub fn remove(&mut self, tenant: u32)
+        ensures removed { IsRemoved tenant self.old self.new }
+        ensures without { self.new ≡ without tenant self.old }
+    {
+        self.generators.remove(&tenant);
     }
 
     /// Draws a tenant's next word; none where it has no generator.

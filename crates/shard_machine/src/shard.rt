@@ -1,11 +1,15 @@
 //! The shard with its tenants' generators.
 
-ghost use Rattle.std.specs.Prelude.{◌≡◌, ℕ, List, [], ◌∷◌, ◌++◌, IfOk, OnOk, OnErr};
+ghost use Rattle.std.specs.Prelude.{◌≡◌, ℕ, true, not, List, [], ◌∷◌, ◌++◌, IfOk, OnOk, OnErr, ◌&&◌, if◌then◌else◌};
 ghost use Rattle.tail_settings.specs.Settings.{settings_view};
-ghost use Rattle.tenant_shard.specs.Lists.{ShardStands};
+ghost use Rattle.tenant_shard.specs.Chain.{ShardDoes};
+ghost use Rattle.tenant_shard.specs.Lives.{ShardStands};
+ghost use Rattle.tenant_shard.specs.Outcomes.{reports};
 ghost use Rattle.tenant_shard.specs.Table.{opened};
-ghost use Rattle.shard_machine.specs.MachineState.{AreSeeded, AsksFor};
-ghost use Rattle.shard_machine.specs.Drawing.{IsReady};
+ghost use Rattle.tenant_shard.specs.declared.step.Step.TheVariants as steps;
+ghost use Rattle.shard_machine.specs.Jitter.{without, IsRemoved};
+ghost use Rattle.shard_machine.specs.MachineState.{AreMembers, AreSeeded, AsksFor, GeneratorsGoOn};
+ghost use Rattle.shard_machine.specs.Drawing.{is_let_in, IsReady, StepIsRefused};
 
 use crate::copy::copy_of;
 use crate::jitter::JitterGenerators;
@@ -14,7 +18,7 @@ use decision_cache::HashKeys;
 use machine_hub::Machine;
 use std::alloc::{AllocError, Global};
 use std::marker::Model;
-use tail_settings::Settings;
+use tail_settings::{Section, Settings};
 use tenant_shard::{Outcome, Shard, Step};
 
 /// A shard, and a generator of words for each of its tenants.
@@ -84,7 +88,7 @@ impl Machine for ShardMachine {
         ensures lost { OnErr result (IsLostBySome self.old self.new) }
     {
         let made = ready(&mut self.words, call);
-        let outcome = self.shard.step(&made.step)?;
+        let outcome = step_with_words(&mut self.shard, &mut self.words, &made.step)?;
         Ok((made, outcome))
     }
 
@@ -136,6 +140,95 @@ fn ready(words: &mut JitterGenerators, call: Call) -> LoggedStep
                 word: WordSource::Nobody,
             },
         },
+    }
+}
+
+/// Does the step of a shard. A tenant comes with a generator, and its generator goes with it. Where memory is refused
+/// no generator has changed.
+fn step_with_words(
+    shard: &mut Shard,
+    words: &mut JitterGenerators,
+    step: &Step,
+) -> Result<Outcome, AllocError>
+    requires { AreMembers words.old shard.old }
+    ensures does { IfOk result (λ outcome. ShardDoes step.now shard.old outcome shard.new) }
+    ensures go_on { IfOk result (λ outcome. GeneratorsGoOn step.now outcome words.old words.new) }
+    ensures refused { OnErr result (StepIsRefused step.now shard.old shard.new) }
+    ensures kept { OnErr result (words.new ≡ words.old) }
+    ensures members { AreMembers words.new shard.new }
+{
+    match step {
+        Step::Add { tenant, section } => let_in(shard, words, step, *tenant, section),
+        Step::Retire { tenant, .. } => retire(shard, words, step, *tenant),
+        _ => shard.step(step),
+    }
+}
+
+/// A tenant comes. Its generator is made first, so that nobody is let in without one.
+fn let_in(
+    shard: &mut Shard,
+    words: &mut JitterGenerators,
+    step: &Step,
+    tenant: u32,
+    section: &Section,
+) -> Result<Outcome, AllocError>
+    requires members { AreMembers words.old shard.old }
+    requires comes { step.now ≡ steps.Add tenant section.now }
+    ensures does { IfOk result (λ outcome. ShardDoes step.now shard.old outcome shard.new) }
+    ensures go_on { IfOk result (λ outcome. GeneratorsGoOn step.now outcome words.old words.new) }
+    ensures refused { OnErr result (StepIsRefused step.now shard.old shard.new) }
+    ensures kept { OnErr result (words.new ≡ words.old) }
+    ensures members { AreMembers words.new shard.new }
+{
+    let newly = words.seed(tenant, section.seed)?;
+    let told = shard.step(step);
+    let removes = is_kept_out(newly, &told);
+    remove_if(words, tenant, removes);
+    told
+}
+
+/// A tenant is to go.
+fn retire(
+    shard: &mut Shard,
+    words: &mut JitterGenerators,
+    step: &Step,
+    tenant: u32,
+) -> Result<Outcome, AllocError>
+    requires members { AreMembers words.old shard.old }
+    requires retires { (now : ℕ) × (step.now ≡ steps.Retire tenant now) }
+    ensures does { IfOk result (λ outcome. ShardDoes step.now shard.old outcome shard.new) }
+    ensures go_on { IfOk result (λ outcome. GeneratorsGoOn step.now outcome words.old words.new) }
+    ensures refused { OnErr result (StepIsRefused step.now shard.old shard.new) }
+    ensures kept { OnErr result (words.new ≡ words.old) }
+    ensures members { AreMembers words.new shard.new }
+{
+    let outcome = shard.step(step)?;
+    let leaves = reports(&outcome);
+    remove_if(words, tenant, leaves);
+    Ok(outcome)
+}
+
+/// Whether a tenant that got a generator isn't let in.
+fn is_kept_out(newly: bool, told: &Result<Outcome, AllocError>) -> bool
+    ensures { result ≡ (newly && not (is_let_in told.now)) }
+{
+    newly && !matches!(told, Ok(Outcome::Done(_)))
+}
+
+/// Whether a tenant is told its counters.
+fn reports(outcome: &Outcome) -> bool
+    ensures { result ≡ reports outcome.now }
+{
+    matches!(outcome, Outcome::Report(_, _))
+}
+
+/// Takes a tenant's generator away, or leaves all as they are.
+fn remove_if(words: &mut JitterGenerators, tenant: u32, removes: bool)
+    ensures removed { removes ≡ true → IsRemoved tenant words.old words.new }
+    ensures without { words.new ≡ (if removes then without tenant words.old else words.old) }
+{
+    if removes {
+        words.remove(tenant);
     }
 }
 

@@ -6,7 +6,7 @@ use Rattle.tail_settings.specs.Settings.{SettingsData}
 use Rattle.machine_hub.specs.declared.view.Home.{Home}
 use Rattle.machine_hub.specs.Slot.{home_of}
 use Rattle.machine_hub.specs.Hub.{AreNew, homes_of}
-use Rattle.tenant_shard.specs.Lists.{ShardStands}
+use Rattle.tenant_shard.specs.Lives.{ShardStands}
 use Rattle.tenant_shard.specs.Table.{opened, members_of}
 use Rattle.shard_machine.specs.MachineState.{MachineState, AreSeeded}
 use Rattle.shared_hub.specs.Shards.{IsFresh, AreOpened, kept}

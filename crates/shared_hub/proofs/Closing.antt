@@ -1,11 +1,13 @@
 -- What the logs are at the end.
 use Rattle.std.proofs.Common.{◌≡◌, ℕ, zero, suc, ◌+◌, List, [], ◌∷◌, ◌++◌, Bool, true, false, Some, refl, sym, ap, ◌∙◌, subst, arith}
-use Rattle.std.specs.Prelude.{slice_get, slice_set, option_map}
+use Rattle.std.specs.Prelude.{slice_get, slice_set, Option, None}
+use Rattle.std.specs.Option.{option_or}
 use Rattle.tail_settings.specs.Section.{SectionData}
 use Rattle.tail_settings.specs.Settings.{SettingsData}
-use Rattle.shard_machine.specs.Jitter.{start}
+use Rattle.shard_machine.specs.Jitter.{generator_of}
+use Rattle.tenant_shard.specs.Lives.{new_life}
 use Rattle.tenant_shard.specs.Alone.{OwnStepsDecide}
-use Rattle.tenant_shard.specs.Table.{opened, members_of}
+use Rattle.tenant_shard.specs.Table.{section_of, opened, members_of}
 use Rattle.tenant_shard.proofs.Wholes.{by_own_steps, stands_after, each_alone}
 use Rattle.machine_hub.specs.declared.view.Home.{Home}
 use Rattle.machine_hub.specs.Runs.{entry, Runs, IsHistory}
@@ -14,29 +16,34 @@ use Rattle.machine_hub.proofs.Ended.{found, shard_run}
 use Rattle.machine_hub.specs.Slot.{stored, with_history}
 use Rattle.machine_hub.specs.Seats.{seat_after, IsNoted}
 use Rattle.machine_hub.specs.Hub.{AreShardRuns, AreShardHistories}
-use Rattle.shard_machine.specs.MachineState.{MachineState, MachineDoes}
-use Rattle.shard_machine.specs.Run.{Logged, steps_of, outcomes_of, RunsAreShardRuns, WordsAreInOrder}
+use Rattle.shard_machine.specs.MachineState.{MachineState, MachineDoes, started}
+use Rattle.shard_machine.specs.Run.{Logged, steps_of, outcomes_of, drawn_for, section_in, AreFirstWords, RunsAreShardRuns, WordsAreInOrder}
 use Rattle.shared_hub.specs.Shards.{IsFresh, AreOpened}
 use Rattle.shared_hub.specs.Logs.{Seat, CallerState, LoggedShard, has_none, IsLogOf, EachCallEndsARun, EachLookSeesARun, AreLogged, AreOneRun, IsHistoryOf, AreOneHistory, EachCallEndsAHistory, EachLookSeesAHistory, LogsTellByOwnSteps}
 use Rattle.shard_machine.specs.Drawing.{IsLostBySome}
-use Rattle.shared_hub.proofs.Drawing.{none_drawn}
 use Rattle.shared_hub.proofs.Sparing.{IsAlone, spares, behind, run_and_later, entries_behind, losses_behind}
+
+either : (first later : Option SectionData) → option_or (started first) (started later) ≡ started (option_or first later)
+either None later = refl
+either (Some section) later = refl
 
 log_of : RunsAreShardRuns → WordsAreInOrder → (table : SettingsData) (members : List ℕ) (first last : MachineState) (entries : List Logged) → IsFresh table members first → Runs MachineDoes first entries last → IsLogOf table members entries last
 log_of shard_runs in_order table members first last entries fresh run =
     let chain = shard_runs first last entries run in
     let steps = steps_of entries in
     let outcomes = outcomes_of entries in
-    let lists = opened table members in
+    let lives = opened table members in
     record {
       first = first;
       fresh = fresh;
       runs = chain;
-      by_own_steps = by_own_steps steps first.views outcomes last.views chain lists fresh.stands (λ tenant. refl);
-      each_alone = λ tenant section at. each_alone steps first.views outcomes last.views chain lists fresh.stands tenant section at refl;
-      stands = stands_after steps first.views outcomes last.views chain lists fresh.stands;
-      words = λ tenant section at. in_order tenant first last entries (start section.seed) run (fresh.words tenant ∙ ap (option_map (λ (s : SectionData). start s.seed)) at);
-      nobodys = λ tenant at. none_drawn tenant first last entries run (fresh.words tenant ∙ ap (option_map (λ (s : SectionData). start s.seed)) at);
+      by_own_steps = by_own_steps steps first.views outcomes last.views chain lives fresh.stands (λ tenant. refl);
+      each_alone = λ tenant. each_alone steps first.views outcomes last.views chain lives fresh.stands tenant refl;
+      stands = stands_after steps first.views outcomes last.views chain lives fresh.stands;
+      words = λ tenant.
+          let own : option_or (generator_of tenant first.words) (started (section_in tenant entries)) ≡ started (option_or (section_of table members tenant) (section_in tenant entries)) =
+          ap (λ g. option_or g (started (section_in tenant entries))) (fresh.words tenant) ∙ either (section_of table members tenant) (section_in tenant entries) in
+          subst (λ g. AreFirstWords g (drawn_for tenant entries)) own (in_order tenant first last entries run);
     }
 
 pub are_logged : RunsAreShardRuns → WordsAreInOrder → (table : SettingsData) (homes : List (Home MachineState)) (callers : List CallerState) (shards : List LoggedShard) → AreShardRuns MachineDoes homes callers shards → AreOpened table homes → AreLogged table shards
@@ -74,8 +81,8 @@ history_of table members first s fresh did =
       history = did;
       hit = spared.hit;
       few = omega (arith, spared.few, losses_behind s.entries s.later);
-      each_alone = λ tenant section at apart.
-          subst (IsAlone tenant section []) (entries_behind s.entries s.later) (spared.alone_is (opened table members) fresh.stands tenant section at refl apart);
+      each_alone = λ tenant apart.
+          subst (IsAlone tenant (opened table members tenant)) (entries_behind s.entries s.later) (spared.alone_is (opened table members) fresh.stands tenant refl apart);
     }
 
 pub are_one_history : (table : SettingsData) (homes : List (Home MachineState)) (callers : List CallerState) (shards : List LoggedShard) → AreShardRuns MachineDoes homes callers shards → AreShardHistories MachineDoes IsLostBySome homes callers shards
@@ -162,19 +169,18 @@ sees_a_history table members caller shard tenant told look fresh =
 
 pub told_by_own_steps : OwnStepsDecide → LogsTellByOwnSteps
 told_by_own_steps decide section steps =
-    let r = decide section [] steps in (
+    let r = decide (new_life section) steps in (
       r.0,
       λ table members entries last log tenant at own. r.1 tenant _ (record {
-        lists = opened table members;
+        lives = opened table members;
         old = log.first.views;
         all_steps = steps_of entries;
         outcomes = outcomes_of entries;
         new = last.views;
         stands = log.fresh.stands;
         runs = log.runs;
-        section_is = at;
+        life_is = ap new_life at;
         is_known = refl;
-        past_is = refl;
         steps_are = own;
         told_is = refl;
       }),

@@ -1,4 +1,3 @@
 mod Building
-mod Drawing
 mod Sparing
 mod Closing

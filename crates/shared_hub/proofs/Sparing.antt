@@ -3,61 +3,74 @@ use Rattle.std.proofs.Common.{◌≡◌, ◌≢◌, inl, inr, ℕ, ◌+◌, ◌�
 use Rattle.std.specs.Prelude.{if◌then◌else◌}
 use Rattle.std.proofs.lemmas.Bool.Decides.{nat_tests}
 use Rattle.tail_settings.specs.Section.{SectionData}
-use Rattle.tenant_rules.specs.Own.{Own}
-use Rattle.tenant_rules.specs.Answers.{answer}
+use Rattle.tenant_shard.specs.declared.step.Step.{Step}
 use Rattle.tenant_shard.specs.declared.step.Outcome.{Outcome}
 use Rattle.tenant_shard.specs.View.{View}
-use Rattle.tenant_shard.specs.Lists.{Lists, ShardStands}
-use Rattle.tenant_shard.specs.Run.{after, recorded}
-use Rattle.tenant_shard.specs.Outcomes.{OwnStep, own_step, named_in, is_taken, other_policies, Answered, NotTaken, named, told_whom, is_tenant, whose, is_own}
-use Rattle.tenant_shard.specs.Alone.{alone, own_steps, told_to}
+use Rattle.tenant_shard.specs.Lives.{Life, new_life, gone, Lives, ShardStands}
+use Rattle.tenant_shard.specs.Run.{lived, lived_by, after}
+use Rattle.tenant_shard.specs.Outcomes.{OwnStep, Asked, Piped, Comes, asked_in, named_in, is_taken, named, told_whom, is_tenant, whose, is_own, has_left, is_report, reports}
+use Rattle.tenant_shard.specs.Alone.{said, alone, own_steps, told_to}
 use Rattle.tenant_shard.specs.Refusal.{without}
-use Rattle.tenant_shard.proofs.Wholes.{each_alone}
+use Rattle.tenant_shard.proofs.Wholes.{reports-named, each_alone}
 use Rattle.machine_hub.specs.Runs.{Runs, IsLoss, RunsWithLosses, entries_in, losses}
-use Rattle.shard_machine.specs.Drawing.{IsLostBySome}
+use Rattle.shard_machine.specs.Drawing.{StepIsRefused, IsLostBySome}
 use Rattle.shard_machine.specs.MachineState.{MachineState, MachineDoes}
 use Rattle.shard_machine.specs.Run.{Logged, steps_of, outcomes_of}
 use Rattle.shared_hub.specs.Logs.{IsSpared}
 
--- a tenant is told what its own steps say, alone, from what the lists know of it
-abbrev pub IsAlone : ℕ → SectionData → List Own → List Logged → Type 0
-IsAlone t section past es = told_to t (outcomes_of es) ≡ map (named t) (alone section past (own_steps t (steps_of es) (outcomes_of es)))
+-- a tenant is told what its life alone says of its own steps
+abbrev pub IsAlone : ℕ → Life → List Logged → Type 0
+IsAlone t life es = told_to t (outcomes_of es) ≡ map (named t) (alone life (own_steps t (steps_of es) (outcomes_of es)))
 
--- a step more at the front
-next_taken : (t : ℕ) (section : SectionData) (past : List Own) (step : OwnStep) (o : Outcome) (os : List Outcome) (own : List OwnStep) (taken : Bool)
-    → o ∷ [] ≡ map (named t) (if taken then Answered (answer section past step.step) ∷ alone section (step.step ∷ past) [] else NotTaken other_policies ∷ alone section past [])
-    → os ≡ map (named t) (alone section (if taken then step.step ∷ past else past) own)
-    → o ∷ os ≡ map (named t) (if taken then Answered (answer section past step.step) ∷ alone section (step.step ∷ past) own else NotTaken other_policies ∷ alone section past own)
-next_taken t section past step o os own true one rest = let first : o ≡ named t (Answered (answer section past step.step)) = cc in (λ i. first i ∷ rest i)
-next_taken t section past step o os own false one rest = let first : o ≡ named t (NotTaken other_policies) = cc in (λ i. first i ∷ rest i)
+-- ---- a step more at the front
 
-one_more : (t : ℕ) (section : SectionData) (past : List Own) (step : OwnStep) (o : Outcome) (os : List Outcome) (own : List OwnStep) (told mine : Bool)
-    → cond told (o ∷ []) [] ≡ map (named t) (alone section past (if mine then step ∷ [] else []))
-    → os ≡ map (named t) (alone section (if mine then recorded (Some section) step past else past) own)
-    → cond told (o ∷ os) os ≡ map (named t) (alone section past (if mine then step ∷ own else own))
-one_more t section past step o os own true true one rest = next_taken t section past step o os own (is_taken section step) one rest
-one_more t section past step o os own true false one rest = absurd (cc)
-one_more t section past step o os own false true one rest = absurd (none (is_taken section step) one)
-  where
-    none : (taken : Bool) → ◌≡◌ {A = List Outcome} [] (map (named t) (if taken then Answered (answer section past step.step) ∷ alone section (step.step ∷ past) [] else NotTaken other_policies ∷ alone section past [])) → ⊥
-    none true e = absurd (cc)
-    none false e = absurd (cc)
-one_more t section past step o os own false false one rest = rest
+first_is : (o other : Outcome) (os others : List Outcome) → o ∷ os ≡ other ∷ others → o ≡ other
+first_is o other os others same = cc
 
-alone_more : (t : ℕ) (section : SectionData) (lists : Lists) (e : Logged) (es : List Logged) → lists.sections t ≡ Some section
-    → IsAlone t section (lists.pasts t) (e ∷ []) → IsAlone t section ((after e.step.step e.outcome lists).pasts t) es → IsAlone t section (lists.pasts t) (e ∷ es)
-alone_more t section lists e es member one rest =
-    let past : List Own = lists.pasts t in
-    let mine = is_own t e.step.step e.outcome in
-    let rest' : told_to t (outcomes_of es) ≡ map (named t) (alone section (if mine then recorded (Some section) (own_step e.step.step) past else past) (own_steps t (steps_of es) (outcomes_of es))) =
-    subst (λ (o : Option SectionData). told_to t (outcomes_of es) ≡ map (named t) (alone section (if mine then recorded o (own_step e.step.step) past else past) (own_steps t (steps_of es) (outcomes_of es)))) member rest in
-    one_more t section past (own_step e.step.step) e.outcome (told_to t (outcomes_of es)) (own_steps t (steps_of es) (outcomes_of es)) (is_tenant t (told_whom e.outcome)) mine one rest'
+one_more : (t : ℕ) (life : Life) (asked : Asked) (o : Outcome) (os : List Outcome) (own : List Asked) (told mine : Bool)
+    → cond told (o ∷ []) [] ≡ map (named t) (alone life (if mine then asked ∷ [] else []))
+    → os ≡ map (named t) (alone (if mine then lived asked (reports o) life else life) own)
+    → cond told (o ∷ os) os ≡ map (named t) (alone life (if mine then asked ∷ own else own))
+one_more t life asked o os own true true one rest =
+    let first : o ≡ named t (said life asked) = first_is o (named t (said life asked)) [] [] one in
+    let reported : reports o ≡ is_report (said life asked) = ap reports first ∙ reports-named t (said life asked) in
+    let tail : os ≡ map (named t) (alone (lived asked (is_report (said life asked)) life) own) = subst (λ b. os ≡ map (named t) (alone (lived asked b life) own)) reported rest in
+    (λ i. first i ∷ tail i)
+one_more t life asked o os own true false one rest = absurd (cc)
+one_more t life asked o os own false true one rest = absurd (cc)
+one_more t life asked o os own false false one rest = rest
+
+alone_more : (t : ℕ) (lives : Lives) (e : Logged) (es : List Logged) → IsAlone t (lives t) (e ∷ []) → IsAlone t (after e.step.step e.outcome lives t) es → IsAlone t (lives t) (e ∷ es)
+alone_more t lives e es one rest =
+    one_more t (lives t) (asked_in e.step.step) e.outcome (told_to t (outcomes_of es)) (own_steps t (steps_of es) (outcomes_of es)) (is_tenant t (told_whom e.outcome)) (is_own t e.step.step e.outcome) one rest
+
+-- ---- what is known of a tenant stays so
+
+known_if : (b : Bool) (one other : Life) → one.known ≡ true → other.known ≡ true → ◌≡◌ {A = Bool} (if b then one else other).known true
+known_if true one other here there = here
+known_if false one other here there = there
+
+known_by : (section : Option SectionData) (step : OwnStep) (reported : Bool) (life : Life) → life.known ≡ true → (lived_by section step reported life).known ≡ true
+known_by None step reported life known = known
+known_by (Some section) step reported life known =
+    known_if (is_taken section step) (if has_left step.step reported then gone else record life { past = step.step ∷ life.past }) life
+    (known_if (has_left step.step reported) gone (record life { past = step.step ∷ life.past }) refl known) known
+
+lived_known : (asked : Asked) (reported : Bool) (life : Life) → life.known ≡ true → (lived asked reported life).known ≡ true
+lived_known (Piped step) reported life known = known_by life.section step reported life known
+lived_known (Comes section) reported life known = known_if life.used life (new_life (Some section)) known refl
+
+after_known : (t : ℕ) (lives : Lives) (e : Logged) → (lives t).known ≡ true → (after e.step.step e.outcome lives t).known ≡ true
+after_known t lives e known =
+    known_if (is_own t e.step.step e.outcome) (lived (asked_in e.step.step) (reports e.outcome) (lives t)) (lives t) (lived_known (asked_in e.step.step) (reports e.outcome) (lives t) known) known
+
+-- ---- calls that were refused memory
 
 -- what happened, with the tenants at most whom want of memory hit
 pub record Spares (hs : List (Option Logged)) (old : List View) : Type 0 where
   pub hit : List ℕ
   pub few : length hit ≤ losses hs
-  pub alone_is : (lists : Lists) → ShardStands lists old → (t : ℕ) (section : SectionData) → lists.sections t ≡ Some section → lists.known t ≡ true → IsSpared t hit → IsAlone t section (lists.pasts t) (entries_in hs)
+  pub alone_is : (lives : Lives) → ShardStands lives old → (t : ℕ) → (lives t).known ≡ true → IsSpared t hit → IsAlone t (lives t) (entries_in hs)
 
 not_same : (u t : ℕ) → u ≢ t → eqb u t ≡ false
 not_same u t apart = by (eqb u t) refl
@@ -79,22 +92,34 @@ spared_rest : (o : Option ℕ) (hit : List ℕ) (t : ℕ) → IsSpared t (hit_by
 spared_rest None hit t spared = (spared, refl)
 spared_rest (Some u) hit t spared = (spared.1, not_same u t spared.0)
 
-spares_loss : (hs : List (Option Logged)) (old next : MachineState) → IsLoss MachineDoes IsLostBySome old next → Spares hs next.views → Spares (None ∷ hs) old.views
-spares_loss hs old next (inl same) rest =
-    let back = subst (λ (w : MachineState). Spares hs w.views) same rest in
+-- a tenant whose life is the same is told the same
+alone_along : (t : ℕ) (lives lives' : Lives) (es : List Logged) → lives' t ≡ lives t → IsAlone t (lives' t) es → IsAlone t (lives t) es
+alone_along t lives lives' es same alone_is = subst (λ (life : Life). IsAlone t life es) same alone_is
+
+-- nothing has changed, and nobody was hit
+spares_none : (hs : List (Option Logged)) (old new : List View) → new ≡ old → Spares hs new → Spares (None ∷ hs) old
+spares_none hs old new same rest =
+    let back = subst (Spares hs) same rest in
     let fewer : length back.hit ≤ losses hs + 1 = omega (arith, back.few) in
     record { hit = back.hit; few = fewer; alone_is = back.alone_is }
-spares_loss hs old next (inr (inl lost)) rest =
-    let u = lost.1.shard.0 in
+
+spares_refusal : (hs : List (Option Logged)) (step : Step) (old new : List View) → StepIsRefused step old new → Spares hs new → Spares (None ∷ hs) old
+spares_refusal hs step old new (inl (inl (u, r))) rest =
     let fewer : length (u ∷ rest.hit) ≤ losses hs + 1 = omega (arith, rest.few) in
     record {
       hit = u ∷ rest.hit;
       few = fewer;
-      alone_is = λ lists stands t section member known spared.
+      alone_is = λ lives stands t known spared.
           let test : eqb t u ≡ false = not_same t u (λ same. spared.0 (sym same)) in
-          let still : (if eqb t u then false else lists.known t) ≡ true = ap (λ (b : Bool). if b then false else lists.known t) test ∙ known in
-          rest.alone_is (without u lists) (lost.1.shard.1.stands lists stands) t section member still spared.1;
+          let still : without u lives t ≡ lives t = ap (λ (b : Bool). if b then record (lives t) { known = false } else lives t) test in
+          alone_along t lives (without u lives) (entries_in hs) still (rest.alone_is (without u lives) (r.stands lives stands) t (ap (λ (life : Life). life.known) still ∙ known) spared.1);
     }
+spares_refusal hs step old new (inl (inr n)) rest = spares_none hs old new n.1 rest
+spares_refusal hs step old new (inr k) rest = spares_none hs old new k.1 rest
+
+spares_loss : (hs : List (Option Logged)) (old next : MachineState) → IsLoss MachineDoes IsLostBySome old next → Spares hs next.views → Spares (None ∷ hs) old.views
+spares_loss hs old next (inl same) rest = spares_none hs old.views next.views (ap (λ (w : MachineState). w.views) same) rest
+spares_loss hs old next (inr (inl lost)) rest = spares_refusal hs lost.1.made.step old.views next.views lost.1.shard rest
 spares_loss hs old next (inr (inr made)) rest =
     let s = made.0.step in
     let o = made.1 in
@@ -102,15 +127,15 @@ spares_loss hs old next (inr (inr made)) rest =
     record {
       hit = hit_by who rest.hit;
       few = few_hit who rest.hit (losses hs) rest.few;
-      alone_is = λ lists stands t section member known spared.
+      alone_is = λ lives stands t known spared.
           let left = spared_rest who rest.hit t spared in
-          let next_stands = (made.2.shard.by_own_steps.stands lists stands).1 in
-          let past : (after s o lists).pasts t ≡ lists.pasts t = ap (λ (b : Bool). if b then recorded (lists.sections t) (own_step s) (lists.pasts t) else lists.pasts t) left.1 in
-          subst (λ (p : List Own). IsAlone t section p (entries_in hs)) past (rest.alone_is (after s o lists) next_stands t section member known left.0);
+          let next_stands = (made.2.shard.by_own_steps.stands lives stands).1 in
+          let still : after s o lives t ≡ lives t = ap (λ (b : Bool). if b then lived (asked_in s) (reports o) (lives t) else lives t) left.1 in
+          alone_along t lives (after s o lives) (entries_in hs) still (rest.alone_is (after s o lives) next_stands t (ap (λ (life : Life). life.known) still ∙ known) left.0);
     }
 
 pub spares : (hs : List (Option Logged)) (old new : MachineState) → RunsWithLosses MachineDoes IsLostBySome old hs new → Spares hs old.views
-spares [] old new later_run = record { hit = []; few = omega arith; alone_is = λ lists stands t section member known spared. refl }
+spares [] old new later_run = record { hit = []; few = omega arith; alone_is = λ lives stands t known spared. refl }
 spares (None ∷ hs) old new later_run = spares_loss hs old later_run.0 later_run.1 (spares hs later_run.0 new later_run.2)
 spares (Some e ∷ hs) old new later_run =
     let rest = spares hs later_run.0 new later_run.2 in
@@ -118,11 +143,11 @@ spares (Some e ∷ hs) old new later_run =
     record {
       hit = rest.hit;
       few = rest.few;
-      alone_is = λ lists stands t section member known spared.
-          let next = (does.by_own_steps.stands lists stands).1 in
-          alone_more t section lists e (entries_in hs) member
-          (each_alone (e.step.step ∷ []) old.views (e.outcome ∷ []) later_run.0.views (later_run.0.views, does, refl) lists stands t section member known)
-          (rest.alone_is (after e.step.step e.outcome lists) next t section member known spared);
+      alone_is = λ lives stands t known spared.
+          let next = (does.by_own_steps.stands lives stands).1 in
+          alone_more t lives e (entries_in hs)
+          (each_alone (e.step.step ∷ []) old.views (e.outcome ∷ []) later_run.0.views (later_run.0.views, does, refl) lives stands t known)
+          (rest.alone_is (after e.step.step e.outcome lives) next t (after_known t lives e known) spared);
     }
 
 -- the run before, and what happened later

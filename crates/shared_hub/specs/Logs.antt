@@ -1,18 +1,18 @@
 -- What contracts say of calls, and of the logs at the end. This project's own rule.
-use Rattle.std.specs.Prelude.{◌≡◌, ◌≢◌, ℕ, ◌<◌, ◌≤◌, sum_by, List, [], ◌∷◌, ◌++◌, map, length, Bool, true, false, Option, Some, None, slice_get}
+use Rattle.std.specs.Prelude.{◌≡◌, ◌≢◌, ℕ, ◌<◌, ◌≤◌, sum_by, List, [], ◌∷◌, ◌++◌, map, length, Bool, true, false, Option, Some, slice_get}
+use Rattle.std.specs.Option.{option_or}
 use Rattle.send_retry.specs.declared.answer.Answer.{Answer}
 use Rattle.send_retry.specs.Class.{answer_view}
 use Rattle.tail_settings.specs.Section.{SectionData}
 use Rattle.tail_settings.specs.Settings.{SettingsData}
-use Rattle.shard_machine.specs.Jitter.{start, first_words}
 use Rattle.tenant_shard.specs.declared.step.Step.{Step}
 use Rattle.tenant_shard.specs.declared.step.Outcome.{Outcome}
 use Rattle.tenant_shard.specs.View.{kept_of}
 use Rattle.tenant_shard.specs.Empty.{is_empty}
-use Rattle.tenant_shard.specs.Lists.{ShardStands}
+use Rattle.tenant_shard.specs.Lives.{ShardStands}
 use Rattle.tenant_shard.specs.Run.{Run, after_all}
 use Rattle.tenant_shard.specs.Chain.{ShardRuns}
-use Rattle.tenant_shard.specs.Outcomes.{OwnStep, Answer as Answered, named}
+use Rattle.tenant_shard.specs.Outcomes.{Asked, Answer as Answered, named}
 use Rattle.tenant_shard.specs.Alone.{alone, own_steps, told_to}
 use Rattle.tenant_shard.specs.Table.{section_of, opened, members_of}
 use Rattle.machine_hub.specs.declared.view.Standing.{Standing}
@@ -26,8 +26,8 @@ use Rattle.shard_machine.specs.declared.step.Call.{Call}
 use Rattle.shard_machine.specs.declared.step.Call.TheVariants as calls
 use Rattle.shard_machine.specs.declared.step.LoggedStep.{LoggedStep}
 use Rattle.shard_machine.specs.Drawing.{IsLostBySome}
-use Rattle.shard_machine.specs.MachineState.{MachineState, AsksFor, MachineDoes}
-use Rattle.shard_machine.specs.Run.{Logged, steps_of, outcomes_of, drawn_for}
+use Rattle.shard_machine.specs.MachineState.{MachineState, AsksFor, MachineDoes, started}
+use Rattle.shard_machine.specs.Run.{Logged, steps_of, outcomes_of, drawn_for, section_in, AreFirstWords}
 use Rattle.shared_hub.specs.Shards.{IsFresh}
 
 -- a caller's seat at a shard
@@ -66,23 +66,27 @@ abbrev pub IsEmptyOn : CallerState → ℕ → ℕ → Bool → Type 0
 IsEmptyOn caller shard tenant empty =
     (stopped : Bool) × IsLookOn caller shard tenant (record { answer = empty; stopped = stopped })
 
+-- the section of a tenant in such a log: the table's, where it was a member at first, or else the one with which it was
+-- let in, where it was
+abbrev pub section_in_log : SettingsData → List ℕ → List Logged → ℕ → Option SectionData
+section_in_log table members entries tenant = option_or (section_of table members tenant) (section_in tenant entries)
+
 -- entries are a run of a shard of these tenants from before its first step: one chain of what is kept. The outcomes are
--- those that the members' own steps say, each member was told exactly what its pipeline alone answers to the steps that
--- were its own, and the shard stands for these. The words that were drawn for a member are in order the first of its
--- own generator, which starts from its own seed, and none was drawn for anyone else
+-- those that the tenants' own steps say, each tenant, a member at first or one that came or nobody, was told exactly
+-- what its life alone says of the steps that were its own, whoever else came and went, and the shard stands for these.
+-- The words that were drawn for a tenant are in order the first of its own generator, which starts from its own seed,
+-- and none was drawn for who never was a member
 pub record IsLogOf (table : SettingsData) (members : List ℕ) (entries : List Logged) (last : MachineState)
     : Type 0 where
   pub first : MachineState
   pub fresh : IsFresh table members first
   pub runs : ShardRuns (steps_of entries) first.views (outcomes_of entries) last.views
   pub by_own_steps : Run (opened table members) (steps_of entries) (outcomes_of entries)
-  pub each_alone : (tenant : ℕ) (section : SectionData) → section_of table members tenant ≡ Some section →
-      told_to tenant (outcomes_of entries)
-      ≡ map (named tenant) (alone section [] (own_steps tenant (steps_of entries) (outcomes_of entries)))
+  pub each_alone : (tenant : ℕ) → told_to tenant (outcomes_of entries) ≡ map (named tenant)
+      (alone (opened table members tenant) (own_steps tenant (steps_of entries) (outcomes_of entries)))
   pub stands : ShardStands (after_all (steps_of entries) (outcomes_of entries) (opened table members)) last.views
-  pub words : (tenant : ℕ) (section : SectionData) → section_of table members tenant ≡ Some section →
-      drawn_for tenant entries ≡ first_words (length (drawn_for tenant entries)) (start section.seed)
-  pub nobodys : (tenant : ℕ) → section_of table members tenant ≡ None → drawn_for tenant entries ≡ []
+  pub words : (tenant : ℕ) →
+      AreFirstWords (started (section_in_log table members entries tenant)) (drawn_for tenant entries)
 
 -- a step that the call asked for, with this outcome, comes after these entries in such a run
 pub record EndsARun (table : SettingsData) (members : List ℕ) (before : List Logged) (call : Call)
@@ -153,17 +157,17 @@ abbrev pub answered : LoggedShard → List Logged
 answered s = s.entries ++ entries_in s.later
 
 -- what a shard of these tenants did from before its first step, with the calls that were refused memory: one chain of
--- what is kept. Each of these calls costs one tenant at most, and each other member was told exactly what its pipeline
--- alone answers to the steps that were its own
+-- what is kept. Each of these calls costs one tenant at most, and each other tenant was told exactly what its life
+-- alone says of the steps that were its own
 pub record IsHistoryOf (table : SettingsData) (members : List ℕ) (s : LoggedShard) : Type 0 where
   pub first : MachineState
   pub fresh : IsFresh table members first
   pub history : IsHistory MachineDoes IsLostBySome first s.entries s.later s.stopped s.machine
   pub hit : List ℕ
   pub few : length hit ≤ losses s.later
-  pub each_alone : (tenant : ℕ) (section : SectionData) → section_of table members tenant ≡ Some section →
-      IsSpared tenant hit → told_to tenant (outcomes_of (answered s)) ≡ map (named tenant)
-      (alone section [] (own_steps tenant (steps_of (answered s)) (outcomes_of (answered s))))
+  pub each_alone : (tenant : ℕ) → IsSpared tenant hit →
+      told_to tenant (outcomes_of (answered s)) ≡ map (named tenant)
+      (alone (opened table members tenant) (own_steps tenant (steps_of (answered s)) (outcomes_of (answered s))))
 
 -- all callers' calls at this shard are one such history, whether or not a log keeps it: each that answered is there
 -- once, with its step and outcome, before memory was refused or after, and as many were refused memory as are there
@@ -195,11 +199,11 @@ EachLookSeesAHistory = (table : SettingsData) (members : List ℕ) (caller : Cal
     (told : Told) (look : IsLookOn caller shard tenant told) →
     IsFresh table members look.0.home.start → IsHistoryOf table members look.2.0
 
--- what a tenant is told follows from its section and its own steps alone, whichever log it is, whatever the other
--- tenants' sections and steps, and whatever threads did
+-- what a tenant is told follows from its section at first, if it had one, and its own steps alone, whichever log it is,
+-- whatever the other tenants' sections and steps, whoever else came and went, and whatever threads did
 abbrev pub LogsTellByOwnSteps : Type 0
-LogsTellByOwnSteps = (section : SectionData) (steps : List OwnStep) → (answers : List Answered)
+LogsTellByOwnSteps = (section : Option SectionData) (steps : List Asked) → (answers : List Answered)
     × ((table : SettingsData) (members : List ℕ) (entries : List Logged) (last : MachineState) →
-    IsLogOf table members entries last → (tenant : ℕ) → section_of table members tenant ≡ Some section →
+    IsLogOf table members entries last → (tenant : ℕ) → section_of table members tenant ≡ section →
     own_steps tenant (steps_of entries) (outcomes_of entries) ≡ steps →
     told_to tenant (outcomes_of entries) ≡ map (named tenant) answers)

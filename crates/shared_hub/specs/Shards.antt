@@ -1,7 +1,7 @@
 -- The shards of a hub before their first steps. This project's own rule.
 use Rattle.std.specs.Prelude.{◌≡◌, ℕ, List, map, length, Bool, Some, slice_get}
 use Rattle.tail_settings.specs.Settings.{SettingsData}
-use Rattle.tenant_shard.specs.Lists.{ShardStands}
+use Rattle.tenant_shard.specs.Lives.{ShardStands}
 use Rattle.tenant_shard.specs.Table.{opened, members_of}
 use Rattle.machine_hub.specs.declared.view.Home.{Home}
 use Rattle.shard_machine.specs.MachineState.{MachineState, AreSeeded}

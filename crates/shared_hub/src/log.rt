@@ -1,14 +1,14 @@
 //! The log of a shard.
 
-ghost use Rattle.std.specs.Prelude.{◌≡◌, ◌<◌, ◌+◌, ◌^◌, ◌++◌, ◌∷◌, [], map, length, true, false, IfOk, OnOk, OnErr};
+ghost use Rattle.std.specs.Prelude.{◌≡◌, ◌<◌, ◌+◌, ◌^◌, ◌++◌, ◌∷◌, [], map, length, true, false, IfOk, OnOk, OnErr, IsSome};
 ghost use Rattle.std.specs.Prelude.{vec_len, vec_capacity};
 ghost use Rattle.std.specs.Arc.{arc_value};
 
 use machine_hub::{Entry, StepLog};
-use shard_machine::{LoggedStep, ShardMachine};
+use shard_machine::{LoggedStep, ShardMachine, WordSource};
 use std::alloc::{AllocError, Global};
 use std::sync::Arc;
-use tenant_shard::Outcome;
+use tenant_shard::{Outcome, Step};
 
 /// Keeps each entry, or nothing, as it was opened.
 #[derive(Drop)]
@@ -16,6 +16,8 @@ pub struct OptionalLog {
     pub keeps: bool,
     /// Empty where it doesn't keep.
     pub kept: Vec<Arc<Entry<LoggedStep, Outcome>, Global>>,
+    // The next entry's memory, which is asked for before its step. What is in it counts for nothing.
+    next: Option<Arc<Entry<LoggedStep, Outcome>, Global>>,
 }
 
 impl OptionalLog {
@@ -26,6 +28,7 @@ impl OptionalLog {
         OptionalLog {
             keeps,
             kept: Vec::new(alloc),
+            next: None,
         }
     }
 }
@@ -42,16 +45,21 @@ impl StepLog<ShardMachine> for OptionalLog {
         self.keeps
     }
 
-    fn room(&mut self, _alloc: Global, _number: u32) -> Result<(), AllocError>
+    fn room(&mut self, alloc: Global, _number: u32) -> Result<(), AllocError>
         ensures same { (map arc_value self.new.kept.items ≡ map arc_value self.old.kept.items)
             × (self.new.keeps ≡ self.old.keeps) }
         ensures room { OnOk result (length (map arc_value self.new.kept.items) + 1 < 2 ^ 64) }
         ensures grown { OnOk result ((self.old.keeps ≡ true) → vec_len self.new.kept < vec_capacity self.new.kept) }
+        ensures next { OnOk result ((self.old.keeps ≡ true) → IsSome self.new.next) }
     {
         if !self.keeps {
             return Ok(());
         }
-        self.kept.reserve(1)
+        self.kept.reserve(1)?;
+        if self.next.is_none() {
+            self.next = Some(Arc::new(alloc, blank())?);
+        }
+        Ok(())
     }
 
     fn keep(
@@ -67,11 +75,40 @@ impl StepLog<ShardMachine> for OptionalLog {
             map arc_value self.new.kept.items ≡ map arc_value self.old.kept.items }
         ensures on_refusal { OnErr result (map arc_value self.new.kept.items ≡ map arc_value self.old.kept.items) }
     {
-        let theirs = Arc::new(alloc, entry)?;
+        let theirs = match self.next.take() {
+            Some(next) => written(next, alloc, entry)?,
+            None => Arc::new(alloc, entry)?,
+        };
         if self.keeps {
             let mine = Arc::try_clone(&theirs)?;
             self.kept.push(mine)?;
         }
         Ok(theirs)
     }
+}
+
+/// An entry that stands for none.
+fn blank() -> Entry<LoggedStep, Outcome> {
+    Entry {
+        step: LoggedStep {
+            step: Step::Turn { now: 0 },
+            word: WordSource::Caller,
+        },
+        outcome: Outcome::Idle,
+    }
+}
+
+/// An entry, in memory that nobody else has.
+fn written(
+    mut memory: Arc<Entry<LoggedStep, Outcome>, Global>,
+    alloc: Global,
+    entry: Entry<LoggedStep, Outcome>,
+) -> Result<Arc<Entry<LoggedStep, Outcome>, Global>, AllocError>
+    ensures { IfOk result (λ shared. arc_value shared ≡ entry) }
+{
+    let Some(inside) = Arc::get_mut(&mut memory) else {
+        return Ok(Arc::new(alloc, entry)?);
+    };
+    *inside = entry;
+    Ok(memory)
 }

@@ -11,7 +11,7 @@ use shared_hub::{Caller, Receipt, SharedHub};
 use std::alloc::Global;
 use std::sync::Wait;
 use std::thread::Threads;
-use tail_settings::Settings;
+use tail_settings::{Section, Settings};
 use tenant_shard::{Outcome, Step};
 
 /// What a call gives.
@@ -22,12 +22,25 @@ fn prepared_of<R: Threads + Sync>(
     rt: &R,
     alloc: Global,
     settings: &Settings,
-    tenant: u32,
-    digits: &str,
+    line: &Line<'_>,
 ) -> Option<Prepared> {
-    let section = settings.section(tenant)?;
-    let body = Bytes::from_vec(hex::decode(alloc, digits).ok()?).ok()?;
-    prepare(rt, alloc, tenant, section, body, 1).ok()
+    let section = settings.section(line.second.parse().unwrap_or(line.tenant))?;
+    let body = Bytes::from_vec(hex::decode(alloc, line.first).ok()?).ok()?;
+    prepare(rt, alloc, line.tenant, section, body, 1).ok()
+}
+
+/// The section that a tenant comes with, by the tenant of the settings that has it.
+fn section_like(settings: &Settings, tenant: &str) -> Option<Section> {
+    settings.section(tenant.parse().ok()?)?.copy().ok()
+}
+
+/// A back end's answer, without a body.
+fn answer_of(alloc: Global, line: &Line<'_>) -> Answer {
+    Answer::Http {
+        status: line.first.parse().unwrap_or(0),
+        retry_after: line.second.parse().ok(),
+        body: Vec::new(alloc),
+    }
 }
 
 /// A step that the caller hands in.
@@ -42,8 +55,20 @@ fn step_of<R: Threads + Sync>(
         "turn" => Some(Step::Turn { now }),
         "report" => Some(Step::Report { tenant, now }),
         "drain" => Some(Step::Drain { tenant, now }),
+        "retire" => Some(Step::Retire { tenant, now }),
+        "add" => {
+            let section = section_like(settings, line.first)?;
+            Some(Step::Add { tenant, section })
+        }
+        "answer" => Some(Step::Answer {
+            tenant,
+            now,
+            ticket: line.ticket,
+            word: line.word,
+            answer: answer_of(alloc, line),
+        }),
         _ => {
-            let prepared = prepared_of(rt, alloc, settings, tenant, line.first)?;
+            let prepared = prepared_of(rt, alloc, settings, line)?;
             Some(Step::Post { now, prepared })
         }
     }
@@ -67,7 +92,7 @@ pub fn stepped<R: Wait>(
     hub.step(rt, alloc, me, shard, step).ok()
 }
 
-/// A back end's answer, without a body.
+/// A back end's answer, whose word is drawn.
 fn answered<R: Wait>(
     rt: &R,
     alloc: Global,
@@ -78,11 +103,7 @@ fn answered<R: Wait>(
     requires { slots_of me.old ≡ hub.now }
     ensures { slots_of me.new ≡ hub.now }
 {
-    let answer = Answer::Http {
-        status: line.first.parse().unwrap_or(0),
-        retry_after: line.second.parse().ok(),
-        body: Vec::new(alloc),
-    };
+    let answer = answer_of(alloc, line);
     hub.answer(rt, alloc, me, line.tenant, line.now, line.ticket, &answer)
         .ok()
 }
@@ -99,7 +120,7 @@ pub fn made<R: Threads + Wait + Sync>(
     requires { slots_of me.old ≡ hub.now }
     ensures { slots_of me.new ≡ hub.now }
 {
-    if line.kind == "answer" {
+    if line.kind == "answer" && line.word_of != "caller" {
         return answered(rt, alloc, hub, me, line);
     }
     let shard = line.shard.parse().unwrap_or(usize::MAX);

@@ -61,6 +61,8 @@ fn columns_of(step: &Step) -> (&'static str, u32, u64, u64, u32) {
         } => ("answer", *tenant, *now, *ticket, *word),
         Step::Report { tenant, now } => ("report", *tenant, *now, 0, 0),
         Step::Drain { tenant, now } => ("drain", *tenant, *now, 0, 0),
+        Step::Add { tenant, section: _ } => ("add", *tenant, 0, 0, 0),
+        Step::Retire { tenant, now } => ("retire", *tenant, *now, 0, 0),
     }
 }
 

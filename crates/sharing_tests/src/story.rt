@@ -1,4 +1,4 @@
-//! A story of three tenants in two shards, and how its lines are written.
+//! A story of three tenants in two shards, and of a fourth that comes and goes, and how its lines are written.
 
 /// Three tenants in two shards, the third in the first's. Traces are sampled a second after they opened, of the third
 /// only those with an error. Each group of spans is a batch, and one at a time is on its way. Of the first tenant one
@@ -31,7 +31,7 @@ sending_queue = { num_consumers = 1 }
 /// Each line is a call, in the columns of [`Line`], and what it gives. The words are the first of the generators that
 /// start from 0 and 42, as another program computed them. b's first one picks a delay of 2500 + 5001 * 3400036912 /
 /// 2^32 milliseconds, which is 6458; a's second one, of 3750 + 7501 * 4236525527 / 2^32, which is 11148, and that is
-/// too late.
+/// too late. The tenant with number 3 comes with b's section, so that its words are b's.
 pub const STORY: &str = "\
 - empty 0 = yes
 0 post 2 9000 0 0 caller 0a20121e121c0a101111111111111111111111111111111112084141414141414141 = reply 2 200
@@ -77,6 +77,22 @@ not_sampled=0 too_early=0 queue_full=0 retry_exhausted=0 back_end_refused=0 back
 - empty 1 = yes
 1 answer 7 7458 1 0 nobody 200 = refused 7 22
 - empty 7 = no
+1 add 1 0 0 0 caller 0 = refused 1 25
+1 post 3 0 0 0 caller 0a20121e121c0a101111111111111111111111111111111112084141414141414141 1 = refused 3 22
+1 add 3 0 0 0 caller 1 = done 3 0
+- empty 3 = yes
+1 post 3 0 0 0 caller 0a20121e121c0a101111111111111111111111111111111112084141414141414141 1 = reply 3 200
+1 turn 0 1000 0 0 caller = job 3 1 0a20121e121c0a101111111111111111111111111111111112084141414141414141
+1 retire 3 1000 0 0 caller = refused 3 26
+1 answer 3 1000 1 0 caller 200 = done 3 0
+1 answer 3 1000 1 3400036912 drawn 200 = refused 3 21
+1 drain 3 1000 0 0 caller = done 3 0
+1 retire 3 1000 0 0 caller = report 3 0 accepted=1 undecided=0 pending=0 queued=0 active=0 exported=1 \
+not_sampled=0 too_early=0 queue_full=0 retry_exhausted=0 back_end_refused=0 back_end_rejected=0 invalid=0 over_budget=0
+- empty 3 = no
+1 post 3 1000 0 0 caller 0a20121e121c0a101111111111111111111111111111111112084141414141414141 1 = refused 3 22
+1 answer 3 1000 1 0 nobody 200 = refused 3 22
+1 add 3 0 0 0 caller 1 = refused 3 25
 ";
 
 /// A call as a line says it.
@@ -93,9 +109,10 @@ pub struct Line<'s> {
     /// 0 where there is none.
     pub word: u32,
     pub word_of: &'s str,
-    /// A body's digits, or the status of an answer.
+    /// A body's digits, the status of an answer, or the tenant of the settings whose section a tenant comes with.
     pub first: &'s str,
-    /// How long an answer asks to wait, if it does.
+    /// How long an answer asks to wait, if it does, or whose section the tenant of a body has, if not its own of the
+    /// settings.
     pub second: &'s str,
     /// A kind of outcome, a tenant, a number and perhaps a text: hexadecimal digits, but for a report.
     pub outcome: &'s str,

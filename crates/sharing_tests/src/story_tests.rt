@@ -1,4 +1,4 @@
-//! A story of three tenants in two shards, called by one thread.
+//! A story of three tenants in two shards, and of a fourth that comes and goes, called by one thread.
 
 ghost use Rattle.std.specs.Prelude.{◌≡◌, IfSome};
 ghost use Rattle.machine_hub.specs.Hub.{slots_of};
@@ -146,7 +146,7 @@ fn each_call_has_its_entry(rt: HostRuntime) -> Result<(), Fail> {
     let settings = load(rt.alloc(), SETTINGS)?;
     assert_eq!(rt;
         run_story(&rt, rt.alloc(), &settings, true),
-        Some((38, "", true))
+        Some((53, "", true))
     );
     Ok(())
 }
@@ -157,7 +157,7 @@ fn calls_are_told_the_same_without_logs(rt: HostRuntime) -> Result<(), Fail> {
     let settings = load(rt.alloc(), SETTINGS)?;
     assert_eq!(rt;
         run_story(&rt, rt.alloc(), &settings, false),
-        Some((38, "", true))
+        Some((53, "", true))
     );
     Ok(())
 }
