@@ -48,7 +48,9 @@ pub enum Command<'a> {
         moment: u64,
     },
     /// `add HEX`: a tenant comes, which the bytes of a document describe.
-    Add { document: Vec<u8> },
+    Add {
+        document: Vec<u8>,
+    },
     /// `retire NAME MOMENT`: a tenant that was drained and holds nothing leaves.
     Retire {
         name: &'a str,
