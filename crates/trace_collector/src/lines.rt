@@ -1,7 +1,7 @@
 //! The lines that tell what shards gave.
 
 ghost use Rattle.std.specs.Prelude.{◌≡◌, ◌++◌, codes, Some, OnOk, OnErr};
-ghost use Rattle.tail_settings.specs.Fault.{FaultData, fault_view, fault_number};
+ghost use Rattle.tail_settings.specs.Fault.{FaultData, fault_view, fault_number, IsOfDocument};
 ghost use Rattle.tail_settings.specs.Settings.{settings_view};
 ghost use Rattle.replay_script.specs.Answer.{reply_text, refused_text};
 ghost use Rattle.trace_collector.specs.Outcomes.{outcome_text, name_at, bad_protobuf};
@@ -15,20 +15,21 @@ use tenant_shard::Outcome;
 /// A body that is no request is answered with this status, and a message that says so.
 const BAD_REQUEST: u16 = 400;
 
-/// Appends the line of a tenant's document that was refused. Refused memory is no fault of the document.
+/// Appends the line of a tenant's document that was refused, by its fault's number.
 pub fn put_refused_document(
     alloc: Global,
     out: &mut Vec<u8>,
     fault: &SettingsFault,
 ) -> Result<(), AllocError>
+    requires { IsOfDocument fault.now }
     ensures on_success { OnOk result ((f : FaultData) × (fault_view fault.now ≡ Some f)
         × (out.new.items ≡ out.old.items ++ refused_text (codes "add") (fault_number f))) }
     ensures on_refusal { OnErr result (out.new.items ≡ out.old.items) }
 {
-    match fault.number() {
-        Some(number) => put_refused(alloc, out, "add", number as u8),
-        None => Err(AllocError),
-    }
+    let Some(number) = fault.number() else {
+        unreachable!()
+    };
+    put_refused(alloc, out, "add", number as u8)
 }
 
 /// Appends the line of the reply to a body that has no value.

@@ -183,6 +183,7 @@ impl Shards {
     {
         match admit(alloc, &mut self.settings, document) {
             Ok(tenant) => self.welcome(alloc, tenant, out),
+            Err(SettingsFault::OutOfMemory) => Err(AllocError),
             Err(fault) => put_refused_document(alloc, out, &fault),
         }
     }
