@@ -5,8 +5,8 @@
 
 Takes `./trace_collector`, 200 scripts and seed 1 if nothing is named; the same seed makes the same scripts. The model
 (tests/model) is of plain lists, and was written without a look at the code. Prints the first line that differs, with
-its command and a folder with the script, and ends with 1; 200 scripts have to meet each counter and each kind of line, and
-spans that follow a decision of each verdict that a cache remembers.
+its command and a folder with the script, and ends with 1; 200 scripts have to meet each counter and each kind of line, spans
+that follow a decision of each verdict that a cache remembers, tenants that leave and names that come back.
 """
 
 import os
@@ -22,7 +22,8 @@ from serving.talk import NAMES
 
 HERE = Path(__file__).resolve().parent.parent
 FOLLOWED = {True: "sampled traces that are remembered", False: "dropped traces that are remembered"}
-KINDS = {"reply 200", "reply 400", "reply 429", "reply 503", "job", "worked", "idle", "done", "refused", "report"}
+KINDS = {"reply 200", "reply 400", "reply 429", "reply 503", "job", "worked", "idle", "done", "refused", "report", "added"}
+GONE, BACK = "tenants that left", "names that came back"
 
 
 def replayed(program, folder, story):
@@ -73,10 +74,12 @@ def main():
                 wrong += 1
             met.update(map(kind_of, story.lines))
             met.update(name for one in story.pipelines for name in NAMES if one.counts[name])
+            met[GONE] += len(story.pipelines) - len(story.present)
+            met[BACK] += len(story.pipelines) - len({one.name for one in story.pipelines})
             for one in story.pipelines:
                 met.update({FOLLOWED[kept]: spans for kept, spans in one.followed.items()})
     met = +met
-    missing = {*KINDS, *NAMES, *FOLLOWED.values()} - set(met) if count >= 200 else set()
+    missing = {*KINDS, *NAMES, *FOLLOWED.values(), GONE, BACK} - set(met) if count >= 200 else set()
     if missing:
         print("never met:", *sorted(missing), sep="\n  ")
     print(f"{count} scripts of {sum(met[kind] for kind in KINDS)} lines, {wrong} wrong;",

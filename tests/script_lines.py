@@ -58,10 +58,12 @@ NO_COMMANDS = [
     "answer a 0 1 0 200  -",
     "report", "report a", "report a/b 0", "report a x", "report a 0 0", "reports a 0",
     "drain", "drain a", "drain a -", "drain a 0 ", "drain a 0 0",
+    "add", "add ", "add 0", "add 0g", "add --", "add  00", "add 00 ", "add 00 00", "ADD 00", "added 00",
+    "retire", "retire a", "retire a -", "retire a/b 0", "retire a x", "retire a 0 ", "retire a 0 0",
     f"post x{LONGEST} 0 -",
 ]
 # commands for a tenant or a shard that there isn't
-NOBODYS = ["post c 0 -", "answer c 0 1 0 200 - -", "report c 0", "drain c 0", "turn 1 0"]
+NOBODYS = ["post c 0 -", "answer c 0 1 0 200 - -", "report c 0", "drain c 0", "retire c 0", "turn 1 0"]
 # each with the line that it is answered by
 COMMANDS = [
     ("post a_B-9.z 0007 0aFf00", f"reply a_B-9.z {BAD}"),
@@ -75,6 +77,7 @@ COMMANDS = [
     ("turn 0 86401000", f"job a 2 {SPAN}"),
     ("answer a 86401000 2 4294967295 failed - -", "done a"),
     ("answer a 86401000 2 0 100 - 0a0208fF", "refused a 21"),
+    ("retire b 500", "refused b 26"),
     ("drain b 500", "done b"),
     ("post b 500 -", "reply b 503 120d7368757474696e6720646f776e"),
 ]
@@ -135,11 +138,69 @@ def shards():
           + "".join(f"job {name} 1 {SPAN}\n" for name in names[1:] + names[:1]) + "idle 0\n")
 
 
+COUNTERS = ("accepted undecided pending queued active exported not_sampled too_early queue_full retry_exhausted "
+            "back_end_refused back_end_rejected invalid over_budget").split()
+
+
+def add(document):
+    return f"add {document.encode().hex()}"
+
+
+def counted(name, **counts):
+    return f"report {name} " + " ".join(f"{counter}={counts.get(counter, 0)}" for counter in COUNTERS)
+
+
+def tenants_that_come_and_go():
+    """A tenant comes, is served, and leaves once it was drained and holds nothing; its name is then another's."""
+    welcome, born = add(TENANT % ("c", 1000, ALWAYS)), "reply c 200 -"
+    # in ONE_SHARD there are four tenants, of numbers 0 to 3
+    life = [(welcome, "added c 4"), (f"post c 0 {SPAN}", born), ("turn 0 1000", f"job c 1 {SPAN}"),
+            ("retire c 1000", "refused c 26"), ("answer c 1000 1 0 200 - -", "done c"), ("retire c 1000", "refused c 26"),
+            ("drain c 1000", "done c"), ("retire c 1000", counted("c", accepted=1, exported=1))]
+    script, told = ("".join(f"{line}\n" for line in lines) for lines in zip(*life))
+    check("a retired name", ONE_SHARD, script + "post c 1000 -\n", told, "script fault at line 9")
+    # the clock, tickets and counters of who had the name before are none of the next one's
+    again = [(welcome, "added c 5"), ("answer c 0 1 0 200 - -", "refused c 21"), (f"post c 0 {OTHER}", born),
+             ("turn 0 999", "idle 0"), ("turn 0 1000", f"job c 1 {OTHER}"), ("report c 1000", counted("c", accepted=1, active=1))]
+    more, then = ("".join(f"{line}\n" for line in lines) for lines in zip(*again))
+    check("a name again", ONE_SHARD, script + more, told + then)
+    # one that never held a span, and one that holds a span until its back end has answered
+    check("a short life", ONE_SHARD, f"{welcome}\ndrain c 7\nretire c 7\n", f"added c 4\ndone c\n{counted('c')}\n")
+    check("a tenant of the settings", ONE_SHARD, f"post a 0 {SPAN}\ndrain a 1\nretire a 1\nturn 0 1\n"
+          "answer a 1 1 0 400 - -\nretire a 1\n", f"reply a 200 -\ndone a\nrefused a 26\njob a 1 {SPAN}\ndone a\n"
+          + counted("a", accepted=1, back_end_refused=1) + "\n")
+    # number 4 is in shard 1 of three, number 5 in shard 2
+    check("shards of who comes", THREE_SHARDS, f"{welcome}\n{add(TENANT % ('d', 1000, ALWAYS))}\npost c 0 {SPAN}\n"
+          f"post d 0 {OTHER}\nturn 0 1000\nturn 1 1000\nturn 2 1000\n",
+          f"added c 4\nadded d 5\n{born}\nreply d 200 -\nidle 0\njob c 1 {SPAN}\njob d 1 {OTHER}\n")
+    # others are told the same with a tenant beside them that comes and goes
+    check("beside others", TWO_POLICIES, f"post a 0 {SPAN}\npost b 0 {OTHER}\n{welcome}\npost c 0 {SPAN}\nturn 0 1000\n"
+          "drain c 1000\nturn 0 1000\nturn 0 1000\nanswer c 1000 1 0 200 - -\nretire c 1000\nreport a 1000\n",
+          f"reply a 200 -\nreply b 200 -\nadded c 2\n{born}\njob a 1 {SPAN}\ndone c\njob b 1 {OTHER}\njob c 1 {SPAN}\ndone c\n"
+          + counted("c", accepted=1, exported=1) + "\n" + counted("a", accepted=1, active=1) + "\n")
+
+
+def documents():
+    """Documents that are refused, by the number of what is wrong. They change nothing: the next tenant has the next number."""
+    one = TENANT % ("c", 1000, ALWAYS)
+    faults = [("add ff", 10), (add("["), 10), ("add -", 11), (add("tenant = []"), 11), (add("tenant = 1"), 12),
+              (add(one + one), 13), (add(one.replace('"c"', '"c/"')), 13), (add(one.replace('"c"', '"a"')), 14),
+              (add(one.replace("batch", "max_spans = 2147483648\nbatch")), 15)]
+    script = "".join(f"{line}\n" for line, _ in faults) + add("shards = 9\n" + one) + "\n" + add(one) + "\n"
+    check("documents", ONE_SHARD, script,
+          "".join(f"refused add {number}\n" for _, number in faults) + "added c 4\nrefused add 14\n")
+    # a tenant may have the name that a refused document's line has in its place
+    check("a tenant add", TENANT % ("add", 1000, ALWAYS), "add 00\nretire add 0\nanswer add 0 1 0 200 - -\nreport add 0\n",
+          f"refused add 10\nrefused add 26\nrefused add 21\n{counted('add')}\n")
+
+
 PROGRAM = str(Path(sys.argv[1] if len(sys.argv) > 1 else HERE.parent / "trace_collector").resolve())
 lines()
 scripts()
 bodies_without_a_value()
 large_bodies()
 shards()
+tenants_that_come_and_go()
+documents()
 print("each script is answered as it has to be" if not failed else f"{failed} wrong")
 sys.exit(min(failed, 1))

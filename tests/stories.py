@@ -9,8 +9,8 @@ Collector's `tail_sampling` and `batch` processors and of its `exporterhelper`, 
     post a 0 11.21+12.22 = reply a 200 -
 
 Left of the sign stands a command of `replay`, right of it the line that it prints, but for this: a turn is that of shard 0,
-counters that aren't named are 0, and a body or a payload is written as its spans (see `span` and `body`), or as its name
-in bodies.txt. Of each report the spans that were taken have to be as many as stand in all places that one may be in.
+counters that aren't named are 0, a document that is added is written as its tenant's name and that of its tables, and a body
+or a payload is written as its spans (see `span` and `body`), or as its name in bodies.txt. Of each report the spans that were taken have to be as many as stand in all places that one may be in.
 """
 import re
 import subprocess
@@ -49,10 +49,16 @@ def body(text):
     return b"".join(field(0x0A, resource(part)) for part in text.split("/")).hex()
 
 
-def command(step):
+def tenant(name, section):
+    return f'[[tenant]]\nname = "{name}"\n{section}'
+
+
+def command(step, of):
     words = step.split(" ")
     if words[0] == "turn":
         return f"turn 0 {words[1]}"
+    if words[0] == "add":
+        return f"add {tenant(words[1], of[words[2]]).encode().hex()}"
     if words[0] == "post":
         words[3] = body(words[3])
     return " ".join(words)
@@ -85,10 +91,10 @@ def stories(file):
         yield name, of.split(), [line for line in lines if line and not line.startswith("#")]
 
 
-def told(program, sections, lines):
+def told(program, sections, lines, of):
     """What the program prints for the steps of these lines."""
-    settings = "".join(f'[[tenant]]\nname = "{name}"\n{text}' for name, text in zip("abc", sections))
-    script = "".join(f"{command(line.split(' = ')[0])}\n" for line in lines)
+    settings = "".join(tenant(name, text) for name, text in zip("abc", sections))
+    script = "".join(f"{command(line.split(' = ')[0], of)}\n" for line in lines)
     with tempfile.NamedTemporaryFile("w", suffix=".toml") as file:
         file.write(settings)
         file.flush()
@@ -110,7 +116,7 @@ def main():
     for file in sorted((HERE / "stories").glob("*.story")):
         for name, sections, lines in stories(file):
             wanted = [printed(line.split(" = ")[1]) for line in lines]
-            found = told(program, [of[section] for section in sections], lines)
+            found = told(program, [of[section] for section in sections], lines, of)
             seen += 1
             for line in found:
                 if line.startswith("report ") and not is_counted(line):

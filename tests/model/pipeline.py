@@ -1,4 +1,4 @@
-"""One tenant's rules, over plain lists: what a tenant is told of its posts, turns, answers, reports and drains."""
+"""One tenant's rules, over plain lists: what a tenant is told of its posts, turns, answers, reports, drains and retirement."""
 
 from model.bodies import batch_of
 from replay.make_script import number_field, piece
@@ -260,15 +260,35 @@ class Pipeline:
             self.cut_all(self.clock)
             self.drained = True
 
+    def retire(self, moment):
+        """The last report, if the tenant may leave: once it was drained and no span waits for anything."""
+        report = self.report(moment)
+        waits = any(self.counts[name] for name in ("undecided", "pending", "queued", "active"))
+        return report if self.drained and not waits else None
+
 
 class Shards:
-    """All tenants, each in the shard of its place in the settings."""
+    """All tenants, each in the shard of its number. Numbers are those of places in the settings, and then the next ones."""
 
     def __init__(self, pipelines, count):
-        self.members = [pipelines[shard::count] for shard in range(count)]
+        self.members = [[] for _ in range(count)]
+        self.next = 0
+        for one in pipelines:
+            self.join(one)
+
+    def join(self, one):
+        """The number of who comes."""
+        number, self.next = self.next, self.next + 1
+        self.members[number % len(self.members)].append(one)
+        return number
+
+    def leave(self, one):
+        for members in self.members:
+            if one in members:
+                members.remove(one)
 
     def turn(self, shard, moment):
-        """The line that a turn prints: of who is ready first, and of equals the first in the settings."""
+        """The line that a turn prints: of who is ready first, and of equals the one with the least number."""
         ready = [(member.ready(), at) for at, member in enumerate(self.members[shard]) if member.ready() is not None]
         first, at = min(ready, default=(LATEST + 1, 0))
         if first > min(moment, LATEST):

@@ -58,10 +58,13 @@ def tenant_settings(chance):
             "multiplier": chance.choice((1000, 1500, 2001)), "randomization_factor": chance.choice((0, 333, 500, 1000))}
 
 
+def tables(pipelines):
+    return [{"name": one.name, "max_spans": one.how["max_spans"],
+             **{table: {key: one.how[key] for key in keys} for table, keys in TABLES.items()}} for one in pipelines]
+
+
 def document(pipelines, shards, parts):
-    tenants = [{"name": one.name, "max_spans": one.how["max_spans"],
-                **{table: {key: one.how[key] for key in keys} for table, keys in TABLES.items()}} for one in pipelines]
-    return toml.document({"global": {"shards": shards, "parts": parts}, "tenant": tenants})
+    return toml.document({"global": {"shards": shards, "parts": parts}, "tenant": tables(pipelines)})
 
 
 def any_origin(chance):
@@ -105,6 +108,7 @@ class Story:
     def __init__(self, chance):
         self.chance = chance
         self.pipelines = [Pipeline(name, tenant_settings(chance)) for name in "abcd"[:chance.randint(1, 4)]]
+        self.present = list(self.pipelines)
         self.count = chance.randint(1, 3)
         self.shards = Shards(self.pipelines, self.count)
         self.settings = document(self.pipelines, self.count, chance.choice((1, 2, 3, 16)))
@@ -112,7 +116,7 @@ class Story:
         self.script, self.lines = [], []
         for _ in range(chance.randint(20, 200)):
             self.step()
-        for one in self.pipelines:
+        for one in self.present:
             self.report(one, self.now)
 
     def put(self, command, line):
@@ -131,7 +135,11 @@ class Story:
         return chance.choice((0, max(0, self.now - 7), self.now + 20)) if which < 50 else self.now
 
     def step(self):
-        one, moment, which = self.chance.choice(self.pipelines), self.moment(), self.chance.randrange(200)
+        which = self.chance.randrange(210)
+        if which >= 206 or not self.present:
+            self.add()
+            return
+        one, moment = self.chance.choice(self.present), self.moment()
         if which < 90:
             self.post(one, moment)
         elif which < 144:
@@ -141,9 +149,11 @@ class Story:
             self.answer(one, moment)
         elif which < 199:
             self.report(one, moment)
-        else:
+        elif which < 202:
             one.drain(moment)
             self.put(f"drain {one.name} {moment}", f"done {one.name}")
+        else:
+            self.retire(self.chance.choice([one for one in self.present if one.drained] or [one]), moment)
 
     def post(self, one, moment):
         if self.chance.random() < 0.03:
@@ -166,6 +176,31 @@ class Story:
         heard = one.answer(moment, ticket, word, status, 0 if after == "-" else after, REJECTED[body])
         self.put(f"answer {one.name} {moment} {ticket} {word} {status} {after} {body.hex() or '-'}",
                  f"done {one.name}" if heard else f"refused {one.name} 21")
+
+    def add(self):
+        """A tenant of one of six names, some of them present and some of them of tenants that left. At times no document."""
+        chance = self.chance
+        one, tenants = Pipeline(chance.choice("abcdef"), tenant_settings(chance)), chance.choice((0, 1, 1, 1, 1, 1, 1, 1, 2))
+        text = toml.document({"tenant": tables([one] * tenants)})
+        if chance.random() < 0.1:
+            self.put(f"add {chance.choice(('ff', '5b'))}", "refused add 10")
+        elif tenants != 1:
+            self.put(f"add {text.encode().hex()}", f"refused add {13 if tenants else 11}")
+        elif one.name in [other.name for other in self.present]:
+            self.put(f"add {text.encode().hex()}", "refused add 14")
+        else:
+            self.put(f"add {text.encode().hex()}", f"added {one.name} {self.shards.join(one)}")
+            self.pipelines.append(one)
+            self.present.append(one)
+
+    def retire(self, one, moment):
+        report = one.retire(moment)
+        if report is None:
+            self.put(f"retire {one.name} {moment}", f"refused {one.name} 26")
+            return
+        self.put(f"retire {one.name} {moment}", f"report {one.name} {report}")
+        self.present.remove(one)
+        self.shards.leave(one)
 
     def report(self, one, moment):
         self.put(f"report {one.name} {moment}", f"report {one.name} {one.report(moment)}")

@@ -72,6 +72,22 @@ commands_equal (commands.Drain n m) (commands.Drain o p) =
           cc,
       λ h. rw (names.1 cc, eq-eqb m p cc),
     )
+commands_equal (commands.Add b) (commands.Add c) =
+    let documents = bytes_eq-Decides b.items c.items in (
+      λ h.
+          let document = documents.0 h in
+          cc,
+      λ h. documents.1 cc,
+    )
+commands_equal (commands.Retire n m) (commands.Retire o p) =
+    let names = bytes_eq-Decides n.now o.now in (
+      λ h.
+          let parts = and_parts (bytes_eq n.now o.now) (m == p) h in
+          let name = names.0 parts.0 in
+          let moment = eqb-true m p parts.1 in
+          cc,
+      λ h. rw (names.1 cc, eq-eqb m p cc),
+    )
 commands_equal _ _ = (λ h. cc, λ h. cc)
 
 pub script_faults_equal : (a b : ScriptFault) → (script_fault_equal.eq-value.it a b ≡ true) ↔ (a ≡ b)

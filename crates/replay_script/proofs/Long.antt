@@ -10,7 +10,7 @@ use Rattle.std.proofs.lemmas.List.{take_all, length-take}
 use Rattle.std.proofs.lemmas.List.Splits.{join_with_byte-slice_split}
 use Rattle.std.proofs.lemmas.Slice.Eq.{bytes_eq-Decides}
 use Rattle.replay_script.specs.Word.{words_of, is_name_byte, name_of, number_of, body_of, bytes_of, most_body_bytes}
-use Rattle.replay_script.specs.Command.{CommandData, Report, Drain, command_of, command_from, post_of, post_from, turn_of, turn_from, answer_of, tenant_of, tenant_from, report_of, drain_of}
+use Rattle.replay_script.specs.Command.{CommandData, Report, Drain, Add, Retire, command_of, command_from, post_of, post_from, turn_of, turn_from, answer_of, tenant_of, tenant_from, report_of, drain_of, add_of, retire_of}
 use Rattle.replay_script.specs.Input.{line_room, begins_answer, kept_of}
 use Rattle.replay_script.specs.Line.{Skipped, said, kind_of}
 use Rattle.replay_script.proofs.Kept.{begins_cut}
@@ -103,6 +103,12 @@ tenant_long (name ∷ moment ∷ []) long = elim (cases_lt 64 (length name)) [
 ]
 tenant_long (name ∷ moment ∷ word ∷ words) long = refl
 
+add_long : (words : List (List ℕ)) → 41943126 < spread words → add_of words ≡ None
+unfolding add_of spread
+add_long [] long = refl
+add_long (document ∷ []) long = let more : 2 * most_body_bytes < length document = omega arith in ap (option_map Add) (body_long document more)
+add_long (document ∷ word ∷ words) long = refl
+
 -- an answer's first words
 answer_begins : (line verb word : List ℕ) (words : List (List ℕ)) → words_of line ≡ verb ∷ word ∷ words → verb ≡ codes "answer" → begins_answer line ≡ true
 answer_begins line verb word words split is =
@@ -116,26 +122,30 @@ no_answer line verb [] other split is = refl
 no_answer line verb (word ∷ words) other split is =
     absurd (let never : true ≡ false = sym (answer_begins line verb word words split is) ∙ other in cc)
 
-one_of : (a b c d e : Bool) (v w x y z : Option CommandData) → (a ≡ true → v ≡ None) → (b ≡ true → w ≡ None) → (c ≡ true → x ≡ None) → (d ≡ true → y ≡ None) → (e ≡ true → z ≡ None)
-    → cond a v (cond b w (cond c x (cond d y (cond e z None)))) ≡ None
-one_of true b c d e v w x y z first second third fourth fifth = first refl
-one_of false true c d e v w x y z first second third fourth fifth = second refl
-one_of false false true d e v w x y z first second third fourth fifth = third refl
-one_of false false false true e v w x y z first second third fourth fifth = fourth refl
-one_of false false false false true v w x y z first second third fourth fifth = fifth refl
-one_of false false false false false v w x y z first second third fourth fifth = refl
+-- where the test passes, it is none, and so is the rest
+either : (b : Bool) (x rest : Option CommandData) → (b ≡ true → x ≡ None) → rest ≡ None → cond b x rest ≡ None
+either true x rest passed none = passed refl
+either false x rest passed none = none
 
 from_long : (line : List ℕ) (words : List (List ℕ)) → begins_answer line ≡ false → words_of line ≡ words → 41943131 < spread words → command_from words ≡ None
 unfolding spread command_from
 from_long line [] other split long = refl
 from_long line (verb ∷ words) other split long =
-    one_of (bytes_eq verb (codes "post")) (bytes_eq verb (codes "turn")) (bytes_eq verb (codes "answer")) (bytes_eq verb (codes "report")) (bytes_eq verb (codes "drain"))
-    (post_of words) (turn_of words) (answer_of words) (report_of words) (drain_of words)
+    either (bytes_eq verb (codes "post")) (post_of words) _
     (λ e. let same = ap length ((bytes_eq-Decides verb (codes "post")).0 e) in post_long words (omega arith))
+    (either (bytes_eq verb (codes "turn")) (turn_of words) _
     (λ e. let same = ap length ((bytes_eq-Decides verb (codes "turn")).0 e) in turn_long words (omega arith))
+    (either (bytes_eq verb (codes "answer")) (answer_of words) _
     (λ e. no_answer line verb words other split ((bytes_eq-Decides verb (codes "answer")).0 e))
+    (either (bytes_eq verb (codes "report")) (report_of words) _
     (λ e. let same = ap length ((bytes_eq-Decides verb (codes "report")).0 e) in ap (option_map (λ found. Report found.0 found.1)) (tenant_long words (omega arith)))
+    (either (bytes_eq verb (codes "drain")) (drain_of words) _
     (λ e. let same = ap length ((bytes_eq-Decides verb (codes "drain")).0 e) in ap (option_map (λ found. Drain found.0 found.1)) (tenant_long words (omega arith)))
+    (either (bytes_eq verb (codes "add")) (add_of words) _
+    (λ e. let same = ap length ((bytes_eq-Decides verb (codes "add")).0 e) in add_long words (omega arith))
+    (either (bytes_eq verb (codes "retire")) (retire_of words) None
+    (λ e. let same = ap length ((bytes_eq-Decides verb (codes "retire")).0 e) in ap (option_map (λ found. Retire found.0 found.1)) (tenant_long words (omega arith)))
+    refl))))))
 
 command_long : (line : List ℕ) → begins_answer line ≡ false → 41943130 < length line → command_of line ≡ None
 unfolding command_of

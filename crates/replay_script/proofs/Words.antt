@@ -15,7 +15,7 @@ use Rattle.std.specs.Str.Parse.{ParsesUnsigned, digits_value}
 use Rattle.std.proofs.lemmas.Str.Parse.{IsNumeralModel, numerals_by_value, digits_value_short, parse_gives}
 use Rattle.std.proofs.lemmas.Bool.Decides.{nat_tests}
 use Rattle.replay_script.specs.Word.{words_of, is_name_byte, name_of, number_of}
-use Rattle.replay_script.specs.Command.{CommandData, command_from, post_of, turn_of, answer_of, answer_from, back_end_answer_from, tenant_of}
+use Rattle.replay_script.specs.Command.{CommandData, command_from, post_of, turn_of, answer_of, answer_from, back_end_answer_from, tenant_of, add_of}
 use Rattle.replay_script.proofs.Places.{found_at, missing, tested, further}
 
 cut : (text : List ℕ) (n at : ℕ) → n ≡ at → take n text ∷ words_of (drop (n + 1) text) ≡ take at text ∷ words_of (take (length text - (at + 1)) (drop (at + 1) text))
@@ -63,16 +63,21 @@ pub tenant_of_more : (a b text : List ℕ) → tenant_of (a ∷ b ∷ words_of t
 unfolding tenant_of Begins
 tenant_of_more a b text = let more = begins text in rw more.2 refl
 
+pub add_of_more : (a text : List ℕ) → add_of (a ∷ words_of text) ≡ None
+unfolding add_of Begins
+add_of_more a text = let more = begins text in rw more.2 refl
+
 same_none : (b : Bool) (rest : Option CommandData) → rest ≡ None → cond b None rest ≡ None
 same_none true rest is = refl
 same_none false rest is = is
 
 -- a word alone is no command
 pub alone_none : (verb : List ℕ) → command_from (verb ∷ []) ≡ None
-unfolding command_from post_of turn_of answer_of tenant_of
+unfolding command_from post_of turn_of answer_of tenant_of add_of
 alone_none verb =
     same_none (bytes_eq verb (codes "post")) _ (same_none (bytes_eq verb (codes "turn")) _ (same_none (bytes_eq verb (codes "answer")) _
-    (same_none (bytes_eq verb (codes "report")) _ (same_none (bytes_eq verb (codes "drain")) None refl))))
+    (same_none (bytes_eq verb (codes "report")) _ (same_none (bytes_eq verb (codes "drain")) _
+    (same_none (bytes_eq verb (codes "add")) _ (same_none (bytes_eq verb (codes "retire")) None refl))))))
 
 -- an answer whose last three words say none
 pub no_answer : (name : Option (List ℕ)) (moment ticket word : Option ℕ) → answer_from name moment ticket word None ≡ None

@@ -30,6 +30,10 @@ idle_text shard = codes "idle " ++ decimal shard ++ codes "\n"
 abbrev pub refused_text : List ℕ → ℕ → List ℕ
 refused_text name number = codes "refused " ++ name ++ codes " " ++ decimal number ++ codes "\n"
 
+-- a tenant that came: its name and the number that it got
+abbrev pub added_text : List ℕ → ℕ → List ℕ
+added_text name number = codes "added " ++ name ++ codes " " ++ decimal number ++ codes "\n"
+
 -- an answer to a job, or a drain, that was done
 abbrev pub done_text : List ℕ → List ℕ
 done_text name = codes "done " ++ name ++ codes "\n"

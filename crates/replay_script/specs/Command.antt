@@ -17,6 +17,10 @@ pub data CommandData : Type 0 where
   Report : List ℕ → ℕ → CommandData
   -- a tenant is to be drained: its name and the moment
   Drain : List ℕ → ℕ → CommandData
+  -- a tenant comes: the bytes of its document
+  Add : List ℕ → CommandData
+  -- a tenant is to leave: its name and the moment
+  Retire : List ℕ → ℕ → CommandData
 
 -- a post from what its three words spell, where each of them spells something
 abbrev pub post_from : Option (List ℕ) → Option ℕ → Option (List ℕ) → Option CommandData
@@ -114,6 +118,16 @@ report_of words = option_map (λ found. Report found.0 found.1) (tenant_of words
 abbrev pub drain_of : List (List ℕ) → Option CommandData
 drain_of words = option_map (λ found. Drain found.0 found.1) (tenant_of words)
 
+-- a retirement from the same words
+abbrev pub retire_of : List (List ℕ) → Option CommandData
+retire_of words = option_map (λ found. Retire found.0 found.1) (tenant_of words)
+
+-- `HEX`: a document, of so many bytes at most as a body
+unfoldable pub add_of : List (List ℕ) → Option CommandData
+add_of (document ∷ []) = option_map Add (body_of document)
+add_of (document ∷ word ∷ words) = None
+add_of [] = None
+
 -- by its first word a line is one of these commands or none
 unfoldable pub command_from : List (List ℕ) → Option CommandData
 command_from [] = None
@@ -123,6 +137,8 @@ command_from (verb ∷ words) =
     else if bytes_eq verb (codes "answer") then answer_of words
     else if bytes_eq verb (codes "report") then report_of words
     else if bytes_eq verb (codes "drain") then drain_of words
+    else if bytes_eq verb (codes "add") then add_of words
+    else if bytes_eq verb (codes "retire") then retire_of words
     else None
 
 -- the command that a line says, without its line end; none where it is no command

@@ -13,3 +13,5 @@ command_view (variants.Answer name moment ticket word answer) =
     data_of.Answer name.now moment ticket word (answer_view answer)
 command_view (variants.Report name moment) = data_of.Report name.now moment
 command_view (variants.Drain name moment) = data_of.Drain name.now moment
+command_view (variants.Add document) = data_of.Add document.items
+command_view (variants.Retire name moment) = data_of.Retire name.now moment

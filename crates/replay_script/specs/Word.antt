@@ -46,11 +46,11 @@ bytes_of word =
     else if nat_lt 0 (length word) then result_ok (decode_of word)
     else None
 
--- the most bytes that a post's body may have
+-- the most bytes that a post's body may have, and a tenant's document
 abbrev pub most_body_bytes : ℕ
 most_body_bytes = 20971520
 
--- a post's body: so many bytes at most
+-- a post's body, or a document: so many bytes at most
 unfoldable pub body_of : List ℕ → Option (List ℕ)
 body_of word = if nat_le (length word) (2 * most_body_bytes) then bytes_of word else None
 

@@ -2,7 +2,7 @@
 
 ghost use Rattle.std.specs.Prelude.{◌≡◌, ◌++◌, IfOk, OnOk, OnErr};
 ghost use Rattle.std.specs.String.{string_bytes};
-ghost use Rattle.replay_script.specs.Answer.{hex_text, reply_text, job_text, worked_text, idle_text, refused_text, done_text, report_text};
+ghost use Rattle.replay_script.specs.Answer.{hex_text, reply_text, job_text, worked_text, idle_text, refused_text, added_text, done_text, report_text};
 
 use std::alloc::{AllocError, Global};
 
@@ -67,6 +67,20 @@ pub fn put_refused(
     ensures on_refusal { OnErr result (out.new.items ≡ out.old.items) }
 {
     let line = format!(in alloc; "refused {name} {number}\n")?;
+    out.extend_from_slice(line.as_bytes())
+}
+
+/// Appends the line of a tenant that came, with the number that it got.
+pub fn put_added(
+    alloc: Global,
+    out: &mut Vec<u8>,
+    name: &str,
+    number: u32,
+) -> Result<(), AllocError>
+    ensures on_success { OnOk result (out.new.items ≡ out.old.items ++ added_text name.now number) }
+    ensures on_refusal { OnErr result (out.new.items ≡ out.old.items) }
+{
+    let line = format!(in alloc; "added {name} {number}\n")?;
     out.extend_from_slice(line.as_bytes())
 }
 

@@ -6,7 +6,7 @@ ghost use Rattle.std.specs.List.{position};
 ghost use Rattle.std.specs.Str.{bytes_eq};
 ghost use Rattle.send_retry.specs.Class.{answer_view};
 ghost use Rattle.replay_script.specs.Word.{words_of, words_behind, status_of, seconds_of, bytes_of};
-ghost use Rattle.replay_script.specs.Command.{command_of, command_from, post_of, turn_of, answer_of, back_end_answer_from, failed_from, http_from, tenant_of, report_of, drain_of};
+ghost use Rattle.replay_script.specs.Command.{command_of, command_from, post_of, turn_of, answer_of, back_end_answer_from, failed_from, http_from, tenant_of, report_of, drain_of, add_of, retire_of};
 ghost use Rattle.replay_script.specs.Named.{command_view};
 
 use crate::word::{body, bytes, name, number, random_word, seconds, status};
@@ -44,6 +44,15 @@ pub enum Command<'a> {
     },
     /// `drain NAME MOMENT`: what a tenant has waiting is decided and cut into batches at once.
     Drain {
+        name: &'a str,
+        moment: u64,
+    },
+    /// `add HEX`: a tenant comes, which the bytes of a document describe.
+    Add {
+        document: Vec<u8>,
+    },
+    /// `retire NAME MOMENT`: a tenant that was drained and holds nothing leaves.
+    Retire {
         name: &'a str,
         moment: u64,
     },
@@ -85,6 +94,12 @@ fn by_verb<'a>(
     }
     if verb == b"drain".as_slice() {
         return Ok(drain(text));
+    }
+    if verb == b"add".as_slice() {
+        return add(alloc, text);
+    }
+    if verb == b"retire".as_slice() {
+        return Ok(retire(text));
     }
     Ok(None)
 }
@@ -277,6 +292,29 @@ fn drain(text: &[u8]) -> Option<Command<'_>>
 {
     let (name, moment) = tenant_at(text)?;
     Some(Command::Drain { name, moment })
+}
+
+/// `HEX` of a tenant that comes
+#[tactic(auto, using(crate::proofs::Words::add_of_more), unfolding(crate::specs::Command::add_of))]
+fn add(alloc: Global, text: &[u8]) -> Result<Option<Command<'_>>, AllocError>
+    ensures { IfOk result (λ found. option_map command_view found ≡ add_of (words_of text.now)) }
+{
+    let (document_word, more) = first_word(text);
+    if more.is_some() {
+        return Ok(None);
+    }
+    let Some(document) = body(alloc, document_word)? else {
+        return Ok(None);
+    };
+    Ok(Some(Command::Add { document }))
+}
+
+/// `NAME MOMENT` of a retirement
+fn retire(text: &[u8]) -> Option<Command<'_>>
+    ensures { option_map command_view result ≡ retire_of (words_of text.now) }
+{
+    let (name, moment) = tenant_at(text)?;
+    Some(Command::Retire { name, moment })
 }
 
 /// `NAME MOMENT`

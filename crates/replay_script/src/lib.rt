@@ -19,7 +19,9 @@ mod run;
 mod session;
 mod word;
 
-pub use answer::{put_done, put_idle, put_job, put_refused, put_reply, put_report, put_worked};
+pub use answer::{
+    put_added, put_done, put_idle, put_job, put_refused, put_reply, put_report, put_worked,
+};
 pub use command::{Command, parse_line};
 pub use fault::ScriptFault;
 pub use law::equal_commands;

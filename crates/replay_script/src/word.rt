@@ -16,7 +16,7 @@ const MAX_NAME: usize = 64;
 /// A number has at most so many digits, so that it is below 2^64.
 const MAX_DIGITS: usize = 19;
 
-/// A post's body has at most so many bytes.
+/// A post's body, or a document, has at most so many bytes.
 const MAX_BODY: usize = 20_971_520;
 
 /// A wait of more seconds is taken as this one: a day.
@@ -99,7 +99,7 @@ pub fn seconds(word: &[u8]) -> Option<Option<u32>>
     Some(Some(seconds.min(LONGEST_WAIT) as u32))
 }
 
-/// A post's body.
+/// A post's body, or a document.
 #[tactic(auto, unfolding(crate::specs::Word::body_of))]
 pub fn body(alloc: Global, word: &[u8]) -> Result<Option<Vec<u8>>, AllocError>
     ensures { IfOk result (λ found. option_map (λ bytes. bytes.items) found ≡ body_of word.now) }

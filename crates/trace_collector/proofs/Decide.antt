@@ -6,10 +6,10 @@ use Rattle.otlp_read.specs.Value.{IsValue}
 use Rattle.tail_settings.specs.Section.{SectionData}
 use Rattle.tenant_rules.specs.Own.{Own}
 use Rattle.tenant_rules.specs.Own as own
-use Rattle.replay_script.specs.Command.{CommandData, Post, Turn, Answer, Report, Drain}
+use Rattle.replay_script.specs.Command.{CommandData, Post, Turn, Answer, Report, Drain, Add, Retire}
 use Rattle.trace_collector.specs.Alone.{post_alone, IsStepAlone, IsPostAlone, IsAnsweredAlone, AnswersAlone, IsToldIn, OwnCommandsDecide}
 use Rattle.trace_collector.specs.Own.{own_commands, lines_for}
-use Rattle.trace_collector.proofs.Named.{are_named}
+use Rattle.trace_collector.proofs.Named.{listed_text}
 use Rattle.trace_collector.proofs.Alone.{whole_alone}
 
 module _ (one_value : (body : List ℕ) (v v' : RequestData) → IsValue body v → IsValue body v' → v ≡ v') where
@@ -35,6 +35,8 @@ module _ (one_value : (body : List ℕ) (v v' : RequestData) → IsValue body v 
       step_one name section past later later' (own.Answer moment ticket word given) line line' h k
   answered_one name section past later later' (Report named moment) line line' h k = step_one name section past later later' (own.Report moment) line line' h k
   answered_one name section past later later' (Drain named moment) line line' h k = step_one name section past later later' (own.Drain moment) line line' h k
+  answered_one name section past later later' (Add document) line line' h k = absurd h
+  answered_one name section past later later' (Retire named moment) line line' h k = step_one name section past later later' (own.Retire moment) line line' h k
 
   alone_one : (name : List ℕ) (section : SectionData) (past : List Own) (commands : List CommandData) (lines lines' : List (List ℕ))
       → AnswersAlone name section past commands lines → AnswersAlone name section past commands lines' → lines' ≡ lines
@@ -50,10 +52,10 @@ module _ (one_value : (body : List ℕ) (v v' : RequestData) → IsValue body v 
 
   told_in : (name : List ℕ) (section : SectionData) (commands : List CommandData) (lines : List (List ℕ)) → IsToldIn name section commands lines → AnswersAlone name section [] commands lines
   told_in name section commands lines is =
-      let alone : AnswersAlone name section [] (own_commands name is.script is.text) (lines_for name is.text) =
-      whole_alone is.settings is.script is.text is.fault (are_named is.settings_text is.settings is.means) is.told is.number (record { number = is.number; name = name; section = section }) is.tenant_is in
+      let alone : AnswersAlone name section [] (own_commands name is.behind is.lines_behind) (lines_for name is.behind is.lines_behind) =
+      whole_alone is.settings is.script is.text is.fault (listed_text is.settings_text is.settings is.means) is.told name section is.behind is.lines_behind is.begins in
       subst (λ cs. AnswersAlone name section [] cs lines) is.commands_are
-      (subst (λ ls. AnswersAlone name section [] (own_commands name is.script is.text) ls) is.lines_are alone)
+      (subst (λ ls. AnswersAlone name section [] (own_commands name is.behind is.lines_behind) ls) is.lines_are alone)
 
   pub own_commands_decide : OwnCommandsDecide
   own_commands_decide name section commands lines lines' is is' =

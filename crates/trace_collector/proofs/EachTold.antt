@@ -1,6 +1,7 @@
 -- What a replay has written tells each tenant what it would be told alone.
-use Rattle.std.proofs.Common.{◌≡◌, ℕ, List, [], ◌∷◌, Option, Some, None, Result, Ok, Err, IfSome, refl, subst}
+use Rattle.std.proofs.Common.{◌≡◌, ℕ, List, [], ◌∷◌, Option, Some, None, Result, Ok, Err, IfSome, refl, sym, subst, inl, inr}
 use Rattle.std.specs.Io.KnownBytes.{Appends}
+use Rattle.tail_settings.specs.Section.{SectionData}
 use Rattle.tail_settings.specs.Settings.{SettingsData, settings_of}
 use Rattle.replay_script.specs.declared.fault.ScriptFault.{ScriptFault}
 use Rattle.replay_script.specs.declared.fault.ScriptFault.TheVariants.{Script, Line, OutOfMemory}
@@ -10,24 +11,27 @@ use Rattle.replay_script.specs.Transcript.{Ends}
 use Rattle.trace_collector.specs.declared.shards.Shards.{Shards}
 use Rattle.trace_collector.specs.declared.engine.ReplayFault.{ReplayFault}
 use Rattle.trace_collector.specs.declared.engine.ReplayFault.TheVariants as faults
-use Rattle.trace_collector.specs.Alone.{EachAlone, IsToldAlone, TellsEachAlone}
+use Rattle.trace_collector.specs.Alone.{AnswersAlone, ComesAmong, EachAlone, IsToldAlone, TellsEachAlone}
 use Rattle.trace_collector.specs.Answered.{IsAnswered}
 use Rattle.trace_collector.specs.Fault.{script_fault}
-use Rattle.trace_collector.specs.Own.{commands_of, own_among}
-use Rattle.trace_collector.specs.Script.{ScriptText, BeginsScriptText, no_steps}
-use Rattle.trace_collector.specs.Standing.{Answers}
+use Rattle.trace_collector.specs.Session.{begun}
+use Rattle.trace_collector.specs.Own.{commands_of, own_commands, lines_for}
+use Rattle.trace_collector.specs.Script.{ScriptText, BeginsScriptText}
+use Rattle.trace_collector.specs.Standing.{StandFor, Answers}
 use Rattle.trace_collector.proofs.Through.{so_far_through}
-use Rattle.trace_collector.proofs.Replayed.{Along, ok_same, goes_along, ran_replays, fault_replays, nothing_told}
-use Rattle.trace_collector.proofs.Named.{are_named}
-use Rattle.trace_collector.proofs.Alone.{whole_alone, begun_alone, so_far_alone}
+use Rattle.trace_collector.proofs.Replayed.{ok_same, goes_along, ran_replays, fault_replays, nothing_told}
+use Rattle.trace_collector.proofs.Named.{listed_text}
+use Rattle.trace_collector.proofs.Alone.{none_alone, whole_alone, begun_alone, so_far_alone}
 
 -- nothing was written
-none_answered : (name : List ℕ) (commands : List CommandData) → own_among name commands [] ≡ []
-none_answered name [] = refl
-none_answered name (command ∷ commands) = refl
+none_comes : (commands : List CommandData) (name : List ℕ) (section : SectionData) (behind : List CommandData) (lines_behind : List (List ℕ))
+    → ComesAmong commands [] name section behind lines_behind → ⊥
+none_comes [] name section behind lines_behind comes = comes
+none_comes (command ∷ commands) name section behind lines_behind comes = comes
 
 nothing_alone : (settings : SettingsData) (script : List ℕ) → EachAlone settings script []
-nothing_alone settings script number tenant at = rw (none_answered tenant.name (commands_of (lines_of script))) tt
+nothing_alone settings script name section commands lines (inl has) = subst (λ ls. AnswersAlone name section [] (own_commands name commands ls) (lines_for name commands ls)) (sym has.2) (none_alone name section [] commands).0
+nothing_alone settings script name section commands lines (inr comes) = absurd (none_comes (commands_of (lines_of script)) name section commands lines comes)
 
 nothing_ends : (settings : SettingsData) (script : List ℕ) (result : Result Unit ReplayFault) → IsToldAlone settings script [] result
 nothing_ends settings script (Ok done) = nothing_alone settings script
@@ -44,15 +48,15 @@ nothing_tells old w text result =
 told_under : (text script written : List ℕ) (fault : Option ℕ) (settings other : SettingsData) → settings_of text ≡ Ok settings → ScriptText settings script written fault
     → settings_of text ≡ Ok other → EachAlone other script written
 told_under text script written fault settings other is told means =
-    whole_alone other script written fault (are_named text other means) (subst (λ s. ScriptText s script written fault) (ok_same _ settings other is means) told)
+    whole_alone other script written fault (listed_text text other means) (subst (λ s. ScriptText s script written fault) (ok_same _ settings other is means) told)
 
-pub ran_tells : (text script written : List ℕ) (unread : Option (List ℕ)) (shards : Shards) (settings : SettingsData) (done : Unit) → settings_of text ≡ Ok settings → Along settings shards no_steps
+pub ran_tells : (text script written : List ℕ) (unread : Option (List ℕ)) (shards : Shards) (settings : SettingsData) (done : Unit) → settings_of text ≡ Ok settings → StandFor shards (begun settings)
     → Ends Answers (lines_of script) shards unread written (Ok done) → TellsEachAlone text script written (Ok done)
 ran_tells text script written unread shards settings done is along ends =
     let told = ran_replays text script written unread shards settings done is along ends in
     λ other means. told_under text script written None told.0 other told.1 told.2 means
 
-pub fault_tells : (text script written : List ℕ) (unread : Option (List ℕ)) (shards : Shards) (settings : SettingsData) (fault : ScriptFault) → settings_of text ≡ Ok settings → Along settings shards no_steps
+pub fault_tells : (text script written : List ℕ) (unread : Option (List ℕ)) (shards : Shards) (settings : SettingsData) (fault : ScriptFault) → settings_of text ≡ Ok settings → StandFor shards (begun settings)
     → Ends Answers (lines_of script) shards unread written (Err fault) → TellsEachAlone text script written (Err (script_fault fault))
 fault_tells text script written unread shards settings (Script line) is along ends =
     let told = fault_replays text script written unread shards settings (Script line) is along ends in
@@ -60,9 +64,9 @@ fault_tells text script written unread shards settings (Script line) is along en
 fault_tells text script written unread shards settings Line is along ends =
     let told = fault_replays text script written unread shards settings Line is along ends in
     λ other means.
-    begun_alone other script written (are_named text other means) (subst (λ s. BeginsScriptText s script written) (ok_same _ told.0 other told.1 means) told.2)
+    begun_alone other script written (listed_text text other means) (subst (λ s. BeginsScriptText s script written) (ok_same _ told.0 other told.1 means) told.2)
 fault_tells text script written unread shards settings OutOfMemory is along ends =
     λ other means.
     subst (λ s. EachAlone s script written) (ok_same _ settings other is means)
-    (so_far_alone settings script written unread (are_named text settings is)
-    (so_far_through Answers (IsAnswered settings) (Along settings) (goes_along settings) (lines_of script) shards no_steps unread written along ends))
+    (so_far_alone settings script written unread (listed_text text settings is)
+    (so_far_through Answers IsAnswered StandFor goes_along (lines_of script) shards (begun settings) unread written along ends))

@@ -9,6 +9,7 @@ pub mod Taken
 pub mod OneLine
 pub mod ToldPlain
 pub mod Named
+pub mod Arrives
 pub mod Alone
 pub mod Decide
 pub mod EachTold

@@ -1,25 +1,27 @@
 -- A script is told one text.
-use Rattle.std.proofs.Common.{◌≡◌, ◌+◌, ◌%◌, ℕ, Bool, true, false, nat_lt, List, [], ◌∷◌, ◌++◌, Option, Some, None, Result, Ok, refl, ap, sym, subst, ◌∙◌, arith, inl, inr}
+use Rattle.std.proofs.Common.{◌≡◌, ◌+◌, ◌%◌, ℕ, Bool, true, false, nat_lt, List, [], ◌∷◌, ◌++◌, Option, Some, None, Result, Ok, Err, refl, ap, sym, subst, ◌∙◌, arith, inl, inr}
 use Rattle.std.proofs.lemmas.List.{append_assoc}
 use Rattle.std.specs.Prelude.{◌↔◌}
 use Rattle.std.specs.Bool.{MatchBool}
 use Rattle.otlp_trace.specs.Data.{RequestData}
 use Rattle.otlp_read.specs.Value.{IsValue, value_of}
 use Rattle.otlp_read.specs.declared.fault.ReadFault.{ReadFault}
+use Rattle.tail_settings.specs.Fault.{FaultData}
 use Rattle.tail_settings.specs.Section.{SectionData}
 use Rattle.tail_settings.specs.Settings.{SettingsData, section_at, number_of}
 use Rattle.tenant_rules.specs.Own.{Own}
 use Rattle.tenant_rules.specs.Own as own
 use Rattle.tenant_shard.specs.declared.step.Outcome.{Outcome}
 use Rattle.shard_agenda.specs.Pick.{IsPick, NotAfter}
-use Rattle.tenant_shard.specs.Outcomes.{OwnStep, plain, is_taken}
+use Rattle.tenant_shard.specs.Outcomes.{OwnStep, plain, Piped, is_taken}
 use Rattle.tenant_shard.specs.Run.{IsTakenOrNot, IsAnswered, IsTurned, IsOutcomeOf}
-use Rattle.replay_script.specs.Command.{CommandData, Post, Turn, Answer, Report, Drain}
+use Rattle.replay_script.specs.Command.{CommandData, Post, Turn, Answer, Report, Drain, Add, Retire}
 use Rattle.replay_script.specs.Line.{Kind, Skipped, Says, Faulty, kind_of}
 use Rattle.replay_script.specs.Transcript.{Answered, Goes, Told, BeginsTold}
 use Rattle.trace_collector.specs.Outcomes.{outcome_text}
-use Rattle.trace_collector.specs.Answered.{section_in, lists_of, joined, posted, IsStepped, IsSteppedFor, IsPosted, IsPostedTo, IsAskedOf}
+use Rattle.trace_collector.specs.Answered.{section_in, lives_of, joined, posted, IsStepped, IsSteppedFor, IsPosted, IsPostedTo, IsAskedOf, without, IsRetired, arrived, IsAdded}
 use Rattle.trace_collector.specs.Answered as of_script
+use Rattle.trace_collector.specs.Session.{Session}
 
 module _ {H : Type 0} (answers : H → CommandData → Option (List ℕ) → H → Type 0)
     (one : (h k k' : H) (command : CommandData) (line line' : Option (List ℕ)) → answers h command line k → answers h command line' k' → (line ≡ line') × (k ≡ k')) where
@@ -102,27 +104,30 @@ answered_one tenant None past step o o' h k = h ∙ sym k
 answered_one tenant (Some section) past step o o' h k = taken_one tenant (is_taken section step) section past step.step o o' h k
 
 turned_one : (settings : SettingsData) (pasts : ℕ → List Own) (shard : ℕ) (step : OwnStep) (picked : Option ℕ) (o o' : Outcome)
-    → IsTurned (lists_of settings pasts shard) step picked o → IsTurned (lists_of settings pasts shard) step picked o' → o ≡ o'
+    → IsTurned (lives_of settings pasts shard) step picked o → IsTurned (lives_of settings pasts shard) step picked o' → o ≡ o'
 turned_one settings pasts shard step None o o' h k = h ∙ sym k
 turned_one settings pasts shard step (Some tenant) o o' h k = answered_one tenant (section_in settings shard tenant) (pasts tenant) step o o' h k
 
 outcome_one : (settings : SettingsData) (pasts : ℕ → List Own) (shard : ℕ) (named : Option ℕ) (step : OwnStep) (o o' : Outcome)
-    → IsOutcomeOf named (lists_of settings pasts shard) [] step o → IsOutcomeOf named (lists_of settings pasts shard) [] step o' → o ≡ o'
+    → IsOutcomeOf named (lives_of settings pasts shard) [] (Piped step) o → IsOutcomeOf named (lives_of settings pasts shard) [] (Piped step) o' → o ≡ o'
 outcome_one settings pasts shard (Some tenant) step o o' h k = answered_one tenant (section_in settings shard tenant) (pasts tenant) step o o' h k
 outcome_one settings pasts shard None step o o' h k =
     let same = pick_one _ _ h.0 k.0 h.1 k.1 in
-    turned_one settings pasts shard step k.0 o o' (subst (λ p. IsTurned (lists_of settings pasts shard) step p o) same h.2) k.2
+    turned_one settings pasts shard step k.0 o o' (subst (λ p. IsTurned (lives_of settings pasts shard) step p o) same h.2) k.2
 
 stepped_one : (settings : SettingsData) (pasts later later' : ℕ → List Own) (shard : ℕ) (named : Option ℕ) (step : OwnStep) (line line' : Option (List ℕ))
     → IsStepped settings pasts shard named step line later → IsStepped settings pasts shard named step line' later' → (line ≡ line') × (later ≡ later')
 stepped_one settings pasts later later' shard named step line line' h k =
-    let same = outcome_one settings pasts shard named step h.0 k.0 h.1 k.1 in (
-      h.2 ∙ ap (λ o. Some (outcome_text settings shard o)) same ∙ sym k.2,
-      h.3 ∙ ap (λ o. joined named step o (lists_of settings pasts shard)) same ∙ sym k.3,
+    let same = outcome_one settings pasts shard named step h.0 k.0 h.1.0 k.1.0 in (
+      h.1.1 ∙ ap (λ o. Some (outcome_text settings shard o)) same ∙ sym k.1.1,
+      h.1.2 ∙ ap (λ o. joined named step o (lives_of settings pasts shard)) same ∙ sym k.1.2,
     )
 
 one_section : (found : Option SectionData) (s t : SectionData) → found ≡ Some s → found ≡ Some t → s ≡ t
 one_section found s t e f = let same : ◌≡◌ {A = Option SectionData} (Some s) (Some t) = sym e ∙ f in cc
+
+one_session : (a b : Session) → a.table ≡ b.table → a.pasts ≡ b.pasts → a ≡ b
+one_session a b table pasts = λ i. record { table = table i; pasts = pasts i }
 
 module _ (one_value : (body : List ℕ) (v v' : RequestData) → IsValue body v → IsValue body v' → v ≡ v') where
   posted_one : (settings : SettingsData) (pasts later later' : ℕ → List Own) (tenant : ℕ) (name : List ℕ) (moment : ℕ) (body : List ℕ) (line line' : Option (List ℕ))
@@ -154,18 +159,39 @@ module _ (one_value : (body : List ℕ) (v v' : RequestData) → IsValue body v 
   turn_one settings pasts later later' shard moment true line line' h k = stepped_one settings pasts later later' shard None (plain (own.Turn moment)) line line' h k
   turn_one settings pasts later later' shard moment false line line' h k = (h.0 ∙ sym k.0, h.1 ∙ sym k.1)
 
-  pub script_answered_one : (settings : SettingsData) (pasts later later' : ℕ → List Own) (command : CommandData) (line line' : Option (List ℕ))
-      → of_script.IsAnswered settings pasts command line later → of_script.IsAnswered settings pasts command line' later' → (line ≡ line') × (later ≡ later')
-  script_answered_one settings pasts later later' (Post name moment body) line line' h k =
-      posted_to_one settings pasts later later' (number_of settings name) name moment body line line' h k
-  script_answered_one settings pasts later later' (Turn shard moment) line line' h k =
-      turn_one settings pasts later later' shard moment (nat_lt shard settings.global.shards) line line' h k
-  script_answered_one settings pasts later later' (Answer name moment ticket word answer) line line' h k =
-      asked_one settings pasts later later' (number_of settings name) (own.Answer moment ticket word answer) line line' h k
-  script_answered_one settings pasts later later' (Report name moment) line line' h k =
-      asked_one settings pasts later later' (number_of settings name) (own.Report moment) line line' h k
-  script_answered_one settings pasts later later' (Drain name moment) line line' h k =
-      asked_one settings pasts later later' (number_of settings name) (own.Drain moment) line line' h k
+  -- a retirement
+  retired_one : (old new new' : Session) (found : Option ℕ) (moment : ℕ) (line line' : Option (List ℕ)) → IsRetired old found moment line new → IsRetired old found moment line' new'
+      → (line ≡ line') × (new ≡ new')
+  retired_one old new new' None moment line line' h k = (h.0 ∙ sym k.0, h.1 ∙ sym k.1)
+  retired_one old new new' (Some tenant) moment line line' h k =
+      let shard = tenant % old.table.global.shards in
+      let same = outcome_one old.table old.pasts (tenant % old.table.global.shards) (Some tenant) (plain (own.Retire moment)) h.0 k.0 h.1.0 k.1.0 in
+      let told = stepped_one old.table old.pasts new.pasts new'.pasts shard (Some tenant) (plain (own.Retire moment)) line line' (h.0, h.1) (k.0, k.1) in
+      (told.0, one_session new new' (h.2 ∙ ap (λ o. without tenant o old.table) same ∙ sym k.2) told.1)
+
+  -- a tenant that comes, or a document that is refused
+  added_one : (old new new' : Session) (means : Result SettingsData FaultData) (line line' : Option (List ℕ)) → IsAdded old means line new → IsAdded old means line' new' → (line ≡ line') × (new ≡ new')
+  added_one old new new' (Ok table) line line' h k = (h.0 ∙ sym k.0, h.1 ∙ sym k.1)
+  added_one old new new' (Err fault) line line' h k = (h.0 ∙ sym k.0, h.1 ∙ sym k.1)
+
+  -- the settings stay
+  kept_one : (old new new' : Session) (line line' : Option (List ℕ)) → new.table ≡ old.table → new'.table ≡ old.table → (line ≡ line') × (new.pasts ≡ new'.pasts) → (line ≡ line') × (new ≡ new')
+  kept_one old new new' line line' h k same = (same.0, one_session new new' (h ∙ sym k) same.1)
+
+  pub script_answered_one : (old new new' : Session) (command : CommandData) (line line' : Option (List ℕ))
+      → of_script.IsAnswered old command line new → of_script.IsAnswered old command line' new' → (line ≡ line') × (new ≡ new')
+  script_answered_one old new new' (Post name moment body) line line' h k =
+      kept_one old new new' line line' h.0 k.0 (posted_to_one old.table old.pasts new.pasts new'.pasts (number_of old.table name) name moment body line line' h.1 k.1)
+  script_answered_one old new new' (Turn shard moment) line line' h k =
+      kept_one old new new' line line' h.0 k.0 (turn_one old.table old.pasts new.pasts new'.pasts shard moment (nat_lt shard old.table.global.shards) line line' h.1 k.1)
+  script_answered_one old new new' (Answer name moment ticket word answer) line line' h k =
+      kept_one old new new' line line' h.0 k.0 (asked_one old.table old.pasts new.pasts new'.pasts (number_of old.table name) (own.Answer moment ticket word answer) line line' h.1 k.1)
+  script_answered_one old new new' (Report name moment) line line' h k =
+      kept_one old new new' line line' h.0 k.0 (asked_one old.table old.pasts new.pasts new'.pasts (number_of old.table name) (own.Report moment) line line' h.1 k.1)
+  script_answered_one old new new' (Drain name moment) line line' h k =
+      kept_one old new new' line line' h.0 k.0 (asked_one old.table old.pasts new.pasts new'.pasts (number_of old.table name) (own.Drain moment) line line' h.1 k.1)
+  script_answered_one old new new' (Add document) line line' h k = added_one old new new' (arrived old.table document) line line' h k
+  script_answered_one old new new' (Retire name moment) line line' h k = retired_one old new new' (number_of old.table name) moment line line' h k
 
 pub same_value : ((body : List ℕ) (v : RequestData) → (value_of body ≡ Ok v) ↔ IsValue body v) → (body : List ℕ) (v v' : RequestData) → IsValue body v → IsValue body v' → v ≡ v'
 same_value exact body v v' h k =

@@ -6,8 +6,7 @@ use Rattle.std.specs.Prelude.{string_bytes}
 use Rattle.tail_settings.specs.declared.fault.SettingsFault.{SettingsFault}
 use Rattle.tail_settings.specs.declared.fault.SettingsFault.TheVariants as settings
 use Rattle.tail_settings.specs.Fault.{TellsFault, not_toml, missing_key, wrong_kind, out_of_range, double_tenant, too_many}
-use Rattle.tail_settings.specs.Settings.{SettingsData, settings_view, settings_of}
-use Rattle.tenant_rules.specs.Own.{Own}
+use Rattle.tail_settings.specs.Settings.{SettingsData, settings_of}
 use Rattle.replay_script.specs.declared.fault.ScriptFault.{ScriptFault}
 use Rattle.replay_script.specs.declared.fault.ScriptFault.TheVariants.{Script, Line, OutOfMemory}
 use Rattle.replay_script.specs.Command.{CommandData}
@@ -18,47 +17,39 @@ use Rattle.trace_collector.specs.Fault.{script_fault, settings_fault}
 use Rattle.trace_collector.specs.Answered.{IsAnswered}
 use Rattle.trace_collector.specs.declared.engine.ReplayFault.{ReplayFault}
 use Rattle.trace_collector.specs.declared.engine.ReplayFault.TheVariants as faults
-use Rattle.trace_collector.specs.Script.{no_steps, BeginsScriptText, ScriptToldSoFar}
-use Rattle.trace_collector.specs.Standing.{AllStand, Answers}
+use Rattle.trace_collector.specs.Session.{Session, begun}
+use Rattle.trace_collector.specs.Script.{BeginsScriptText, ScriptToldSoFar}
+use Rattle.trace_collector.specs.Standing.{StandFor, Answers}
 use Rattle.trace_collector.specs.Replay.{IsReplay, WritesSoFar}
 use Rattle.trace_collector.proofs.Through.{told_through, begins_through, so_far_through}
 
-pub record Along (settings : SettingsData) (shards : Shards) (pasts : ℕ → List Own) : Type 0 where
-  pub same : settings_view shards.settings.now ≡ settings
-  pub stand : AllStand settings shards.shards.items pasts
-
-pub goes_along : (settings : SettingsData) (old new : Shards) (pasts : ℕ → List Own) (command : CommandData) (line : Option (List ℕ)) → Along settings old pasts → Answers old command line new
-    → (later : ℕ → List Own) × IsAnswered settings pasts command line later × Along settings new later
-goes_along settings old new pasts command line along answers =
-    let next = answers.answers pasts (subst (λ s. AllStand s old.shards.items pasts) (sym along.same) along.stand) in (
-      next.0,
-      subst (λ s. IsAnswered s pasts command line next.0) along.same next.1,
-      record { same = answers.same ∙ along.same; stand = subst (λ s. AllStand s new.shards.items next.0) along.same next.2 },
-    )
+pub goes_along : (old new : Shards) (session : Session) (command : CommandData) (line : Option (List ℕ)) → StandFor old session → Answers old command line new
+    → (later : Session) × IsAnswered session command line later × StandFor new later
+goes_along old new session command line along answers = answers.answers session along
 
 pub ok_same : {E : Type 0} (r : Result SettingsData E) (a b : SettingsData) → r ≡ Ok a → r ≡ Ok b → a ≡ b
 ok_same {E} r a b e f = let same : ◌≡◌ {A = Result SettingsData E} (Ok a) (Ok b) = sym e ∙ f in cc
 
-pub ran_replays : (text script written : List ℕ) (unread : Option (List ℕ)) (shards : Shards) (settings : SettingsData) (done : Unit) → settings_of text ≡ Ok settings → Along settings shards no_steps
+pub ran_replays : (text script written : List ℕ) (unread : Option (List ℕ)) (shards : Shards) (settings : SettingsData) (done : Unit) → settings_of text ≡ Ok settings → StandFor shards (begun settings)
     → Ends Answers (lines_of script) shards unread written (Ok done) → IsReplay text script written (Ok done)
 ran_replays text script written unread shards settings done is along ends =
-    (settings, is, told_through Answers (IsAnswered settings) (Along settings) (goes_along settings) (lines_of script) 1 shards no_steps written None along ends)
+    (settings, is, told_through Answers IsAnswered StandFor goes_along (lines_of script) 1 shards (begun settings) written None along ends)
 
 so_far_begins : (lines : List (List ℕ)) (shards : Shards) (unread : Option (List ℕ)) (written : List ℕ) → ToldSoFar Answers lines shards unread written → BeginsTold Answers lines shards written
 so_far_begins lines shards unread written told =
     (told.done, told.left, [], None, told.parted, subst (λ t. Told Answers told.done 1 shards t None) (sym (append-nil written)) told.told)
 
-pub fault_replays : (text script written : List ℕ) (unread : Option (List ℕ)) (shards : Shards) (settings : SettingsData) (fault : ScriptFault) → settings_of text ≡ Ok settings → Along settings shards no_steps
+pub fault_replays : (text script written : List ℕ) (unread : Option (List ℕ)) (shards : Shards) (settings : SettingsData) (fault : ScriptFault) → settings_of text ≡ Ok settings → StandFor shards (begun settings)
     → Ends Answers (lines_of script) shards unread written (Err fault) → IsReplay text script written (Err (script_fault fault))
 fault_replays text script written unread shards settings (Script line) is along ends =
-    (settings, is, told_through Answers (IsAnswered settings) (Along settings) (goes_along settings) (lines_of script) 1 shards no_steps written (Some line) along ends)
+    (settings, is, told_through Answers IsAnswered StandFor goes_along (lines_of script) 1 shards (begun settings) written (Some line) along ends)
 fault_replays text script written unread shards settings Line is along ends =
-    (settings, is, begins_through Answers (IsAnswered settings) (Along settings) (goes_along settings) (lines_of script) shards no_steps written along ends)
+    (settings, is, begins_through Answers IsAnswered StandFor goes_along (lines_of script) shards (begun settings) written along ends)
 fault_replays text script written unread shards settings OutOfMemory is along ends = (
   λ s means.
       let same : ◌≡◌ {A = SettingsData} settings s = ok_same _ settings s is means in
       subst (λ t. BeginsScriptText t script written) same
-      (begins_through Answers (IsAnswered settings) (Along settings) (goes_along settings) (lines_of script) shards no_steps written along
+      (begins_through Answers IsAnswered StandFor goes_along (lines_of script) shards (begun settings) written along
       (so_far_begins (lines_of script) shards unread written ends)),
   λ f fails.
       absurd (let never : Ok settings ≡ Err f = sym is ∙ fails in cc),
@@ -76,7 +67,7 @@ was_memory r given fault is from memory =
     memory_told fault (sym from ∙ same)
 
 pub memory_so_far : (old unread w w' : Option (List ℕ)) (text : List ℕ) (shards : Shards) (settings : SettingsData) (fault : ScriptFault) → settings_of text ≡ Ok settings
-    → Along settings shards no_steps → fault ≡ OutOfMemory
+    → StandFor shards (begun settings) → fault ≡ OutOfMemory
     → IfSome old (λ script. (written : List ℕ) × Appends w w' written × Ends Answers (lines_of script) shards unread written (Err fault))
     → IfSome old (λ script. WritesSoFar text script unread w w')
 memory_so_far None unread w w' text shards settings fault is along memory told = tt
@@ -87,7 +78,7 @@ memory_so_far (Some script) unread w w' text shards settings fault is along memo
       told.0,
       told.1,
       subst (λ t. ScriptToldSoFar t script unread told.0) same
-          (so_far_through Answers (IsAnswered settings) (Along settings) (goes_along settings) (lines_of script) shards no_steps unread told.0 along ends),
+          (so_far_through Answers IsAnswered StandFor goes_along (lines_of script) shards (begun settings) unread told.0 along ends),
     )
 
 pub some_told : (old : Option (List ℕ)) (P Q : List ℕ → List ℕ → Type 0) (w w' : Option (List ℕ)) → ((script written : List ℕ) → P script written → Q script written)

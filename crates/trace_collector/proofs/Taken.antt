@@ -22,9 +22,9 @@ use Rattle.otlp_prepare.specs.Equal.{policy_parts, policy_eq, same_policies}
 use Rattle.tenant_pipeline.specs.Prepared.{invalid_arrival}
 use Rattle.tenant_shard.specs.declared.step.Outcome.{Outcome}
 use Rattle.tenant_shard.specs.Outcomes.{OwnStep, is_taken, Answered, named}
-use Rattle.tenant_shard.specs.Run.{IsTakenOrNot, IsAnswered, recorded}
+use Rattle.tenant_shard.specs.Run.{IsTakenOrNot, IsAnswered}
 use Rattle.trace_collector.specs.Outcomes.{name_at, outcome_text, told_text}
-use Rattle.trace_collector.specs.Answered.{section_in, IsSteppedFor, posted}
+use Rattle.trace_collector.specs.Answered.{section_in, recorded, IsStep, IsSteppedFor, posted}
 use Rattle.trace_collector.specs.Law.{ValuesAreTaken}
 
 policies_equiv : IsEquivalence policy_eq
@@ -60,15 +60,22 @@ named_text settings shard number (replies.Report report) = refl
 named_text settings shard number replies.UnknownTicket = refl
 named_text settings shard number replies.NotEmpty = refl
 
+-- the outcome of a step that names a member
+pub stepped_outcome : (settings : SettingsData) (pasts later : ℕ → List Own) (tenant : ℕ) (section : SectionData) (step : OwnStep) (outcome : Outcome) (line : Option (List ℕ))
+    → section_at settings tenant ≡ Some section → is_taken section step ≡ true → IsStep settings pasts (tenant % settings.global.shards) (Some tenant) step outcome line later
+    → outcome ≡ named tenant (Answered (answer section (pasts tenant) step.step))
+stepped_outcome settings pasts later tenant section step outcome line is taken stepped =
+    piped_told tenant section _ (pasts tenant) step outcome (own_section settings tenant section is) taken stepped.0
+
 pub stepped_told : (settings : SettingsData) (pasts later : ℕ → List Own) (tenant : ℕ) (section : SectionData) (step : OwnStep) (line : Option (List ℕ)) → section_at settings tenant ≡ Some section
     → is_taken section step ≡ true → IsSteppedFor settings pasts tenant step line later
     → (line ≡ Some (told_text (name_at settings tenant) (answer section (pasts tenant) step.step))) × (later tenant ≡ step.step ∷ pasts tenant)
 stepped_told settings pasts later tenant section step line is taken stepped =
     let found = own_section settings tenant section is in
     let test : (tenant == tenant) ≡ true = grind (arith, nat_tests) in (
-      stepped.2 ∙ ap (λ o. Some (outcome_text settings (tenant % settings.global.shards) o)) (piped_told tenant section _ (pasts tenant) step stepped.0 found taken stepped.1)
+      stepped.1.1 ∙ ap (λ o. Some (outcome_text settings (tenant % settings.global.shards) o)) (piped_told tenant section _ (pasts tenant) step stepped.0 found taken stepped.1.0)
           ∙ ap (λ l. Some l) (named_text settings (tenant % settings.global.shards) tenant (answer section (pasts tenant) step.step)),
-      ap (λ pasts'. pasts' tenant) stepped.3 ∙ rw test (joins section _ (pasts tenant) step found taken),
+      ap (λ pasts'. pasts' tenant) stepped.1.2 ∙ rw test (joins section _ (pasts tenant) step found taken),
     )
 
 -- it leaves the others' pasts
@@ -76,7 +83,7 @@ pub stepped_others : (settings : SettingsData) (pasts later : ℕ → List Own) 
     → IsSteppedFor settings pasts tenant step line later → later other ≡ pasts other
 stepped_others settings pasts later tenant step line other apart stepped =
     let is_not : (tenant == other) ≡ false = ne_eqb tenant other (λ e. apart (sym e)) in
-    ap (λ f. f other) stepped.3 ∙ rw is_not refl
+    ap (λ f. f other) stepped.1.2 ∙ rw is_not refl
 
 post_reply : (section : SectionData) (past : List Own) (moment : ℕ) (arrivals : List Arrival)
     → (reply : Reply) × (answer section past (own.Post moment arrivals) ≡ replies.Reply reply)

@@ -1,5 +1,7 @@
 -- Within what a tenant is told there is no line feed.
-use Rattle.std.proofs.Common.{◌≢◌, ℕ, List, ◌∷◌, ◌++◌, codes, Option, Some, None, refl}
+use Rattle.std.proofs.Common.{◌≢◌, ◌&&◌, ℕ, Bool, true, false, List, ◌∷◌, ◌++◌, codes, Option, Some, None, refl}
+use Rattle.std.specs.Prelude.{if◌then◌else◌}
+use Rattle.std.specs.Option.{is_some}
 use Rattle.std.specs.Fmt.{decimal}
 use Rattle.std.proofs.lemmas.List.Elements.{All-append}
 use Rattle.drop_ledger.specs.declared.places.Places.{Places}
@@ -7,9 +9,11 @@ use Rattle.drop_ledger.specs.Ledger.{LedgerData}
 use Rattle.drop_ledger.specs.Report.{counter, waiting_text, ended_text, refused_text, report_text}
 use Rattle.replay_script.proofs.Plain.{IsPlain, plain_of, decimal_plain}
 use Rattle.tail_settings.specs.Section.{SectionData}
-use Rattle.tenant_rules.specs.Own.{Own, clock}
+use Rattle.tenant_rules.specs.declared.reply.StepReply.TheVariants as replies
+use Rattle.tenant_rules.specs.Own.{Own, clock, drained}
 use Rattle.tenant_rules.specs.Own as own
 use Rattle.tenant_rules.specs.Answers.{answer, job_of, heard}
+use Rattle.tenant_rules.specs.Retiring.{holds_none}
 use Rattle.tenant_rules.specs.Sender.{ActiveData, SenderData, Choice, Retried, Oldest, NoBatch, choice, in_flight}
 use Rattle.tenant_rules.specs.Sending.{before_acting, sender}
 use Rattle.tenant_rules.specs.State.{ledger}

@@ -1,45 +1,69 @@
--- What a script's commands are answered, by the own steps that each tenant has had before, the newest first. This
--- project's own rule.
-use Rattle.std.specs.Prelude.{◌≡◌, ℕ, ◌%◌, ◌==◌, ◌⊎◌, true, List, [], Option, Some, None, if◌then◌else◌, nat_lt, MatchBool}
+-- What a script's commands are answered, by the settings as they are now and the own steps that each tenant has had
+-- before, the newest first. This project's own rule (docs/SCRIPT.md).
+use Rattle.std.specs.Prelude.{◌≡◌, ℕ, ◌%◌, ◌==◌, ◌⊎◌, ◌&&◌, Bool, true, List, [], ◌∷◌, Option, Some, None, Result, Ok, Err, codes, if◌then◌else◌, nat_lt, MatchBool}
+use Rattle.std.specs.Str.{is_utf8}
 use Rattle.otlp_trace.specs.Data.{RequestData}
 use Rattle.otlp_read.specs.Value.{IsValue}
+use Rattle.tail_settings.specs.Change.{admitted, struck}
+use Rattle.tail_settings.specs.Fault.{FaultData, not_toml, fault_number}
 use Rattle.tail_settings.specs.Section.{SectionData}
 use Rattle.tail_settings.specs.Settings.{SettingsData, section_at, number_of}
 use Rattle.tenant_rules.specs.Own.{Own}
 use Rattle.tenant_rules.specs.Own as own
 use Rattle.otlp_prepare.specs.Prepared.{prepared_of}
-use Rattle.tenant_shard.specs.declared.step.Step.TheVariants as steps
 use Rattle.tenant_shard.specs.declared.step.Outcome.{Outcome}
-use Rattle.tenant_shard.specs.Lists.{Lists}
-use Rattle.tenant_shard.specs.Outcomes.{OwnStep, plain, own_step, whose, is_tenant}
-use Rattle.tenant_shard.specs.Run.{IsOutcomeOf, recorded}
-use Rattle.replay_script.specs.Command.{CommandData, Post, Turn, Answer, Report, Drain}
-use Rattle.replay_script.specs.Answer.{reply_text}
-use Rattle.trace_collector.specs.Outcomes.{outcome_text, bad_protobuf}
+use Rattle.tenant_shard.specs.declared.step.Outcome.TheVariants as outcomes
+use Rattle.tenant_shard.specs.Lives.{Lives}
+use Rattle.tenant_shard.specs.Outcomes.{OwnStep, plain, own_post, Piped, whose, is_tenant, is_taken}
+use Rattle.tenant_shard.specs.Run.{IsOutcomeOf}
+use Rattle.replay_script.specs.Command.{CommandData, Post, Turn, Answer, Report, Drain, Add, Retire}
+use Rattle.replay_script.specs.Answer.{reply_text, refused_text, added_text}
+use Rattle.trace_collector.specs.Outcomes.{outcome_text, name_at, bad_protobuf}
+use Rattle.trace_collector.specs.Session.{Session, new_among}
 
 -- a shard's members are the tenants whose number, divided by the count of shards, leaves the shard's
 abbrev pub section_in : SettingsData → ℕ → ℕ → Option SectionData
 section_in settings shard tenant = if tenant % settings.global.shards == shard then section_at settings tenant else None
 
+-- a shard's members so far are all such numbers that were given
+abbrev pub used_in : SettingsData → ℕ → ℕ → Bool
+used_in settings shard tenant = nat_lt tenant settings.next && (tenant % settings.global.shards == shard)
+
 -- what a shard knows of its members: their settings and, of each, the own steps that it has had
-abbrev pub lists_of : SettingsData → (ℕ → List Own) → ℕ → Lists
-lists_of settings pasts shard = record { sections = section_in settings shard; pasts = pasts; known = λ tenant. true }
+abbrev pub lives_of : SettingsData → (ℕ → List Own) → ℕ → Lives
+lives_of settings pasts shard tenant = record {
+  section = section_in settings shard tenant;
+  past = pasts tenant;
+  known = true;
+  used = used_in settings shard tenant;
+}
+
+-- a step joins the own steps of a member where it reaches its pipeline
+abbrev pub recorded : Option SectionData → OwnStep → List Own → List Own
+recorded None step past = past
+recorded (Some section) step past = if is_taken section step then step.step ∷ past else past
 
 -- the own steps after one more: it joins those of the member whose it is, which is the tenant that it names or else the
 -- one that its outcome names
-abbrev pub joined : Option ℕ → OwnStep → Outcome → Lists → ℕ → List Own
-joined named step outcome lists tenant =
-    if is_tenant tenant (whose named outcome) then recorded (lists.sections tenant) step (lists.pasts tenant)
-    else lists.pasts tenant
+abbrev pub joined : Option ℕ → OwnStep → Outcome → Lives → ℕ → List Own
+joined named step outcome lives tenant =
+    if is_tenant tenant (whose named outcome) then recorded (lives tenant).section step (lives tenant).past
+    else (lives tenant).past
 
--- a step of a shard was done, which names a tenant or none: its outcome is the next in the shard's run, and this is its
--- line
+-- a step of a shard was done, which names a tenant or none: this outcome is the next in the shard's run, and this is
+-- its line
+abbrev pub IsStep : SettingsData → (ℕ → List Own) → ℕ → Option ℕ → OwnStep → Outcome → Option (List ℕ)
+    → (ℕ → List Own) → Type 0
+IsStep settings pasts shard named step outcome line new =
+    IsOutcomeOf named (lives_of settings pasts shard) [] (Piped step) outcome
+    × (line ≡ Some (outcome_text settings shard outcome))
+    × (new ≡ joined named step outcome (lives_of settings pasts shard))
+
+-- the same by its line
 abbrev pub IsStepped : SettingsData → (ℕ → List Own) → ℕ → Option ℕ → OwnStep → Option (List ℕ) → (ℕ → List Own)
     → Type 0
-IsStepped settings pasts shard named step line new = (outcome : Outcome)
-    × IsOutcomeOf named (lists_of settings pasts shard) [] step outcome
-    × (line ≡ Some (outcome_text settings shard outcome))
-    × (new ≡ joined named step outcome (lists_of settings pasts shard))
+IsStepped settings pasts shard named step line new =
+    (outcome : Outcome) × IsStep settings pasts shard named step outcome line new
 
 -- a step that names a tenant was done by that tenant's shard
 abbrev pub IsSteppedFor : SettingsData → (ℕ → List Own) → ℕ → OwnStep → Option (List ℕ) → (ℕ → List Own) → Type 0
@@ -52,7 +76,7 @@ HasNoValue body = (v : RequestData) → IsValue body v → ⊥
 
 -- the value of a body, prepared for the policies of its tenant, as a step of its tenant
 abbrev pub posted : ℕ → ℕ → SectionData → RequestData → OwnStep
-posted moment tenant section v = own_step (steps.Post moment (prepared_of tenant section v))
+posted moment tenant section v = own_post moment (prepared_of tenant section v)
 
 -- what is posted: the value of a body, as a step of that tenant's shard
 abbrev pub IsTaken : SettingsData → (ℕ → List Own) → ℕ → ℕ → List ℕ → Option (List ℕ) → (ℕ → List Own) → Type 0
@@ -79,16 +103,42 @@ abbrev pub IsAskedOf : SettingsData → (ℕ → List Own) → Option ℕ → Ow
 IsAskedOf settings pasts None step line new = (line ≡ None) × (new ≡ pasts)
 IsAskedOf settings pasts (Some tenant) step line new = IsSteppedFor settings pasts tenant (plain step) line new
 
--- the line of a command, none where it names no tenant or no shard, and the own steps afterwards
-abbrev pub IsAnswered : SettingsData → (ℕ → List Own) → CommandData → Option (List ℕ) → (ℕ → List Own) → Type 0
-IsAnswered settings pasts (Post name moment body) line new =
-    IsPostedTo settings pasts (number_of settings name) name moment body line new
-IsAnswered settings pasts (Turn shard moment) line new =
-    MatchBool (nat_lt shard settings.global.shards)
-    (IsStepped settings pasts shard None (plain (own.Turn moment)) line new) ((line ≡ None) × (new ≡ pasts))
-IsAnswered settings pasts (Answer name moment ticket word answer) line new =
-    IsAskedOf settings pasts (number_of settings name) (own.Answer moment ticket word answer) line new
-IsAnswered settings pasts (Report name moment) line new =
-    IsAskedOf settings pasts (number_of settings name) (own.Report moment) line new
-IsAnswered settings pasts (Drain name moment) line new =
-    IsAskedOf settings pasts (number_of settings name) (own.Drain moment) line new
+-- the settings without a tenant whose retirement this is the outcome of, where it was told its last report
+abbrev pub without : ℕ → Outcome → SettingsData → SettingsData
+without tenant (outcomes.Report whom report) settings = struck settings tenant
+without tenant outcome settings = settings
+
+-- a retirement is a step of the tenant of a name, if there is one, who then leaves
+abbrev pub IsRetired : Session → Option ℕ → ℕ → Option (List ℕ) → Session → Type 0
+IsRetired old None moment line new = (line ≡ None) × (new ≡ old)
+IsRetired old (Some tenant) moment line new = (outcome : Outcome)
+    × IsStep old.table old.pasts (tenant % old.table.global.shards) (Some tenant) (plain (own.Retire moment)) outcome
+    line new.pasts
+    × (new.table ≡ without tenant outcome old.table)
+
+-- the settings with the tenant of a document, or the document's fault, which has to be text first
+abbrev pub arrived : SettingsData → List ℕ → Result SettingsData FaultData
+arrived settings document = if is_utf8 document then admitted settings document else Err not_toml
+
+-- a tenant joined, who has the next number and has had no steps; or the document was refused, and nothing has changed
+abbrev pub IsAdded : Session → Result SettingsData FaultData → Option (List ℕ) → Session → Type 0
+IsAdded old (Ok table) line new = (line ≡ Some (added_text (name_at table old.table.next) old.table.next))
+    × (new ≡ record { table = table; pasts = new_among old.pasts old.table.next })
+IsAdded old (Err fault) line new = (line ≡ Some (refused_text (codes "add") (fault_number fault))) × (new ≡ old)
+
+-- the line of a command, none where it names no tenant or no shard, and the settings and own steps afterwards
+abbrev pub IsAnswered : Session → CommandData → Option (List ℕ) → Session → Type 0
+IsAnswered old (Post name moment body) line new = (new.table ≡ old.table)
+    × IsPostedTo old.table old.pasts (number_of old.table name) name moment body line new.pasts
+IsAnswered old (Turn shard moment) line new = (new.table ≡ old.table)
+    × MatchBool (nat_lt shard old.table.global.shards)
+    (IsStepped old.table old.pasts shard None (plain (own.Turn moment)) line new.pasts)
+    ((line ≡ None) × (new.pasts ≡ old.pasts))
+IsAnswered old (Answer name moment ticket word answer) line new = (new.table ≡ old.table)
+    × IsAskedOf old.table old.pasts (number_of old.table name) (own.Answer moment ticket word answer) line new.pasts
+IsAnswered old (Report name moment) line new = (new.table ≡ old.table)
+    × IsAskedOf old.table old.pasts (number_of old.table name) (own.Report moment) line new.pasts
+IsAnswered old (Drain name moment) line new = (new.table ≡ old.table)
+    × IsAskedOf old.table old.pasts (number_of old.table name) (own.Drain moment) line new.pasts
+IsAnswered old (Add document) line new = IsAdded old (arrived old.table document) line new
+IsAnswered old (Retire name moment) line new = IsRetired old (number_of old.table name) moment line new

@@ -1,17 +1,21 @@
 -- A tenant in a collector of its own. This project's own rule.
 use Rattle.std.specs.Prelude.{◌≡◌, ℕ, List, [], ◌∷◌, ◌++◌, Option, Some, Ok, codes}
-use Rattle.tail_settings.specs.Settings.{SettingsData, TenantData, tenant_at, settings_of}
+use Rattle.tail_settings.specs.Settings.{SettingsData, settings_of}
+use Rattle.tail_settings.specs.Section.{SectionData}
 use Rattle.replay_script.specs.Command.{CommandData}
+use Rattle.replay_script.specs.Line.{lines_of}
 use Rattle.replay_script.specs.Transcript.{AnswersOf}
+use Rattle.trace_collector.specs.Alone.{Begins}
 use Rattle.trace_collector.specs.Answered.{IsAnswered}
-use Rattle.trace_collector.specs.Own.{own_commands, lines_for}
-use Rattle.trace_collector.specs.Script.{no_steps, ScriptText}
+use Rattle.trace_collector.specs.Own.{commands_of, own_commands, lines_for}
+use Rattle.trace_collector.specs.Script.{ScriptText}
+use Rattle.trace_collector.specs.Session.{begun}
 
--- settings of this tenant alone, who then has number 0, with one shard
-abbrev pub only : SettingsData → TenantData → SettingsData
-only settings tenant = record {
+-- settings with a tenant of this name and section alone, and one shard
+abbrev pub only : SettingsData → List ℕ → SectionData → SettingsData
+only settings name section = record {
   global = record (settings.global) { shards = 1 };
-  tenants = record tenant { number = 0 } ∷ [];
+  tenants = record { number = 0; name = name; section = section } ∷ [];
   next = 1;
 }
 
@@ -27,6 +31,7 @@ AnswersEach answers state (command ∷ commands) [] = ⊥
 abbrev pub ReplaysApart : Type 0
 ReplaysApart = (settings_text script text : List ℕ) (settings : SettingsData) (fault : Option ℕ)
     → settings_of settings_text ≡ Ok settings → ScriptText settings script text fault
-    → (number : ℕ) (tenant : TenantData) → tenant_at settings number ≡ Some tenant
-    → AnswersEach (IsAnswered (only settings tenant)) no_steps (own_commands tenant.name script text)
-    (lines_for tenant.name text)
+    → (name : List ℕ) (section : SectionData) (commands : List CommandData) (lines : List (List ℕ))
+    → Begins settings (commands_of (lines_of script)) (lines_of text) name section commands lines
+    → AnswersEach IsAnswered (begun (only settings name section)) (own_commands name commands lines)
+    (lines_for name commands lines)

@@ -1,5 +1,6 @@
 pub mod Fault
 pub mod Outcomes
+pub mod Session
 pub mod Answered
 pub mod Script
 pub mod Standing

@@ -55,7 +55,7 @@ pub fn replay<T: Threads + Sync, R: BufRead, W: Write>(
         WritesSoFar settings.now script (R.remaining reader.new) (W.contents writer.old) (W.contents writer.new)) }
 {
     let settings = load(alloc, settings)?;
-    let mut shards = Shards::open(alloc, &settings)?;
+    let mut shards = Shards::open(alloc, settings)?;
     run_script(rt, alloc, &mut shards, reader, writer)?;
     Ok(())
 }

@@ -6,7 +6,7 @@ use std::alloc::Global;
 use std::thread::Threads;
 use tenant_shard::Step;
 
-impl Session for Shards<'_> {
+impl Session for Shards {
     ghost use Rattle.trace_collector.specs.Standing.{Answers};
 
     ghost answers = { Answers };
@@ -43,6 +43,11 @@ impl Session for Shards<'_> {
             }
             Command::Report { name, moment } => self.report(alloc, name, moment, out),
             Command::Drain { name, moment } => self.drain(alloc, name, moment, out),
+            Command::Add { document } => {
+                self.add(alloc, document.as_slice(), out)?;
+                Ok(())
+            }
+            Command::Retire { name, moment } => self.retire(alloc, name, moment, out),
         }
     }
 }

@@ -31,7 +31,7 @@ pub fn step_and_put(
 }
 
 /// One step of the shard at a place.
-fn step_at(shards: &mut Vec<Shard>, place: usize, step: &Step) -> Result<Outcome, AllocError>
+pub fn step_at(shards: &mut Vec<Shard>, place: usize, step: &Step) -> Result<Outcome, AllocError>
     requires { place < length shards.old.items }
     ensures on_success { IfOk result (λ outcome. (old : List View) × (new : List View)
         × (slice_get shards.old.items place ≡ Some old)

@@ -1,17 +1,20 @@
-use Rattle.std.proofs.Common.{ℕ, List, None, Ok, Err, refl, ap}
+use Rattle.std.proofs.Common.{ℕ, List, None, Ok, Err, refl}
 use Rattle.std.proofs.lemmas.Result.{err_from_is_err_and}
 use Rattle.tail_settings.specs.Settings.{settings_view}
 use Rattle.replay_script.specs.Line.{lines_of}
 use Rattle.replay_script.specs.Transcript.{Ends}
 use Rattle.trace_collector.specs.Fault.{script_fault, settings_fault}
-use Rattle.trace_collector.specs.Script.{no_steps}
 use Rattle.trace_collector.specs.Standing.{Answers}
 use Rattle.trace_collector.specs.declared.engine.ReplayFault.TheVariants as faults
 use Rattle.trace_collector.specs.Replay.{IsReplay}
 use Rattle.trace_collector.specs.Alone.{TellsEachAlone}
 use Rattle.trace_collector.proofs.EachTold.{nothing_tells, ran_tells, fault_tells}
-use Rattle.trace_collector.proofs.Replayed.{Along, ran_replays, fault_replays, was_memory, memory_so_far, some_told, unread_replays, nothing_begins, nothing_told, nothing_so_far}
+use Rattle.trace_collector.proofs.Replayed.{ran_replays, fault_replays, was_memory, memory_so_far, some_told, unread_replays, nothing_begins, nothing_told, nothing_so_far}
+use Rattle.trace_collector.proofs.Members.{all_present}
 use Rattle.trace_collector.proofs.engine.replay.Goals as goal
+
+pub open-requires : goal.open-requires
+open-requires g c = all_present c.args.settings.now (settings_view c.in_ok-settings.settings) c.in_ok-settings.ensures.on_success
 
 pub returns-in_err-settings-clause-output : goal.returns-in_err-settings-clause-output
 returns-in_err-settings-clause-output g c =
@@ -40,8 +43,7 @@ returns-in_err-run_script-clause-so_far g c =
     let p = err_from_is_err_and c.from_residual-in_err-run_script.result c.from_residual-in_err-run_script.ensures.1 in
     let shards = c.in_ok-shards.shards in
     let fault = c.in_err-run_script.field-0.0 in
-    let along : Along (settings_view c.in_ok-settings.settings) c.in_ok-shards.shards no_steps =
-    record { same = ap settings_view c.in_ok-shards.ensures.settings; stand = c.in_ok-shards.ensures.stand } in
+    let along = c.in_ok-shards.ensures.stand in
     λ memory.
     memory_so_far _ _ _ _ c.args.settings.now shards (settings_view c.in_ok-settings.settings) fault c.in_ok-settings.ensures.on_success along
     (was_memory _ _ fault p.1 p.2 memory) c.in_err-run_script.ensures.output
@@ -52,8 +54,7 @@ returns-in_err-run_script-clause-output g c =
     let text = c.args.settings.now in
     let shards = c.in_ok-shards.shards in
     let fault = c.in_err-run_script.field-0.0 in
-    let along : Along (settings_view c.in_ok-settings.settings) c.in_ok-shards.shards no_steps =
-    record { same = ap settings_view c.in_ok-shards.ensures.settings; stand = c.in_ok-shards.ensures.stand } in
+    let along = c.in_ok-shards.ensures.stand in
     rw (p.1, p.2) (some_told _
     (λ (script written : List ℕ). Ends Answers (lines_of script) shards _ written (Err fault))
     (λ (script written : List ℕ). IsReplay text script written (Err (script_fault fault))) _ _
@@ -64,8 +65,7 @@ pub returns-clause-output : goal.returns-clause-output
 returns-clause-output g c =
     let text = c.args.settings.now in
     let shards = c.in_ok-shards.shards in
-    let along : Along (settings_view c.in_ok-settings.settings) c.in_ok-shards.shards no_steps =
-    record { same = ap settings_view c.in_ok-shards.ensures.settings; stand = c.in_ok-shards.ensures.stand } in
+    let along = c.in_ok-shards.ensures.stand in
     some_told _
     (λ (script written : List ℕ). Ends Answers (lines_of script) shards None written (Ok tt))
     (λ (script written : List ℕ). IsReplay text script written (Ok tt)) _ _
@@ -84,8 +84,7 @@ returns-in_err-run_script-clause-each_alone g c =
     let text = c.args.settings.now in
     let shards = c.in_ok-shards.shards in
     let fault = c.in_err-run_script.field-0.0 in
-    let along : Along (settings_view c.in_ok-settings.settings) c.in_ok-shards.shards no_steps =
-    record { same = ap settings_view c.in_ok-shards.ensures.settings; stand = c.in_ok-shards.ensures.stand } in
+    let along = c.in_ok-shards.ensures.stand in
     rw (p.1, p.2) (some_told _
     (λ (script written : List ℕ). Ends Answers (lines_of script) shards _ written (Err fault))
     (λ (script written : List ℕ). TellsEachAlone text script written (Err (script_fault fault))) _ _
@@ -96,8 +95,7 @@ pub returns-clause-each_alone : goal.returns-clause-each_alone
 returns-clause-each_alone g c =
     let text = c.args.settings.now in
     let shards = c.in_ok-shards.shards in
-    let along : Along (settings_view c.in_ok-settings.settings) c.in_ok-shards.shards no_steps =
-    record { same = ap settings_view c.in_ok-shards.ensures.settings; stand = c.in_ok-shards.ensures.stand } in
+    let along = c.in_ok-shards.ensures.stand in
     some_told _
     (λ (script written : List ℕ). Ends Answers (lines_of script) shards None written (Ok tt))
     (λ (script written : List ℕ). TellsEachAlone text script written (Ok tt)) _ _

@@ -13,5 +13,5 @@ returns-in_ok-step_of-in-Answer-clause-on_success g c =
     (data_of.Answer c.in-Answer.name.now c.in-Answer.moment c.in-Answer.ticket c.in-Answer.word (answer_view c.in-Answer.answer))
     (steps.Answer c.in-Some.tenant c.in-Answer.moment c.in-Answer.ticket c.in-Answer.word c.in-Answer.answer)
     (own.Answer c.in-Answer.moment c.in-Answer.ticket c.in-Answer.word (answer_view c.in-Answer.answer)) _ _
-    (ap (λ s. settings_view s.now) c.in_ok-step_of-in-Answer.ensures.settings) (sym c.number.ensures ∙ c.in-Some.is) (λ settings pasts later line asked. asked) refl refl
+    (ap settings_view c.in_ok-step_of-in-Answer.ensures.settings) (sym c.number.ensures ∙ c.in-Some.is) (λ old new line same asked. (same, asked)) refl refl refl
     c.in_ok-step_of-in-Answer.ensures.on_success)

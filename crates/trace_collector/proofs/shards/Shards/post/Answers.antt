@@ -1,4 +1,4 @@
-use Rattle.std.proofs.Common.{refl, sym, subst, ◌∙◌}
+use Rattle.std.proofs.Common.{ap, sym, subst, ◌∙◌}
 use Rattle.tail_settings.specs.Section.{section_view}
 use Rattle.tail_settings.specs.Settings.{settings_view}
 use Rattle.otlp_prepare.specs.Prepared.{IsPrepared}
@@ -9,13 +9,13 @@ use Rattle.trace_collector.proofs.shards.Shards.post.Goals as goal
 
 pub unreachable-requires : goal.unreachable-requires
 unreachable-requires g c =
-    named_section (settings_view c.args.self.now.settings.now) c.args.name.now c.in-Some.tenant (sym c.number.ensures ∙ c.in-Some.is) (sym c.in_default-section.ensures)
+    named_section (settings_view c.args.self.now.settings) c.args.name.now c.in-Some.tenant (sym c.number.ensures ∙ c.in-Some.is) (sym c.in_default-section.ensures)
 
-pub returns-in_ok-step_and_put-in-Ok-clause-on_success : goal.returns-in_ok-step_and_put-in-Ok-clause-on_success
-returns-in_ok-step_and_put-in-Ok-clause-on_success g c =
+pub returns-in_ok-step_of-in-Ok-clause-on_success : goal.returns-in_ok-step_of-in-Ok-clause-on_success
+returns-in_ok-step_of-in-Ok-clause-on_success g c =
     let value = subst (λ b. IsPrepared c.in-Some.tenant (section_view c.in-Some-section.section.now) b c.in-Ok.prepared) c.in_ok-body.ensures c.in-Ok.ensures.value in
     done_posts c.args.self.now _ c.in-Some.tenant (section_view c.in-Some-section.section.now) c.args.moment c.args.name.now c.args.body.items c.in-Ok.prepared _ _
-    refl (sym c.number.ensures ∙ c.in-Some.is) (sym c.in-Some-section.ensures) value c.in_ok-step_and_put-in-Ok.ensures.on_success
+    (ap settings_view c.in_ok-step_of-in-Ok.ensures.settings) (sym c.number.ensures ∙ c.in-Some.is) (sym c.in-Some-section.ensures) value c.in_ok-step_of-in-Ok.ensures.on_success
 
 pub returns-in_ok-put_bad_request-in-Err-Bad-clause-on_success : goal.returns-in_ok-put_bad_request-in-Err-Bad-clause-on_success
 returns-in_ok-put_bad_request-in-Err-Bad-clause-on_success g c =

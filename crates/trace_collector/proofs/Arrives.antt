@@ -1,0 +1,90 @@
+-- The tenant that a document brings.
+use Rattle.std.proofs.Common.{◌≡◌, ◌<◌, ◌&&◌, ◌^◌, ℕ, Bool, true, false, cond, List, [], length, codes, Result, Ok, Err, refl, ap, sym, subst, ◌∙◌, nat_lt}
+use Rattle.std.specs.List.{list_any}
+use Rattle.std.specs.Str.{bytes_eq, is_utf8}
+use Rattle.toml.specs.Data.{Members}
+use Rattle.toml.specs.Parse.{parse_document}
+use Rattle.tail_settings.specs.Change.{only_tenant, free_number, joined, fitting, admitted_table, admitted}
+use Rattle.tail_settings.specs.Fault.{FaultData, not_toml, out_of_range, double_tenant, too_many, ◌>>=◌}
+use Rattle.tail_settings.specs.Keys.{text_at, allowed}
+use Rattle.tail_settings.specs.Section.{section_of}
+use Rattle.tail_settings.specs.Settings.{TenantData, SettingsData, new_name, name_of, numbered_tenant, few_spans, document_in}
+use Rattle.tail_settings.specs.Texts.{is_name}
+use Rattle.tail_settings.proofs.Sound.{ok_is, bound, chosen, numbered_tenant-number}
+use Rattle.trace_collector.specs.Answered.{arrived}
+use Rattle.trace_collector.specs.Alone.{tenant_in}
+use Rattle.trace_collector.proofs.Named.{IsNewTo}
+
+-- a document brought a tenant to these settings, and made them those
+pub record Arrives (settings : SettingsData) (document : List ℕ) (table : SettingsData) : Type 0 where
+  pub tenant : TenantData
+  pub new : IsNewTo settings tenant
+  pub joins : joined settings tenant ≡ table
+  pub alone : tenant_in document ≡ Ok (record tenant { number = 0 })
+
+-- after a step of which this came
+went : {A B : Type 0} (m : Result A FaultData) (k : A → Result B FaultData) (x : A) → m ≡ Ok x → (m >>= k) ≡ k x
+went m k x is = ap (λ r. r >>= k) is
+
+not_any : (b : Bool) (name same : List ℕ) → cond b (Err (double_tenant name)) (Ok name) ≡ Ok same → (b ≡ false) × (name ≡ same)
+not_any true name same h = absurd (cc)
+not_any false name same h = (refl, ok_is name same h)
+
+-- a tenant's name, and that nobody has it
+record Reads (before : List TenantData) (table : Members) (name : List ℕ) : Type 0 where
+  named : is_name name ≡ true
+  new : list_any (λ t. bytes_eq name t.name) before ≡ false
+  alone : name_of [] table ≡ Ok name
+
+reads : (before : List TenantData) (table : Members) (name : List ℕ) → name_of before table ≡ Ok name → Reads before table name
+unfolding name_of
+reads before table name h =
+    let text = bound (text_at (codes "name") table) _ name h in
+    let tested = bound (allowed (codes "name") is_name text.0) _ name text.2 in
+    let test = chosen (is_name text.0) text.0 tested.0 (out_of_range (codes "name")) tested.1 in
+    let new = not_any (list_any (λ t. bytes_eq tested.0 t.name) before) tested.0 name tested.2 in
+    record {
+      named = subst (λ n. is_name n ≡ true) (test.1 ∙ new.1) test.0;
+      new = subst (λ n. list_any (λ t. bytes_eq n t.name) before ≡ false) new.1 new.0;
+      alone = rw (text.1, tested.1) (ap Ok new.1);
+    }
+
+-- the same of the tenant's whole table
+record Comes (before : List TenantData) (table : Members) (tenant : TenantData) : Type 0 where
+  named : is_name tenant.name ≡ true
+  new : list_any (λ t. bytes_eq tenant.name t.name) before ≡ false
+  alone : numbered_tenant 0 [] table ≡ Ok (record tenant { number = 0 })
+
+comes : (number : ℕ) (before : List TenantData) (table : Members) (tenant : TenantData) → numbered_tenant number before table ≡ Ok tenant → Comes before table tenant
+unfolding numbered_tenant
+comes number before table tenant h =
+    let name = bound (name_of before table) _ tenant h in
+    let section = bound (section_of table) _ tenant name.2 in
+    let read : TenantData = record { number = number; name = name.0; section = section.0 } in
+    let same : read ≡ tenant = ok_is read tenant section.2 in
+    let parts = reads before table name.0 name.1 in
+    subst (Comes before table) same (record { named = parts.named; new = parts.new; alone = went (name_of [] table) _ name.0 parts.alone ∙ went (section_of table) _ section.0 section.1 })
+
+admitted_brings : (settings : SettingsData) (document : List ℕ) (table : SettingsData) → admitted settings document ≡ Ok table → Arrives settings document table
+unfolding admitted admitted_table
+admitted_brings settings document table h =
+    let parsed = bound (document_in (parse_document document)) (admitted_table settings) table h in
+    let one = bound (only_tenant parsed.0) _ table parsed.2 in
+    let number = bound (free_number settings) _ table one.2 in
+    let tenant = bound (numbered_tenant number.0 settings.tenants one.0) _ table number.2 in
+    let fits = bound (few_spans (joined settings tenant.0).tenants) _ table tenant.2 in
+    let next = chosen (nat_lt (length settings.tenants) 1000 && nat_lt settings.next (2 ^ 32)) settings.next number.0 too_many number.1 in
+    let parts = comes number.0 settings.tenants one.0 tenant.0 tenant.1 in
+    record {
+      tenant = tenant.0;
+      new = record { number = numbered_tenant-number number.0 settings.tenants one.0 tenant.0 tenant.1 ∙ sym next.1; name = parts.named; new = parts.new };
+      joins = ok_is (joined settings tenant.0) table fits.2;
+      alone = ap (λ r. r >>= numbered_tenant 0 []) (went (document_in (parse_document document)) only_tenant parsed.0 parsed.1 ∙ one.1) ∙ parts.alone;
+    }
+
+by_text : (b : Bool) (settings : SettingsData) (document : List ℕ) (table : SettingsData) → cond b (admitted settings document) (Err not_toml) ≡ Ok table → Arrives settings document table
+by_text true settings document table h = admitted_brings settings document table h
+by_text false settings document table h = absurd (cc)
+
+pub arrives : (settings : SettingsData) (document : List ℕ) (table : SettingsData) → arrived settings document ≡ Ok table → Arrives settings document table
+arrives settings document table h = by_text (is_utf8 document) settings document table h
