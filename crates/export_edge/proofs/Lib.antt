@@ -2,4 +2,3 @@ pub mod Throughs
 mod Ticking
 mod Rounds
 mod Notes
-mod Addresses

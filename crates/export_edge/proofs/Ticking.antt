@@ -1,7 +1,7 @@
 -- What a beat gave, one call more at a time.
 use Rattle.std.proofs.Common.{◌≡◌, ◌⊎◌, ℕ, List, [], ◌∷◌, ◌++◌, flat_map, Option, Some, None, option_to_list, refl, sym, ap, subst, inl, inr, ◌∙◌, append-nil}
 use Rattle.std.proofs.lemmas.List.Concat.{flat_map-append}
-use Rattle.export_edge.specs.Work.{Through, Beats, Ticks}
+use Rattle.export_edge.specs.Work.{Beats, Ticks}
 use Rattle.export_edge.proofs.Throughs.{through_both, through_more, noted_all}
 
 module _ {B : Type 0} (gives : B → ℕ → B → Type 0) (rests : B → B → Type 0) where

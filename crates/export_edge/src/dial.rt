@@ -1,9 +1,10 @@
 //! Who makes lines to back ends, and a job's way to its own tenant's.
-ghost use Rattle.std.specs.Prelude.{◌≡◌, ℕ, List, map, Option, string_bytes};
+ghost use Rattle.std.specs.Prelude.{◌≡◌, ℕ, List, Option};
 ghost use Rattle.send_retry.specs.Class.{answer_view};
 ghost use Rattle.export_edge.specs.Work.{posted};
 ghost use Rattle.export_edge.specs.Dialing.{JobComesTo};
 
+use crate::addresses::Addresses;
 use crate::back_end::BackEnd;
 use crate::posting::post_over;
 use http_line::Line;
@@ -24,13 +25,18 @@ pub trait Dial {
         ensures { dials self.old address.now result self.new };
 }
 
-/// Posts a job over a line of its own to its tenant's address, which stands at the tenant's number. It fails where
-/// there is no address, no line comes about, or no whole answer comes.
-pub fn post_job<D: Dial>(alloc: Global, dialer: &mut D, addresses: &[String], job: &Job) -> Answer
-    ensures { JobComesTo D.dials D.Connection.gives D.Connection.takes D.Connection.ends D.Connection.failed
-        (map string_bytes addresses.now) dialer.old dialer.new (posted job.now (answer_view result)) }
+/// Posts a job over a line of its own to its tenant's address. It fails where there is no address, no line comes about,
+/// or no whole answer comes.
+pub fn post_job<A: Addresses, D: Dial>(
+    alloc: Global,
+    dialer: &mut D,
+    addresses: &A,
+    job: &Job,
+) -> Answer
+    ensures { JobComesTo A.tells D.dials D.Connection.gives D.Connection.takes D.Connection.ends D.Connection.failed
+        addresses.now dialer.old dialer.new (posted job.now (answer_view result)) }
 {
-    let Some(address) = addresses.get(job.tenant as usize) else {
+    let Some(address) = addresses.address(job.tenant) else {
         return Answer::Failed;
     };
     let host = address.as_str();
@@ -42,18 +48,18 @@ pub fn post_job<D: Dial>(alloc: Global, dialer: &mut D, addresses: &[String], jo
 
 /// Posts each job over a line of its own to its tenant's address. It waits for as long as the back end does.
 #[derive(Drop)]
-pub struct DialingBackEnd<'a, D> {
+pub struct DialingBackEnd<A, D> {
     dialer: D,
     alloc: Global,
-    /// Each tenant's address, a host and a port, at the tenant's number.
-    addresses: &'a [String],
+    /// Where tenants' back ends are: hosts with ports, as they also stand in `Host`.
+    addresses: A,
 }
 
-impl<'a, D: Dial> DialingBackEnd<'a, D> {
-    /// Posts to these addresses: hosts with ports, as they also stand in `Host`, each at its tenant's number.
-    pub fn over(dialer: D, alloc: Global, addresses: &'a [String]) -> DialingBackEnd<'a, D>
+impl<A: Addresses, D: Dial> DialingBackEnd<A, D> {
+    /// Posts to these addresses.
+    pub fn over(dialer: D, alloc: Global, addresses: A) -> DialingBackEnd<A, D>
         ensures dialer { result.dialer ≡ dialer }
-        ensures addresses { result.addresses.now ≡ addresses.now }
+        ensures addresses { result.addresses ≡ addresses }
     {
         DialingBackEnd {
             dialer,
@@ -63,16 +69,16 @@ impl<'a, D: Dial> DialingBackEnd<'a, D> {
     }
 }
 
-impl<D: Dial> BackEnd for DialingBackEnd<'_, D> {
-    ghost use Rattle.std.specs.Prelude.{◌≡◌, map, string_bytes};
+impl<A: Addresses, D: Dial> BackEnd for DialingBackEnd<A, D> {
+    ghost use Rattle.std.specs.Prelude.{◌≡◌};
     ghost use Rattle.export_edge.specs.Dialing.{JobComesTo};
 
-    // Each job goes to its own tenant's address, and the addresses stay.
-    ghost posts = { λ old p new. (new.addresses.now ≡ old.addresses.now)
-        × JobComesTo D.dials D.Connection.gives D.Connection.takes D.Connection.ends D.Connection.failed
-        (map string_bytes old.addresses.now) old.dialer new.dialer p };
+    // Each job goes to its own tenant's address, and who tells the addresses stays.
+    ghost posts = { λ old p new. (new.addresses ≡ old.addresses)
+        × JobComesTo A.tells D.dials D.Connection.gives D.Connection.takes D.Connection.ends D.Connection.failed
+        old.addresses old.dialer new.dialer p };
 
     fn post(&mut self, job: &Job) -> Answer {
-        post_job(self.alloc, &mut self.dialer, self.addresses, job)
+        post_job(self.alloc, &mut self.dialer, &self.addresses, job)
     }
 }

@@ -2,8 +2,8 @@
 //! posts them to their back ends and hands in the answers.
 //!
 //! [`post_over`] posts a payload over a line and says what it came to: an answer, or none where the line, the answer's
-//! head or its body is at fault. [`post_job`] does so over a line of its own to the address of the job's tenant, which
-//! whoever makes lines ([`Dial`]) is asked for: for [`TcpBackEnd`] a connection over TCP. [`run_turner`] and
+//! head or its body is at fault. [`post_job`] does so over a line of its own to the address that the job's tenant is said
+//! to have ([`Addresses`]), which whoever makes lines ([`Dial`]) is asked for: for [`TcpBackEnd`] a connection over TCP. [`run_turner`] and
 //! [`run_sender`] are the work of one thread each, over whoever makes turns and takes answers ([`JobSource`],
 //! [`AnswerSink`]) and to whatever beat ([`Beat`]); what they promise is said of their whole work (`specs/Work`).
 //!
@@ -13,6 +13,7 @@
 
 ghost use Rattle.export_edge.specs.Law.{TurnsAreNoted, PostsAreNoted, AnswersAreNoted, MomentsAreNoted};
 
+mod addresses;
 mod back_end;
 mod dial;
 mod posting;
@@ -21,6 +22,7 @@ mod tcp;
 mod turner;
 mod work;
 
+pub use crate::addresses::{Address, AddressList, Addresses};
 pub use crate::back_end::BackEnd;
 pub use crate::dial::{Dial, DialingBackEnd, post_job};
 pub use crate::posting::post_over;

@@ -1,6 +1,7 @@
 //! Back ends that are reached over TCP.
 ghost use Rattle.std.specs.Prelude.{◌≡◌};
 
+use crate::addresses::Addresses;
 use crate::dial::{Dial, DialingBackEnd};
 use http_line::StreamLine;
 use std::alloc::Global;
@@ -31,12 +32,12 @@ impl<R: Net> Dial for TcpDialer<'_, R> {
 }
 
 /// Posts each job over a TCP connection of its own to its tenant's address.
-pub type TcpBackEnd<'a, R> = DialingBackEnd<'a, TcpDialer<'a, R>>;
+pub type TcpBackEnd<'a, A, R> = DialingBackEnd<A, TcpDialer<'a, R>>;
 
-impl<'a, R: Net> DialingBackEnd<'a, TcpDialer<'a, R>> {
-    /// Posts to these addresses: hosts with ports, as they also stand in `Host`, each at its tenant's number.
-    pub fn new(net: &'a R, alloc: Global, addresses: &'a [String]) -> TcpBackEnd<'a, R>
-        ensures { result.addresses.now ≡ addresses.now }
+impl<'a, A: Addresses, R: Net> DialingBackEnd<A, TcpDialer<'a, R>> {
+    /// Posts to these addresses: hosts with ports, as they also stand in `Host`.
+    pub fn new(net: &'a R, alloc: Global, addresses: A) -> TcpBackEnd<'a, A, R>
+        ensures { result.addresses ≡ addresses }
     {
         DialingBackEnd::over(TcpDialer { net }, alloc, addresses)
     }

@@ -1,7 +1,7 @@
 //! Jobs posted over lines in memory, which a dialer that takes notes hands out.
 
 use crate::notes::job;
-use export_edge::{BackEnd, Dial, DialingBackEnd};
+use export_edge::{AddressList, BackEnd, Dial, DialingBackEnd};
 use http_line::MemoryLine;
 use send_retry::Answer;
 use std::alloc::{AllocError, Global};
@@ -63,7 +63,8 @@ fn push_body(told: &mut Vec<u8>, answer: &Answer) -> Result<(), AllocError> {
 /// What jobs of these tenants come to.
 fn posted(alloc: Global, asked: &Cell<u32>, tenants: &[u32]) -> Result<Vec<u8>, AllocError> {
     let addresses = addresses(alloc)?;
-    let mut back_end = DialingBackEnd::over(Directory { alloc, asked }, alloc, &addresses);
+    let list = AddressList::new(addresses.as_slice());
+    let mut back_end = DialingBackEnd::over(Directory { alloc, asked }, alloc, list);
     let mut told = Vec::new(alloc);
     for tenant in tenants {
         push_body(&mut told, &back_end.post(&job(*tenant, 1)))?;

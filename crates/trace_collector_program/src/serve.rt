@@ -35,23 +35,22 @@ impl From<ServiceFault> for ProgramFault {
 /// Tells the service's course on standard error, a line a stage, where that is asked for. What can't be written is left
 /// out, and nothing else changes.
 #[derive(Drop)]
-struct Course<'r, 's, R> {
+struct Course<'r, R> {
     rt: &'r R,
     listener: &'r TcpListener,
-    settings: &'s Settings,
     is_verbose: bool,
 }
 
-impl<R: Eprint> Observer for Course<'_, '_, R> {
-    fn observe(&mut self, stage: Stage) {
+impl<R: Eprint> Observer for Course<'_, R> {
+    fn observe(&mut self, stage: Stage<'_>) {
         if self.is_verbose {
             let _ = self.tell(stage);
         }
     }
 }
 
-impl<R: Eprint> Course<'_, '_, R> {
-    fn tell(&self, stage: Stage) -> io::Result<()> {
+impl<R: Eprint> Course<'_, R> {
+    fn tell(&self, stage: Stage<'_>) -> io::Result<()> {
         match stage {
             Stage::Serving => {
                 let address = self.listener.local_addr()?;
@@ -60,8 +59,7 @@ impl<R: Eprint> Course<'_, '_, R> {
             Stage::Draining => self.rt.eprintln(
                 "draining: tenants take no more spans, and send what they hold",
             ),
-            Stage::Sending { tenant } => {
-                let name = self.settings.name(tenant).unwrap_or("");
+            Stage::Sending { name } => {
                 eprintln!(self.rt; "sending: waiting until {name} holds no spans")
             }
             Stage::Closing => self
@@ -90,13 +88,12 @@ where
     let mut course = Course {
         rt,
         listener: &listener,
-        settings: &settings,
         is_verbose: verbose,
     };
     run_service(
         rt,
         alloc,
-        &settings,
+        settings,
         &listener,
         &mut input,
         &mut output,

@@ -1,4 +1,3 @@
-pub mod Addresses
 pub mod Audited
 pub mod Lines
 pub mod Unread
@@ -6,3 +5,5 @@ pub mod Places
 pub mod Rising
 pub mod Heard
 pub mod Coursed
+pub mod Handled
+pub mod Present

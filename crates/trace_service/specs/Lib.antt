@@ -1,8 +1,10 @@
 pub mod Moments
+pub mod InForce
 pub mod Post
 pub mod Work
 pub mod Assignment
 pub mod Commands
+pub mod Roster
 pub mod Audit
 pub mod Fault
 pub mod Receiving

@@ -13,6 +13,7 @@ use Rattle.tail_settings.specs.Settings.{SettingsData, section_at}
 use Rattle.tenant_shard.specs.declared.step.Step.TheVariants as steps
 use Rattle.tenant_shard.specs.declared.step.Outcome.{Outcome}
 use Rattle.tenant_shard.specs.declared.step.Outcome.TheVariants as outcomes
+use Rattle.trace_service.specs.InForce.{CameOf}
 use Rattle.trace_service.specs.Moments.{Rises}
 
 -- an answer of this status and content
@@ -69,7 +70,12 @@ IsSentBy (refuse due) settings before last old new shards body told = (new ≡ o
 IsSentBy (post tenant) settings before last old new shards body told =
     IsSent (section_at settings tenant) before last old new shards tenant body told
 
--- a message is handled so, by who has a beat whose last moments these are, before and after
-abbrev pub IsHandled : SettingsData → ℕ → ℕ → CallerState → CallerState → ℕ → Request → Response → Type 0
-IsHandled settings before last old new shards request told =
-    IsSentBy (route_of (names_in settings) request) settings before last old new shards request.body told
+-- A message is handled so, by who has a beat whose last moments these are, before and after: as settings say that came of
+-- the first ones; or memory was refused for a copy of the tenant's section.
+pub data IsHandled (first : SettingsData) (before last : ℕ) (old new : CallerState) (shards : ℕ) (request : Request)
+    (told : Response) : Type 0 where
+  handled : (now : SettingsData) → CameOf first now
+      → IsSentBy (route_of (names_in now) request) now before last old new shards request.body told
+      → IsHandled first before last old new shards request told
+  not_copied : last ≡ before → new ≡ old → told ≡ no_memory
+      → IsHandled first before last old new shards request told

@@ -1,38 +1,40 @@
 -- What a service comes to, from its start to its end. This project's own rule.
-use Rattle.std.specs.Prelude.{◌≡◌, ℕ, List, ◌∷◌, length, Bool, true, Option, Some, slice_get, All}
+use Rattle.std.specs.Prelude.{◌≡◌, ℕ, List, ◌∷◌, length, map, Bool, true, Option, Some, slice_get, All}
 use Rattle.atomic_table.specs.Seated.{TableId}
 use Rattle.machine_hub.specs.declared.view.Home.{Home}
 use Rattle.machine_hub.specs.Hub.{AreShardRuns, new_caller}
+use Rattle.otlp_front.specs.Route.{names_in}
 use Rattle.shard_machine.specs.MachineState.{MachineState, MachineDoes}
 use Rattle.shared_hub.specs.Logs.{CallerState, LoggedShard, AreLogged, AreOneRun}
 use Rattle.shared_hub.specs.Shards.{AreOpened}
 use Rattle.tail_settings.specs.Settings.{SettingsData}
 use Rattle.trace_service.specs.Audit.{audit_text, IsFollowed}
-use Rattle.trace_service.specs.Commands.{AreDrained, AreEmptyOn, AreReported, AreCommandsRead}
+use Rattle.trace_service.specs.Commands.{Present, AreDrained, AreEmptyOn, AreReported, AreCommandsRead}
 
 -- What who reads the input did, by calls of one caller and in this order: all lines of the input were answered, each
--- tenant was drained, each was seen to hold no span, and each tenant's report was written.
-pub record IsDirected (settings : SettingsData) (shards : ℕ) (input : Option (List ℕ)) (old : CallerState) (before : ℕ)
+-- tenant that was present then was drained, each was seen to hold no span, and each one's report was written.
+pub record IsDirected (present : Present) (shards : ℕ) (input : Option (List ℕ)) (old : CallerState) (before : ℕ)
     (so_far : Option (List ℕ)) (new : CallerState) (last : ℕ) (written : Option (List ℕ)) : Type 0 where
+  pub left : Present
   pub after_input : CallerState
   pub input_end : ℕ
   pub text : Option (List ℕ)
-  pub heard : AreCommandsRead settings shards input old before so_far after_input input_end text
+  pub heard : AreCommandsRead shards input present old before so_far left after_input input_end text
   pub after_drains : CallerState
   pub drain_end : ℕ
-  pub drained : AreDrained after_input after_drains shards input_end drain_end (length settings.tenants)
-  pub empty : AreEmptyOn after_drains shards (length settings.tenants)
-  pub told : AreReported settings after_drains new shards drain_end last text written (length settings.tenants)
+  pub drained : AreDrained shards after_input input_end (map (λ tenant. tenant.0) left) after_drains drain_end
+  pub empty : AreEmptyOn after_drains shards (map (λ tenant. tenant.0) left)
+  pub told : AreReported shards after_drains drain_end text left new last written
 
 -- of a hub's callers, which had made no call, one did that
-pub record IsCourse (settings : SettingsData) (shards : ℕ) (input : Option (List ℕ)) (fresh : CallerState)
+pub record IsCourse (present : Present) (shards : ℕ) (input : Option (List ℕ)) (fresh : CallerState)
     (so_far : Option (List ℕ)) (callers : List CallerState) (written : Option (List ℕ)) : Type 0 where
   pub before : ℕ
   pub last : ℕ
   pub own : CallerState
   pub others : List CallerState
   pub callers_are : callers ≡ own ∷ others
-  pub directed : IsDirected settings shards input fresh before so_far own last written
+  pub directed : IsDirected present shards input fresh before so_far own last written
 
 -- What a service did to its shards, and what it wrote: there was a hub of the settings' shards, and one of its callers,
 -- which had made no call before, read the input and wrote what its calls at these shards gave. All callers' calls at a
@@ -44,7 +46,7 @@ pub record IsServed (table : SettingsData) (audit : Bool) (input so_far written 
   pub opened : AreOpened table homes
   pub callers : List CallerState
   pub text : Option (List ℕ)
-  pub course : IsCourse table table.global.shards input (new_caller slots homes) so_far callers text
+  pub course : IsCourse (names_in table).tenants table.global.shards input (new_caller slots homes) so_far callers text
   pub shards : List LoggedShard
   pub calls : AreShardRuns MachineDoes homes callers shards
   pub one_run : AreOneRun table callers

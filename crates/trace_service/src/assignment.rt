@@ -16,7 +16,7 @@ use std::time::Clock;
 
 /// A worker for each caller: turners first, one for each shard, then senders, then receivers.
 pub(crate) fn assign_threads<'h, J: Naming, R: Wait + Clock>(
-    shared: &Shared<'h, R>,
+    shared: &Shared<'h, J, R>,
     mut callers: Vec<Caller>,
     mut seats: Vec<LaneSeat>,
 ) -> Result<Vec<Worker<'h, J, R>>, AllocError>
@@ -25,18 +25,18 @@ pub(crate) fn assign_threads<'h, J: Naming, R: Wait + Clock>(
     requires seats { All (λ s. s.lane ≡ J.lane) seats.items }
     requires enough { vec_len callers ≤ vec_len seats }
     ensures places { IfOk result (λ workers. map (λ w. (w.role, w.context.shard)) workers.items
-        ≡ places (length shared.now.hub.now) shared.now.settings.now.global.senders (vec_len callers)) }
+        ≡ places (length shared.now.hub.now) shared.now.staff.senders (vec_len callers)) }
     ensures count { IfOk result (λ workers. vec_len workers ≡ vec_len callers) }
 {
     let shards = shared.hub.shards();
-    let senders = shared.settings.global.senders as usize;
+    let senders = shared.staff.senders as usize;
     let mut workers = Vec::new(shared.alloc);
     while let Some(caller) = callers.pop() {
         let Some(seat) = seats.pop() else {
             unreachable!()
         };
         let (role, shard) = role_of(workers.len(), shards, senders);
-        workers.push(Worker::new(role, shared.context::<J>(caller, shard), seat))?;
+        workers.push(Worker::new(role, shared.context(caller, shard), seat))?;
     }
     Ok(workers)
 }

@@ -1,25 +1,25 @@
 //! Where a thread works: its caller at the shards, and what it does there.
 
-ghost use Rattle.std.specs.Prelude.{◌≡◌, ◌<◌, length};
+ghost use Rattle.std.specs.Prelude.{◌≡◌, ◌<◌, ◌≤◌, length};
 ghost use Rattle.machine_hub.specs.Hub.{slots_of};
 ghost use Rattle.trace_service.specs.Work.{turned_of};
 
 use crate::beat::{ServiceBeat, Signals};
+use crate::in_force::{Destination, InForce};
 use crate::naming::Naming;
 use crate::post::{post_body, refused, without_memory};
 use bytes::Bytes;
 use export_edge::{AnswerRefused, AnswerSink, Beat, JobSource, TurnResult};
 use http_edge::{Handler, HttpMessage, Reply};
 use job_lane::Job;
-use otlp_front::{Route, RouteRefusal, route};
 use send_retry::Answer;
 use shared_hub::{Caller, HubFault, SharedHub};
 use std::alloc::{AllocError, Global};
 use std::marker::PhantomData;
-use std::sync::Wait;
+use std::sync::{Mutex, Wait};
 use std::thread::Threads;
 use std::time::Clock;
-use tail_settings::Settings;
+use tail_settings::Section;
 use tenant_shard::{Outcome, Step};
 
 /// One thread's place at the shards.
@@ -27,7 +27,9 @@ use tenant_shard::{Outcome, Step};
 pub(crate) struct WorkerContext<'h, J: Naming, R> {
     rt: &'h R,
     alloc: Global,
-    settings: &'h Settings,
+    settings: &'h Mutex<InForce<J>>,
+    // In how many threads notes are made of a body.
+    parts: u32,
     hub: &'h SharedHub,
     caller: Caller,
     // Whose turns it makes.
@@ -37,10 +39,11 @@ pub(crate) struct WorkerContext<'h, J: Naming, R> {
     ghost hub_is: { hub.now ≡ J.slots },
     ghost ours: { slots_of caller ≡ J.slots },
     ghost shard_is: { shard < length J.slots },
+    ghost parts_range: { (0 < parts) × (parts ≤ 16) },
 }
 
 impl<'h, J: Naming, R: Wait + Clock> WorkerContext<'h, J, R> {
-    ghost use Rattle.std.specs.Prelude.{◌≡◌, ◌<◌, ◌%◌, length, Option, IfOk, OnErr};
+    ghost use Rattle.std.specs.Prelude.{◌≡◌, ◌<◌, ◌≤◌, ◌%◌, length, Option, IfOk, OnErr};
     ghost use Rattle.machine_hub.specs.declared.receipt.Receipt.{Receipt};
     ghost use Rattle.machine_hub.specs.Hub.{IsRefusedOn};
     ghost use Rattle.shared_hub.specs.Logs.{IsStepOn, IsEmptyOn};
@@ -49,12 +52,14 @@ impl<'h, J: Naming, R: Wait + Clock> WorkerContext<'h, J, R> {
     pub fn new(
         rt: &'h R,
         alloc: Global,
-        settings: &'h Settings,
+        settings: &'h Mutex<InForce<J>>,
+        parts: u32,
         hub: &'h SharedHub,
         caller: Caller,
         shard: usize,
         beat: ServiceBeat<'h, R>,
     ) -> WorkerContext<'h, J, R>
+        requires parts { (0 < parts) × (parts ≤ 16) }
         requires hub { hub.now ≡ J.slots }
         requires same_hub { slots_of caller ≡ J.slots }
         requires shard { shard < length J.slots }
@@ -66,6 +71,7 @@ impl<'h, J: Naming, R: Wait + Clock> WorkerContext<'h, J, R> {
             rt,
             alloc,
             settings,
+            parts,
             hub,
             caller,
             shard,
@@ -185,41 +191,52 @@ impl<'h, J: Naming, R: Wait + Clock> AnswerSink for WorkerContext<'h, J, R> {
 }
 
 impl<'h, J: Naming, R: Wait + Clock> Handler for WorkerContext<'h, J, R> {
-    ghost use Rattle.std.specs.Prelude.{◌≡◌, length};
-    ghost use Rattle.tail_settings.specs.Settings.{settings_view};
+    ghost use Rattle.std.specs.Prelude.{length};
     ghost use Rattle.trace_service.specs.Post.{IsHandled};
 
-    ghost answers = { λ old request told new. (new.settings ≡ old.settings)
-        × IsHandled (settings_view old.settings.now) old.beat.last new.beat.last old.caller new.caller
+    ghost answers = { λ old request told new. IsHandled J.first old.beat.last new.beat.last old.caller new.caller
         (length old.hub.now) request told };
 
     fn handle<T: Threads + Sync>(&mut self, rt: &T, message: &HttpMessage) -> Reply {
-        match route(self.settings, message) {
-            Route::Post { tenant } => self.post(rt, tenant, &message.body),
-            Route::Refuse(refusal) => refused(self.alloc, refusal),
+        match self.destination(message) {
+            Ok(Destination::To { tenant, section }) => {
+                self.post(rt, tenant, &section, &message.body)
+            }
+            Ok(Destination::Nowhere(refusal)) => refused(self.alloc, refusal),
+            Err(AllocError) => without_memory(self.alloc),
         }
     }
 }
 
 impl<'h, J: Naming, R: Wait + Clock> WorkerContext<'h, J, R> {
-    ghost use Rattle.std.specs.Prelude.{◌≡◌, length};
-    ghost use Rattle.http_edge.specs.Seen.{response_of};
-    ghost use Rattle.tail_settings.specs.Settings.{settings_view, section_at};
+    ghost use Rattle.std.specs.Prelude.{◌≡◌, length, Some, IfOk};
+    ghost use Rattle.http_edge.specs.Seen.{response_of, seen};
+    ghost use Rattle.otlp_front.specs.Route.{names_in, route_of};
+    ghost use Rattle.tail_settings.specs.Section.{section_view};
+    ghost use Rattle.tail_settings.specs.Settings.{SettingsData};
+    ghost use Rattle.trace_service.specs.InForce.{CameOf, IsWhere};
     ghost use Rattle.trace_service.specs.Post.{IsSent};
 
-    /// Posts a body to a tenant, at the moment that it now is.
-    fn post<T: Threads + Sync>(&mut self, rt: &T, tenant: u32, body: &[u8]) -> Reply
-        ensures settings { self.new.settings ≡ self.old.settings }
-        ensures sent { IsSent (section_at (settings_view self.old.settings.now) tenant) self.old.beat.last
-            self.new.beat.last self.old.caller self.new.caller (length self.old.hub.now) tenant body.now
-            (response_of result) }
+    /// Where a message goes, by the settings in force. Meanwhile they are locked.
+    fn destination(&self, message: &HttpMessage) -> Result<Destination, AllocError>
+        ensures { IfOk result (λ d. (now : SettingsData) × CameOf J.first now
+            × IsWhere (route_of (names_in now) (seen message.now)) now d) }
     {
-        let settings = self.settings;
-        let Some(section) = settings.section(tenant) else {
-            return refused(self.alloc, RouteRefusal::UnknownTenant);
-        };
+        self.settings.lock(self.rt).destination(message)
+    }
+
+    /// Posts a body to the tenant with this number and section, at the moment that it now is.
+    fn post<T: Threads + Sync>(
+        &mut self,
+        rt: &T,
+        tenant: u32,
+        section: &Section,
+        body: &[u8],
+    ) -> Reply
+        ensures { IsSent (Some (section_view section.now)) self.old.beat.last self.new.beat.last self.old.caller
+            self.new.caller (length self.old.hub.now) tenant body.now (response_of result) }
+    {
         let now = self.beat.now();
-        let parts = settings.global.parts;
         match Bytes::copy_from_slice(self.alloc, body) {
             Ok(body) => post_body(
                 rt,
@@ -231,7 +248,7 @@ impl<'h, J: Naming, R: Wait + Clock> WorkerContext<'h, J, R> {
                 tenant,
                 section,
                 body,
-                parts,
+                self.parts,
             ),
             Err(AllocError) => without_memory(self.alloc),
         }

@@ -1,38 +1,40 @@
 //! Who reads the input, and ends the service.
 
-ghost use Rattle.std.specs.Prelude.{◌≡◌, length, OnOk, IfNone, option_map};
-ghost use Rattle.tail_settings.specs.Settings.{settings_view};
+ghost use Rattle.std.specs.Prelude.{◌≡◌, length, map, string_bytes, OnOk, IfNone};
 ghost use Rattle.trace_service.specs.Whole.{IsDirected};
 ghost use Rattle.trace_service.specs.Commands.{AreDrained, AreEmptyOn, AreReported, IsAnswered, AreCommandsRead, IsMade, IsReported, report_line, step_of};
+ghost use Rattle.trace_service.specs.Roster.{entry_of, present_in};
 
 use crate::beat::ServiceBeat;
 use crate::beside::Director;
 use crate::chore::Chore;
 use crate::context::WorkerContext;
 use crate::course::{Observer, Stage};
-use crate::input::{Line, asked_report, next_line};
+use crate::input::{Line, next_line};
 use crate::naming::Naming;
 use crate::reports::{line_of, write_text};
+use crate::roster::{Present, Roster};
 use crate::service::ServiceFault;
 use crate::workers::all_arrive;
 use export_edge::Beat;
 use std::alloc::{AllocError, Global};
 use std::io::{BufRead, Write};
+use std::mem;
 use std::net::{Net, TcpListener, TcpStream};
 use std::sync::Wait;
 use std::time::{Clock, Duration};
-use tail_settings::Settings;
 use tenant_shard::Outcome;
 
 /// So many milliseconds a connection that wakes a receiver may take.
 const LONGEST_WAKE: u64 = 100;
 
-/// Who reads the input: its context, and how it reaches the listener.
+/// Who reads the input: the tenants that it knows, its context, and how it reaches the listener.
 #[derive(Drop)]
 pub(crate) struct Control<'h, J: Naming, R> {
     pub rt: &'h R,
     pub alloc: Global,
-    pub settings: &'h Settings,
+    pub roster: Roster,
+    pub receivers: u32,
     pub listener: &'h TcpListener,
     pub context: WorkerContext<'h, J, R>,
     pub beat: ServiceBeat<'h, R>,
@@ -52,21 +54,22 @@ where
         observer: &mut L,
         threads: usize,
     ) -> Result<(), ServiceFault>
-        ensures { OnOk result (IsDirected (settings_view self.old.settings.now) (length self.old.context.hub.now)
+        ensures { OnOk result (IsDirected (present_in self.old.roster) (length self.old.context.hub.now)
             (I.remaining input.old) self.old.context.caller self.old.beat.last (O.contents output.old)
             self.new.context.caller self.new.beat.last (O.contents output.new)) }
     {
         if !all_arrive(&mut self.beat, threads) {
             return Err(ServiceFault::NoThread);
         }
+        let mut roster = mem::replace(&mut self.roster, Roster::new(self.alloc));
         observer.observe(Stage::Serving);
-        let heard = self.read_commands(input, output);
+        let heard = self.read_commands(&mut roster, input, output);
         observer.observe(Stage::Draining);
-        self.drain_all();
+        self.drain_all(roster.tenants());
         self.beat.signals().close();
         self.wake_receivers();
-        self.await_empty(observer);
-        let told = self.print_reports(output);
+        self.await_empty(roster.tenants(), observer);
+        let told = self.print_reports(roster.tenants(), output);
         observer.observe(Stage::Closing);
         self.beat.signals().end();
         heard?;
@@ -77,13 +80,13 @@ where
     /// Answers the lines of the input, to its end.
     fn read_commands<I: BufRead, O: Write>(
         &mut self,
+        roster: &mut Roster,
         input: &mut I,
         output: &mut O,
     ) -> Result<(), ServiceFault>
-        ensures commands_read { OnOk result (AreCommandsRead (settings_view self.old.settings.now)
-            (length self.old.context.hub.now) (I.remaining input.old) self.old.context.caller self.old.beat.last
-            (O.contents output.old) self.new.context.caller self.new.beat.last (O.contents output.new)) }
-        ensures settings { self.new.settings ≡ self.old.settings }
+        ensures commands_read { OnOk result (AreCommandsRead (length self.old.context.hub.now) (I.remaining input.old)
+            (present_in roster.old) self.old.context.caller self.old.beat.last (O.contents output.old)
+            (present_in roster.new) self.new.context.caller self.new.beat.last (O.contents output.new)) }
         ensures hub { self.new.context.hub ≡ self.old.context.hub }
     {
         let mut line = Line::new();
@@ -91,67 +94,74 @@ where
             if !next_line(self.rt, input, &mut line)? {
                 return Ok(());
             }
-            self.run_command(output, line.as_slice())?;
+            self.run_command(roster, output, line.as_slice())?;
         }
         unreachable!()
     }
 
     /// Answers a line: by a report where it asks for one, and any other by nothing.
-    fn run_command<O: Write>(&mut self, output: &mut O, line: &[u8]) -> Result<(), ServiceFault>
-        ensures answered { OnOk result (IsAnswered (settings_view self.old.settings.now)
-            (length self.old.context.hub.now) line.now self.old.context.caller self.old.beat.last
-            (O.contents output.old) self.new.context.caller self.new.beat.last (O.contents output.new)) }
-        ensures settings { self.new.settings ≡ self.old.settings }
+    fn run_command<O: Write>(
+        &mut self,
+        roster: &mut Roster,
+        output: &mut O,
+        line: &[u8],
+    ) -> Result<(), ServiceFault>
+        ensures answered { OnOk result (IsAnswered (length self.old.context.hub.now) line.now (present_in roster.old)
+            self.old.context.caller self.old.beat.last (O.contents output.old) (present_in roster.new)
+            self.new.context.caller self.new.beat.last (O.contents output.new)) }
         ensures hub { self.new.context.hub ≡ self.old.context.hub }
     {
-        match asked_report(self.settings, line) {
-            Some(tenant) => {
-                self.print_report(output, tenant)?;
-                Ok(())
-            }
+        let Some(name) = line.strip_prefix(b"report ".as_slice()) else {
+            return Ok(());
+        };
+        match roster.find(name) {
+            Some(tenant) => self.print_report(output, tenant),
             None => Ok(()),
         }
     }
 
     /// Prints a tenant's report.
-    fn print_report<O: Write>(&mut self, output: &mut O, tenant: u32) -> Result<(), ServiceFault>
-        ensures reported { OnOk result (IsReported (settings_view self.old.settings.now) self.old.context.caller
-            self.new.context.caller (length self.old.context.hub.now) tenant self.old.beat.last self.new.beat.last
-            (O.contents output.old) (O.contents output.new)) }
-        ensures settings { self.new.settings ≡ self.old.settings }
+    fn print_report<O: Write>(
+        &mut self,
+        output: &mut O,
+        tenant: &Present,
+    ) -> Result<(), ServiceFault>
+        ensures reported { OnOk result (IsReported (string_bytes tenant.now.name) self.old.context.caller
+            self.new.context.caller (length self.old.context.hub.now) tenant.now.number self.old.beat.last
+            self.new.beat.last (O.contents output.old) (O.contents output.new)) }
         ensures hub { self.new.context.hub ≡ self.old.context.hub }
     {
-        let settings = self.settings;
-        let outcome = self.make(tenant, Chore::Report);
-        let name = settings.name(tenant);
+        let outcome = self.make(tenant.number, Chore::Report);
+        let name = tenant.name.as_str();
         let line = line_again(self.rt, self.alloc, &mut self.beat, name, &outcome);
         write_text(output, line.as_slice())?;
         Ok(())
     }
 
-    /// Prints the reports of all tenants, in their order.
-    fn print_reports<O: Write>(&mut self, output: &mut O) -> Result<(), ServiceFault>
-        ensures reported { OnOk result (AreReported (settings_view self.old.settings.now) self.old.context.caller
-            self.new.context.caller (length self.old.context.hub.now) self.old.beat.last self.new.beat.last
-            (O.contents output.old) (O.contents output.new)
-            (length (settings_view self.old.settings.now).tenants)) }
+    /// Prints the reports of these tenants, in their order.
+    fn print_reports<O: Write>(
+        &mut self,
+        tenants: &[Present],
+        output: &mut O,
+    ) -> Result<(), ServiceFault>
+        ensures reported { OnOk result (AreReported (length self.old.context.hub.now) self.old.context.caller
+            self.old.beat.last (O.contents output.old) (map entry_of tenants.now) self.new.context.caller
+            self.new.beat.last (O.contents output.new)) }
     {
-        for tenant in 0..self.settings.tenants_len() {
+        for tenant in tenants {
             self.print_report(output, tenant)?;
         }
         Ok(())
     }
 
-    /// No tenant takes spans any more, and all send what they hold.
-    fn drain_all(&mut self)
-        ensures drained { AreDrained self.old.context.caller self.new.context.caller
-            (length self.old.context.hub.now) self.old.beat.last self.new.beat.last
-            (length (settings_view self.old.settings.now).tenants) }
-        ensures settings { self.new.settings ≡ self.old.settings }
+    /// These tenants take no spans any more, and all send what they hold.
+    fn drain_all(&mut self, tenants: &[Present])
+        ensures drained { AreDrained (length self.old.context.hub.now) self.old.context.caller self.old.beat.last
+            (map (λ tenant. tenant.number) tenants.now) self.new.context.caller self.new.beat.last }
         ensures hub { self.new.context.hub ≡ self.old.context.hub }
     {
-        for tenant in 0..self.settings.tenants_len() {
-            self.make(tenant, Chore::Drain);
+        for tenant in tenants {
+            self.make(tenant.number, Chore::Drain);
         }
     }
 
@@ -159,7 +169,6 @@ where
     fn make(&mut self, tenant: u32, chore: Chore) -> Outcome
         ensures made { IsMade self.old.context.caller self.new.context.caller (length self.old.context.hub.now)
             tenant self.old.beat.last self.new.beat.last (step_of chore tenant) result }
-        ensures settings { self.new.settings ≡ self.old.settings }
         ensures hub { self.new.context.hub ≡ self.old.context.hub }
     {
         'attempts: for _ in self.rt.forever() {
@@ -180,45 +189,44 @@ where
             return;
         };
         let longest = Duration::from_millis(LONGEST_WAKE);
-        for _ in 0..self.settings.global.receivers {
+        for _ in 0..self.receivers {
             let _woken = TcpStream::connect_timeout(self.rt, &address, longest);
         }
     }
 
-    /// Waits until no tenant holds a span.
-    fn await_empty<L: Observer>(&mut self, observer: &mut L)
+    /// Waits until none of these tenants holds a span.
+    fn await_empty<L: Observer>(&mut self, tenants: &[Present], observer: &mut L)
         ensures empty { AreEmptyOn self.old.context.caller (length self.old.context.hub.now)
-            (length (settings_view self.old.settings.now).tenants) }
+            (map (λ tenant. tenant.number) tenants.now) }
         ensures caller { self.new.context.caller ≡ self.old.context.caller }
-        ensures settings { self.new.settings ≡ self.old.settings }
         ensures hub { self.new.context.hub ≡ self.old.context.hub }
         ensures last { self.new.beat.last ≡ self.old.beat.last }
     {
         let mut awaited = None;
         'looks: for _ in self.rt.forever() {
-            let Some(tenant) = self.first_held() else {
+            let Some(tenant) = self.first_held(tenants) else {
                 return;
             };
-            if awaited != Some(tenant) {
-                awaited = Some(tenant);
-                observer.observe(Stage::Sending { tenant });
+            if awaited != Some(tenant.number) {
+                awaited = Some(tenant.number);
+                let name = tenant.name.as_str();
+                observer.observe(Stage::Sending { name });
             }
             self.beat.pause();
         }
         unreachable!()
     }
 
-    /// The first tenant that holds a span, or None where none does.
-    fn first_held(&mut self) -> Option<u32>
+    /// The first of these tenants that holds a span, or None where none does.
+    fn first_held<'t>(&mut self, tenants: &'t [Present]) -> Option<&'t Present>
         ensures none { IfNone result (AreEmptyOn self.old.context.caller (length self.old.context.hub.now)
-            (length (settings_view self.old.settings.now).tenants)) }
+            (map (λ tenant. tenant.number) tenants.entry.now)) }
         ensures caller { self.new.context.caller ≡ self.old.context.caller }
-        ensures settings { self.new.settings ≡ self.old.settings }
         ensures hub { self.new.context.hub ≡ self.old.context.hub }
         ensures last { self.new.beat.last ≡ self.old.beat.last }
     {
-        for tenant in 0..self.settings.tenants_len() {
-            if !self.context.is_empty(tenant) {
+        for tenant in tenants {
+            if !self.context.is_empty(tenant.number) {
                 return Some(tenant);
             }
         }
@@ -232,12 +240,11 @@ where
     R: Net<Listener = TcpListener, Stream = TcpStream> + Wait + Clock,
 {
     ghost use Rattle.std.specs.Prelude.{length};
-    ghost use Rattle.tail_settings.specs.Settings.{settings_view};
+    ghost use Rattle.trace_service.specs.Roster.{present_in};
     ghost use Rattle.trace_service.specs.Whole.{IsDirected};
 
-    ghost directs = { λ old input so_far new written. IsDirected (settings_view old.settings.now)
-        (length old.context.hub.now) input old.context.caller old.beat.last so_far new.context.caller new.beat.last
-        written };
+    ghost directs = { λ old input so_far new written. IsDirected (present_in old.roster) (length old.context.hub.now)
+        input old.context.caller old.beat.last so_far new.context.caller new.beat.last written };
 
     fn direct<I: BufRead, O: Write, L: Observer>(
         &mut self,
@@ -255,10 +262,10 @@ fn line_again<R: Wait + Clock>(
     rt: &R,
     alloc: Global,
     beat: &mut ServiceBeat<'_, R>,
-    name: Option<&str>,
+    name: &str,
     outcome: &Outcome,
 ) -> Vec<u8>
-    ensures line { result.items ≡ report_line (option_map (λ n. n.now) name.entry) outcome.now }
+    ensures line { result.items ≡ report_line name.now outcome.now }
     ensures last { beat.new.last ≡ beat.old.last }
 {
     'attempts: for _ in rt.forever() {

@@ -2,13 +2,13 @@
 
 /// A stage of a service's course.
 #[derive(Clone, Copy, PartialEq, Eq, Debug)]
-pub enum Stage {
+pub enum Stage<'n> {
     /// All threads are there, and connections are served.
     Serving,
     /// The input has ended, or it or the output failed: tenants take no more spans and send what they hold.
     Draining,
-    /// It waits until the tenant with this number holds no span, and then for others that hold some.
-    Sending { tenant: u32 },
+    /// It waits until the tenant of this name holds no span, and then for others that hold some.
+    Sending { name: &'n str },
     /// No tenant holds a span and the reports are written: it waits for connections that are still served.
     Closing,
     /// All threads have ended.
@@ -17,5 +17,5 @@ pub enum Stage {
 
 /// Is told of each stage as it begins. What it does with it is its own: nothing is promised of it.
 pub trait Observer {
-    fn observe(&mut self, stage: Stage);
+    fn observe(&mut self, stage: Stage<'_>);
 }

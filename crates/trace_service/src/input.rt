@@ -1,14 +1,12 @@
-//! What the input asks for.
+//! The lines of the input.
 
-ghost use Rattle.std.specs.Prelude.{◌≡◌, List, ℕ, [], ◌∷◌, ◌++◌, take, IfSome, IfNone, IfOk};
-ghost use Rattle.tail_settings.specs.Settings.{settings_view};
-ghost use Rattle.trace_service.specs.Commands.{Asks, AsksNobody, Comes, TakesLine, line_room};
+ghost use Rattle.std.specs.Prelude.{◌≡◌, List, ℕ, [], ◌∷◌, ◌++◌, take, IfSome, IfOk};
+ghost use Rattle.trace_service.specs.Commands.{Comes, TakesLine, line_room};
 
 use arrayvec::ArrayVec;
+use std::io;
 use std::io::{BufRead, ErrorKind};
 use std::sync::Wait;
-use std::{io, str};
-use tail_settings::Settings;
 
 /// Of a line so many bytes are kept, one more than the longest has that asks for counters.
 const LINE_ROOM: usize = 72;
@@ -25,19 +23,6 @@ pub(crate) enum ReadResult {
     Nothing,
     /// The end of the input.
     End,
-}
-
-/// The number of the tenant whose counters a line asks for: `report`, a space and its name. None where the line is any
-/// other.
-pub(crate) fn asked_report(settings: &Settings, line: &[u8]) -> Option<u32>
-    ensures asked { IfSome result (Asks (settings_view settings.now) line.now) }
-    ensures none { IfNone result (AsksNobody (settings_view settings.now) line.now) }
-{
-    let name = line.strip_prefix(b"report ".as_slice())?;
-    match str::from_utf8(name) {
-        Ok(name) => settings.number(name),
-        Err(_) => None,
-    }
 }
 
 /// Reads the next line, without its end, and keeps its first bytes. False where there is none.

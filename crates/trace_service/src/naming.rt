@@ -1,13 +1,14 @@
-//! Which hub and which lane a thread's things are of.
+//! Which hub, lane and settings a thread's things are of.
 
 use std::marker::Brand;
 
-/// Names one hub and one lane, in the proofs alone. Each call of a service picks its own.
+/// Names one hub, one lane and the settings at the start, in the proofs alone. Each call of a service picks its own.
 pub(crate) trait Naming {
     ghost use Rattle.std.specs.Prelude.{List};
     ghost use Rattle.atomic_table.specs.Seated.{TableId};
     ghost use Rattle.job_lane.specs.Lane.{LaneName};
     ghost use Rattle.shared_hub.specs.Logs.{CallerState};
+    ghost use Rattle.tail_settings.specs.Settings.{SettingsData};
 
     // the slots of the hub's shards
     ghost slots: { List TableId };
@@ -17,10 +18,14 @@ pub(crate) trait Naming {
 
     // a caller of the hub that has made no call
     ghost fresh: { CallerState };
+
+    // the settings at the start
+    ghost first: { SettingsData };
 }
 
 impl Naming for Brand {
     ghost use Rattle.std.specs.Prelude.{[]};
+    ghost use Rattle.trace_service.specs.InForce.{no_settings};
     ghost use Rattle.trace_service.specs.Work.{no_lane};
 
     ghost slots = { [] };
@@ -28,4 +33,6 @@ impl Naming for Brand {
     ghost lane = { no_lane };
 
     ghost fresh = { [] };
+
+    ghost first = { no_settings };
 }

@@ -1,6 +1,6 @@
 //! What the service prints.
 
-ghost use Rattle.std.specs.Prelude.{◌≡◌, ◌++◌, IfOk, OnOk, option_map};
+ghost use Rattle.std.specs.Prelude.{◌≡◌, ◌++◌, IfOk, OnOk};
 ghost use Rattle.std.specs.Io.KnownBytes.{Appends};
 ghost use Rattle.trace_service.specs.Audit.{audit_line, audit_text, IsFollowed};
 ghost use Rattle.trace_service.specs.Commands.{report_line};
@@ -15,15 +15,12 @@ use tenant_shard::Outcome;
 /// The line of what a tenant's report came to: its counters. Any other outcome has none.
 pub(crate) fn line_of(
     alloc: Global,
-    name: Option<&str>,
+    name: &str,
     outcome: &Outcome,
 ) -> Result<Vec<u8>, AllocError>
-    ensures { IfOk result (λ line. line.items ≡ report_line (option_map (λ n. n.now) name.entry) outcome.now) }
+    ensures { IfOk result (λ line. line.items ≡ report_line name.now outcome.now) }
 {
     let mut line = Vec::new(alloc);
-    let Some(name) = name else {
-        return Ok(line);
-    };
     match outcome {
         Outcome::Report(_, counters) => {
             put_report(alloc, &mut line, name, counters.as_slice())?;

@@ -1,6 +1,6 @@
 //! The service, from its start to its end.
 
-ghost use Rattle.std.specs.Prelude.{◌≡◌, ◌<◌, ◌≤◌, length, map, string_bytes, All, IfOk, OnOk, replicate, vec_len};
+ghost use Rattle.std.specs.Prelude.{◌≡◌, ◌<◌, ◌≤◌, length, All, IfOk, OnOk, replicate, vec_len};
 ghost use Rattle.std.specs.IoError.{error_kind};
 ghost use Rattle.std.specs.Thread.{IsSync};
 ghost use Rattle.machine_hub.specs.Hub.{AreCallersOf, AreShardRuns, new_caller};
@@ -10,6 +10,7 @@ ghost use Rattle.tail_settings.specs.Settings.{SettingsData, settings_view};
 ghost use Rattle.shard_machine.specs.MachineState.{MachineDoes};
 ghost use Rattle.shared_hub.specs.declared.fault.HubFault.TheVariants as hub_faults;
 ghost use Rattle.trace_service.specs.Fault.{IsOfLine};
+ghost use Rattle.trace_service.specs.Roster.{present_in};
 ghost use Rattle.trace_service.specs.Whole.{IsCourse, IsDirected, IsServed};
 ghost use Rattle.trace_service.specs.declared.service.ServiceFault.TheVariants as faults;
 
@@ -18,9 +19,11 @@ use crate::beat::{ServiceBeat, Signals};
 use crate::beside::work_beside;
 use crate::control::Control;
 use crate::course::{Observer, Stage};
+use crate::in_force::InForce;
 use crate::naming::Naming;
 use crate::reports::write_audit;
-use crate::shared::Shared;
+use crate::roster::Roster;
+use crate::shared::{Shared, Staff};
 use crate::workers::{Worker, work_all};
 use decision_cache::HashKeys;
 use job_lane::{Lane, LaneSeat};
@@ -30,7 +33,7 @@ use std::io;
 use std::io::{BufRead, ErrorKind, Write};
 use std::marker::Brand;
 use std::net::{Net, TcpListener, TcpStream};
-use std::sync::Wait;
+use std::sync::{Mutex, Wait};
 use std::thread::Threads;
 use std::time::{Clock, Instant};
 use tail_settings::Settings;
@@ -91,7 +94,7 @@ impl From<HubFault> for ServiceFault {
 pub fn run_service<R, I, O, L>(
     rt: &R,
     alloc: Global,
-    settings: &Settings,
+    settings: Settings,
     listener: &TcpListener,
     input: &mut I,
     output: &mut O,
@@ -104,12 +107,12 @@ where
     I: BufRead,
     O: Write,
     L: Observer,
-    ensures { OnOk result (IsServed (settings_view settings.now) audit (I.remaining input.old) (O.contents output.old)
+    ensures { OnOk result (IsServed (settings_view settings) audit (I.remaining input.old) (O.contents output.old)
         (O.contents output.new)) }
 {
     let global = &settings.global;
     let threads = global.shards as usize + global.senders as usize + global.receivers as usize + 1;
-    let (hub, keeper, callers) = SharedHub::open(rt, alloc, settings, threads, audit, keys)?;
+    let (hub, keeper, callers) = SharedHub::open(rt, alloc, &settings, threads, audit, keys)?;
     let (lane, _keeper, seats) = Lane::open(alloc, global.lane_size as usize, threads)?;
     run_named::<Brand, R, I, O, L>(
         rt, alloc, settings, listener, hub, keeper, callers, &lane, seats, input, output, observer,
@@ -117,11 +120,11 @@ where
     )
 }
 
-/// The same, with a hub and a lane that have a name.
+/// The same, with a hub, a lane and settings that have a name.
 fn run_named<J, R, I, O, L>(
     rt: &R,
     alloc: Global,
-    settings: &Settings,
+    settings: Settings,
     listener: &TcpListener,
     hub: SharedHub,
     keeper: HubKeeper,
@@ -139,24 +142,29 @@ where
     I: BufRead,
     O: Write,
     L: Observer,
+    requires first { settings_view settings ≡ J.first }
     requires hub { hub ≡ J.slots }
     requires keeper { keeper.slots ≡ hub }
     requires callers { AreCallersOf J.slots callers.items }
     requires lane { lane.now.name ≡ J.lane }
     requires seats { All (λ s. s.lane ≡ J.lane) seats.items }
-    requires opened { AreOpened (settings_view settings.now) keeper.homes }
-    requires keeps { kept keeper.homes ≡ replicate settings.now.global.shards audit }
+    requires opened { AreOpened (settings_view settings) keeper.homes }
+    requires keeps { kept keeper.homes ≡ replicate settings.global.shards audit }
     requires not_empty { 0 < vec_len callers }
     requires all { vec_len callers ≡ keeper.callers }
     requires fresh { J.fresh ≡ new_caller J.slots keeper.homes }
     requires new { All (λ c. c ≡ J.fresh) callers.items }
-    requires shards { length J.slots ≡ settings.now.global.shards }
+    requires shards { length J.slots ≡ settings.global.shards }
     requires enough { vec_len callers ≤ vec_len seats }
-    ensures { OnOk result (IsServed (settings_view settings.now) audit (I.remaining input.old) (O.contents output.old)
+    ensures { OnOk result (IsServed (settings_view settings) audit (I.remaining input.old) (O.contents output.old)
         (O.contents output.new)) }
 {
+    let roster = Roster::of(alloc, &settings)?;
+    let staff = Staff::of(&settings.global);
+    let in_force = Mutex::new(InForce::<J>::new(settings));
     let (callers, ended) = at_work::<J, R, I, O, L>(
-        rt, alloc, settings, listener, &hub, callers, lane, seats, input, output, observer,
+        rt, alloc, &in_force, roster, staff, listener, &hub, callers, lane, seats, input, output,
+        observer,
     )?;
     observer.observe(Stage::Ended);
     let shards = end_hub(rt, hub, keeper, callers);
@@ -189,7 +197,9 @@ fn end_hub<R: Wait>(
 fn at_work<J, R, I, O, L>(
     rt: &R,
     alloc: Global,
-    settings: &Settings,
+    settings: &Mutex<InForce<J>>,
+    roster: Roster,
+    staff: Staff,
     listener: &TcpListener,
     hub: &SharedHub,
     callers: Vec<Caller>,
@@ -214,19 +224,19 @@ where
     requires new { All (λ c. c ≡ J.fresh) callers.items }
     ensures same_hub { IfOk result (λ r. AreCallersOf J.slots r.0.items) }
     ensures all { IfOk result (λ r. vec_len r.0 ≡ vec_len callers) }
-    ensures course { IfOk result (λ r. OnOk r.1 (IsCourse (settings_view settings.now) (length J.slots)
+    ensures course { IfOk result (λ r. OnOk r.1 (IsCourse (present_in roster) (length J.slots)
         (I.remaining input.old) J.fresh (O.contents output.old) r.0.items (O.contents output.new))) }
 {
     let signals = Signals::new();
-    let addresses = addresses_of(alloc, settings)?;
     sharing::<J, R, I, O, L>(
         rt,
         alloc,
         settings,
+        roster,
+        staff,
         listener,
         hub,
         lane,
-        addresses.as_slice(),
         &signals,
         callers,
         seats,
@@ -240,11 +250,12 @@ where
 fn sharing<'h, J, R, I, O, L>(
     rt: &'h R,
     alloc: Global,
-    settings: &'h Settings,
+    settings: &'h Mutex<InForce<J>>,
+    roster: Roster,
+    staff: Staff,
     listener: &'h TcpListener,
     hub: &'h SharedHub,
     lane: &'h Lane,
-    addresses: &'h [String],
     signals: &'h Signals,
     callers: Vec<Caller>,
     seats: Vec<LaneSeat>,
@@ -267,7 +278,7 @@ where
     requires new { All (λ c. c ≡ J.fresh) callers.items }
     ensures same_hub { IfOk result (λ r. AreCallersOf J.slots r.0.items) }
     ensures all { IfOk result (λ r. vec_len r.0 ≡ vec_len callers) }
-    ensures course { IfOk result (λ r. OnOk r.1 (IsCourse (settings_view settings.now) (length J.slots)
+    ensures course { IfOk result (λ r. OnOk r.1 (IsCourse (present_in roster) (length J.slots)
         (I.remaining input.old) J.fresh (O.contents output.old) r.0.items (O.contents output.new))) }
 {
     let start = Instant::now(rt)?;
@@ -275,19 +286,20 @@ where
         rt,
         alloc,
         settings,
+        staff,
         hub,
         lane,
         listener,
-        addresses,
         beat: ServiceBeat::new(rt, signals, start),
         threads: callers.len(),
     };
-    work_on::<J, R, I, O, L>(&shared, callers, seats, input, output, observer)
+    work_on(&shared, roster, callers, seats, input, output, observer)
 }
 
 /// The same, with what is shared.
 fn work_on<'h, J, R, I, O, L>(
-    shared: &Shared<'h, R>,
+    shared: &Shared<'h, J, R>,
+    roster: Roster,
     mut callers: Vec<Caller>,
     seats: Vec<LaneSeat>,
     input: &mut I,
@@ -309,7 +321,7 @@ where
     requires new { All (λ c. c ≡ J.fresh) callers.items }
     ensures same_hub { IfOk result (λ r. AreCallersOf J.slots r.0.items) }
     ensures all { IfOk result (λ r. vec_len r.0 ≡ vec_len callers) }
-    ensures course { IfOk result (λ r. OnOk r.1 (IsCourse (settings_view shared.now.settings.now) (length J.slots)
+    ensures course { IfOk result (λ r. OnOk r.1 (IsCourse (present_in roster) (length J.slots)
         (I.remaining input.old) J.fresh (O.contents output.old) r.0.items (O.contents output.new))) }
 {
     let shards = shared.hub.shards();
@@ -320,9 +332,10 @@ where
     let mut control = Control {
         rt: shared.rt,
         alloc: shared.alloc,
-        settings: shared.settings,
+        roster,
+        receivers: shared.staff.receivers,
         listener: shared.listener,
-        context: shared.context::<J>(own, 0),
+        context: shared.context(own, 0),
         beat: shared.beat.again(),
     };
     let mut workers = assign_threads::<J, R>(shared, callers, seats)?;
@@ -340,7 +353,7 @@ where
 
 /// The workers' work, with that of who reads the input beside it: how the input and the output fared.
 fn all_work<'h, J, R, I, O, L>(
-    shared: &Shared<'h, R>,
+    shared: &Shared<'h, J, R>,
     workers: &mut [Worker<'h, J, R>],
     control: &mut Control<'h, J, R>,
     input: &mut I,
@@ -354,7 +367,7 @@ where
     O: Write,
     L: Observer,
     requires { shared.now.lane.now.name ≡ J.lane }
-    ensures { OnOk result (IsDirected (settings_view control.old.settings.now) (length control.old.context.hub.now)
+    ensures { OnOk result (IsDirected (present_in control.old.roster) (length control.old.context.hub.now)
         (I.remaining input.old) control.old.context.caller control.old.beat.last (O.contents output.old)
         control.new.context.caller control.new.beat.last (O.contents output.new)) }
 {
@@ -369,16 +382,4 @@ where
         observer,
         shared.threads,
     )
-}
-
-/// Each tenant's back end, at the tenant's number.
-fn addresses_of(alloc: Global, settings: &Settings) -> Result<Vec<String>, AllocError>
-    ensures { IfOk result (λ all. map string_bytes all.items
-        ≡ map (λ t. t.section.endpoint) (settings_view settings.now).tenants) }
-{
-    let mut addresses = Vec::new(alloc);
-    'tenants: for tenant in settings.tenants.values() {
-        addresses.push(tenant.section.endpoint.clone()?)?;
-    }
-    Ok(addresses)
 }

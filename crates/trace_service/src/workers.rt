@@ -5,6 +5,7 @@ ghost use Rattle.std.specs.Thread.{IsSync};
 
 use crate::beat::ServiceBeat;
 use crate::context::WorkerContext;
+use crate::in_force::BackEnds;
 use crate::lingering::linger;
 use crate::naming::Naming;
 use crate::receiving::{Reception, receive_all};
@@ -64,7 +65,7 @@ impl<'h, J: Naming, R: Wait + Clock> Worker<'h, J, R> {
 }
 
 /// All threads' work, each in a thread of its own. Where one can't be started, all give up.
-pub(crate) fn work_all<'h, J, R>(shared: &Shared<'h, R>, workers: &mut [Worker<'h, J, R>])
+pub(crate) fn work_all<'h, J, R>(shared: &Shared<'h, J, R>, workers: &mut [Worker<'h, J, R>])
 where
     J: Naming + Send + Sync,
     R: Net<Listener = TcpListener, Stream = TcpStream> + Threads + Wait + Clock + Sync,
@@ -85,7 +86,7 @@ where
 }
 
 /// One thread's work, once all are there.
-fn work<J, R>(shared: &Shared<'_, R>, worker: &mut Worker<'_, J, R>)
+fn work<J, R>(shared: &Shared<'_, J, R>, worker: &mut Worker<'_, J, R>)
 where
     J: Naming,
     R: Net<Listener = TcpListener, Stream = TcpStream> + Threads + Wait + Clock + Sync,
@@ -107,7 +108,11 @@ where
             );
         }
         Role::Sender => {
-            let mut back_end = TcpBackEnd::new(shared.rt, shared.alloc, shared.addresses);
+            let back_ends = BackEnds {
+                rt: shared.rt,
+                settings: shared.settings,
+            };
+            let mut back_end = TcpBackEnd::new(shared.rt, shared.alloc, back_ends);
             run_sender(
                 shared.rt,
                 shared.lane,

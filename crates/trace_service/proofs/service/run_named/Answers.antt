@@ -1,5 +1,7 @@
 use Rattle.std.proofs.Common.{◌∙◌, length}
 use Rattle.machine_hub.specs.Hub.{new_caller}
+use Rattle.otlp_front.specs.Route.{names_in}
+use Rattle.trace_service.specs.Roster.{present_in}
 use Rattle.trace_service.proofs.Audited.{are_numbered}
 use Rattle.trace_service.proofs.Coursed.{course_told, kept_if}
 use Rattle.tail_settings.specs.Settings.{settings_view}
@@ -7,7 +9,7 @@ use Rattle.trace_service.proofs.service.run_named.Goals as goal
 
 pub returns : goal.returns
 returns g c =
-    let table = settings_view c.args.settings.now in
+    let table = settings_view c.args.settings in
     let homes = c.args.keeper.homes in
     let slots = g.J.Naming.slots in
     let callers = c.in_ok-callers.callers.items in
@@ -20,9 +22,9 @@ returns g c =
       opened = c.requires.opened;
       callers = callers;
       text = text;
-      course = course_told c.in_ok-callers.ended _ table (length slots) table.global.shards (g.I.Read.remaining c.args.input.now)
-          (g.O.Write.contents c.args.output.now) text g.J.Naming.fresh (new_caller slots homes) callers c.in_ok-ended.was
-          c.requires.shards c.requires.fresh c.in_ok-callers.ensures.course;
+      course = course_told c.in_ok-callers.ended _ (present_in c.in_ok-roster.roster) (names_in table).tenants (length slots) table.global.shards
+          (g.I.Read.remaining c.args.input.now) (g.O.Write.contents c.args.output.now) text g.J.Naming.fresh (new_caller slots homes) callers
+          c.in_ok-ended.was c.in_ok-roster.ensures c.requires.shards c.requires.fresh c.in_ok-callers.ensures.course;
       shards = shards;
       calls = runs;
       one_run = c.end_hub-shards.ensures.one_run table c.requires.opened;

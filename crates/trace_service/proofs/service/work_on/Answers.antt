@@ -2,7 +2,7 @@ use Rattle.std.proofs.Common.{◌≡◌, ◌∙◌, Some, ap, length}
 use Rattle.std.proofs.lemmas.List.Elements.{All-pop}
 use Rattle.machine_hub.specs.Hub.{slots_of}
 use Rattle.shared_hub.specs.Logs.{CallerState}
-use Rattle.tail_settings.specs.Settings.{settings_view}
+use Rattle.trace_service.specs.Roster.{present_in}
 use Rattle.trace_service.proofs.Coursed.{course_from}
 use Rattle.trace_service.proofs.service.work_on.Goals as goal
 
@@ -16,7 +16,7 @@ returns-clause-course g c =
     let P : CallerState → Type 0 = λ x. x ≡ g.J.Naming.fresh in
     let new : c.in-Some.own ≡ g.J.Naming.fresh =
     (All-pop P c.args.callers.items c.pop.new.self.items (Some c.in-Some.own) c.in-Some.ensures.items c.requires.new).1 in
-    course_from c.all_work-ended.result (settings_view c.args.shared.now.settings.now) (length c.context.result.hub.now)
+    course_from c.all_work-ended.result (present_in c.args.roster) (length c.context.result.hub.now)
     (length g.J.Naming.slots) (g.I.Read.remaining c.args.input.now) (g.O.Write.contents c.args.output.now)
     (g.O.Write.contents c.all_work-ended.new.output) c.context.result.caller g.J.Naming.fresh
     c.all_work-ended.new.control.context.caller _ _ _ (ap length (c.context.ensures.hub ∙ c.requires.hub))

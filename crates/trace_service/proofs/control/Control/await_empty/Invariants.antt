@@ -5,6 +5,5 @@ abbrev pub invariant-looks : goal.invariant-looks
 invariant-looks g l = record {
   caller : l.self.context.caller ≡ l.fn.self.context.caller;
   hub : l.self.context.hub ≡ l.fn.self.context.hub;
-  settings : l.self.settings ≡ l.fn.self.settings;
   last : l.self.beat.last ≡ l.fn.self.beat.last;
 }

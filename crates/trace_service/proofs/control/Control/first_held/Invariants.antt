@@ -1,12 +1,12 @@
-use Rattle.std.proofs.Common.{◌≡◌, length}
+use Rattle.std.proofs.Common.{◌≡◌, length, map, take}
 use Rattle.trace_service.specs.Commands.{AreEmptyOn}
+use Rattle.trace_service.proofs.Present.{number}
 use Rattle.trace_service.proofs.control.Control.first_held.Given as goal
 
 abbrev pub invariant-loop-tenant : goal.invariant-loop-tenant
 invariant-loop-tenant g l = record {
   caller : l.self.context.caller ≡ l.fn.self.context.caller;
   hub : l.self.context.hub ≡ l.fn.self.context.hub;
-  settings : l.self.settings ≡ l.fn.self.settings;
   last : l.self.beat.last ≡ l.fn.self.beat.last;
-  empty : AreEmptyOn l.fn.self.context.caller (length l.fn.self.context.hub.now) l.tenant;
+  empty : AreEmptyOn l.fn.self.context.caller (length l.fn.self.context.hub.now) (map number (take l.tenant-index l.tenants));
 }

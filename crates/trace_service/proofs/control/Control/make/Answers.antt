@@ -6,7 +6,7 @@ use Rattle.trace_service.proofs.Rising.{rises_more, rises_same}
 use Rattle.trace_service.proofs.control.Control.make.Goals as goal
 
 pub attempts-init : goal.attempts-init
-attempts-init g c = record { settings = refl; hub = refl; tried = ([], refl, refl) }
+attempts-init g c = record { hub = refl; tried = ([], refl, refl) }
 
 pub attempts-preserved : goal.attempts-preserved
 attempts-preserved g c =
@@ -15,7 +15,6 @@ attempts-preserved g c =
     let tried = before.tried in
     let more = rises_more _ _ c.now-now.result _ tried.0 tried.2 c.now-now.ensures in
     record {
-      settings = before.settings;
       hub = c.step.ensures.hub ∙ before.hub;
       tried = (
         tried.0 ++ c.now-now.result ∷ [],

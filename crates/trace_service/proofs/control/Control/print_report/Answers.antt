@@ -4,6 +4,5 @@ pub returns-clause-reported : goal.returns-clause-reported
 returns-clause-reported g c = record {
   outcome = c.make-outcome.result;
   made = rw c.line_again-line.ensures.last c.make-outcome.ensures.made;
-  line = rw (c.as_slice.ensures.value, c.line_again-line.ensures.line, c.name-name.ensures)
-      at c.in_ok-write_text.ensures;
+  line = rw (c.as_slice.ensures.value, c.line_again-line.ensures.line, c.as_str-name.ensures.value) at c.in_ok-write_text.ensures;
 }

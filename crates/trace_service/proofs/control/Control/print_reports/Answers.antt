@@ -1,13 +1,25 @@
-use native.Mathlib.Numerals.{unary_clauses}
-use Rattle.std.proofs.Common.{◌∙◌}
+use Rattle.std.proofs.Common.{length, map, refl, subst, ◌∙◌}
+use Rattle.std.proofs.lemmas.List.{take_all}
+use Rattle.trace_service.specs.Commands.{AreReported, no_report}
+use Rattle.trace_service.specs.Roster.{entry_of}
+use Rattle.trace_service.proofs.Present.{reported_more}
 use Rattle.trace_service.proofs.control.Control.print_reports.Goals as goal
+
+pub loop-tenant-init : goal.loop-tenant-init
+loop-tenant-init g c = record { hub = refl; told = no_report }
 
 pub loop-tenant-preserved : goal.loop-tenant-preserved
 loop-tenant-preserved g c =
     let before = c.loop-tenant.invariant in
     let told = c.in_ok-print_report.ensures in
     record {
-      settings = told.settings ∙ before.settings;
       hub = told.hub ∙ before.hub;
-      told = simp unary_clauses (c.loop-tenant.self.context.caller, c.loop-tenant.self.beat.last, g.O.Write.contents c.loop-tenant.output, before.told, rw (before.settings, before.hub) at told.reported);
+      told = reported_more _ _ _ _ c.args.tenants.now c.loop-tenant.tenant-index c.tenant-item.result _ _ _ _ _ _ c.loop-tenant-test.true
+          c.tenant-item.is before.told (rw before.hub at told.reported);
     }
+
+pub returns : goal.returns
+returns g c =
+    subst (λ ts. AreReported (length c.args.self.now.context.hub.now) c.args.self.now.context.caller c.args.self.now.beat.last (g.O.Write.contents c.args.output.now)
+    (map entry_of ts) c.loop-tenant.self.context.caller c.loop-tenant.self.beat.last (g.O.Write.contents c.loop-tenant.output))
+    (take_all c.loop-tenant.tenant-index c.args.tenants.now c.loop-tenant-test.false) c.loop-tenant.invariant.told

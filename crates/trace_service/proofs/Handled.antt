@@ -1,0 +1,40 @@
+-- From where a message goes to what becomes of it.
+use Rattle.std.proofs.Common.{◌≡◌, ℕ, List, Option, Some, None, subst}
+use Rattle.http_edge.specs.Message.{Response}
+use Rattle.otlp_front.specs.Route.{Route, post, refuse}
+use Rattle.otlp_front.specs.Seen.{response_for}
+use Rattle.otlp_front.specs.declared.refusal.RouteRefusal.{RouteRefusal}
+use Rattle.shared_hub.specs.Logs.{CallerState}
+use Rattle.tail_settings.specs.declared.section.Section.{Section}
+use Rattle.tail_settings.specs.Section.{SectionData, section_view}
+use Rattle.tail_settings.specs.Settings.{SettingsData, section_at}
+use Rattle.trace_service.specs.declared.in_force.Destination.TheVariants.{To, Nowhere}
+use Rattle.trace_service.specs.InForce.{IsTenant, IsWhere}
+use Rattle.trace_service.specs.Post.{MayTell, IsSent, IsSentBy}
+
+module _ (before last : ℕ) (old new : CallerState) (shards : ℕ) (body : List ℕ) (told : Response) where
+  to_tenant : (found : Option SectionData) (number tenant : ℕ) (own : Section) → IsTenant found number (To tenant own)
+      → IsSent (Some (section_view own)) before last old new shards tenant body told
+      → IsSent found before last old new shards number body told
+  to_tenant (Some section) number tenant own is sent =
+      subst (λ n. IsSent (Some section) before last old new shards n body told) is.0
+      (subst (λ s. IsSent (Some s) before last old new shards tenant body told) is.1 sent)
+  to_tenant None number tenant own is sent = absurd is
+
+  -- a body was posted to the tenant that the route leads to
+  pub sent_to : (route : Route) (now : SettingsData) (tenant : ℕ) (own : Section) → IsWhere route now (To tenant own)
+      → IsSent (Some (section_view own)) before last old new shards tenant body told
+      → IsSentBy route now before last old new shards body told
+  sent_to (post number) now tenant own is sent = to_tenant (section_at now number) number tenant own is sent
+  sent_to (refuse due) now tenant own is sent = absurd is
+
+  nobody_there : (found : Option SectionData) (number : ℕ) (refusal : RouteRefusal) → IsTenant found number (Nowhere refusal)
+      → new ≡ old → MayTell (response_for refusal) told → IsSent found before last old new shards number body told
+  nobody_there (Some section) number refusal is same tells = absurd is
+  nobody_there None number refusal is same tells = (same, subst (λ due. MayTell due told) is tells)
+
+  -- a message was refused that the route leads to no tenant
+  pub sent_nowhere : (route : Route) (now : SettingsData) (refusal : RouteRefusal) → IsWhere route now (Nowhere refusal)
+      → new ≡ old → MayTell (response_for refusal) told → IsSentBy route now before last old new shards body told
+  sent_nowhere (post number) now refusal is same tells = nobody_there (section_at now number) number refusal is same tells
+  sent_nowhere (refuse due) now refusal is same tells = (same, subst (λ d. MayTell d told) is tells)

@@ -1,0 +1,21 @@
+use Rattle.std.proofs.Common.{length, refl}
+use Rattle.http_edge.specs.Seen.{response_of, seen}
+use Rattle.otlp_front.specs.Route.{names_in, route_of}
+use Rattle.trace_service.specs.Post.{handled, not_copied}
+use Rattle.trace_service.proofs.Handled.{sent_to, sent_nowhere}
+use Rattle.trace_service.proofs.context.WorkerContextHandler.handle.Goals as goal
+
+pub returns-in-Ok-To : goal.returns-in-Ok-To
+returns-in-Ok-To g c =
+    let where = c.in-Ok-To.ensures in
+    let message = seen c.args.message.now in
+    handled where.0 where.1 (sent_to _ _ _ _ _ message.body _ (route_of (names_in where.0) message) where.0 c.in-Ok-To.tenant c.in-Ok-To.section where.2 c.post.ensures)
+
+pub returns-in-Ok-Nowhere : goal.returns-in-Ok-Nowhere
+returns-in-Ok-Nowhere g c =
+    let where = c.in-Ok-Nowhere.ensures in
+    let message = seen c.args.message.now in
+    handled where.0 where.1 (sent_nowhere _ _ _ _ _ message.body _ (route_of (names_in where.0) message) where.0 c.in-Ok-Nowhere.refusal where.2 refl c.refused.ensures)
+
+pub returns-in-Err : goal.returns-in-Err
+returns-in-Err g c = not_copied refl refl c.without_memory.ensures

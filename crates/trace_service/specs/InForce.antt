@@ -1,0 +1,48 @@
+-- Settings in force, to which tenants come and which they leave while threads look at them under a lock. This project's
+-- own rule.
+use Rattle.std.specs.Prelude.{◌≡◌, ℕ, List, [], Option, Some, None, option_map}
+use Rattle.otlp_front.specs.Route.{Route, post, refuse, unknown_tenant}
+use Rattle.otlp_front.specs.Seen.{response_for}
+use Rattle.tail_settings.specs.Change.{Change, after}
+use Rattle.tail_settings.specs.Section.{SectionData, section_view}
+use Rattle.tail_settings.specs.Settings.{SettingsData, section_at}
+use Rattle.trace_service.specs.declared.in_force.Destination.{Destination}
+use Rattle.trace_service.specs.declared.in_force.Destination.TheVariants.{To, Nowhere}
+
+-- settings that came of the first ones by changes, one after the other: whoever takes the lock finds such
+abbrev pub CameOf : SettingsData → SettingsData → Type 0
+CameOf first now = ∥ ((changes : List Change) × (now ≡ after first changes)) ∥₁
+
+-- the settings of no service
+abbrev pub no_settings : SettingsData
+no_settings = record {
+  global = record {
+    shards = 0;
+    parts = 0;
+    receivers = 0;
+    senders = 0;
+    lane_size = 0;
+    listen = [];
+    tenant_header = [];
+  };
+  tenants = [];
+  next = 0;
+}
+
+-- under settings that came of the first ones this is the back end of the tenant with this number, or there is none
+abbrev pub HasBackEnd : SettingsData → ℕ → Option (List ℕ) → Type 0
+HasBackEnd first tenant address =
+    (now : SettingsData) × CameOf first now × (address ≡ option_map (λ s. s.endpoint) (section_at now tenant))
+
+-- the tenant of this number, with its section; or that there is no such tenant
+abbrev pub IsTenant : Option SectionData → ℕ → Destination → Type 0
+IsTenant (Some section) number (To tenant own) = (tenant ≡ number) × (section_view own ≡ section)
+IsTenant (Some section) number (Nowhere refusal) = ⊥
+IsTenant None number (To tenant own) = ⊥
+IsTenant None number (Nowhere refusal) = response_for refusal ≡ unknown_tenant
+
+-- where a message goes that has this route under these settings
+abbrev pub IsWhere : Route → SettingsData → Destination → Type 0
+IsWhere (post number) now destination = IsTenant (section_at now number) number destination
+IsWhere (refuse due) now (To tenant own) = ⊥
+IsWhere (refuse due) now (Nowhere refusal) = response_for refusal ≡ due

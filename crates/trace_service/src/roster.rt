@@ -1,0 +1,67 @@
+//! Which tenants are present, as who reads the input knows it.
+
+ghost use Rattle.std.specs.Prelude.{◌≡◌, ◌<◌, ◌++◌, ◌∷◌, [], ◌==◌, not, filter, vec_len, vec_capacity, IfOk, IfSome, OnOk, option_map, string_bytes};
+ghost use Rattle.otlp_front.specs.Route.{names_in, number_of};
+ghost use Rattle.tail_settings.specs.Settings.{settings_view};
+ghost use Rattle.trace_service.specs.Roster.{present_in};
+
+use std::alloc::{AllocError, Global};
+use tail_settings::Settings;
+
+/// A tenant that is present.
+#[derive(Drop)]
+pub(crate) struct Present {
+    pub number: u32,
+    pub name: String,
+}
+
+/// The tenants that are present, in the order of their numbers.
+#[derive(Drop)]
+pub(crate) struct Roster {
+    tenants: Vec<Present>,
+}
+
+impl Roster {
+    /// No tenant.
+    pub fn new(alloc: Global) -> Roster
+        ensures { present_in result ≡ [] }
+    {
+        Roster {
+            tenants: Vec::new(alloc),
+        }
+    }
+
+    /// The tenants of the settings.
+    pub fn of(alloc: Global, settings: &Settings) -> Result<Roster, AllocError>
+        ensures { IfOk result (λ roster. present_in roster ≡ (names_in (settings_view settings.now)).tenants) }
+    {
+        let mut tenants = Vec::new(alloc);
+        'tenants: for (name, tenant) in settings.tenants.iter() {
+            tenants.push(Present {
+                number: tenant.number,
+                name: name.clone()?,
+            })?;
+        }
+        Ok(Roster { tenants })
+    }
+
+    /// The tenants, one after the other.
+    pub fn tenants(&self) -> &[Present]
+        ensures { result.now ≡ self.now.tenants.items }
+    {
+        self.tenants.as_slice()
+    }
+
+    /// The tenant of this name.
+    pub fn find(&self, name: &[u8]) -> Option<&Present>
+        ensures number { option_map (λ p. p.now.number) result ≡ number_of (present_in self.now) name.now }
+        ensures name { IfSome result (λ p. string_bytes p.now.name ≡ name.now) }
+    {
+        for present in self.tenants.iter() {
+            if present.name.as_bytes() == name {
+                return Some(present);
+            }
+        }
+        None
+    }
+}
