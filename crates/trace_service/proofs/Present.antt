@@ -1,7 +1,7 @@
 -- Tenants one after the other.
-use Rattle.std.proofs.Common.{◌≡◌, ℕ, ◌+◌, ◌%◌, ◌<◌, Bool, true, false, List, [], ◌∷◌, ◌++◌, length, map, take, get_or, Option, Some, None, refl, sym, ap, subst, ◌∙◌, string_bytes}
+use Rattle.std.proofs.Common.{◌≡◌, ℕ, ◌+◌, ◌%◌, ◌<◌, Bool, true, false, List, [], ◌∷◌, ◌++◌, length, map, take, drop, get_or, Option, Some, None, refl, sym, ap, subst, ◌∙◌, string_bytes}
 use Rattle.std.specs.Str.{bytes_eq}
-use Rattle.std.proofs.lemmas.List.{map_more}
+use Rattle.std.proofs.lemmas.List.{map_more, at_drop_more}
 use Rattle.otlp_front.specs.Route.{number_of}
 use Rattle.shared_hub.specs.Logs.{CallerState, IsEmptyOn}
 use Rattle.tenant_shard.specs.declared.step.Outcome.{Outcome}
@@ -22,6 +22,12 @@ numbers [] = refl
 numbers (x ∷ xs) = ap (λ ns. x.number ∷ ns) (numbers xs)
 
 -- ---- by name
+
+pub found_next : (name : List ℕ) (xs : List Present) (i : ℕ) (x : Present) → i < length xs → x ≡ get_or xs i x
+    → number_of (map entry_of (drop i xs)) name ≡ number_of (map entry_of (x ∷ drop (i + 1) xs)) name
+found_next name xs i x within at =
+    at_drop_more (λ ps. number_of (map entry_of ps) name) xs i x within
+    ∙ ap (λ y. number_of (map entry_of (y ∷ drop (i + 1) xs)) name) (sym at)
 
 pub found_here : (name : List ℕ) (x : Present) (rest : List Present) → bytes_eq name (string_bytes x.name) ≡ true
     → number_of (map entry_of (x ∷ rest)) name ≡ Some x.number
