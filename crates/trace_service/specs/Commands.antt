@@ -116,8 +116,8 @@ abbrev pub left_by : Outcome → ℕ → Present → Present
 left_by outcome tenant present =
     if stays outcome then present else filter (λ other. not (other.0 == tenant)) present
 
--- A tenant was to go: it was drained, then it was seen to hold no span, then it was to retire, and what came of that was
--- written under its name. These are present then.
+-- A tenant was to go: it was drained, then it was seen to hold no span, then it was to retire, and what came of that
+-- was written under its name. These are present then.
 pub record IsRetired (name : List ℕ) (present : Present) (old new : CallerState) (shards tenant before last : ℕ)
     (so_far : Option (List ℕ)) (left : Present) (written : Option (List ℕ)) : Type 0 where
   pub after_drain : CallerState
@@ -156,8 +156,8 @@ pub data IsAnswered (first : SettingsData) (shards : ℕ) (line : List ℕ) (pre
       → IsAnswered first shards line present old before so_far left new last written
 
 -- these lines were answered, one after the other
-pub data AreAnswered (first : SettingsData) (shards : ℕ) (present : Present) (old : CallerState) (before : ℕ) (so_far : Option (List ℕ))
-    : List (List ℕ) → Present → CallerState → ℕ → Option (List ℕ) → Type 0 where
+pub data AreAnswered (first : SettingsData) (shards : ℕ) (present : Present) (old : CallerState) (before : ℕ)
+    (so_far : Option (List ℕ)) : List (List ℕ) → Present → CallerState → ℕ → Option (List ℕ) → Type 0 where
   no_answer : AreAnswered first shards present old before so_far [] present old before so_far
   answer_more : (lines : List (List ℕ)) (then : Present) (mid : CallerState) (between : ℕ) (text : Option (List ℕ))
       (line : List ℕ) (left : Present) (new : CallerState) (last : ℕ) (written : Option (List ℕ))
@@ -172,8 +172,8 @@ pub data AreFirst (text : List ℕ) : List (List ℕ) → List ℕ → Type 0 wh
       → TakesLine rest (Some after) line true → AreFirst text (lines ++ line ∷ []) after
 
 -- all lines of the input were answered: of one that is known these are all its lines. These tenants are present then
-pub record AreCommandsRead (first : SettingsData) (shards : ℕ) (input : Option (List ℕ)) (present : Present) (old : CallerState) (before : ℕ)
-    (so_far : Option (List ℕ)) (left : Present) (new : CallerState) (last : ℕ) (written : Option (List ℕ))
+pub record AreCommandsRead (first : SettingsData) (shards : ℕ) (input : Option (List ℕ)) (present : Present)
+    (old : CallerState) (before : ℕ) (so_far : Option (List ℕ)) (left : Present) (new : CallerState) (last : ℕ) (written : Option (List ℕ))
     : Type 0 where
   pub lines : List (List ℕ)
   pub known : IfSome input (λ text. AreFirst text lines [])

@@ -15,7 +15,8 @@ use Rattle.trace_service.specs.Commands.{AreDrained, AreEmptyOn, AreReported, Ar
 -- What who reads the input did, by calls of one caller and in this order: all lines of the input were answered, each
 -- tenant that was present then was drained, each was seen to hold no span, and each one's report was written.
 pub record IsDirected (first : SettingsData) (present : Present) (shards : ℕ) (input : Option (List ℕ))
-    (old : CallerState) (before : ℕ) (so_far : Option (List ℕ)) (new : CallerState) (last : ℕ) (written : Option (List ℕ)) : Type 0 where
+    (old : CallerState) (before : ℕ) (so_far : Option (List ℕ)) (new : CallerState) (last : ℕ)
+    (written : Option (List ℕ)) : Type 0 where
   pub left : Present
   pub after_input : CallerState
   pub input_end : ℕ
@@ -29,7 +30,8 @@ pub record IsDirected (first : SettingsData) (present : Present) (shards : ℕ) 
 
 -- of a hub's callers, which had made no call, one did that
 pub record IsCourse (first : SettingsData) (present : Present) (shards : ℕ) (input : Option (List ℕ))
-    (fresh : CallerState) (so_far : Option (List ℕ)) (callers : List CallerState) (written : Option (List ℕ)) : Type 0 where
+    (fresh : CallerState) (so_far : Option (List ℕ)) (callers : List CallerState) (written : Option (List ℕ))
+    : Type 0 where
   pub before : ℕ
   pub last : ℕ
   pub own : CallerState
@@ -47,7 +49,8 @@ pub record IsServed (table : SettingsData) (audit : Bool) (input so_far written 
   pub opened : AreOpened table homes
   pub callers : List CallerState
   pub text : Option (List ℕ)
-  pub course : IsCourse table (names_in table).tenants table.global.shards input (new_caller slots homes) so_far callers text
+  pub course : IsCourse table (names_in table).tenants table.global.shards input (new_caller slots homes) so_far
+      callers text
   pub shards : List LoggedShard
   pub calls : AreShardRuns MachineDoes homes callers shards
   pub one_run : AreOneRun table callers

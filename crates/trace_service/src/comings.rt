@@ -195,8 +195,8 @@ where
         }
     }
 
-    /// Has the tenant of this name send what it holds, waits until that is done, lets it go, and prints what came of it.
-    /// Meanwhile no other line is answered. Where there is no tenant of this name nothing is done.
+    /// Has the tenant of this name send what it holds, waits until that is done, lets it go, and prints what came of
+    /// it. Meanwhile no other line is answered. Where there is no tenant of this name nothing is done.
     pub fn retire<O: Write>(
         &mut self,
         roster: &mut Roster,

@@ -80,8 +80,8 @@ impl<J: Naming> InForce<J> {
         }
     }
 
-    /// Lets in the one tenant of a document, which gets the next number. Where memory is refused for what is told of it,
-    /// it is taken out again.
+    /// Lets in the one tenant of a document, which gets the next number. Where memory is refused for what is told of
+    /// it, it is taken out again.
     pub fn admit(&mut self, alloc: Global, text: &str) -> Result<Newcomer, SettingsFault>
         ensures on_success { IfOk result (λ newcomer.
             IsNewcomer (settings_view self.old.settings) text.now newcomer) }

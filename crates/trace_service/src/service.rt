@@ -88,11 +88,11 @@ impl From<HubFault> for ServiceFault {
 }
 
 /// Serves until the input ends and all tenants have sent what they held: as many receivers and senders as the settings
-/// say, a turner for each shard, and one lane. A line `report NAME` of the input prints that tenant's counters, `add PATH`
-/// lets a tenant come whose document is in a file, and `retire NAME` lets one go once it has sent what it held. All
-/// reports are printed at the end; with `audit` also how many entries each shard's log has. After a fault of the input or
-/// the output the service ends as it does at the input's end, and then says so. The observer is told of its course. No
-/// client knows the keys, under which trace ids are hashed.
+/// say, a turner for each shard, and one lane. A line `report NAME` of the input prints that tenant's counters, `add
+/// PATH` lets a tenant come whose document is in a file, and `retire NAME` lets one go once it has sent what it held.
+/// All reports are printed at the end; with `audit` also how many entries each shard's log has. After a fault of the
+/// input or the output the service ends as it does at the input's end, and then says so. The observer is told of its
+/// course. No client knows the keys, under which trace ids are hashed.
 pub fn run_service<R, I, O, L>(
     rt: &R,
     alloc: Global,
