@@ -23,8 +23,8 @@ came s new text h =
     (tenant.0, numbered_tenant-number number.0 s.tenants table.0 tenant.0 tenant.1 ∙ sym next.1, ok_is (joined s tenant.0) new fits.2)
 
 one_of : {X : Type 0} (a : Option X) (x : X) → IsSome (option_or a (Some x))
-one_of None x = tt
-one_of (Some y) x = tt
+one_of None x = refl
+one_of (Some y) x = refl
 
 joined_there : (s : SettingsData) (t : TenantData) → t.number ≡ s.next → IsSome (tenant_at (joined s t) s.next)
 joined_there s t next =

@@ -173,8 +173,8 @@ pub data AreFirst (text : List ℕ) : List (List ℕ) → List ℕ → Type 0 wh
 
 -- all lines of the input were answered: of one that is known these are all its lines. These tenants are present then
 pub record AreCommandsRead (first : SettingsData) (shards : ℕ) (input : Option (List ℕ)) (present : Present)
-    (old : CallerState) (before : ℕ) (so_far : Option (List ℕ)) (left : Present) (new : CallerState) (last : ℕ) (written : Option (List ℕ))
-    : Type 0 where
+    (old : CallerState) (before : ℕ) (so_far : Option (List ℕ)) (left : Present) (new : CallerState) (last : ℕ)
+    (written : Option (List ℕ)) : Type 0 where
   pub lines : List (List ℕ)
   pub known : IfSome input (λ text. AreFirst text lines [])
   pub answered : AreAnswered first shards present old before so_far lines left new last written

@@ -91,7 +91,8 @@ where
     ) -> Result<(), ServiceFault>
         ensures commands_read { OnOk result (AreCommandsRead J.first (length self.old.context.hub.now)
             (I.remaining input.old) (present_in roster.old) self.old.context.caller self.old.beat.last
-            (O.contents output.old) (present_in roster.new) self.new.context.caller self.new.beat.last (O.contents output.new)) }
+            (O.contents output.old) (present_in roster.new) self.new.context.caller self.new.beat.last
+            (O.contents output.new)) }
         ensures hub { self.new.context.hub ≡ self.old.context.hub }
     {
         let mut line = Line::new();
@@ -289,7 +290,8 @@ where
     ghost use Rattle.trace_service.specs.Whole.{IsDirected};
 
     ghost directs = { λ old input so_far new written. IsDirected J.first (present_in old.roster)
-        (length old.context.hub.now) input old.context.caller old.beat.last so_far new.context.caller new.beat.last written };
+        (length old.context.hub.now) input old.context.caller old.beat.last so_far new.context.caller new.beat.last
+        written };
 
     fn direct<I: BufRead, O: Write, L: Observer>(
         &mut self,

@@ -9,7 +9,7 @@ returns-then-eq-clause-number c =
     let x = c.present-item.result in
     let name = c.args.name.now in
     let items = c.deref-present-items.ensures.value in
-    sym (found_here name x (drop (i + 1) xs) (rw c.as_bytes.ensures.value at c.if-eq.ensures))
+    sym (found_here name x (drop (i + 1) xs) (sym (rw c.as_bytes.ensures.value at c.if-eq.ensures)))
     ∙ sym (found_next name xs i x (rw items at c.loop-present-test.true) (rw items at c.present-item.is)) ∙ c.loop-present.invariant
 
 pub loop-present-preserved : goal.loop-present-preserved
@@ -19,5 +19,5 @@ loop-present-preserved c =
     let x = c.present-item.result in
     let name = c.args.name.now in
     let items = c.deref-present-items.ensures.value in
-    sym (found_later name x (drop (i + 1) xs) (rw c.as_bytes.ensures.value at c.if-eq.ensures))
+    sym (found_later name x (drop (i + 1) xs) (sym (rw c.as_bytes.ensures.value at c.if-eq.ensures)))
     ∙ sym (found_next name xs i x (rw items at c.loop-present-test.true) (rw items at c.present-item.is)) ∙ c.loop-present.invariant
