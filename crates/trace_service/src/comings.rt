@@ -21,15 +21,14 @@ use crate::reports::{Told, write_text};
 use crate::roster::Roster;
 use crate::service::ServiceFault;
 use export_edge::Beat;
+use shared_hub::HubFault;
 use std::alloc::AllocError;
-use std::fs;
-use std::io;
 use std::io::{ErrorKind, Read, Write};
 use std::net::{Net, TcpListener, TcpStream};
 use std::rt::Files;
-use std::str;
 use std::sync::Wait;
 use std::time::Clock;
+use std::{fs, io, str};
 use tail_settings::SettingsFault;
 use tenant_shard::{Outcome, Step};
 
@@ -188,10 +187,11 @@ where
                 roster.push(number, name);
                 Ok(line)
             }
-            Err(_) => {
+            Err(HubFault::OutOfMemory) => {
                 self.strike(number);
                 Err(NotAdded::OutOfMemory)
             }
+            Err(HubFault::Behind { .. } | HubFault::OtherEntry { .. }) => unreachable!(),
         }
     }
 

@@ -231,20 +231,8 @@ where
 {
     let signals = Signals::new();
     sharing::<J, R, I, O, L>(
-        rt,
-        alloc,
-        settings,
-        roster,
-        staff,
-        listener,
-        hub,
-        lane,
-        &signals,
-        callers,
-        seats,
-        input,
-        output,
-        observer,
+        rt, alloc, settings, roster, staff, listener, hub, lane, &signals, callers, seats, input,
+        output, observer,
     )
 }
 
