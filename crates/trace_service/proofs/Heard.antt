@@ -36,14 +36,14 @@ module _ (settings : SettingsData) (shards : ℕ) (before : Option (List ℕ)) (
   pub heard_none : HeardSoFar settings shards before before present old first so_far present old first so_far
   heard_none = record { lines = []; taken = taken_none before; answered = no_answer }
 
-  pub heard_more : (mid after : Option (List ℕ)) (then left : Present) (now new : CallerState) (then_last last : ℕ) (text written : Option (List ℕ)) (line : List ℕ)
-      → HeardSoFar settings shards before mid present old first so_far then now then_last text
-      → IfSome mid (λ rest. TakesLine rest after line true) → IsAnswered settings shards line then now then_last text left new last written
+  pub heard_more : (mid after : Option (List ℕ)) (known left : Present) (now new : CallerState) (then_last last : ℕ) (text written : Option (List ℕ)) (line : List ℕ)
+      → HeardSoFar settings shards before mid present old first so_far known now then_last text
+      → IfSome mid (λ rest. TakesLine rest after line true) → IsAnswered settings shards line known now then_last text left new last written
       → HeardSoFar settings shards before after present old first so_far left new last written
-  heard_more mid after then left now new then_last last text written line h takes answer = record {
+  heard_more mid after known left now new then_last last text written line h takes answer = record {
     lines = h.lines ++ line ∷ [];
     taken = taken_more before mid after h.lines line h.taken takes;
-    answered = answer_more h.lines then now then_last text line left new last written h.answered answer;
+    answered = answer_more h.lines known now then_last text line left new last written h.answered answer;
   }
 
   pub heard_all : (mid after : Option (List ℕ)) (left : Present) (new : CallerState) (last : ℕ) (written : Option (List ℕ)) (line : List ℕ)

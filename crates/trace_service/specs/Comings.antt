@@ -52,10 +52,10 @@ why_not None = OutOfMemory
 -- no tenant came.
 pub data IsAdded (first : SettingsData) (shards : ℕ) (present : Present) (old : CallerState)
     : Present → CallerState → List ℕ → Type 0 where
-  added : (now then : SettingsData) (text name : List ℕ) (section : Section) (outcome : Outcome)
-      (receipt : Option Receipt) (new : CallerState) → CameOf first now → admitted now text ≡ Ok then
-      → option_map (λ t. t.name) (tenant_at then now.next) ≡ Some name
-      → section_at then now.next ≡ Some (section_view section)
+  added : (now grown : SettingsData) (text name : List ℕ) (section : Section) (outcome : Outcome)
+      (receipt : Option Receipt) (new : CallerState) → CameOf first now → admitted now text ≡ Ok grown
+      → option_map (λ t. t.name) (tenant_at grown now.next) ≡ Some name
+      → section_at grown now.next ≡ Some (section_view section)
       → IsStepOn old new (now.next % shards) (steps.Add now.next section) outcome receipt → refusal_in outcome ≡ None
       → IsAdded first shards present old (present ++ (now.next, name) ∷ []) new (added_text name now.next)
   unread : IsAdded first shards present old present old (not_added_text (Refused not_read))

@@ -159,10 +159,10 @@ pub data IsAnswered (first : SettingsData) (shards : ℕ) (line : List ℕ) (pre
 pub data AreAnswered (first : SettingsData) (shards : ℕ) (present : Present) (old : CallerState) (before : ℕ)
     (so_far : Option (List ℕ)) : List (List ℕ) → Present → CallerState → ℕ → Option (List ℕ) → Type 0 where
   no_answer : AreAnswered first shards present old before so_far [] present old before so_far
-  answer_more : (lines : List (List ℕ)) (then : Present) (mid : CallerState) (between : ℕ) (text : Option (List ℕ))
+  answer_more : (lines : List (List ℕ)) (known : Present) (mid : CallerState) (between : ℕ) (text : Option (List ℕ))
       (line : List ℕ) (left : Present) (new : CallerState) (last : ℕ) (written : Option (List ℕ))
-      → AreAnswered first shards present old before so_far lines then mid between text
-      → IsAnswered first shards line then mid between text left new last written
+      → AreAnswered first shards present old before so_far lines known mid between text
+      → IsAnswered first shards line known mid between text left new last written
       → AreAnswered first shards present old before so_far (lines ++ line ∷ []) left new last written
 
 -- these are the text's first lines, and that is what stands behind them

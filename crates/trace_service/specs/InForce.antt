@@ -50,8 +50,8 @@ IsWhere (refuse due) now (Nowhere refusal) = response_for refusal ≡ due
 
 -- who came under settings with this document: their next tenant, with its name and section
 pub record IsNewcomer (now : SettingsData) (text : List ℕ) (newcomer : Newcomer) : Type 0 where
-  pub then : SettingsData
-  pub admits : admitted now text ≡ Ok then
+  pub grown : SettingsData
+  pub admits : admitted now text ≡ Ok grown
   pub number : newcomer.number ≡ now.next
-  pub name : option_map (λ t. t.name) (tenant_at then newcomer.number) ≡ Some (string_bytes newcomer.name)
-  pub section : section_at then newcomer.number ≡ Some (section_view newcomer.section)
+  pub name : option_map (λ t. t.name) (tenant_at grown newcomer.number) ≡ Some (string_bytes newcomer.name)
+  pub section : section_at grown newcomer.number ≡ Some (section_view newcomer.section)
