@@ -165,3 +165,7 @@ goes_told step words (Err fault) is_plain = tt
 pub members_told : {E : Type 0} (step : Step) (words : List TenantGenerator) (views views' : List View) (told : Result Outcome E) → IsPlain step → AreMembers words views → IfOk told (λ o. ShardFollows step views o views') → OnErr told (ShardRefuses step views views') → AreMembers words views'
 members_told step words views views' (Ok o) is_plain are follows refuses = plain_members step words views o views' is_plain are follows
 members_told step words views views' (Err fault) is_plain are follows refuses = members_refused step words words views views' are refl (inl refuses)
+
+pub kept_told : {E : Type 0} (words : List TenantGenerator) (told : Result Outcome E) → OnErr told (words ≡ words)
+kept_told words (Ok o) = tt
+kept_told words (Err fault) = refl
