@@ -166,6 +166,7 @@ pub members_told : {E : Type 0} (step : Step) (words : List TenantGenerator) (vi
 members_told step words views views' (Ok o) is_plain are follows refuses = plain_members step words views o views' is_plain are follows
 members_told step words views views' (Err fault) is_plain are follows refuses = members_refused step words words views views' are refl (inl refuses)
 
-pub kept_told : {E : Type 0} (words : List TenantGenerator) (told : Result Outcome E) → OnErr told (words ≡ words)
-kept_told words (Ok o) = tt
-kept_told words (Err fault) = refl
+-- what holds in any case holds where it was refused memory
+pub if_refused : {A E : Type 0} (P : Type 0) (told : Result A E) → P → OnErr told P
+if_refused P (Ok o) holds = tt
+if_refused P (Err fault) holds = holds

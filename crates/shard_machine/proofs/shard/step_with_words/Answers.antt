@@ -1,4 +1,5 @@
-use Rattle.shard_machine.proofs.Comings.{does_told, refused_told, goes_told, members_told, kept_told}
+use Rattle.std.proofs.Common.{refl}
+use Rattle.shard_machine.proofs.Comings.{does_told, refused_told, goes_told, members_told, if_refused}
 use Rattle.shard_machine.proofs.Going.{IsPlain}
 use Rattle.shard_machine.proofs.shard.step_with_words.Goals as goal
 
@@ -12,7 +13,7 @@ pub returns-in_default-clause-refused : goal.returns-in_default-clause-refused
 returns-in_default-clause-refused c = refused_told _ _ _ c.step.result c.step.ensures.on_refusal
 
 pub returns-in_default-clause-kept : goal.returns-in_default-clause-kept
-returns-in_default-clause-kept c = kept_told _ c.step.result
+returns-in_default-clause-kept c = if_refused _ c.step.result refl
 
 pub returns-in_default-clause-members : goal.returns-in_default-clause-members
 returns-in_default-clause-members c =
