@@ -101,15 +101,11 @@ pub record IsDismissed (t : ℕ) (words : List TenantGenerator) (leaves : Bool) 
   pub removed : leaves ≡ true → IsRemoved t words left
   pub others : leaves ≡ false → left ≡ words
 
+goes : (t : ℕ) (words left : List TenantGenerator) (leaves : Bool) → IsDismissed t words leaves left → Retires t leaves words left
+goes t words left true dismissed = dismissed.removed refl
+goes t words left false dismissed = dismissed.others refl
+
 module _ (t now : ℕ) (words left : List TenantGenerator) (views views' : List View) (are : AreMembers words views) (o : Outcome) (dismissed : IsDismissed t words (reports o) left) where
-  -- whether it went
-  by_leaving : (b : Bool) → reports o ≡ b → (b ≡ true → IsRemoved t words left) → (b ≡ false → left ≡ words) → Retires t b words left
-  by_leaving true is removed others = removed refl
-  by_leaving false is removed others = others refl
-
-  goes : Retires t (reports o) words left
-  goes = by_leaving (reports o) refl dismissed.removed dismissed.others
-
   -- it was no member
   nobody : reports o ≡ false → views' ≡ views → AreMembers left views'
   nobody stays same = with_same_words words left views views' are (dismissed.others stays) (stay_same views views' same)
@@ -142,8 +138,8 @@ module _ (t now : ℕ) (words left : List TenantGenerator) (views views' : List 
       member u m.before m.after m.whose.0 m.was (m.is_now ∙ ap (λ (b : Bool). if b && reports o then None else Some m.after) retires) m.others
   leaves (inr (inr (u, a))) = absurd (never_comes (asked_in (steps.Retire t now)) (plain (own.Retire now)) a.whose.section refl a.whose.comes)
 
-pub left_go_on : (step : Step) (t now : ℕ) (words left : List TenantGenerator) (views views' : List View) (o : Outcome) → step ≡ steps.Retire t now → AreMembers words views → IsDismissed t words (reports o) left → GeneratorsGoOn step o words left
-left_go_on step t now words left views views' o is are dismissed = subst (λ s. GeneratorsGoOn s o words left) (sym is) (goes t now words left views views' are o dismissed)
+pub left_go_on : (step : Step) (t now : ℕ) (words left : List TenantGenerator) (o : Outcome) → step ≡ steps.Retire t now → IsDismissed t words (reports o) left → GeneratorsGoOn step o words left
+left_go_on step t now words left o is dismissed = subst (λ s. GeneratorsGoOn s o words left) (sym is) (goes t words left (reports o) dismissed)
 
 pub left_members : (step : Step) (t now : ℕ) (words left : List TenantGenerator) (views views' : List View) (o : Outcome) → step ≡ steps.Retire t now → AreMembers words views → IsDismissed t words (reports o) left → ShardFollows step views o views' → AreMembers left views'
 left_members step t now words left views views' o is are dismissed follows = leaves t now words left views views' are o dismissed (subst (λ s. ShardFollows s views o views') is follows)

@@ -13,7 +13,7 @@ returns-clause-go_on c =
       removed = λ leaves. c.remove_if.ensures.removed (c.reports-leaves.ensures ∙ leaves);
       others = λ stays. c.remove_if.ensures.without ∙ ap (λ b. if b then without c.args.tenant words else words) (c.reports-leaves.ensures ∙ stays);
     } in
-    left_go_on _ c.args.tenant c.requires.retires.0 _ _ _ _ told c.requires.retires.1 c.requires.members dismissed
+    left_go_on _ c.args.tenant c.requires.retires.0 words _ told c.requires.retires.1 dismissed
 
 pub returns-clause-members : goal.returns-clause-members
 returns-clause-members c =
