@@ -1,5 +1,8 @@
 //! Whose turn it is, as an agenda tells it.
 
+ghost use Rattle.std.specs.Prelude.{◌≡◌, ◌<◌, ℕ, IfOk, true};
+ghost use Rattle.shard_agenda.specs.Agenda.{is_member};
+
 use shard_agenda::Agenda;
 use std::alloc::{AllocError, Global};
 use std::test::Fail;
@@ -23,7 +26,9 @@ fn the_least_moment_and_number_goes_first(rt: HostRuntime) -> Result<(), Fail> {
 }
 
 /// An agenda of the tenants 1 to 5, of whom the higher number is ready first.
-fn five(alloc: Global) -> Result<Agenda, AllocError> {
+fn five(alloc: Global) -> Result<Agenda, AllocError>
+    ensures { IfOk result (λ agenda. (tenant : ℕ) → 0 < tenant → tenant < 6 → is_member agenda tenant ≡ true) }
+{
     let mut agenda = Agenda::new(alloc);
     for tenant in 1..6u32 {
         agenda.admit(tenant)?;

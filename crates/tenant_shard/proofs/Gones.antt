@@ -149,7 +149,7 @@ finds t gs r rise position = by_result r (searched gs t r position (λ i j le lt
     by_result (Ok i) found = let test : eqb (get_or gs i 0) t ≡ true = let same = found.1 in grind (arith, nat_tests) in list_any_at (λ g. eqb g t) gs i 0 found.0 test
     by_result (Err i) gap = (
       gap.0,
-      not_among t gs (λ k lt same. elim (cases_lt k i) [ | inl below ↦ omega (arith, gap.1 k below, same) | inr above ↦ omega (arith, gap.2 k above lt, same) ]),
+      not_among t gs (λ k lt same. elim (cases_lt k i) [ inl below ↦ omega (arith, gap.1 k below, same) | inr above ↦ omega (arith, gap.2 k above lt, same) ]),
       (λ k d below. let at = gap.1 k below in let e = default_same gs k d 0 (omega (arith, below, gap.0)) in omega (arith, at, e)),
       (λ k d above lt. let at = gap.2 k above lt in let e = default_same gs k d 0 lt in omega (arith, at, e)),
     )

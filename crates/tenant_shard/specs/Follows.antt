@@ -66,4 +66,4 @@ pub record AddFollows (tenant : ℕ) (step : Step) (old : List View) (outcome : 
 abbrev pub ShardFollows : Step → List View → Outcome → List View → Type 0
 ShardFollows step old outcome new = NoMemberFollows step old outcome new
     ⊎ (((tenant : ℕ) × MemberFollows tenant step old outcome new)
-      ⊎ ((tenant : ℕ) × AddFollows tenant step old outcome new))
+    ⊎ ((tenant : ℕ) × AddFollows tenant step old outcome new))

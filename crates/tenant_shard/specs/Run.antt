@@ -65,7 +65,7 @@ abbrev pub lived_by : Option SectionData → OwnStep → Bool → Life → Life
 lived_by None step reported life = life
 lived_by (Some section) step reported life =
     if is_taken section step then
-      (if has_left step.step reported then gone else record life { past = step.step ∷ life.past })
+    (if has_left step.step reported then gone else record life { past = step.step ∷ life.past })
     else life
 
 -- a tenant's life after what was asked of it, and whether it was told its counters: who comes is a member from then on,

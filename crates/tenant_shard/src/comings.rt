@@ -41,7 +41,7 @@ pub fn add(
         (all_views stores.now members.new.items gone.new.items)) }
     ensures on_refusal { OnErr result ((was_of tenant (all_views stores.now members.old.items gone.old.items) ≡ false)
         × (all_views stores.now members.new.items gone.new.items
-          ≡ all_views stores.now members.old.items gone.old.items)) }
+        ≡ all_views stores.now members.old.items gone.old.items)) }
     ensures whole { IsShard stores.now agenda.new members.new.items gone.new.items (vec_capacity gone.new) }
 {
     let Err(at) = place_of(members, tenant) else {
@@ -50,7 +50,9 @@ pub fn add(
     if gone.binary_search(&tenant).is_ok() {
         return Ok(Outcome::Refused(tenant, NUMBER_USED));
     }
-    admit(alloc, keys, stores, agenda, members, gone, at, tenant, section)?;
+    admit(
+        alloc, keys, stores, agenda, members, gone, at, tenant, section,
+    )?;
     Ok(Outcome::Done(tenant))
 }
 
@@ -79,7 +81,9 @@ pub fn open_member(
     let Some(section) = settings.section(tenant) else {
         return Ok(());
     };
-    admit(alloc, keys, stores, agenda, members, gone, at, tenant, section)
+    admit(
+        alloc, keys, stores, agenda, members, gone, at, tenant, section,
+    )
 }
 
 /// One more member, which has had no steps so far, in its gap. Where memory is refused nothing has changed.

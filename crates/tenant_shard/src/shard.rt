@@ -228,7 +228,7 @@ fn step_in(
         (all_views stores.new members.new.items gone.new.items)) }
     ensures on_no_member { IsNobodys step.now (all_views stores.old members.old.items gone.old.items) → (IsOk result)
         × (all_views stores.new members.new.items gone.new.items
-          ≡ all_views stores.old members.old.items gone.old.items) }
+        ≡ all_views stores.old members.old.items gone.old.items) }
     ensures whole { IsShard stores.new agenda.new members.new.items gone.new.items (vec_capacity gone.new) }
 {
     match step {
@@ -269,7 +269,7 @@ fn step_of(
         (all_views stores.new members.new.items gone.new.items)) }
     ensures on_no_member { IsNobodys step.now (all_views stores.old members.old.items gone.old.items) → (IsOk result)
         × (all_views stores.new members.new.items gone.new.items
-          ≡ all_views stores.old members.old.items gone.old.items) }
+        ≡ all_views stores.old members.old.items gone.old.items) }
     ensures whole { IsShard stores.new agenda.new members.new.items gone.new.items (vec_capacity gone.new) }
 {
     let Ok(i) = place_of(members, tenant) else {
@@ -305,7 +305,7 @@ fn turn(
         (all_views stores.new members.new.items gone.new.items)) }
     ensures on_no_member { IsNobodys step.now (all_views stores.old members.old.items gone.old.items) → (IsOk result)
         × (all_views stores.new members.new.items gone.new.items
-          ≡ all_views stores.old members.old.items gone.old.items) }
+        ≡ all_views stores.old members.old.items gone.old.items) }
     ensures whole { IsShard stores.new agenda.new members.new.items gone.new.items (vec_capacity gone.new) }
 {
     let Some(tenant) = agenda.first_due(now.min(LATEST_MOMENT)) else {

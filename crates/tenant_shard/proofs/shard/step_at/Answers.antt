@@ -17,7 +17,7 @@ tell-requires-clause-taken c =
     let gs = c.args.gone.now.items in
     let asked = asked_in c.args.step.now in
     with_piped asked (λ (s : OwnStep). Reaches s (kept_of t vs)) (λ s is. subst (Reaches s) (kept_behind t vs gs)
-        (piped_at asked (λ (w : OwnStep). Reaches w (kept_of t (all_views c.args.stores.now c.args.members.now.items gs))) s is c.requires.taken))
+    (piped_at asked (λ (w : OwnStep). Reaches w (kept_of t (all_views c.args.stores.now c.args.members.now.items gs))) s is c.requires.taken))
 
 pub returns-in_err-told-clause-on_refusal : goal.returns-in_err-told-clause-on_refusal
 returns-in_err-told-clause-on_refusal c =
@@ -27,8 +27,8 @@ returns-in_err-told-clause-on_refusal c =
     let gs = c.args.gone.now.items in
     let asked = asked_in c.args.step.now in
     on_err c.from_residual.result (with_piped asked (λ (s : OwnStep). IsLossOf t s.step (all_views c.args.stores.now c.args.members.now.items gs) (all_views c.tell.new.stores c.tell.new.members.items gs)) (λ s is.
-        let lost = piped_at asked (λ (w : OwnStep). IsLossOf t w.step vs ws) s is c.in_err-told.ensures.on_refusal in
-        record { before = lost.before; after = lost.after; change = change_behind t lost.before lost.after (Some lost.after) vs ws gs lost.change; front = lost.front }))
+    let lost = piped_at asked (λ (w : OwnStep). IsLossOf t w.step vs ws) s is c.in_err-told.ensures.on_refusal in
+    record { before = lost.before; after = lost.after; change = change_behind t lost.before lost.after (Some lost.after) vs ws gs lost.change; front = lost.front }))
 
 pub returns-in_err-told-clause-whole : goal.returns-in_err-told-clause-whole
 returns-in_err-told-clause-whole c =
@@ -52,9 +52,9 @@ returns-then-not-ends-clause-on_success c =
     let told = c.in_ok-told.told in
     let asked = asked_in c.args.step.now in
     rw c.named.ensures (with_piped asked (λ (s : OwnStep). IsStepOf t s.step (all_views c.args.stores.now c.args.members.now.items gs) (named t (Answered told)) (all_views c.tell.new.stores c.tell.new.members.items gs)) (λ s is.
-        let tells = piped_at asked (λ (w : OwnStep). IsToldOf t w.step vs told ws) s is c.in_ok-told.ensures.on_success in
-        let test : ends (asked_in c.args.step.now) told ≡ false = sym c.ends.ensures ∙ c.if-not-ends.true in
-        stays_told t s _ _ told (rw is at test) (told_behind t s.step vs told ws gs tells)))
+    let tells = piped_at asked (λ (w : OwnStep). IsToldOf t w.step vs told ws) s is c.in_ok-told.ensures.on_success in
+    let test : ends (asked_in c.args.step.now) told ≡ false = sym c.ends.ensures ∙ c.if-not-ends.true in
+    stays_told t s _ _ told (rw is at test) (told_behind t s.step vs told ws gs tells)))
 
 pub returns-then-not-ends-clause-whole : goal.returns-then-not-ends-clause-whole
 returns-then-not-ends-clause-whole c =
@@ -97,6 +97,6 @@ returns-clause-on_success c =
     let told = c.in_ok-told.told in
     let asked = asked_in c.args.step.now in
     rw c.named-2.ensures (with_piped asked (λ (s : OwnStep). IsStepOf t s.step (all_views c.args.stores.now c.args.members.now.items gs) (named t (Answered told)) (all_views c.let_go.new.stores c.let_go.new.members.items c.let_go.new.gone.items)) (λ s is.
-        let tells = piped_at asked (λ (w : OwnStep). IsToldOf t w.step vs told ws) s is c.in_ok-told.ensures.on_success in
-        let test : ends (asked_in c.args.step.now) told ≡ true = sym c.ends.ensures ∙ c.if-not-ends.false in
-        leaves_told t s _ _ _ told (rw is at test) (told_behind t s.step vs told ws gs tells) c.let_go.ensures.left))
+    let tells = piped_at asked (λ (w : OwnStep). IsToldOf t w.step vs told ws) s is c.in_ok-told.ensures.on_success in
+    let test : ends (asked_in c.args.step.now) told ≡ true = sym c.ends.ensures ∙ c.if-not-ends.false in
+    leaves_told t s _ _ _ told (rw is at test) (told_behind t s.step vs told ws gs tells) c.let_go.ensures.left))

@@ -32,8 +32,8 @@ apply_step-result-requires-clause-taken c =
     let ms = c.args.members.now.items in
     let asked = asked_in c.args.step.now in
     with_piped asked (λ (s : OwnStep). is_taken (section_view own.section) s ≡ true) (λ s is.
-        reached s (kept_of t (views stores ms)) (state_in own stores) (kept_place t stores ms c.args.i own c.requires.place c.index_mut-own.ensures.value)
-        (piped_at asked (λ (w : OwnStep). Reaches w (kept_of t (views stores ms))) s is c.requires.taken))
+    reached s (kept_of t (views stores ms)) (state_in own stores) (kept_place t stores ms c.args.i own c.requires.place c.index_mut-own.ensures.value)
+    (piped_at asked (λ (w : OwnStep). Reaches w (kept_of t (views stores ms))) s is c.requires.taken))
 
 pub returns-in_err-told-clause-on_refusal : goal.returns-in_err-told-clause-on_refusal
 returns-in_err-told-clause-on_refusal c =
