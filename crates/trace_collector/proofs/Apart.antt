@@ -20,12 +20,11 @@ use Rattle.shard_agenda.specs.Pick.{NotAfter}
 use Rattle.tenant_shard.specs.Run.{IsAnswered, IsTakenOrNot}
 use Rattle.replay_script.specs.Word.{words_of}
 use Rattle.replay_script.specs.Command.{CommandData, Post, Turn, Answer, Report, Drain, Add, Retire}
-use Rattle.replay_script.specs.Line.{lines_of}
 use Rattle.trace_collector.specs.Outcomes.{outcome_text, told_text}
 use Rattle.trace_collector.specs.Session.{Session, no_steps}
 use Rattle.trace_collector.specs.Answered.{lives_of, joined, posted, IsStepped, IsSteppedFor, IsPosted, IsPostedTo, IsAskedOf, without, IsRetired}
 use Rattle.trace_collector.specs.Answered as collector
-use Rattle.trace_collector.specs.Own.{is_own, is_report, is_last, of_any_shard, commands_of, lines_until_last, own_among, own_commands, lines_for}
+use Rattle.trace_collector.specs.Own.{is_own, is_report, is_last, of_any_shard, lines_until_last, own_among, own_commands, lines_for}
 use Rattle.trace_collector.specs.Alone.{IsReadyBy, IsStepAlone, IsPostAlone, IsAnsweredAlone, AnswersAlone}
 use Rattle.trace_collector.specs.Apart.{only, AnswersEach, ReplaysApart}
 use Rattle.trace_collector.proofs.Alone.{LastEnds, whole_life, turn_past, turned_whom}

@@ -1,14 +1,18 @@
 -- The tenant that a document brings.
-use Rattle.std.proofs.Common.{◌≡◌, ◌<◌, ◌&&◌, ◌^◌, ℕ, Bool, true, false, cond, List, [], length, codes, Result, Ok, Err, refl, ap, sym, subst, ◌∙◌, nat_lt}
+use Rattle.std.proofs.Common.{◌≡◌, ◌==◌, ◌&&◌, ◌^◌, ℕ, Bool, true, false, cond, List, [], ◌∷◌, ◌++◌, length, codes, IfOk, IfErr, Option, Some, None, Result, Ok, Err, refl, ap, sym, subst, ◌∙◌, nat_lt}
 use Rattle.std.specs.List.{list_any}
-use Rattle.std.specs.Str.{bytes_eq, is_utf8}
+use Rattle.std.specs.Option.{is_some, option_map}
+use Rattle.std.specs.Prelude.{find}
+use Rattle.std.specs.Str.{bytes_eq, is_utf8, IsUtf8}
+use Rattle.std.proofs.lemmas.Bool.{eq-eqb}
+use Rattle.std.proofs.lemmas.Str.{IsUtf8-from_is_utf8, is_utf8-from_IsUtf8}
 use Rattle.toml.specs.Data.{Members}
 use Rattle.toml.specs.Parse.{parse_document}
-use Rattle.tail_settings.specs.Change.{only_tenant, free_number, joined, fitting, admitted_table, admitted}
+use Rattle.tail_settings.specs.Change.{only_tenant, free_number, joined, admitted_table, admitted}
 use Rattle.tail_settings.specs.Fault.{FaultData, not_toml, out_of_range, double_tenant, too_many, ◌>>=◌}
 use Rattle.tail_settings.specs.Keys.{text_at, allowed}
 use Rattle.tail_settings.specs.Section.{section_of}
-use Rattle.tail_settings.specs.Settings.{TenantData, SettingsData, new_name, name_of, numbered_tenant, few_spans, document_in}
+use Rattle.tail_settings.specs.Settings.{TenantData, SettingsData, section_at, tenant_at, name_of, numbered_tenant, few_spans, document_in}
 use Rattle.tail_settings.specs.Texts.{is_name}
 use Rattle.tail_settings.proofs.Sound.{ok_is, bound, chosen, numbered_tenant-number}
 use Rattle.trace_collector.specs.Answered.{arrived}
@@ -88,3 +92,40 @@ by_text false settings document table h = absurd (cc)
 
 pub arrives : (settings : SettingsData) (document : List ℕ) (table : SettingsData) → arrived settings document ≡ Ok table → Arrives settings document table
 arrives settings document table h = by_text (is_utf8 document) settings document table h
+
+-- a document that is text is read
+pub text_arrives : (settings : SettingsData) (text document : List ℕ) → text ≡ document → IsUtf8 document → arrived settings document ≡ admitted settings text
+text_arrives settings text document same utf8 = rw (is_utf8-from_IsUtf8 document utf8) (ap (admitted settings) (sym same))
+
+-- and no other one
+pub none_arrives : (settings : SettingsData) (document : List ℕ) → (IsUtf8 document → ⊥) → arrived settings document ≡ Err not_toml
+none_arrives settings document never = by (is_utf8 document) refl
+  where
+    by : (b : Bool) → is_utf8 document ≡ b → cond b (admitted settings document) (Err not_toml) ≡ Err not_toml
+    by true is = absurd (never (IsUtf8-from_is_utf8 document is))
+    by false is = refl
+
+-- a document changes nothing that holds for all tenants
+pub shards_stay : {E : Type 0} (r : Result ℕ E) (old new : SettingsData) (document : List ℕ) → IfOk r (λ _. arrived old document ≡ Ok new) → IfErr r (λ _. new ≡ old)
+    → old.global.shards ≡ new.global.shards
+shards_stay (Ok number) old new document means same = ap (λ (s : SettingsData). s.global.shards) (arrives old document new means).joins
+shards_stay (Err fault) old new document means same = ap (λ (s : SettingsData). s.global.shards) (sym same)
+
+either : (b : Bool) (t : TenantData) (found : Option TenantData) → is_some found ≡ true → is_some (cond b (Some t) found) ≡ true
+either true t found is = refl
+either false t found is = is
+
+found_last : (tenants : List TenantData) (tenant : TenantData) (number : ℕ) → tenant.number ≡ number → is_some (find (λ (t : TenantData). t.number == number) (tenants ++ tenant ∷ [])) ≡ true
+found_last [] tenant number its = rw (eq-eqb tenant.number number its) refl
+found_last (t ∷ tenants) tenant number its = either (t.number == number) t (find (λ (t : TenantData). t.number == number) (tenants ++ tenant ∷ [])) (found_last tenants tenant number its)
+
+some_section : (found : Option TenantData) → is_some found ≡ true → is_some (option_map (λ (t : TenantData). t.section) found) ≡ true
+some_section (Some t) is = refl
+some_section None is = absurd (cc)
+
+-- the newcomer is a tenant of the settings then
+pub newcomer_found : (old new : SettingsData) (document : List ℕ) (number : ℕ) → arrived old document ≡ Ok new → number ≡ old.next → is_some (section_at new number) ≡ true
+newcomer_found old new document number means next =
+    let brings = arrives old document new means in
+    subst (λ s. is_some (section_at s number) ≡ true) brings.joins
+    (some_section (tenant_at (joined old brings.tenant) number) (found_last old.tenants brings.tenant number (brings.new.number ∙ sym next)))

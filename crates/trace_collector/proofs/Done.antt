@@ -1,6 +1,7 @@
 -- What a command that was done is answered.
-use Rattle.std.proofs.Common.{◌≡◌, ℕ, ◌%◌, Bool, true, false, List, ◌++◌, codes, Option, Some, None, Result, Ok, Err, IfSome, refl, sym, subst, ap, ◌∙◌, inl, inr, nat_lt}
+use Rattle.std.proofs.Common.{◌≡◌, ℕ, ◌%◌, true, false, List, ◌++◌, codes, Option, Some, None, Ok, Err, refl, sym, subst, ap, ◌∙◌, inl, inr, nat_lt}
 use Rattle.std.specs.Bool.{MatchBool}
+use Rattle.std.specs.Prelude.{slice_get, slice_set}
 use Rattle.otlp_trace.specs.Data.{RequestData}
 use Rattle.otlp_read.specs.Value.{IsValue}
 use Rattle.otlp_read.specs.declared.fault.ReadFault.{ReadFault}
@@ -15,13 +16,16 @@ use Rattle.otlp_prepare.specs.declared.refusal.Refusal.TheVariants as refusal
 use Rattle.tenant_shard.specs.View.{View}
 use Rattle.tenant_shard.specs.declared.step.Step.{Step}
 use Rattle.tenant_shard.specs.declared.step.Step.TheVariants as steps
+use Rattle.tenant_shard.specs.declared.step.Outcome.{Outcome}
+use Rattle.tenant_shard.specs.declared.step.Outcome.TheVariants as outcomes
+use Rattle.tenant_shard.specs.Run.{ShardSteps}
 use Rattle.tenant_shard.specs.Outcomes.{plain, own_post, Piped, asked_in, named_in, is_retirement}
 use Rattle.replay_script.specs.Command.{CommandData, Post, Turn, Add, Retire}
 use Rattle.replay_script.specs.Answer.{reply_text, refused_text, added_text}
 use Rattle.trace_collector.specs.declared.shards.Shards.{Shards}
 use Rattle.trace_collector.specs.Outcomes.{outcome_text, name_at, bad_protobuf}
 use Rattle.trace_collector.specs.Session.{Session, new_among}
-use Rattle.trace_collector.specs.Answered.{IsStepped, IsSteppedFor, HasNoValue, IsPosted, IsPostedTo, IsAskedOf, without, IsRetired, arrived, IsAdded, IsAnswered}
+use Rattle.trace_collector.specs.Answered.{IsStepped, HasNoValue, IsPosted, IsPostedTo, IsAskedOf, without, IsRetired, arrived, IsAdded, IsAnswered}
 use Rattle.trace_collector.specs.Standing.{AllStand, StandFor, Answers, IsDone, Joins}
 use Rattle.trace_collector.proofs.Arrives.{arrives}
 use Rattle.trace_collector.proofs.Stands.{stands_after, stands_retired, stands_joined}
@@ -219,3 +223,29 @@ done_refuses old new document fault before behind means same items text = (
     stand_same old new pasts same (subst (λ views. AllStand (settings_view old.settings) views pasts) (sym items) all),
   )),
 )
+
+-- no report is told, and nobody leaves
+pub nobody_leaves : (tenant : ℕ) (outcome : Outcome) (settings : SettingsData) → ((whom : ℕ) (report : List ℕ) → outcome ≡ outcomes.Report whom report → ⊥)
+    → without tenant outcome settings ≡ settings
+nobody_leaves tenant (outcomes.Report whom report) settings never = absurd (never whom report refl)
+nobody_leaves tenant outcome settings never = refl
+
+-- the step of a retirement, and what came of the settings
+pub retired : (old new : Shards) (tenant : ℕ) (name : List ℕ) (moment : ℕ) (outcome : Outcome) (items : List (List View)) (shard : ℕ) (before behind : List ℕ)
+    → number_of (settings_view old.settings) name ≡ Some tenant
+    → (kept : List View) × (left : List View) × (slice_get old.shards.items (tenant % (settings_view old.settings).global.shards) ≡ Some kept) × ShardSteps (steps.Retire tenant moment) kept outcome left
+    × (items ≡ slice_set old.shards.items (tenant % (settings_view old.settings).global.shards) left)
+    → shard ≡ tenant % (settings_view old.settings).global.shards → behind ≡ before ++ outcome_text (settings_view old.settings) shard outcome
+    → new.shards.items ≡ items → settings_view new.settings ≡ without tenant outcome (settings_view old.settings)
+    → (line : List ℕ) × (behind ≡ before ++ line) × Answers old (Retire name moment) (Some line) new
+retired old new tenant name moment outcome items shard before behind found stepped its text are table =
+    done_retires old new tenant name moment before behind found
+    (record {
+      outcome = outcome;
+      kept = stepped.0;
+      left = stepped.1;
+      was = stepped.2;
+      steps = stepped.3;
+      is_now = are ∙ stepped.4;
+      text = text ∙ ap (λ k. before ++ outcome_text (settings_view old.settings) k outcome) its;
+    }) table

@@ -1,5 +1,5 @@
 -- The shards stand for the own steps after a step of one of them.
-use Rattle.std.proofs.Common.{◌≡◌, ◌≢◌, ◌%◌, ◌+◌, ◌<◌, ◌==◌, ◌&&◌, ◌||◌, ◌⊎◌, ℕ, Bool, true, false, cond, nat_lt, List, [], ◌∷◌, length, set, Option, Some, None, refl, ap, sym, subst, ◌∙◌, arith, inl, inr}
+use Rattle.std.proofs.Common.{◌≡◌, ◌≢◌, ◌%◌, ◌+◌, ◌==◌, ◌&&◌, ◌||◌, ◌⊎◌, ℕ, Bool, true, false, cond, nat_lt, List, [], ◌∷◌, length, set, Option, Some, None, refl, ap, sym, subst, ◌∙◌, arith, inl, inr}
 use Rattle.std.specs.List.{slice_get}
 use Rattle.std.specs.Option.{option_map}
 use Rattle.std.proofs.lemmas.Bool.{ne_eqb, eq-eqb}
@@ -8,7 +8,7 @@ use Rattle.std.proofs.lemmas.List.{length-set}
 use Rattle.std.proofs.lemmas.Option.{slice_get_within}
 use Rattle.tail_settings.specs.Change.{joined, struck}
 use Rattle.tail_settings.specs.Section.{SectionData, section_view}
-use Rattle.tail_settings.specs.Settings.{SettingsData, TenantData, section_at, tenant_at}
+use Rattle.tail_settings.specs.Settings.{SettingsData, TenantData, section_at}
 use Rattle.tenant_rules.specs.Own.{Own}
 use Rattle.tenant_rules.specs.Own as own
 use Rattle.tenant_rules.specs.State.{State}

@@ -6,7 +6,7 @@ use Rattle.std.specs.Str.{bytes_eq}
 use Rattle.std.specs.List.{list_any}
 use Rattle.replay_script.specs.Word.{words_of}
 use Rattle.replay_script.specs.Command.{CommandData, Post, Turn, Answer, Report, Drain, Add, Retire}
-use Rattle.replay_script.specs.Line.{Kind, Skipped, Says, Faulty, kind_of, lines_of}
+use Rattle.replay_script.specs.Line.{Kind, Skipped, Says, Faulty, kind_of}
 
 -- the numbers of a document's faults, behind the words `refused add`
 abbrev pub is_fault_of_document : List (List ℕ) → Bool

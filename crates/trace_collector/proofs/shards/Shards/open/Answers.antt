@@ -13,6 +13,6 @@ loop-shard-preserved c =
     record {
       count = grind (arith, common_steps);
       each = push_stands settings c.loop-shard.shards.items c.push.new.self.items c.in_ok-open.field-0 c.loop-shard.shard c.loop-shard.invariant.count c.in_ok-push.ensures.items
-          c.loop-shard.invariant.each (opened_stands settings c.loop-shard.shard members c.in_ok-open.field-0 c.args.requires c.in_ok-members.ensures
+          c.loop-shard.invariant.each (opened_stands settings c.loop-shard.shard members c.in_ok-open.field-0 c.requires c.in_ok-members.ensures
           (subst (λ m. ShardStands (opened (settings_view c.args.settings) m) c.in_ok-open.field-0) c.as_slice.ensures.value c.in_ok-open.ensures.stands));
     }

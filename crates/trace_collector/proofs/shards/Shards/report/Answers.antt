@@ -3,7 +3,7 @@ use Rattle.tail_settings.specs.Settings.{settings_view}
 use Rattle.tenant_rules.specs.Own as own
 use Rattle.tenant_shard.specs.declared.step.Step.TheVariants as steps
 use Rattle.replay_script.specs.Command.{Report}
-use Rattle.trace_collector.proofs.Done.{done_asks, none_asked}
+use Rattle.trace_collector.proofs.Done.{done_asks}
 use Rattle.trace_collector.proofs.shards.Shards.report.Goals as goal
 
 pub returns-clause-on_success : goal.returns-clause-on_success
@@ -11,7 +11,3 @@ returns-clause-on_success c =
     done_asks c.args.self.now c.step_of.new.self c.in-Some.tenant c.args.name.now (Report c.args.name.now c.args.moment) (steps.Report c.in-Some.tenant c.args.moment) (own.Report c.args.moment) _ _
     (ap settings_view c.in_ok-step_of.ensures.settings) (sym c.number.ensures ∙ c.in-Some.is) (λ old new line same asked. (same, asked)) refl refl refl
     c.in_ok-step_of.ensures.on_success
-
-pub returns-clause-unknown : goal.returns-clause-unknown
-returns-clause-unknown c =
-    λ unknown. none_asked c.args.self.now c.args.name.now (Report c.args.name.now c.args.moment) (own.Report c.args.moment) (sym c.number.ensures ∙ c.in_default.is) (λ old new line same asked. (same, asked))
