@@ -118,6 +118,8 @@ class Story:
             self.step()
         for one in self.present:
             self.report(one, self.now)
+        if chance.random() < 0.3:
+            self.stray()
 
     def put(self, command, line):
         self.script.append(command)
@@ -201,6 +203,14 @@ class Story:
         self.put(f"retire {one.name} {moment}", f"report {one.name} {report}")
         self.present.remove(one)
         self.shards.leave(one)
+
+    def stray(self):
+        """Names a tenant that left, or one that never came, which ends the replay."""
+        present = {one.name for one in self.present}
+        name = self.chance.choice(sorted({one.name for one in self.pipelines} - present) or ["g"])
+        command = self.chance.choice(("post {} {} -", "answer {} {} 1 0 200 - -", "report {} {}", "drain {} {}", "retire {} {}"))
+        self.put(command.format(name, self.now), f"status 1 script fault at line {len(self.script) + 1}\n")
+        self.script.append("turn 0 0")
 
     def report(self, one, moment):
         self.put(f"report {one.name} {moment}", f"report {one.name} {one.report(moment)}")
