@@ -3,6 +3,7 @@
 
     python3 tests/service.py [PROGRAM] [NAME..]       # all tests, or those of these names
     python3 tests/service.py PROGRAM SECONDS          # `agreement` alone, for so long
+    python3 tests/service.py PROGRAM comings TENANTS  # how much memory so many leave behind that come and go
 
 Takes the program's path, `./trace_collector` if there is none. Each test of tests/serving/ starts the program at a free
 port with back ends made of Python's standard library, posts bodies, and looks at what comes out. What is expected was
@@ -17,7 +18,7 @@ import time
 import traceback
 from pathlib import Path
 
-from serving import agreement, back_ends, clients, ending, loopback, talk
+from serving import agreement, back_ends, clients, comings, ending, loopback, talk
 
 HERE = Path(__file__).resolve().parent.parent
 SHORT = 3
@@ -31,7 +32,7 @@ def agree(folder):
 
 
 TESTS = {test.__name__: test
-         for test in (*loopback.TESTS, *clients.TESTS, *back_ends.TESTS, *ending.TESTS, agree)}
+         for test in (*loopback.TESTS, *clients.TESTS, *back_ends.TESTS, *comings.TESTS, *ending.TESTS, agree)}
 
 
 def run(name, test):
@@ -50,9 +51,11 @@ def run(name, test):
 
 def main():
     words = sys.argv[1:]
-    talk.program = os.path.abspath(words.pop(0) if words and words[0] not in TESTS else HERE / "trace_collector")
+    talk.program = os.path.abspath(words.pop(0) if words and words[0] not in (*TESTS, "comings") else HERE / "trace_collector")
     if len(words) == 1 and words[0].isdigit():
         run("agreement", lambda folder: print(agreement.agrees(folder, int(words[0])), "spans", flush=True))
+    elif len(words) == 2 and words[0] == "comings":
+        run("comings", lambda folder: print(comings.many(folder, int(words[1])), "kB", flush=True))
     elif words:
         for name in words:
             print(f"{name}: {run(name, TESTS[name]):.1f} s", flush=True)

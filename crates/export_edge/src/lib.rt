@@ -2,10 +2,11 @@
 //! posts them to their back ends and hands in the answers.
 //!
 //! [`post_over`] posts a payload over a line and says what it came to: an answer, or none where the line, the answer's
-//! head or its body is at fault. [`post_job`] does so over a line of its own to the address that the job's tenant is said
-//! to have ([`Addresses`]), which whoever makes lines ([`Dial`]) is asked for: for [`TcpBackEnd`] a connection over TCP. [`run_turner`] and
-//! [`run_sender`] are the work of one thread each, over whoever makes turns and takes answers ([`JobSource`],
-//! [`AnswerSink`]) and to whatever beat ([`Beat`]); what they promise is said of their whole work (`specs/Work`).
+//! head or its body is at fault. [`post_job`] does so over a line of its own to the address that the job's tenant is
+//! said to have ([`Addresses`]), which whoever makes lines ([`Dial`]) is asked for: for [`TcpBackEnd`] a connection
+//! over TCP. [`run_turner`] and [`run_sender`] are the work of one thread each, over whoever makes turns and takes
+//! answers ([`JobSource`], [`AnswerSink`]) and to whatever beat ([`Beat`]); what they promise is said of their whole
+//! work (`specs/Work`).
 //!
 //! It stands on `http_edge` and `http_line`, for posts and answers on the wire, on `job_lane`, and on `send_retry`, for
 //! answers. The bytes of a post are OTLP/HTTP's; the rules of turners and senders are this project's own.

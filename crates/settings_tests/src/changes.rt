@@ -34,7 +34,9 @@ settings fault 15
 strike 4 => 2147483448";
 
 /// The same where a thousand tenants, each of one span, are present.
-const A_THOUSAND: &str = "tenant = [{}] => settings fault 15
+const A_THOUSAND: &str = "x = 1 => settings fault 11 tenant
+tenant = [{}, {}] => settings fault 13 tenant
+tenant = [{}] => settings fault 15
 strike 999 => 1
 tenant = [{}] => settings fault 11 name
 tenant = [{ name = 'new', tail_sampling = { policy = [{ type = 'always_sample' }] } }] => 1000
@@ -125,6 +127,33 @@ fn at_most_a_thousand_are_present(rt: HostRuntime) -> Result<(), Fail> {
     let text = tenants_text(rt.alloc(), 1000)?;
     let mut settings = load(rt.alloc(), text.as_str())?;
     assert_eq!(rt; first_wrong(rt.alloc(), &mut settings, A_THOUSAND)?, "");
+    Ok(())
+}
+
+/// What is told of a tenant with so many policies, in a document whose `global` is no table.
+fn told_of_policies(
+    alloc: Global,
+    settings: &mut Settings,
+    count: usize,
+) -> Result<String, AllocError> {
+    let policies = "{ type = 'always_sample' }, ".repeat(alloc, count)?;
+    let text = format!(in alloc;
+        "global = 1\ntenant = [{{ name = 'c', tail_sampling = {{ policy = [{policies}] }} }}]"
+    )?;
+    told_of_admit(alloc, settings, text.as_str())
+}
+
+#[test]
+fn a_tenant_that_comes_has_at_most_64_policies(rt: HostRuntime) -> Result<(), Fail> {
+    let mut settings = load(rt.alloc(), A_AND_B)?;
+    assert_eq!(rt;
+        told_of_policies(rt.alloc(), &mut settings, 65)?.as_str(),
+        "settings fault 15"
+    );
+    assert_eq!(rt;
+        told_of_policies(rt.alloc(), &mut settings, 64)?.as_str(),
+        "2"
+    );
     Ok(())
 }
 

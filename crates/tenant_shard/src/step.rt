@@ -7,7 +7,7 @@ use bytes::Bytes;
 use otlp_prepare::{Prepared, equal_bodies_are_the_same};
 use otlp_trace::Octets;
 use send_retry::Answer;
-use tail_settings::{Section, equal_sections};
+use tail_settings::Section;
 use tenant_rules::Reply;
 
 /// One step of a shard. A moment is in milliseconds, and one above 2^62 is taken as 2^62.
@@ -82,5 +82,4 @@ pub fn equal_steps_are_the_same(one: &Step, other: &Step)
             equal_bodies_are_the_same(prepared, with);
         }
     }
-    equal_sections();
 }

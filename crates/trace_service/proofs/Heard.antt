@@ -1,17 +1,19 @@
 -- Lines that were heard, one more at a time.
 use Rattle.std.proofs.Common.{◌≡◌, ℕ, Bool, true, false, List, [], ◌∷◌, ◌++◌, Option, Some, None, IfSome, refl, sym, subst, ◌∙◌}
 use Rattle.shared_hub.specs.Logs.{CallerState}
-use Rattle.trace_service.specs.Commands.{Present, TakesLine, IsAnswered, AreAnswered, no_answer, answer_more, AreFirst, no_line, line_more, AreCommandsRead}
+use Rattle.tail_settings.specs.Settings.{SettingsData}
+use Rattle.trace_service.specs.Comings.{Present}
+use Rattle.trace_service.specs.Commands.{TakesLine, IsAnswered, AreAnswered, no_answer, answer_more, AreFirst, no_line, line_more, AreCommandsRead}
 
 -- of a known text these are the first lines, and what stands behind them is left
 abbrev pub Taken : Option (List ℕ) → Option (List ℕ) → List (List ℕ) → Type 0
 Taken before after lines = IfSome before (λ text. (rest : List ℕ) × (after ≡ Some rest) × AreFirst text lines rest)
 
-pub record HeardSoFar (shards : ℕ) (before after : Option (List ℕ)) (present : Present) (old : CallerState) (first : ℕ)
+pub record HeardSoFar (settings : SettingsData) (shards : ℕ) (before after : Option (List ℕ)) (present : Present) (old : CallerState) (first : ℕ)
     (so_far : Option (List ℕ)) (left : Present) (new : CallerState) (last : ℕ) (written : Option (List ℕ)) : Type 0 where
   pub lines : List (List ℕ)
   pub taken : Taken before after lines
-  pub answered : AreAnswered shards present old first so_far lines left new last written
+  pub answered : AreAnswered settings shards present old first so_far lines left new last written
 
 taken_none : (before : Option (List ℕ)) → Taken before before []
 taken_none None = tt
@@ -30,24 +32,24 @@ taken_all (Some text) mid after lines line t l =
     let none : t.0 ≡ [] = subst (λ (m : Option (List ℕ)). IfSome m (λ rest. TakesLine rest after line false)) t.1 l in
     subst (λ r. AreFirst text lines r) none t.2
 
-module _ (shards : ℕ) (before : Option (List ℕ)) (present : Present) (old : CallerState) (first : ℕ) (so_far : Option (List ℕ)) where
-  pub heard_none : HeardSoFar shards before before present old first so_far present old first so_far
+module _ (settings : SettingsData) (shards : ℕ) (before : Option (List ℕ)) (present : Present) (old : CallerState) (first : ℕ) (so_far : Option (List ℕ)) where
+  pub heard_none : HeardSoFar settings shards before before present old first so_far present old first so_far
   heard_none = record { lines = []; taken = taken_none before; answered = no_answer }
 
-  pub heard_more : (mid after : Option (List ℕ)) (then left : Present) (now new : CallerState) (then_last last : ℕ) (text written : Option (List ℕ)) (line : List ℕ)
-      → HeardSoFar shards before mid present old first so_far then now then_last text
-      → IfSome mid (λ rest. TakesLine rest after line true) → IsAnswered shards line then now then_last text left new last written
-      → HeardSoFar shards before after present old first so_far left new last written
-  heard_more mid after then left now new then_last last text written line h takes answer = record {
+  pub heard_more : (mid after : Option (List ℕ)) (known left : Present) (now new : CallerState) (then_last last : ℕ) (text written : Option (List ℕ)) (line : List ℕ)
+      → HeardSoFar settings shards before mid present old first so_far known now then_last text
+      → IfSome mid (λ rest. TakesLine rest after line true) → IsAnswered settings shards line known now then_last text left new last written
+      → HeardSoFar settings shards before after present old first so_far left new last written
+  heard_more mid after known left now new then_last last text written line h takes answer = record {
     lines = h.lines ++ line ∷ [];
     taken = taken_more before mid after h.lines line h.taken takes;
-    answered = answer_more h.lines then now then_last text line left new last written h.answered answer;
+    answered = answer_more h.lines known now then_last text line left new last written h.answered answer;
   }
 
   pub heard_all : (mid after : Option (List ℕ)) (left : Present) (new : CallerState) (last : ℕ) (written : Option (List ℕ)) (line : List ℕ)
-      → HeardSoFar shards before mid present old first so_far left new last written
+      → HeardSoFar settings shards before mid present old first so_far left new last written
       → IfSome mid (λ rest. TakesLine rest after line false)
-      → AreCommandsRead shards before present old first so_far left new last written
+      → AreCommandsRead settings shards before present old first so_far left new last written
   heard_all mid after left new last written line h takes = record {
     lines = h.lines;
     known = taken_all before mid after h.lines line h.taken takes;

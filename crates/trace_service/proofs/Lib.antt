@@ -7,3 +7,5 @@ pub mod Heard
 pub mod Coursed
 pub mod Handled
 pub mod Present
+pub mod Came
+pub mod Admitted

@@ -83,20 +83,20 @@ line_taken (Some text) now after kept b r came feed =
     )
 
 -- of what is kept of so many bytes
-parts_of : (front kept : List ℕ) → kept ≡ take 72 front → length kept + (length front - 72) ≡ length front
+parts_of : (front kept : List ℕ) → kept ≡ take 4100 front → length kept + (length front - 4100) ≡ length front
 parts_of front kept is =
-    omega (arith, ap length is, length-append (take 72 front) (drop 72 front), length-drop 72 front, ap length (take-append-drop 72 front))
+    omega (arith, ap length is, length-append (take 4100 front) (drop 4100 front), length-drop 4100 front, ap length (take-append-drop 4100 front))
 
-pub kept_one : (front old new : List ℕ) (b : ℕ) → old ≡ take line_room front → length old < 72 → new ≡ old ++ b ∷ [] → new ≡ take line_room (front ++ b ∷ [])
+pub kept_one : (front old new : List ℕ) (b : ℕ) → old ≡ take line_room front → length old < 4100 → new ≡ old ++ b ∷ [] → new ≡ take line_room (front ++ b ∷ [])
 kept_one front old new b is room pushed =
-    let short : length front < 72 = omega (arith, parts_of front old is, room) in
-    let all : length (front ++ b ∷ []) ≤ 72 = omega (arith, length-append front (b ∷ []), short) in
-    pushed ∙ (ap (λ l. l ++ b ∷ []) (is ∙ take_all 72 front (omega (arith, short))) ∙ sym (take_all 72 (front ++ b ∷ []) all))
+    let short : length front < 4100 = omega (arith, parts_of front old is, room) in
+    let all : length (front ++ b ∷ []) ≤ 4100 = omega (arith, length-append front (b ∷ []), short) in
+    pushed ∙ (ap (λ l. l ++ b ∷ []) (is ∙ take_all 4100 front (omega (arith, short))) ∙ sym (take_all 4100 (front ++ b ∷ []) all))
 
-pub kept_none : (front old : List ℕ) (b : ℕ) → old ≡ take line_room front → length old ≡ 72 → old ≡ take line_room (front ++ b ∷ [])
+pub kept_none : (front old : List ℕ) (b : ℕ) → old ≡ take line_room front → length old ≡ 4100 → old ≡ take line_room (front ++ b ∷ [])
 kept_none front old b is full =
-    let long : 72 ≤ length front = omega (arith, parts_of front old is, full) in
-    is ∙ sym (take-append-le 72 front (b ∷ []) long)
+    let long : 4100 ≤ length front = omega (arith, parts_of front old is, full) in
+    is ∙ sym (take-append-le 4100 front (b ∷ []) long)
 
 pub last_taken : (before now after : Option (List ℕ)) (kept : List ℕ) (none : Bool) → Reading before now kept → Comes now after End → none ≡ (length kept == 0) → IfSome before (λ text. TakesLine text after kept (not none))
 last_taken None now after kept none r came is = tt

@@ -1,13 +1,14 @@
 -- What the input asks for, and what is done for it and at its end. This project's own rule.
-use Rattle.std.specs.Prelude.{◌≡◌, ℕ, ◌%◌, ◌<◌, List, [], ◌∷◌, ◌++◌, length, take, ◌==◌, if◌then◌else◌, codes, Bool, true, false, Option, Some, None, IfSome}
+use Rattle.std.specs.Prelude.{◌≡◌, ℕ, ◌%◌, ◌<◌, List, [], ◌∷◌, ◌++◌, length, filter, not, take, ◌==◌, if◌then◌else◌, codes, Bool, true, false, Option, Some, None, IfSome}
 use Rattle.std.specs.Io.BufRead.{drop_through}
 use Rattle.std.specs.Io.KnownBytes.{Appends}
 use Rattle.export_edge.specs.Work.{Through}
 use Rattle.machine_hub.specs.declared.receipt.Receipt.{Receipt}
 use Rattle.machine_hub.specs.Hub.{IsRefusedOn}
 use Rattle.otlp_front.specs.Route.{number_of}
-use Rattle.replay_script.specs.Answer.{report_text}
+use Rattle.replay_script.specs.Answer.{report_text, refused_text}
 use Rattle.shared_hub.specs.Logs.{CallerState, IsStepOn, IsEmptyOn}
+use Rattle.tail_settings.specs.Settings.{SettingsData}
 use Rattle.tenant_shard.specs.declared.step.Step.{Step}
 use Rattle.tenant_shard.specs.declared.step.Step.TheVariants as steps
 use Rattle.tenant_shard.specs.declared.step.Outcome.{Outcome}
@@ -15,25 +16,25 @@ use Rattle.tenant_shard.specs.declared.step.Outcome.TheVariants as outcomes
 use Rattle.trace_service.specs.declared.input.ReadResult.{ReadResult}
 use Rattle.trace_service.specs.declared.input.ReadResult.TheVariants.{Byte, Nothing, End}
 use Rattle.trace_service.specs.declared.chore.Chore.{Chore}
-use Rattle.trace_service.specs.declared.chore.Chore.TheVariants.{Report, Drain}
+use Rattle.trace_service.specs.declared.chore.Chore.TheVariants.{Report, Drain, Retire}
+use Rattle.trace_service.specs.Comings.{Present, IsAdded}
 use Rattle.trace_service.specs.Moments.{Rises}
 
--- the tenants that are present, by number and name, in the order of their numbers
-abbrev pub Present : Type 0
-Present = List (ℕ × List ℕ)
-
--- the line asks for nobody's counters
-abbrev pub AsksNobody : Present → List ℕ → Type 0
-AsksNobody present line = (name : List ℕ) → line ≡ codes "report " ++ name → number_of present name ≡ None
+-- the line asks for nothing: for the counters of nobody who is present, for nobody to come, and for nobody to go
+pub record AsksNothing (present : Present) (line : List ℕ) : Type 0 where
+  pub no_report : (name : List ℕ) → line ≡ codes "report " ++ name → number_of present name ≡ None
+  pub no_coming : (path : List ℕ) → line ≡ codes "add " ++ path → ⊥
+  pub no_going : (name : List ℕ) → line ≡ codes "retire " ++ name → number_of present name ≡ None
 
 -- the bytes before the first line feed, or all of them
 abbrev pub line_in : List ℕ → List ℕ
 line_in [] = []
 line_in (b ∷ bytes) = if b == 10 then [] else b ∷ line_in bytes
 
--- of a line so many bytes are kept, which is one more than the longest has that asks for counters
+-- of a line so many bytes are kept, which is one more than the longest has that asks for a tenant to come: `add`, a
+-- space, and a path of 4,095 bytes
 abbrev pub line_room : ℕ
-line_room = 72
+line_room = 4100
 
 -- the text's first line was taken, of which the first bytes are kept, and what stands behind its line feed is left; or
 -- there is no text
@@ -48,15 +49,17 @@ Comes old new (Byte b) = IfSome old (λ text. (rest : List ℕ) × (text ≡ b �
 Comes old new Nothing = IfSome old (λ text. new ≡ Some text)
 Comes old new End = IfSome old (λ text. (text ≡ []) × (new ≡ Some []))
 
--- what is printed of a report's outcome: the tenant's line, with the counters that the shard gave
-abbrev pub report_line : List ℕ → Outcome → List ℕ
-report_line name (outcomes.Report tenant counters) = report_text name counters
-report_line name _ = []
+-- what is printed of the outcome of a report or of a retirement: the tenant's counters, or why it was refused
+abbrev pub outcome_line : List ℕ → Outcome → List ℕ
+outcome_line name (outcomes.Report tenant counters) = report_text name counters
+outcome_line name (outcomes.Refused tenant number) = refused_text name number
+outcome_line name _ = []
 
 -- what a tenant is to do, as its step at a moment
 abbrev pub step_of : Chore → ℕ → ℕ → Step
 step_of Report tenant now = steps.Report tenant now
 step_of Drain tenant now = steps.Drain tenant now
+step_of Retire tenant now = steps.Retire tenant now
 
 -- Such a step of the tenant was made at its shard, after calls that were refused memory, each at the moment that the
 -- beat then gave, whose last moments these are, before and after.
@@ -75,7 +78,15 @@ pub record IsReported (name : List ℕ) (old new : CallerState) (shards tenant b
     (so_far written : Option (List ℕ)) : Type 0 where
   pub outcome : Outcome
   pub made : IsMade old new shards tenant before last (step_of Report tenant) outcome
-  pub line : Appends so_far written (report_line name outcome)
+  pub line : Appends so_far written (outcome_line name outcome)
+
+-- so it was with the tenant of this number, where there is one, and else nothing was done
+abbrev pub IsReportedOf : ℕ → List ℕ → Option ℕ → CallerState → ℕ → Option (List ℕ) → CallerState → ℕ
+    → Option (List ℕ) → Type 0
+IsReportedOf shards name (Some tenant) old before so_far new last written =
+    IsReported name old new shards tenant before last so_far written
+IsReportedOf shards name None old before so_far new last written =
+    (new ≡ old) × (last ≡ before) × (written ≡ so_far)
 
 -- these tenants were reported so, one after the other
 pub data AreReported (shards : ℕ) (old : CallerState) (before : ℕ) (so_far : Option (List ℕ))
@@ -95,25 +106,64 @@ pub data AreDrained (shards : ℕ) (old : CallerState) (before : ℕ) : List ℕ
       → IsMade mid new shards tenant between last (step_of Drain tenant) outcome
       → AreDrained shards old before (tenants ++ tenant ∷ []) new last
 
--- Of the tenants that are present the line was answered: by the report of the tenant for whose counters it asks; or by
--- nothing, where it asks for nothing. These are present then.
-pub data IsAnswered (shards : ℕ) (line : List ℕ) (present : Present) (old : CallerState) (before : ℕ)
-    (so_far : Option (List ℕ)) (left : Present) (new : CallerState) (last : ℕ) (written : Option (List ℕ)) : Type 0 where
-  asks : (name : List ℕ) (tenant : ℕ) → line ≡ codes "report " ++ name → number_of present name ≡ Some tenant
+-- whether a tenant that was to go stays: it wasn't empty
+abbrev pub stays : Outcome → Bool
+stays (outcomes.Refused tenant number) = number == 26
+stays _ = false
+
+-- who is present once the tenant of this number was to go
+abbrev pub left_by : Outcome → ℕ → Present → Present
+left_by outcome tenant present =
+    if stays outcome then present else filter (λ other. not (other.0 == tenant)) present
+
+-- A tenant was to go: it was drained, then it was seen to hold no span, then it was to retire, and what came of that
+-- was written under its name. These are present then.
+pub record IsRetired (name : List ℕ) (present : Present) (old new : CallerState) (shards tenant before last : ℕ)
+    (so_far : Option (List ℕ)) (left : Present) (written : Option (List ℕ)) : Type 0 where
+  pub after_drain : CallerState
+  pub drain_end : ℕ
+  pub drain : Outcome
+  pub drained : IsMade old after_drain shards tenant before drain_end (step_of Drain tenant) drain
+  pub empty : IsEmptyOn after_drain (tenant % shards) tenant true
+  pub outcome : Outcome
+  pub made : IsMade after_drain new shards tenant drain_end last (step_of Retire tenant) outcome
+  pub left_are : left ≡ left_by outcome tenant present
+  pub line : Appends so_far written (outcome_line name outcome)
+
+-- so it was with the tenant of this number, where there is one, and else nothing was done
+abbrev pub IsRetiredOf : ℕ → List ℕ → Option ℕ → Present → CallerState → ℕ → Option (List ℕ) → Present → CallerState
+    → ℕ → Option (List ℕ) → Type 0
+IsRetiredOf shards name (Some tenant) present old before so_far left new last written =
+    IsRetired name present old new shards tenant before last so_far left written
+IsRetiredOf shards name None present old before so_far left new last written =
+    (left ≡ present) × (new ≡ old) × (last ≡ before) × (written ≡ so_far)
+
+-- Of the tenants that are present the line was answered: by the report of the one for whose counters it asks; by what
+-- came of its tenant's coming or going; or by nothing, where it asks for nothing. These are present then.
+pub data IsAnswered (first : SettingsData) (shards : ℕ) (line : List ℕ) (present : Present) (old : CallerState)
+    (before : ℕ) (so_far : Option (List ℕ)) (left : Present) (new : CallerState) (last : ℕ)
+    (written : Option (List ℕ)) : Type 0 where
+  reports : (name : List ℕ) (tenant : ℕ) → line ≡ codes "report " ++ name → number_of present name ≡ Some tenant
       → IsReported name old new shards tenant before last so_far written → left ≡ present
-      → IsAnswered shards line present old before so_far left new last written
-  asks_nobody : AsksNobody present line → new ≡ old → last ≡ before → written ≡ so_far → left ≡ present
-      → IsAnswered shards line present old before so_far left new last written
+      → IsAnswered first shards line present old before so_far left new last written
+  adds : (path told : List ℕ) → line ≡ codes "add " ++ path → IsAdded first shards present old left new told
+      → Appends so_far written told → last ≡ before
+      → IsAnswered first shards line present old before so_far left new last written
+  retires : (name : List ℕ) (tenant : ℕ) → line ≡ codes "retire " ++ name → number_of present name ≡ Some tenant
+      → IsRetired name present old new shards tenant before last so_far left written
+      → IsAnswered first shards line present old before so_far left new last written
+  asks_nothing : AsksNothing present line → new ≡ old → last ≡ before → written ≡ so_far → left ≡ present
+      → IsAnswered first shards line present old before so_far left new last written
 
 -- these lines were answered, one after the other
-pub data AreAnswered (shards : ℕ) (present : Present) (old : CallerState) (before : ℕ) (so_far : Option (List ℕ))
-    : List (List ℕ) → Present → CallerState → ℕ → Option (List ℕ) → Type 0 where
-  no_answer : AreAnswered shards present old before so_far [] present old before so_far
-  answer_more : (lines : List (List ℕ)) (then : Present) (mid : CallerState) (between : ℕ) (text : Option (List ℕ))
+pub data AreAnswered (first : SettingsData) (shards : ℕ) (present : Present) (old : CallerState) (before : ℕ)
+    (so_far : Option (List ℕ)) : List (List ℕ) → Present → CallerState → ℕ → Option (List ℕ) → Type 0 where
+  no_answer : AreAnswered first shards present old before so_far [] present old before so_far
+  answer_more : (lines : List (List ℕ)) (known : Present) (mid : CallerState) (between : ℕ) (text : Option (List ℕ))
       (line : List ℕ) (left : Present) (new : CallerState) (last : ℕ) (written : Option (List ℕ))
-      → AreAnswered shards present old before so_far lines then mid between text
-      → IsAnswered shards line then mid between text left new last written
-      → AreAnswered shards present old before so_far (lines ++ line ∷ []) left new last written
+      → AreAnswered first shards present old before so_far lines known mid between text
+      → IsAnswered first shards line known mid between text left new last written
+      → AreAnswered first shards present old before so_far (lines ++ line ∷ []) left new last written
 
 -- these are the text's first lines, and that is what stands behind them
 pub data AreFirst (text : List ℕ) : List (List ℕ) → List ℕ → Type 0 where
@@ -122,12 +172,12 @@ pub data AreFirst (text : List ℕ) : List (List ℕ) → List ℕ → Type 0 wh
       → TakesLine rest (Some after) line true → AreFirst text (lines ++ line ∷ []) after
 
 -- all lines of the input were answered: of one that is known these are all its lines. These tenants are present then
-pub record AreCommandsRead (shards : ℕ) (input : Option (List ℕ)) (present : Present) (old : CallerState) (before : ℕ)
-    (so_far : Option (List ℕ)) (left : Present) (new : CallerState) (last : ℕ) (written : Option (List ℕ))
-    : Type 0 where
+pub record AreCommandsRead (first : SettingsData) (shards : ℕ) (input : Option (List ℕ)) (present : Present)
+    (old : CallerState) (before : ℕ) (so_far : Option (List ℕ)) (left : Present) (new : CallerState) (last : ℕ)
+    (written : Option (List ℕ)) : Type 0 where
   pub lines : List (List ℕ)
   pub known : IfSome input (λ text. AreFirst text lines [])
-  pub answered : AreAnswered shards present old before so_far lines left new last written
+  pub answered : AreAnswered first shards present old before so_far lines left new last written
 
 -- each of these tenants was seen to hold no span
 abbrev pub AreEmptyOn : CallerState → ℕ → List ℕ → Type 0

@@ -1,11 +1,12 @@
 -- Settings in force, to which tenants come and which they leave while threads look at them under a lock. This project's
 -- own rule.
-use Rattle.std.specs.Prelude.{◌≡◌, ℕ, List, [], Option, Some, None, option_map}
+use Rattle.std.specs.Prelude.{◌≡◌, ℕ, List, [], Option, Some, None, Ok, option_map, string_bytes}
 use Rattle.otlp_front.specs.Route.{Route, post, refuse, unknown_tenant}
 use Rattle.otlp_front.specs.Seen.{response_for}
-use Rattle.tail_settings.specs.Change.{Change, after}
+use Rattle.tail_settings.specs.Change.{Change, after, admitted}
 use Rattle.tail_settings.specs.Section.{SectionData, section_view}
-use Rattle.tail_settings.specs.Settings.{SettingsData, section_at}
+use Rattle.tail_settings.specs.Settings.{SettingsData, tenant_at, section_at}
+use Rattle.trace_service.specs.declared.in_force.Newcomer.{Newcomer}
 use Rattle.trace_service.specs.declared.in_force.Destination.{Destination}
 use Rattle.trace_service.specs.declared.in_force.Destination.TheVariants.{To, Nowhere}
 
@@ -46,3 +47,11 @@ abbrev pub IsWhere : Route → SettingsData → Destination → Type 0
 IsWhere (post number) now destination = IsTenant (section_at now number) number destination
 IsWhere (refuse due) now (To tenant own) = ⊥
 IsWhere (refuse due) now (Nowhere refusal) = response_for refusal ≡ due
+
+-- who came under settings with this document: their next tenant, with its name and section
+pub record IsNewcomer (now : SettingsData) (text : List ℕ) (newcomer : Newcomer) : Type 0 where
+  pub grown : SettingsData
+  pub admits : admitted now text ≡ Ok grown
+  pub number : newcomer.number ≡ now.next
+  pub name : option_map (λ t. t.name) (tenant_at grown newcomer.number) ≡ Some (string_bytes newcomer.name)
+  pub section : section_at grown newcomer.number ≡ Some (section_view newcomer.section)

@@ -3,7 +3,9 @@ pub mod InForce
 pub mod Post
 pub mod Work
 pub mod Assignment
+pub mod Comings
 pub mod Commands
+pub mod Told
 pub mod Roster
 pub mod Audit
 pub mod Fault

@@ -70,8 +70,8 @@ IsSentBy (refuse due) settings before last old new shards body told = (new ≡ o
 IsSentBy (post tenant) settings before last old new shards body told =
     IsSent (section_at settings tenant) before last old new shards tenant body told
 
--- A message is handled so, by who has a beat whose last moments these are, before and after: as settings say that came of
--- the first ones; or memory was refused for a copy of the tenant's section.
+-- A message is handled so, by who has a beat whose last moments these are, before and after: as settings say that came
+-- of the first ones; or memory was refused for a copy of the tenant's section.
 pub data IsHandled (first : SettingsData) (before last : ℕ) (old new : CallerState) (shards : ℕ) (request : Request)
     (told : Response) : Type 0 where
   handled : (now : SettingsData) → CameOf first now

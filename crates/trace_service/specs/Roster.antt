@@ -1,6 +1,6 @@
 -- What the code's list of tenants stands for. This project's own rule.
 use Rattle.std.specs.Prelude.{ℕ, List, map, string_bytes}
-use Rattle.trace_service.specs.Commands.{Present}
+use Rattle.trace_service.specs.Comings.{Present}
 use Rattle.trace_service.specs.declared.roster.Present.{Present as Entry}
 use Rattle.trace_service.specs.declared.roster.Roster.{Roster}
 

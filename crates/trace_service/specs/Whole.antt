@@ -9,17 +9,19 @@ use Rattle.shared_hub.specs.Logs.{CallerState, LoggedShard, AreLogged, AreOneRun
 use Rattle.shared_hub.specs.Shards.{AreOpened}
 use Rattle.tail_settings.specs.Settings.{SettingsData}
 use Rattle.trace_service.specs.Audit.{audit_text, IsFollowed}
-use Rattle.trace_service.specs.Commands.{Present, AreDrained, AreEmptyOn, AreReported, AreCommandsRead}
+use Rattle.trace_service.specs.Comings.{Present}
+use Rattle.trace_service.specs.Commands.{AreDrained, AreEmptyOn, AreReported, AreCommandsRead}
 
 -- What who reads the input did, by calls of one caller and in this order: all lines of the input were answered, each
 -- tenant that was present then was drained, each was seen to hold no span, and each one's report was written.
-pub record IsDirected (present : Present) (shards : ℕ) (input : Option (List ℕ)) (old : CallerState) (before : ℕ)
-    (so_far : Option (List ℕ)) (new : CallerState) (last : ℕ) (written : Option (List ℕ)) : Type 0 where
+pub record IsDirected (first : SettingsData) (present : Present) (shards : ℕ) (input : Option (List ℕ))
+    (old : CallerState) (before : ℕ) (so_far : Option (List ℕ)) (new : CallerState) (last : ℕ)
+    (written : Option (List ℕ)) : Type 0 where
   pub left : Present
   pub after_input : CallerState
   pub input_end : ℕ
   pub text : Option (List ℕ)
-  pub heard : AreCommandsRead shards input present old before so_far left after_input input_end text
+  pub heard : AreCommandsRead first shards input present old before so_far left after_input input_end text
   pub after_drains : CallerState
   pub drain_end : ℕ
   pub drained : AreDrained shards after_input input_end (map (λ tenant. tenant.0) left) after_drains drain_end
@@ -27,14 +29,15 @@ pub record IsDirected (present : Present) (shards : ℕ) (input : Option (List �
   pub told : AreReported shards after_drains drain_end text left new last written
 
 -- of a hub's callers, which had made no call, one did that
-pub record IsCourse (present : Present) (shards : ℕ) (input : Option (List ℕ)) (fresh : CallerState)
-    (so_far : Option (List ℕ)) (callers : List CallerState) (written : Option (List ℕ)) : Type 0 where
+pub record IsCourse (first : SettingsData) (present : Present) (shards : ℕ) (input : Option (List ℕ))
+    (fresh : CallerState) (so_far : Option (List ℕ)) (callers : List CallerState) (written : Option (List ℕ))
+    : Type 0 where
   pub before : ℕ
   pub last : ℕ
   pub own : CallerState
   pub others : List CallerState
   pub callers_are : callers ≡ own ∷ others
-  pub directed : IsDirected present shards input fresh before so_far own last written
+  pub directed : IsDirected first present shards input fresh before so_far own last written
 
 -- What a service did to its shards, and what it wrote: there was a hub of the settings' shards, and one of its callers,
 -- which had made no call before, read the input and wrote what its calls at these shards gave. All callers' calls at a
@@ -46,7 +49,8 @@ pub record IsServed (table : SettingsData) (audit : Bool) (input so_far written 
   pub opened : AreOpened table homes
   pub callers : List CallerState
   pub text : Option (List ℕ)
-  pub course : IsCourse (names_in table).tenants table.global.shards input (new_caller slots homes) so_far callers text
+  pub course : IsCourse table (names_in table).tenants table.global.shards input (new_caller slots homes) so_far
+      callers text
   pub shards : List LoggedShard
   pub calls : AreShardRuns MachineDoes homes callers shards
   pub one_run : AreOneRun table callers

@@ -12,6 +12,8 @@ pub(crate) enum Chore {
     Report,
     /// Takes no more spans, and sends what it holds.
     Drain,
+    /// Goes, where it was drained and holds nothing.
+    Retire,
 }
 
 impl Chore {
@@ -22,6 +24,7 @@ impl Chore {
         match self {
             Chore::Report => Step::Report { tenant, now },
             Chore::Drain => Step::Drain { tenant, now },
+            Chore::Retire => Step::Retire { tenant, now },
         }
     }
 }

@@ -43,10 +43,11 @@ pub(crate) struct WorkerContext<'h, J: Naming, R> {
 }
 
 impl<'h, J: Naming, R: Wait + Clock> WorkerContext<'h, J, R> {
-    ghost use Rattle.std.specs.Prelude.{◌≡◌, ◌<◌, ◌≤◌, ◌%◌, length, Option, IfOk, OnErr};
+    ghost use Rattle.std.specs.Prelude.{◌≡◌, ◌<◌, ◌≤◌, ◌%◌, length, Option, IfOk, IfErr, OnErr};
     ghost use Rattle.machine_hub.specs.declared.receipt.Receipt.{Receipt};
     ghost use Rattle.machine_hub.specs.Hub.{IsRefusedOn};
     ghost use Rattle.shared_hub.specs.Logs.{IsStepOn, IsEmptyOn};
+    ghost use Rattle.shared_hub.specs.declared.fault.HubFault.TheVariants as faults;
 
     /// A place at these shards, for who makes turns of this one.
     pub fn new(
@@ -108,6 +109,7 @@ impl<'h, J: Naming, R: Wait + Clock> WorkerContext<'h, J, R> {
             × IsStepOn self.old.caller self.new.caller (tenant % length self.old.hub.now) step outcome receipt) }
         ensures on_refusal { OnErr result (IsRefusedOn self.old.caller self.new.caller
             (tenant % length self.old.hub.now)) }
+        ensures fault { IfErr result (λ fault. fault ≡ faults.OutOfMemory) }
         ensures hub { self.new.hub ≡ self.old.hub }
     {
         let shard = tenant as usize % self.hub.shards();

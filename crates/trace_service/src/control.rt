@@ -2,17 +2,20 @@
 
 ghost use Rattle.std.specs.Prelude.{◌≡◌, length, map, string_bytes, OnOk, IfNone};
 ghost use Rattle.trace_service.specs.Whole.{IsDirected};
-ghost use Rattle.trace_service.specs.Commands.{AreDrained, AreEmptyOn, AreReported, IsAnswered, AreCommandsRead, IsMade, IsReported, report_line, step_of};
+ghost use Rattle.trace_service.specs.Commands.{AreDrained, AreEmptyOn, AreReported, IsAnswered, AreCommandsRead, IsMade, IsReported, IsReportedOf, step_of};
+ghost use Rattle.otlp_front.specs.Route.{number_of};
 ghost use Rattle.trace_service.specs.Roster.{entry_of, present_in};
+ghost use Rattle.trace_service.specs.Told.{told_text};
 
 use crate::beat::ServiceBeat;
 use crate::beside::Director;
 use crate::chore::Chore;
 use crate::context::WorkerContext;
 use crate::course::{Observer, Stage};
+use crate::in_force::InForce;
 use crate::input::{Line, next_line};
 use crate::naming::Naming;
-use crate::reports::{line_of, write_text};
+use crate::reports::{Told, line_of, write_text};
 use crate::roster::{Present, Roster};
 use crate::service::ServiceFault;
 use crate::workers::all_arrive;
@@ -21,7 +24,8 @@ use std::alloc::{AllocError, Global};
 use std::io::{BufRead, Write};
 use std::mem;
 use std::net::{Net, TcpListener, TcpStream};
-use std::sync::Wait;
+use std::rt::Files;
+use std::sync::{Mutex, Wait};
 use std::time::{Clock, Duration};
 use tenant_shard::Outcome;
 
@@ -33,6 +37,7 @@ const LONGEST_WAKE: u64 = 100;
 pub(crate) struct Control<'h, J: Naming, R> {
     pub rt: &'h R,
     pub alloc: Global,
+    pub settings: &'h Mutex<InForce<J>>,
     pub roster: Roster,
     pub receivers: u32,
     pub listener: &'h TcpListener,
@@ -43,7 +48,7 @@ pub(crate) struct Control<'h, J: Naming, R> {
 impl<'h, J, R> Control<'h, J, R>
 where
     J: Naming,
-    R: Net<Listener = TcpListener, Stream = TcpStream> + Wait + Clock,
+    R: Net<Listener = TcpListener, Stream = TcpStream> + Wait + Clock + Files,
 {
     /// Once all threads are there reads the input to its end, has every tenant send what it holds, and prints the
     /// reports. Whatever comes of it, the other threads are told that the work is over.
@@ -54,7 +59,7 @@ where
         observer: &mut L,
         threads: usize,
     ) -> Result<(), ServiceFault>
-        ensures { OnOk result (IsDirected (present_in self.old.roster) (length self.old.context.hub.now)
+        ensures { OnOk result (IsDirected J.first (present_in self.old.roster) (length self.old.context.hub.now)
             (I.remaining input.old) self.old.context.caller self.old.beat.last (O.contents output.old)
             self.new.context.caller self.new.beat.last (O.contents output.new)) }
     {
@@ -84,9 +89,10 @@ where
         input: &mut I,
         output: &mut O,
     ) -> Result<(), ServiceFault>
-        ensures commands_read { OnOk result (AreCommandsRead (length self.old.context.hub.now) (I.remaining input.old)
-            (present_in roster.old) self.old.context.caller self.old.beat.last (O.contents output.old)
-            (present_in roster.new) self.new.context.caller self.new.beat.last (O.contents output.new)) }
+        ensures commands_read { OnOk result (AreCommandsRead J.first (length self.old.context.hub.now)
+            (I.remaining input.old) (present_in roster.old) self.old.context.caller self.old.beat.last
+            (O.contents output.old) (present_in roster.new) self.new.context.caller self.new.beat.last
+            (O.contents output.new)) }
         ensures hub { self.new.context.hub ≡ self.old.context.hub }
     {
         let mut line = Line::new();
@@ -99,21 +105,43 @@ where
         unreachable!()
     }
 
-    /// Answers a line: by a report where it asks for one, and any other by nothing.
+    /// Answers a line: by what it asks for, and where it asks for nothing by nothing.
     fn run_command<O: Write>(
         &mut self,
         roster: &mut Roster,
         output: &mut O,
         line: &[u8],
     ) -> Result<(), ServiceFault>
-        ensures answered { OnOk result (IsAnswered (length self.old.context.hub.now) line.now (present_in roster.old)
+        ensures answered { OnOk result (IsAnswered J.first (length self.old.context.hub.now)
+            line.now (present_in roster.old)
             self.old.context.caller self.old.beat.last (O.contents output.old) (present_in roster.new)
             self.new.context.caller self.new.beat.last (O.contents output.new)) }
         ensures hub { self.new.context.hub ≡ self.old.context.hub }
     {
-        let Some(name) = line.strip_prefix(b"report ".as_slice()) else {
-            return Ok(());
-        };
+        if let Some(name) = line.strip_prefix(b"report ".as_slice()) {
+            return self.report(roster, output, name);
+        }
+        if let Some(path) = line.strip_prefix(b"add ".as_slice()) {
+            return self.add(roster, output, path);
+        }
+        if let Some(name) = line.strip_prefix(b"retire ".as_slice()) {
+            return self.retire(roster, output, name);
+        }
+        Ok(())
+    }
+
+    /// Prints the report of the tenant of this name, where there is one.
+    fn report<O: Write>(
+        &mut self,
+        roster: &Roster,
+        output: &mut O,
+        name: &[u8],
+    ) -> Result<(), ServiceFault>
+        ensures reported { OnOk result (IsReportedOf (length self.old.context.hub.now) name.now
+            (number_of (present_in roster.now) name.now) self.old.context.caller self.old.beat.last
+            (O.contents output.old) self.new.context.caller self.new.beat.last (O.contents output.new)) }
+        ensures hub { self.new.context.hub ≡ self.old.context.hub }
+    {
         match roster.find(name) {
             Some(tenant) => self.print_report(output, tenant),
             None => Ok(()),
@@ -132,8 +160,10 @@ where
         ensures hub { self.new.context.hub ≡ self.old.context.hub }
     {
         let outcome = self.make(tenant.number, Chore::Report);
-        let name = tenant.name.as_str();
-        let line = line_again(self.rt, self.alloc, &mut self.beat, name, &outcome);
+        let line = self.line_again(Told::Outcome {
+            name: tenant.name.as_str(),
+            outcome: &outcome,
+        });
         write_text(output, line.as_slice())?;
         Ok(())
     }
@@ -166,7 +196,7 @@ where
     }
 
     /// Makes a step of a tenant, at the moment that it now is: again, after a pause, where memory was refused.
-    fn make(&mut self, tenant: u32, chore: Chore) -> Outcome
+    pub fn make(&mut self, tenant: u32, chore: Chore) -> Outcome
         ensures made { IsMade self.old.context.caller self.new.context.caller (length self.old.context.hub.now)
             tenant self.old.beat.last self.new.beat.last (step_of chore tenant) result }
         ensures hub { self.new.context.hub ≡ self.old.context.hub }
@@ -177,6 +207,22 @@ where
             match self.context.step(tenant, step) {
                 Ok(outcome) => return outcome,
                 Err(_) => self.beat.pause(),
+            }
+        }
+        unreachable!()
+    }
+
+    /// The line that says this: again, after a pause, where memory is refused.
+    pub fn line_again(&mut self, told: Told<'_>) -> Vec<u8>
+        ensures line { result.items ≡ told_text told.entry }
+        ensures caller { self.new.context.caller ≡ self.old.context.caller }
+        ensures hub { self.new.context.hub ≡ self.old.context.hub }
+        ensures last { self.new.beat.last ≡ self.old.beat.last }
+    {
+        'attempts: for _ in self.rt.forever() {
+            match line_of(self.alloc, told) {
+                Ok(line) => return line,
+                Err(AllocError) => self.beat.pause(),
             }
         }
         unreachable!()
@@ -237,14 +283,15 @@ where
 impl<'h, J, R> Director for Control<'h, J, R>
 where
     J: Naming,
-    R: Net<Listener = TcpListener, Stream = TcpStream> + Wait + Clock,
+    R: Net<Listener = TcpListener, Stream = TcpStream> + Wait + Clock + Files,
 {
     ghost use Rattle.std.specs.Prelude.{length};
     ghost use Rattle.trace_service.specs.Roster.{present_in};
     ghost use Rattle.trace_service.specs.Whole.{IsDirected};
 
-    ghost directs = { λ old input so_far new written. IsDirected (present_in old.roster) (length old.context.hub.now)
-        input old.context.caller old.beat.last so_far new.context.caller new.beat.last written };
+    ghost directs = { λ old input so_far new written. IsDirected J.first (present_in old.roster)
+        (length old.context.hub.now) input old.context.caller old.beat.last so_far new.context.caller new.beat.last
+        written };
 
     fn direct<I: BufRead, O: Write, L: Observer>(
         &mut self,
@@ -255,24 +302,4 @@ where
     ) -> Result<(), ServiceFault> {
         self.go_through(input, output, observer, threads)
     }
-}
-
-/// The line of what a tenant's report came to. Tries again, after a pause, where memory is refused.
-fn line_again<R: Wait + Clock>(
-    rt: &R,
-    alloc: Global,
-    beat: &mut ServiceBeat<'_, R>,
-    name: &str,
-    outcome: &Outcome,
-) -> Vec<u8>
-    ensures line { result.items ≡ report_line name.now outcome.now }
-    ensures last { beat.new.last ≡ beat.old.last }
-{
-    'attempts: for _ in rt.forever() {
-        match line_of(alloc, name, outcome) {
-            Ok(line) => return line,
-            Err(AllocError) => beat.pause(),
-        }
-    }
-    unreachable!()
 }

@@ -1,20 +1,23 @@
 //! The settings in force, which all threads share under a lock.
 
-ghost use Rattle.std.specs.Prelude.{◌≡◌, IfOk, option_map, string_bytes};
+ghost use Rattle.std.specs.Prelude.{◌≡◌, IfOk, IfErr, IfSome, IsSome, option_map, string_bytes};
 ghost use Rattle.http_edge.specs.Seen.{seen};
 ghost use Rattle.otlp_front.specs.Route.{names_in, route_of};
-ghost use Rattle.tail_settings.specs.Settings.{settings_view, section_at};
-ghost use Rattle.trace_service.specs.InForce.{CameOf, IsTenant, IsWhere};
+ghost use Rattle.tail_settings.specs.Change.{admitted, struck};
+ghost use Rattle.tail_settings.specs.Fault.{fault_view};
+ghost use Rattle.tail_settings.specs.Section.{section_view};
+ghost use Rattle.tail_settings.specs.Settings.{settings_view, tenant_at, section_at};
+ghost use Rattle.trace_service.specs.InForce.{CameOf, IsNewcomer, IsTenant, IsWhere};
 
 use crate::naming::Naming;
 use arrayvec::ArrayString;
 use export_edge::{Address, Addresses};
 use http_edge::HttpMessage;
 use otlp_front::{Route, RouteRefusal, route};
-use std::alloc::AllocError;
+use std::alloc::{AllocError, Global};
 use std::marker::PhantomData;
 use std::sync::{Mutex, Wait};
-use tail_settings::{Section, Settings};
+use tail_settings::{Section, Settings, SettingsFault};
 
 /// Where a message goes.
 #[derive(Drop)]
@@ -23,6 +26,14 @@ pub(crate) enum Destination {
     To { tenant: u32, section: Section },
     /// It is refused, and nothing else is done.
     Nowhere(RouteRefusal),
+}
+
+/// A tenant that the settings let in.
+#[derive(Drop)]
+pub(crate) struct Newcomer {
+    pub number: u32,
+    pub name: String,
+    pub section: Section,
 }
 
 /// The settings in force: those at the start, with the changes that were made since.
@@ -67,6 +78,53 @@ impl<J: Naming> InForce<J> {
             }),
             None => Ok(Destination::Nowhere(RouteRefusal::UnknownTenant)),
         }
+    }
+
+    /// Lets in the one tenant of a document, which gets the next number. Where memory is refused for what is told of
+    /// it, it is taken out again.
+    pub fn admit(&mut self, alloc: Global, text: &str) -> Result<Newcomer, SettingsFault>
+        ensures on_success { IfOk result (λ newcomer.
+            IsNewcomer (settings_view self.old.settings) text.now newcomer) }
+        ensures fault { IfErr result (λ e. IfSome (fault_view e)
+            (λ f. admitted (settings_view self.old.settings) text.now ≡ Err f)) }
+    {
+        let number = self.settings.admit(alloc, text)?;
+        match self.newcomer(alloc, number) {
+            Ok(newcomer) => Ok(newcomer),
+            Err(error) => {
+                self.strike(number);
+                Err(SettingsFault::from(error))
+            }
+        }
+    }
+
+    /// What is told of the tenant with this number.
+    fn newcomer(&self, alloc: Global, number: u32) -> Result<Newcomer, AllocError>
+        requires { IsSome (tenant_at (settings_view self.now.settings) number) }
+        ensures number { IfOk result (λ n. n.number ≡ number) }
+        ensures name { IfOk result (λ n. option_map (λ t. t.name) (tenant_at (settings_view self.now.settings) number)
+            ≡ Some (string_bytes n.name)) }
+        ensures section { IfOk result (λ n. section_at (settings_view self.now.settings) number
+            ≡ Some (section_view n.section)) }
+    {
+        let Some(name) = self.settings.name(number) else {
+            unreachable!()
+        };
+        let Some(section) = self.settings.section(number) else {
+            unreachable!()
+        };
+        Ok(Newcomer {
+            number,
+            name: String::from_str(alloc, name)?,
+            section: section.copy()?,
+        })
+    }
+
+    /// Takes out the tenant with this number, where there is one. Nobody else gets the number.
+    pub fn strike(&mut self, number: u32)
+        ensures { settings_view self.new.settings ≡ struck (settings_view self.old.settings) number }
+    {
+        self.settings.strike(number);
     }
 
     /// The back end of the tenant with this number, or `None` where there is no such tenant.

@@ -8,8 +8,8 @@ use std::io;
 use std::io::{BufRead, ErrorKind};
 use std::sync::Wait;
 
-/// Of a line so many bytes are kept, one more than the longest has that asks for counters.
-const LINE_ROOM: usize = 72;
+/// Of a line so many bytes are kept, one more than the longest has that asks for a tenant to come: a path has 4,095.
+const LINE_ROOM: usize = 4_100;
 
 /// The first bytes of a line. They lie in the value itself, so that a line takes no memory.
 pub(crate) type Line = ArrayVec<u8, LINE_ROOM>;

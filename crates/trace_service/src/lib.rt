@@ -15,6 +15,7 @@ mod assignment;
 mod beat;
 mod beside;
 mod chore;
+mod comings;
 mod context;
 mod control;
 mod course;

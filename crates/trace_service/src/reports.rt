@@ -3,30 +3,54 @@
 ghost use Rattle.std.specs.Prelude.{◌≡◌, ◌++◌, IfOk, OnOk};
 ghost use Rattle.std.specs.Io.KnownBytes.{Appends};
 ghost use Rattle.trace_service.specs.Audit.{audit_line, audit_text, IsFollowed};
-ghost use Rattle.trace_service.specs.Commands.{report_line};
+ghost use Rattle.trace_service.specs.Commands.{outcome_line};
+ghost use Rattle.trace_service.specs.Told.{told_text};
 
-use replay_script::put_report;
+use replay_script::{put_added, put_refused, put_report};
 use shared_hub::ShardLog;
 use std::alloc::{AllocError, Global};
 use std::io;
 use std::io::Write;
 use tenant_shard::Outcome;
 
-/// The line of what a tenant's report came to: its counters. Any other outcome has none.
-pub(crate) fn line_of(
-    alloc: Global,
-    name: &str,
-    outcome: &Outcome,
-) -> Result<Vec<u8>, AllocError>
-    ensures { IfOk result (λ line. line.items ≡ report_line name.now outcome.now) }
+/// What a line of the input is answered.
+#[derive(Clone, Copy)]
+pub(crate) enum Told<'t> {
+    /// What came of a tenant's report or retirement.
+    Outcome { name: &'t str, outcome: &'t Outcome },
+    /// A tenant came.
+    Added { name: &'t str, number: u32 },
+    /// A tenant didn't come, by the number of the fault or the refusal.
+    NotAdded(u8),
+}
+
+/// The line that says it. Of a report or a retirement it has the counters, or why it was refused; any other outcome has
+/// no line.
+pub(crate) fn line_of(alloc: Global, told: Told<'_>) -> Result<Vec<u8>, AllocError>
+    ensures { IfOk result (λ line. line.items ≡ told_text told.entry) }
 {
     let mut line = Vec::new(alloc);
+    match told {
+        Told::Outcome { name, outcome } => put_outcome(alloc, &mut line, name, outcome)?,
+        Told::Added { name, number } => put_added(alloc, &mut line, name, number)?,
+        Told::NotAdded(number) => put_refused(alloc, &mut line, "add", number)?,
+    }
+    Ok(line)
+}
+
+/// Appends the line of what a report or a retirement came to.
+fn put_outcome(
+    alloc: Global,
+    line: &mut Vec<u8>,
+    name: &str,
+    outcome: &Outcome,
+) -> Result<(), AllocError>
+    ensures { OnOk result (line.new.items ≡ line.old.items ++ outcome_line name.now outcome.now) }
+{
     match outcome {
-        Outcome::Report(_, counters) => {
-            put_report(alloc, &mut line, name, counters.as_slice())?;
-            Ok(line)
-        }
-        _ => Ok(line),
+        Outcome::Report(_, counters) => put_report(alloc, line, name, counters.as_slice()),
+        Outcome::Refused(_, number) => put_refused(alloc, line, name, *number),
+        _ => Ok(()),
     }
 }
 

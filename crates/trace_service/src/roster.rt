@@ -52,13 +52,38 @@ impl Roster {
         self.tenants.as_slice()
     }
 
+    /// Makes room for one more tenant.
+    pub fn reserve(&mut self) -> Result<(), AllocError>
+        ensures same { present_in self.new ≡ present_in self.old }
+        ensures room { OnOk result (vec_len self.new.tenants < vec_capacity self.new.tenants) }
+    {
+        self.tenants.reserve(1)
+    }
+
+    /// One more tenant, for which there is room.
+    pub fn push(&mut self, number: u32, name: String)
+        requires { vec_len self.old.tenants < vec_capacity self.old.tenants }
+        ensures { present_in self.new ≡ present_in self.old ++ (number, string_bytes name) ∷ [] }
+    {
+        let Ok(()) = self.tenants.push(Present { number, name }) else {
+            unreachable!()
+        };
+    }
+
+    /// Without the tenant of this number.
+    pub fn remove(&mut self, number: u32)
+        ensures { present_in self.new ≡ filter (λ other. not (other.0 == number)) (present_in self.old) }
+    {
+        self.tenants.retain(|tenant| tenant.number != number);
+    }
+
     /// The tenant of this name.
     pub fn find(&self, name: &[u8]) -> Option<&Present>
         ensures number { option_map (λ p. p.now.number) result ≡ number_of (present_in self.now) name.now }
         ensures name { IfSome result (λ p. string_bytes p.now.name ≡ name.now) }
     {
         for present in self.tenants.iter() {
-            if present.name.as_bytes() == name {
+            if name == present.name.as_bytes() {
                 return Some(present);
             }
         }

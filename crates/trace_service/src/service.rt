@@ -33,6 +33,7 @@ use std::io;
 use std::io::{BufRead, ErrorKind, Write};
 use std::marker::Brand;
 use std::net::{Net, TcpListener, TcpStream};
+use std::rt::Files;
 use std::sync::{Mutex, Wait};
 use std::thread::Threads;
 use std::time::{Clock, Instant};
@@ -87,10 +88,11 @@ impl From<HubFault> for ServiceFault {
 }
 
 /// Serves until the input ends and all tenants have sent what they held: as many receivers and senders as the settings
-/// say, a turner for each shard, and one lane. A line `report NAME` of the input prints that tenant's counters, and all
-/// reports are printed at the end; with `audit` also how many entries each shard's log has. After a fault of the input
-/// or the output the service ends as it does at the input's end, and then says so. The observer is told of its course.
-/// No client knows the keys, under which trace ids are hashed.
+/// say, a turner for each shard, and one lane. A line `report NAME` of the input prints that tenant's counters, `add
+/// PATH` lets a tenant come whose document is in a file, and `retire NAME` lets one go once it has sent what it held.
+/// All reports are printed at the end; with `audit` also how many entries each shard's log has. After a fault of the
+/// input or the output the service ends as it does at the input's end, and then says so. The observer is told of its
+/// course. No client knows the keys, under which trace ids are hashed.
 pub fn run_service<R, I, O, L>(
     rt: &R,
     alloc: Global,
@@ -103,7 +105,7 @@ pub fn run_service<R, I, O, L>(
     keys: HashKeys,
 ) -> Result<(), ServiceFault>
 where
-    R: Net<Listener = TcpListener, Stream = TcpStream> + Threads + Wait + Clock + Sync,
+    R: Net<Listener = TcpListener, Stream = TcpStream> + Threads + Wait + Clock + Files + Sync,
     I: BufRead,
     O: Write,
     L: Observer,
@@ -138,7 +140,7 @@ fn run_named<J, R, I, O, L>(
 ) -> Result<(), ServiceFault>
 where
     J: Naming + Send + Sync,
-    R: Net<Listener = TcpListener, Stream = TcpStream> + Threads + Wait + Clock + Sync,
+    R: Net<Listener = TcpListener, Stream = TcpStream> + Threads + Wait + Clock + Files + Sync,
     I: BufRead,
     O: Write,
     L: Observer,
@@ -211,7 +213,7 @@ fn at_work<J, R, I, O, L>(
 ) -> Result<(Vec<Caller>, Result<(), ServiceFault>), ServiceFault>
 where
     J: Naming + Send + Sync,
-    R: Net<Listener = TcpListener, Stream = TcpStream> + Threads + Wait + Clock + Sync,
+    R: Net<Listener = TcpListener, Stream = TcpStream> + Threads + Wait + Clock + Files + Sync,
     I: BufRead,
     O: Write,
     L: Observer,
@@ -224,25 +226,13 @@ where
     requires new { All (λ c. c ≡ J.fresh) callers.items }
     ensures same_hub { IfOk result (λ r. AreCallersOf J.slots r.0.items) }
     ensures all { IfOk result (λ r. vec_len r.0 ≡ vec_len callers) }
-    ensures course { IfOk result (λ r. OnOk r.1 (IsCourse (present_in roster) (length J.slots)
+    ensures course { IfOk result (λ r. OnOk r.1 (IsCourse J.first (present_in roster) (length J.slots)
         (I.remaining input.old) J.fresh (O.contents output.old) r.0.items (O.contents output.new))) }
 {
     let signals = Signals::new();
     sharing::<J, R, I, O, L>(
-        rt,
-        alloc,
-        settings,
-        roster,
-        staff,
-        listener,
-        hub,
-        lane,
-        &signals,
-        callers,
-        seats,
-        input,
-        output,
-        observer,
+        rt, alloc, settings, roster, staff, listener, hub, lane, &signals, callers, seats, input,
+        output, observer,
     )
 }
 
@@ -265,7 +255,7 @@ fn sharing<'h, J, R, I, O, L>(
 ) -> Result<(Vec<Caller>, Result<(), ServiceFault>), ServiceFault>
 where
     J: Naming + Send + Sync,
-    R: Net<Listener = TcpListener, Stream = TcpStream> + Threads + Wait + Clock + Sync,
+    R: Net<Listener = TcpListener, Stream = TcpStream> + Threads + Wait + Clock + Files + Sync,
     I: BufRead,
     O: Write,
     L: Observer,
@@ -278,7 +268,7 @@ where
     requires new { All (λ c. c ≡ J.fresh) callers.items }
     ensures same_hub { IfOk result (λ r. AreCallersOf J.slots r.0.items) }
     ensures all { IfOk result (λ r. vec_len r.0 ≡ vec_len callers) }
-    ensures course { IfOk result (λ r. OnOk r.1 (IsCourse (present_in roster) (length J.slots)
+    ensures course { IfOk result (λ r. OnOk r.1 (IsCourse J.first (present_in roster) (length J.slots)
         (I.remaining input.old) J.fresh (O.contents output.old) r.0.items (O.contents output.new))) }
 {
     let start = Instant::now(rt)?;
@@ -308,7 +298,7 @@ fn work_on<'h, J, R, I, O, L>(
 ) -> Result<(Vec<Caller>, Result<(), ServiceFault>), ServiceFault>
 where
     J: Naming + Send + Sync,
-    R: Net<Listener = TcpListener, Stream = TcpStream> + Threads + Wait + Clock + Sync,
+    R: Net<Listener = TcpListener, Stream = TcpStream> + Threads + Wait + Clock + Files + Sync,
     I: BufRead,
     O: Write,
     L: Observer,
@@ -321,7 +311,7 @@ where
     requires new { All (λ c. c ≡ J.fresh) callers.items }
     ensures same_hub { IfOk result (λ r. AreCallersOf J.slots r.0.items) }
     ensures all { IfOk result (λ r. vec_len r.0 ≡ vec_len callers) }
-    ensures course { IfOk result (λ r. OnOk r.1 (IsCourse (present_in roster) (length J.slots)
+    ensures course { IfOk result (λ r. OnOk r.1 (IsCourse J.first (present_in roster) (length J.slots)
         (I.remaining input.old) J.fresh (O.contents output.old) r.0.items (O.contents output.new))) }
 {
     let shards = shared.hub.shards();
@@ -332,6 +322,7 @@ where
     let mut control = Control {
         rt: shared.rt,
         alloc: shared.alloc,
+        settings: shared.settings,
         roster,
         receivers: shared.staff.receivers,
         listener: shared.listener,
@@ -362,12 +353,12 @@ fn all_work<'h, J, R, I, O, L>(
 ) -> Result<(), ServiceFault>
 where
     J: Naming + Send + Sync,
-    R: Net<Listener = TcpListener, Stream = TcpStream> + Threads + Wait + Clock + Sync,
+    R: Net<Listener = TcpListener, Stream = TcpStream> + Threads + Wait + Clock + Files + Sync,
     I: BufRead,
     O: Write,
     L: Observer,
     requires { shared.now.lane.now.name ≡ J.lane }
-    ensures { OnOk result (IsDirected (present_in control.old.roster) (length control.old.context.hub.now)
+    ensures { OnOk result (IsDirected J.first (present_in control.old.roster) (length control.old.context.hub.now)
         (I.remaining input.old) control.old.context.caller control.old.beat.last (O.contents output.old)
         control.new.context.caller control.new.beat.last (O.contents output.new)) }
 {

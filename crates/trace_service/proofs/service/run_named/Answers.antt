@@ -1,4 +1,4 @@
-use Rattle.std.proofs.Common.{◌∙◌, length}
+use Rattle.std.proofs.Common.{◌∙◌, sym, length}
 use Rattle.machine_hub.specs.Hub.{new_caller}
 use Rattle.otlp_front.specs.Route.{names_in}
 use Rattle.trace_service.specs.Roster.{present_in}
@@ -22,9 +22,9 @@ returns g c =
       opened = c.requires.opened;
       callers = callers;
       text = text;
-      course = course_told c.in_ok-callers.ended _ (present_in c.in_ok-roster.roster) (names_in table).tenants (length slots) table.global.shards
+      course = course_told c.in_ok-callers.ended _ g.J.Naming.first table (present_in c.in_ok-roster.roster) (names_in table).tenants (length slots) table.global.shards
           (g.I.Read.remaining c.args.input.now) (g.O.Write.contents c.args.output.now) text g.J.Naming.fresh (new_caller slots homes) callers
-          c.in_ok-ended.was c.in_ok-roster.ensures c.requires.shards c.requires.fresh c.in_ok-callers.ensures.course;
+          c.in_ok-ended.was (sym c.requires.first) c.in_ok-roster.ensures c.requires.shards c.requires.fresh c.in_ok-callers.ensures.course;
       shards = shards;
       calls = runs;
       one_run = c.end_hub-shards.ensures.one_run table c.requires.opened;

@@ -1,5 +1,6 @@
-use Rattle.std.proofs.Common.{◌≡◌, ◌∙◌, ℕ, List, [], take, length, refl, ap, subst, sym, arith}
+use Rattle.std.proofs.Common.{◌≡◌, ◌∙◌, ◌+◌, ◌++◌, ℕ, List, [], ◌∷◌, get_or, take, length, refl, ap, subst, sym, arith}
 use Rattle.std.proofs.Math.Seq.{take-length}
+use Rattle.std.proofs.lemmas.List.{take_more}
 use Rattle.tail_settings.specs.Settings.{settings_view}
 use Rattle.tenant_shard.specs.Lives.{ShardStands}
 use Rattle.tenant_shard.specs.Members.{all_views}
@@ -40,3 +41,17 @@ returns-clause-stands c =
 
 pub returns-clause-counted : goal.returns-clause-counted
 returns-clause-counted c = counted_all c.new-stores.result c.loop-tenant.agenda c.loop-tenant.opened.items c.loop-tenant.gone.items c.loop-tenant.invariant.whole.whole
+
+pub loop-tenant-preserved : goal.loop-tenant-preserved
+loop-tenant-preserved c =
+    let numbers = c.args.members.now in
+    let i = c.loop-tenant.tenant-index in
+    let earlier = take i numbers in
+    let before : ShardStands (opened (settings_view c.args.settings.now) earlier) (all_views c.new-stores.result c.loop-tenant.opened.items []) = c.loop-tenant.invariant.stands in
+    let after = c.in_ok-open_member.ensures.stands earlier before in
+    let more : take (i + 1) numbers ≡ earlier ++ get_or numbers i 0 ∷ [] = take_more numbers i 0 c.loop-tenant-test.true in
+    record {
+      whole = c.in_ok-open_member.ensures.whole;
+      nobody_left = c.in_ok-open_member.ensures.nobody_left;
+      stands = subst (λ (ns : List ℕ). ShardStands (opened (settings_view c.args.settings.now) ns) (all_views c.new-stores.result c.open_member.new.members.items [])) (sym more) after;
+    }

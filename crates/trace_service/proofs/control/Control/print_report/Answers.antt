@@ -1,8 +1,12 @@
+use Rattle.std.proofs.Common.{ap, ◌∙◌}
+use Rattle.trace_service.specs.Commands.{outcome_line}
 use Rattle.trace_service.proofs.control.Control.print_report.Goals as goal
 
 pub returns-clause-reported : goal.returns-clause-reported
-returns-clause-reported g c = record {
-  outcome = c.make-outcome.result;
-  made = rw c.line_again-line.ensures.last c.make-outcome.ensures.made;
-  line = rw (c.as_slice.ensures.value, c.line_again-line.ensures.line, c.as_str-name.ensures.value) at c.in_ok-write_text.ensures;
-}
+returns-clause-reported g c =
+    let told = c.line_again-line.ensures in
+    record {
+      outcome = c.make-outcome.result;
+      made = rw (told.last, told.caller) c.make-outcome.ensures.made;
+      line = rw (c.as_slice.ensures.value, told.line, c.as_str.ensures.value) at c.in_ok-write_text.ensures;
+    }

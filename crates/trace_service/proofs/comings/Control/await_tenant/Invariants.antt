@@ -1,0 +1,9 @@
+use Rattle.std.proofs.Common.{◌≡◌}
+use Rattle.trace_service.proofs.comings.Control.await_tenant.Given as goal
+
+abbrev pub invariant-looks : goal.invariant-looks
+invariant-looks g l = record {
+  caller : l.self.context.caller ≡ l.fn.self.context.caller;
+  hub : l.self.context.hub ≡ l.fn.self.context.hub;
+  last : l.self.beat.last ≡ l.fn.self.beat.last;
+}

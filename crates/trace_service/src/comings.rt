@@ -1,0 +1,261 @@
+//! Tenants that come and go while the service runs, as lines of the input ask.
+
+ghost use Rattle.std.specs.Prelude.{◌≡◌, ◌<◌, ◌%◌, ℕ, List, Err, length, vec_len, vec_capacity, true, IfOk, IfErr, IfSome, OnOk};
+ghost use Rattle.std.specs.Io.KnownBytes.{Appends};
+ghost use Rattle.otlp_front.specs.Route.{number_of};
+ghost use Rattle.shared_hub.specs.Logs.{IsEmptyOn};
+ghost use Rattle.tail_settings.specs.Change.{admitted};
+ghost use Rattle.tail_settings.specs.Fault.{fault_view};
+ghost use Rattle.tail_settings.specs.Settings.{SettingsData};
+ghost use Rattle.trace_service.specs.Comings.{IsAdded, IsJoined, IsNotJoined, IsUnread, not_added_text, why_not};
+ghost use Rattle.trace_service.specs.Commands.{IsRetiredOf, stays};
+ghost use Rattle.trace_service.specs.InForce.{CameOf, IsNewcomer};
+ghost use Rattle.trace_service.specs.Roster.{present_in};
+ghost use Rattle.trace_service.specs.declared.comings.NotAdded.TheVariants as why;
+
+use crate::chore::Chore;
+use crate::control::Control;
+use crate::in_force::Newcomer;
+use crate::naming::Naming;
+use crate::reports::{Told, write_text};
+use crate::roster::Roster;
+use crate::service::ServiceFault;
+use export_edge::Beat;
+use shared_hub::HubFault;
+use std::alloc::AllocError;
+use std::io::{ErrorKind, Read, Write};
+use std::net::{Net, TcpListener, TcpStream};
+use std::rt::Files;
+use std::sync::Wait;
+use std::time::Clock;
+use std::{fs, io, str};
+use tail_settings::SettingsFault;
+use tenant_shard::{Outcome, Step};
+
+/// What is told where a file can't be read, or has no text: that it has no document.
+const NOT_READ: u8 = 10;
+
+/// A tenant that was to go stays for this reason: it wasn't empty.
+const NOT_EMPTY: u8 = 26;
+
+/// Why no tenant came.
+#[derive(Clone, Copy, PartialEq, Eq, Debug)]
+pub(crate) enum NotAdded {
+    /// By the number of the fault of the file or its document, or of the shard's refusal.
+    Refused(u8),
+    /// There was no memory.
+    OutOfMemory,
+}
+
+impl From<AllocError> for NotAdded {
+    ghost from_gives = { λ _ given. given ≡ why.OutOfMemory };
+
+    fn from(_error: AllocError) -> NotAdded {
+        NotAdded::OutOfMemory
+    }
+}
+
+/// Of a file only the want of memory is told apart.
+impl From<io::Error> for NotAdded {
+    ghost from_gives = { λ _ given. IsUnread given };
+
+    fn from(error: io::Error) -> NotAdded {
+        if error.kind() == ErrorKind::OutOfMemory {
+            NotAdded::OutOfMemory
+        } else {
+            NotAdded::Refused(NOT_READ)
+        }
+    }
+}
+
+impl From<SettingsFault> for NotAdded {
+    ghost from_gives = { λ fault given. given ≡ why_not (fault_view fault) };
+
+    fn from(fault: SettingsFault) -> NotAdded {
+        match fault.number() {
+            Some(number) => NotAdded::Refused(number as u8),
+            None => NotAdded::OutOfMemory,
+        }
+    }
+}
+
+impl<'h, J, R> Control<'h, J, R>
+where
+    J: Naming,
+    R: Net<Listener = TcpListener, Stream = TcpStream> + Wait + Clock + Files,
+{
+    /// Lets the tenant come whose document is in the file at this path, and prints what came of it.
+    pub fn add<O: Write>(
+        &mut self,
+        roster: &mut Roster,
+        output: &mut O,
+        path: &[u8],
+    ) -> Result<(), ServiceFault>
+        ensures added { OnOk result ((line : List ℕ) × IsAdded J.first (length self.old.context.hub.now)
+            (present_in roster.old) self.old.context.caller (present_in roster.new) self.new.context.caller line
+            × Appends (O.contents output.old) (O.contents output.new) line) }
+        ensures last { self.new.beat.last ≡ self.old.beat.last }
+        ensures hub { self.new.context.hub ≡ self.old.context.hub }
+    {
+        match self.let_in(roster, path) {
+            Ok(line) => write_text(output, line.as_slice())?,
+            Err(NotAdded::Refused(number)) => {
+                let line = self.line_again(Told::NotAdded(number));
+                write_text(output, line.as_slice())?;
+            }
+            Err(NotAdded::OutOfMemory) => {
+                write_text(output, b"refused add memory\n".as_slice())?;
+            }
+        }
+        Ok(())
+    }
+
+    /// The line of the tenant that came whose document is in the file at this path.
+    fn let_in(&mut self, roster: &mut Roster, path: &[u8]) -> Result<Vec<u8>, NotAdded>
+        ensures added { IfOk result (λ line. IsAdded J.first (length self.old.context.hub.now)
+            (present_in roster.old) self.old.context.caller (present_in roster.new) self.new.context.caller
+            line.items) }
+        ensures not_added { IfErr result (λ why. IsAdded J.first (length self.old.context.hub.now)
+            (present_in roster.old) self.old.context.caller (present_in roster.new) self.new.context.caller
+            (not_added_text why)) }
+        ensures last { self.new.beat.last ≡ self.old.beat.last }
+        ensures hub { self.new.context.hub ≡ self.old.context.hub }
+    {
+        let text = self.document(path)?;
+        roster.reserve()?;
+        let newcomer = self.newcomer(text.as_str())?;
+        self.join(roster, newcomer)
+    }
+
+    /// The text of the file at this path.
+    fn document(&self, path: &[u8]) -> Result<String, NotAdded>
+        ensures { IfErr result IsUnread }
+    {
+        let Ok(path) = str::from_utf8(path) else {
+            return Err(NotAdded::Refused(NOT_READ));
+        };
+        let mut file = fs::open(self.rt, path)?;
+        let mut bytes = Vec::new(self.alloc);
+        file.read_to_end(&mut bytes)?;
+        match String::from_utf8(bytes) {
+            Ok(text) => Ok(text),
+            Err(_) => Err(NotAdded::Refused(NOT_READ)),
+        }
+    }
+
+    /// The tenant of a document, let in by the settings in force. Meanwhile they are locked.
+    fn newcomer(&self, text: &str) -> Result<Newcomer, SettingsFault>
+        ensures on_success { IfOk result (λ newcomer. (now : SettingsData) × CameOf J.first now
+            × IsNewcomer now text.now newcomer) }
+        ensures fault { IfErr result (λ e. IfSome (fault_view e) (λ f. (now : SettingsData) × CameOf J.first now
+            × (admitted now text.now ≡ Err f))) }
+    {
+        self.settings.lock(self.rt).admit(self.alloc, text)
+    }
+
+    /// Has a newcomer join its shard: the line that says so. Where it can't, the settings forget it.
+    fn join(&mut self, roster: &mut Roster, newcomer: Newcomer) -> Result<Vec<u8>, NotAdded>
+        requires { vec_len roster.old.tenants < vec_capacity roster.old.tenants }
+        ensures joined { IfOk result (λ line. IsJoined (length self.old.context.hub.now) newcomer
+            (present_in roster.old) self.old.context.caller (present_in roster.new) self.new.context.caller
+            line.items) }
+        ensures not_joined { IfErr result (λ why. IsNotJoined (length self.old.context.hub.now) newcomer
+            self.old.context.caller self.new.context.caller why
+            × (present_in roster.new ≡ present_in roster.old)) }
+        ensures last { self.new.beat.last ≡ self.old.beat.last }
+        ensures hub { self.new.context.hub ≡ self.old.context.hub }
+    {
+        let Newcomer {
+            number,
+            name,
+            section,
+        } = newcomer;
+        let step = Step::Add {
+            tenant: number,
+            section,
+        };
+        match self.context.step(number, step) {
+            Ok(Outcome::Refused(_, reason)) => {
+                self.strike(number);
+                Err(NotAdded::Refused(reason))
+            }
+            Ok(_) => {
+                let line = self.line_again(Told::Added {
+                    name: name.as_str(),
+                    number,
+                });
+                roster.push(number, name);
+                Ok(line)
+            }
+            Err(HubFault::OutOfMemory) => {
+                self.strike(number);
+                Err(NotAdded::OutOfMemory)
+            }
+            Err(HubFault::Behind { .. } | HubFault::OtherEntry { .. }) => unreachable!(),
+        }
+    }
+
+    /// Has the tenant of this name send what it holds, waits until that is done, lets it go, and prints what came of
+    /// it. Meanwhile no other line is answered. Where there is no tenant of this name nothing is done.
+    pub fn retire<O: Write>(
+        &mut self,
+        roster: &mut Roster,
+        output: &mut O,
+        name: &[u8],
+    ) -> Result<(), ServiceFault>
+        ensures retired { OnOk result (IsRetiredOf (length self.old.context.hub.now) name.now
+            (number_of (present_in roster.old) name.now) (present_in roster.old) self.old.context.caller
+            self.old.beat.last (O.contents output.old) (present_in roster.new) self.new.context.caller
+            self.new.beat.last (O.contents output.new)) }
+        ensures hub { self.new.context.hub ≡ self.old.context.hub }
+    {
+        let Some(tenant) = roster.find(name) else {
+            return Ok(());
+        };
+        let number = tenant.number;
+        self.make(number, Chore::Drain);
+        self.await_tenant(number);
+        let outcome = self.make(number, Chore::Retire);
+        let line = self.line_again(Told::Outcome {
+            name: tenant.name.as_str(),
+            outcome: &outcome,
+        });
+        if !stays(&outcome) {
+            self.strike(number);
+            roster.remove(number);
+        }
+        write_text(output, line.as_slice())?;
+        Ok(())
+    }
+
+    /// Waits until this tenant holds no span.
+    fn await_tenant(&mut self, tenant: u32)
+        ensures empty { IsEmptyOn self.old.context.caller (tenant % length self.old.context.hub.now) tenant true }
+        ensures caller { self.new.context.caller ≡ self.old.context.caller }
+        ensures last { self.new.beat.last ≡ self.old.beat.last }
+        ensures hub { self.new.context.hub ≡ self.old.context.hub }
+    {
+        'looks: for _ in self.rt.forever() {
+            if self.context.is_empty(tenant) {
+                return;
+            }
+            self.beat.pause();
+        }
+        unreachable!()
+    }
+
+    /// Takes the tenant of this number out of the settings in force.
+    fn strike(&self, number: u32) {
+        self.settings.lock(self.rt).strike(number);
+    }
+}
+
+/// Whether a tenant that was to go stays, since it wasn't empty.
+fn stays(outcome: &Outcome) -> bool
+    ensures { result ≡ stays outcome.now }
+{
+    match outcome {
+        Outcome::Refused(_, number) => *number == NOT_EMPTY,
+        _ => false,
+    }
+}

@@ -1,0 +1,163 @@
+"""Tenants that come and go while the service runs, by lines of its input."""
+
+import threading
+from pathlib import Path
+
+from serving.talk import BackEnd, Service, body, check, in_threads, line_of, request, tenant, wait_for
+
+# So many come and go, one after the other, in the test of memory.
+ROUNDS = 200
+# Pages that one round may leave behind, in kB: a tenant without spans takes 4, its span 10.
+MOST_A_ROUND = 1
+FORBIDDEN = (403, b"\x12\x0eunknown tenant")
+SHUTTING_DOWN = (503, b"\x12\x0dshutting down")
+
+
+def document(folder, text, name="tenant.toml"):
+    """The path of a file with this text."""
+    file = Path(folder, name)
+    file.write_text(text)
+    return file
+
+
+def added(service, path):
+    """What the service says of a document."""
+    service.say(f"add {path}\n")
+    return service.hear()
+
+
+def retired(service, name):
+    """What the service says of a tenant that is to go."""
+    service.say(f"retire {name}\n")
+    return service.hear()
+
+
+def without_spans(folder):
+    """A tenant that comes and goes at once: its counters are told as it goes, and not at the end."""
+    with BackEnd() as back_end, Service(folder, [tenant("a", back_end), tenant("b", back_end)]) as service:
+        path = document(folder, tenant("c", back_end))
+        service.say(f"add {path}\nretire c\n")
+        check("it comes and goes", (service.hear(), service.hear()), ("added c 2\n", line_of("c")))
+        check("the end", service.end(), (0, line_of("a") + line_of("b"), b""))
+
+
+def with_spans(folder, *options):
+    """A tenant that comes takes spans, which arrive at its own back end; one that is to go sends what waits, and is
+    told its counters once that is done. Then nobody knows it, and who comes under its name is another."""
+    with BackEnd() as ones, BackEnd() as others, Service(folder, [tenant("a", ones)], *options) as service:
+        section = tenant("c", others, wait=86_400_000)
+        path = document(folder, section)
+        check("before it comes", service.post("c", body(1, 1)), FORBIDDEN)
+        check("it comes", added(service, path), "added c 1\n")
+        check("a post", service.post("c", body(1, 1)), (200, b""))
+        check("another's", service.post("a", body(2, 2)), (200, b""))
+        check("its counters", service.report("c"), line_of("c", accepted=1, undecided=1))
+        check("it goes", retired(service, "c"), line_of("c", accepted=1, exported=1))
+        check("what was sent", others.bodies(), [body(1, 1)])
+        check("after it went", service.post("c", body(3, 3)), FORBIDDEN)
+        service.say("report c\nretire c\n")
+        check("it comes again", added(service, path), "added c 2\n")
+        check("its counters", service.report("c"), line_of("c"))
+        check("a post", service.post("c", body(4, 4)), (200, b""))
+        status, out, err = service.end()
+        wanted = line_of("a", accepted=1, exported=1) + line_of("c", accepted=1, exported=1)
+        check("the end", (status, out[:len(wanted)], err), (0, wanted, b""))
+        check("the audit's lines", len(out[len(wanted):].splitlines()), 2 if options else 0)
+        check("each is sent once", others.bodies(), [body(1, 1), body(4, 4)])
+
+
+def with_an_audit(folder):
+    with_spans(folder, "--audit")
+
+
+def refused_documents(folder):
+    """Documents that let nobody come, by the number of what is wrong with them, and a line that asks for nothing."""
+    with BackEnd() as back_end, Service(folder, [tenant("a", back_end)]) as service:
+        one, other = tenant("c", back_end), tenant("d", back_end)
+        for text, number in (("[tenant", 10), ("", 11), ("tenant = 1\n", 12), (one + other, 13),
+                             (one.replace("max_spans = 100000", "max_spans = 0"), 13), (tenant("a", back_end), 14),
+                             (tenant("c", back_end, most=2_147_483_648), 15)):
+            check(f"{number}", added(service, document(folder, text)), f"refused add {number}\n")
+        check("no file", added(service, Path(folder, "missing")), "refused add 10\n")
+        check("a folder", added(service, folder), "refused add 10\n")
+        Path(folder, "bytes").write_bytes(b"\xff")
+        check("no text", added(service, Path(folder, "bytes")), "refused add 10\n")
+        check("no path", added(service, ""), "refused add 10\n")
+        check("a long path", added(service, "x" * 5000), "refused add 10\n")
+        service.say(f"add\nADD {folder}\nretire\nretire c\nretire  a\n")
+        check("who comes", added(service, document(folder, one)), "added c 1\n")
+        check("the end", service.end(), (0, line_of("a") + line_of("c"), b""))
+
+
+def while_it_goes(folder):
+    """Each post to a tenant at the very moment at which it goes is taken and counted, or refused: never neither. Others
+    are served meanwhile, and what comes for the next of its name is not taken for it."""
+    with BackEnd() as back_end, Service(folder, [tenant("a", back_end)], receivers=8) as service:
+        path = document(folder, tenant("c", back_end))
+        for number in range(20):
+            check("it comes", added(service, path), f"added c {number + 1}\n")
+            before = len(back_end.posts)
+            told, gone = [], threading.Event()
+
+            def client(own, told=told, gone=gone):
+                with service.connect() as peer:
+                    last = False
+                    while not last:
+                        last = gone.is_set()
+                        told.append(service.post("c", body(own + 1, 1), peer))
+
+            def leave(told=told, gone=gone, before=before):
+                wait_for(lambda: len(told) >= 8, "posts come")
+                line = retired(service, "c")
+                taken = told.count((200, b""))
+                gone.set()
+                counts = dict(word.split("=") for word in line.split()[2:])
+                check("it is told", line[:9], "report c ")
+                check("all is sent", counts["accepted"], counts["exported"])
+                check("some are taken", 0 < int(counts["accepted"]) <= taken + 4, True)
+                told.append(int(counts["accepted"]))
+                wait_for(lambda: len(back_end.posts) > before, "spans arrive")
+
+            in_threads(leave, *(lambda own=own: client(own) for own in range(4)))
+            counted = [count for count in told if isinstance(count, int)]
+            replies = [reply for reply in told if not isinstance(reply, int)]
+            check("taken and counted, or refused", counted, [replies.count((200, b""))])
+            check("what else is told", set(replies) - {(200, b"")} <= {FORBIDDEN, SHUTTING_DOWN}, True)
+            check("after it went", service.post("c", body(9, 9)), FORBIDDEN)
+            check("another's", service.post("a", body(7, 7)), (200, b""))
+        check("the end", service.end(), (0, line_of("a", accepted=20, exported=20), b""))
+
+
+def memory_of(service):
+    """How much memory the process has, in kB."""
+    status = Path(f"/proc/{service.run.pid}/status").read_text()
+    return int(status.split("VmRSS:")[1].split()[0])
+
+
+def many(folder, rounds):
+    """So many tenants come, take a span of ten thousand bytes each, send it and go: how much more memory the process
+    has at the end than after a tenth of them, in kB."""
+    text = request((b"\1" * 16, b"\1" * 8, b"\x2a\x90\x4e" + b"n" * 10_000))
+    with BackEnd() as back_end, Service(folder, [tenant("a", back_end)]) as service, service.connect() as peer:
+        path = document(folder, tenant("c", back_end, wait=86_400_000))
+        first = 0
+        for number in range(rounds):
+            check("it comes", added(service, path), f"added c {number + 1}\n")
+            check("a post", service.post("c", text, peer), (200, b""))
+            check("it goes", retired(service, "c"), line_of("c", accepted=1, exported=1))
+            back_end.posts.clear()
+            if number + 1 == max(rounds // 10, 1):
+                first = memory_of(service)
+        more = memory_of(service) - first
+        peer.close()
+        check("the end", service.end(), (0, line_of("a"), b""))
+    return more
+
+
+def memory_comes_back(folder):
+    """Tenants that come, take spans, send them and go leave no memory behind."""
+    more = many(folder, ROUNDS)
+    check(f"memory that {ROUNDS} left, {more} kB", more <= ROUNDS * MOST_A_ROUND, True)
+
+
+TESTS = (without_spans, with_spans, with_an_audit, refused_documents, while_it_goes, memory_comes_back)
