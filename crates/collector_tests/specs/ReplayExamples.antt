@@ -122,8 +122,10 @@ pub record OwnParts : Type 0 where
 
 -- of the script of one tenant, the idle turn is not the tenant's own; alone it is answered 200 and has its job
 pub record AloneParts : Type 0 where
-  pub commands : own_commands (codes "a") (commands_of (lines_of script)) (lines_of told) ≡ Post (codes "a") 0 (body 17 33) ∷ Turn 0 1000 ∷ []
-  pub lines : lines_for (codes "a") (commands_of (lines_of script)) (lines_of told) ≡ codes "reply a 200 -" ∷ (codes "job a 1 " ++ hex) ∷ []
+  pub commands : own_commands (codes "a") (commands_of (lines_of script)) (lines_of told)
+      ≡ Post (codes "a") 0 (body 17 33) ∷ Turn 0 1000 ∷ []
+  pub lines : lines_for (codes "a") (commands_of (lines_of script)) (lines_of told)
+      ≡ codes "reply a 200 -" ∷ (codes "job a 1 " ++ hex) ∷ []
   pub alone : AnswersAlone (codes "a") plain [] (Post (codes "a") 0 (body 17 33) ∷ Turn 0 1000 ∷ [])
       (codes "reply a 200 -" ∷ (codes "job a 1 " ++ hex) ∷ [])
   pub no_value : AnswersAlone (codes "a") plain [] (Post (codes "a") 0 (0 ∷ 0 ∷ []) ∷ [])

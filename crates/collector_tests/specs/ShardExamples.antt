@@ -72,7 +72,8 @@ pub record FourSteps : Type 0 where
 pub record EachIsTold : Type 0 where
   pub steps_of_0 : own_steps 0 four_steps four_outcomes
       ≡ asked_in (Post 0 (prepared 0 17 33)) ∷ Piped (plain (own.Turn 2000)) ∷ []
-  pub alone_0 : alone (new_life (Some two_seconds)) (asked_in (Post 0 (prepared 0 17 33)) ∷ Piped (plain (own.Turn 2000)) ∷ [])
+  pub alone_0 : alone (new_life (Some two_seconds))
+      (asked_in (Post 0 (prepared 0 17 33)) ∷ Piped (plain (own.Turn 2000)) ∷ [])
       ≡ accepted ∷ Answered (replies.Job 1 (body 17 33)) ∷ []
   pub told_to_0 : told_to 0 four_outcomes ≡ taken 0 ∷ outcome.Job 0 1 (body 17 33) ∷ []
   pub named_0 : map (named 0) (accepted ∷ Answered (replies.Job 1 (body 17 33)) ∷ [])
