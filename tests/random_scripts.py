@@ -22,7 +22,8 @@ from serving.talk import NAMES
 
 HERE = Path(__file__).resolve().parent.parent
 FOLLOWED = {True: "sampled traces that are remembered", False: "dropped traces that are remembered"}
-KINDS = {"reply 200", "reply 400", "reply 429", "reply 503", "job", "worked", "idle", "done", "refused", "report", "added"}
+KINDS = {"reply 200", "reply 400", "reply 429", "reply 503", "job", "worked", "idle", "done", "refused", "report", "added",
+         "status"}
 GONE, BACK = "tenants that left", "names that came back"
 
 
@@ -33,7 +34,7 @@ def replayed(program, folder, story):
     script = "".join(f"{command}\n" for command in story.script)
     done = subprocess.run([program, "replay", file], input=script, capture_output=True, text=True, timeout=60,
                           check=False)
-    return done.stdout.splitlines() + ([f"{done.returncode} {done.stderr}"] if done.returncode or done.stderr else [])
+    return done.stdout.splitlines() + ([f"status {done.returncode} {done.stderr}"] if done.returncode or done.stderr else [])
 
 
 def kind_of(line):

@@ -118,6 +118,8 @@ class Story:
             self.step()
         for one in self.present:
             self.report(one, self.now)
+        if chance.random() < 0.3:
+            self.stray()
 
     def put(self, command, line):
         self.script.append(command)
@@ -135,8 +137,8 @@ class Story:
         return chance.choice((0, max(0, self.now - 7), self.now + 20)) if which < 50 else self.now
 
     def step(self):
-        which = self.chance.randrange(210)
-        if which >= 206 or not self.present:
+        which = self.chance.randrange(220)
+        if which >= 212 or not self.present:
             self.add()
             return
         one, moment = self.chance.choice(self.present), self.moment()
@@ -149,7 +151,7 @@ class Story:
             self.answer(one, moment)
         elif which < 199:
             self.report(one, moment)
-        elif which < 202:
+        elif which < 203:
             one.drain(moment)
             self.put(f"drain {one.name} {moment}", f"done {one.name}")
         else:
@@ -177,10 +179,14 @@ class Story:
         self.put(f"answer {one.name} {moment} {ticket} {word} {status} {after} {body.hex() or '-'}",
                  f"done {one.name}" if heard else f"refused {one.name} 21")
 
+    def names_that_left(self):
+        return sorted({one.name for one in self.pipelines} - {one.name for one in self.present})
+
     def add(self):
-        """A tenant of one of six names, some of them present and some of them of tenants that left. At times no document."""
-        chance = self.chance
-        one, tenants = Pipeline(chance.choice("abcdef"), tenant_settings(chance)), chance.choice((0, 1, 1, 1, 1, 1, 1, 1, 2))
+        """A tenant, mostly under a name of one that left, or else one of six names. At times no document."""
+        chance, left = self.chance, self.names_that_left()
+        name = chance.choice(left if left and chance.random() < 0.7 else "abcdef")
+        one, tenants = Pipeline(name, tenant_settings(chance)), chance.choice((0, 1, 1, 1, 1, 1, 1, 1, 2))
         text = toml.document({"tenant": tables([one] * tenants)})
         if chance.random() < 0.1:
             self.put(f"add {chance.choice(('ff', '5b'))}", "refused add 10")
@@ -201,6 +207,13 @@ class Story:
         self.put(f"retire {one.name} {moment}", f"report {one.name} {report}")
         self.present.remove(one)
         self.shards.leave(one)
+
+    def stray(self):
+        """Names a tenant that left, or one that never came, which ends the replay."""
+        name = self.chance.choice(self.names_that_left() or ["g"])
+        command = self.chance.choice(("post {} {} -", "answer {} {} 1 0 200 - -", "report {} {}", "drain {} {}", "retire {} {}"))
+        self.put(command.format(name, self.now), f"status 1 script fault at line {len(self.script) + 1}\n")
+        self.script.append("turn 0 0")
 
     def report(self, one, moment):
         self.put(f"report {one.name} {moment}", f"report {one.name} {one.report(moment)}")

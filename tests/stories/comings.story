@@ -37,3 +37,11 @@ add a BASE = added a 2
 drain a 2000 = done a
 post a 2000 11.21 = reply a 503 120d7368757474696e6720646f776e
 retire a 2000 = report a -
+
+# Who comes to their shard changes nothing of what others are told.
+story others_are_told_the_same: BASE BASE
+add c BASE = added c 2
+post a 0 11.21 = reply a 200 -
+post b 0 11.31 = reply b 200 -
+turn 1000 = job a 1 11.21
+turn 1000 = job b 1 11.31

@@ -8,10 +8,11 @@ use Rattle.tail_settings.specs.Settings.{SettingsData, TenantData, settings_of}
 use Rattle.tail_settings.specs.declared.fault.SettingsFault.TheVariants.{NotToml, TooMany}
 use Rattle.send_retry.specs.Class.{Failed}
 use Rattle.collector_tests.specs.Parts.{plain, body}
-use Rattle.replay_script.specs.Command.{Post, Turn, Answer, Report, Drain}
+use Rattle.replay_script.specs.Command.{CommandData, Post, Turn, Answer, Report, Drain}
 use Rattle.trace_collector.specs.declared.engine.ReplayFault.TheVariants.{Settings, Script, Line, OutOfMemory}
 use Rattle.trace_collector.specs.Script.{ScriptText, BeginsScriptText}
-use Rattle.trace_collector.specs.Own.{lines_for, own_commands}
+use Rattle.replay_script.specs.Line.{lines_of}
+use Rattle.trace_collector.specs.Own.{commands_of, lines_for, own_commands}
 use Rattle.trace_collector.specs.Alone.{AnswersAlone}
 use Rattle.trace_collector.specs.Replay.{IsReplay}
 
@@ -101,25 +102,30 @@ shared_script = codes "post a 0 -\n# b 1\npost b 5 0a\nturn 0 999\nturn 2 1000\n
 abbrev pub shared_text : List ℕ
 shared_text = codes "reply a 200 -\nreply b 200 -\nidle 0\njob a 1 0aff\nworked b\nreply a 400 00\nrefused b 21\nreport a b=1\ndone b\n"
 
+abbrev pub shared_commands : List CommandData
+shared_commands = commands_of (lines_of shared_script)
+
 -- each line is the tenant's whose name is its second word; a shard's number is none, also where a tenant is called `0`.
 -- Where a turn went is not the tenant's matter
 pub record OwnParts : Type 0 where
-  pub lines_of_a : lines_for (codes "a") shared_text
+  pub lines_of_a : lines_for (codes "a") shared_commands (lines_of shared_text)
       ≡ codes "reply a 200 -" ∷ codes "job a 1 0aff" ∷ codes "reply a 400 00" ∷ codes "report a b=1" ∷ []
-  pub lines_of_b : lines_for (codes "b") shared_text
+  pub lines_of_b : lines_for (codes "b") shared_commands (lines_of shared_text)
       ≡ codes "reply b 200 -" ∷ codes "worked b" ∷ codes "refused b 21" ∷ codes "done b" ∷ []
-  pub lines_of_0 : lines_for (codes "0") shared_text ≡ []
-  pub a_longer_name : lines_for (codes "ab") shared_text ≡ []
-  pub commands_of_a : own_commands (codes "a") shared_script shared_text
+  pub lines_of_0 : lines_for (codes "0") shared_commands (lines_of shared_text) ≡ []
+  pub a_longer_name : lines_for (codes "ab") shared_commands (lines_of shared_text) ≡ []
+  pub commands_of_a : own_commands (codes "a") shared_commands (lines_of shared_text)
       ≡ Post (codes "a") 0 [] ∷ Turn 0 1000 ∷ Post (codes "a") 2000 (0 ∷ []) ∷ Report (codes "a") 7 ∷ []
-  pub commands_of_b : own_commands (codes "b") shared_script shared_text
+  pub commands_of_b : own_commands (codes "b") shared_commands (lines_of shared_text)
       ≡ Post (codes "b") 5 (10 ∷ []) ∷ Turn 0 2000 ∷ Answer (codes "b") 3 1 0 Failed ∷ Drain (codes "b") 8 ∷ []
-  pub commands_of_0 : own_commands (codes "0") shared_script shared_text ≡ []
+  pub commands_of_0 : own_commands (codes "0") shared_commands (lines_of shared_text) ≡ []
 
 -- of the script of one tenant, the idle turn is not the tenant's own; alone it is answered 200 and has its job
 pub record AloneParts : Type 0 where
-  pub commands : own_commands (codes "a") script told ≡ Post (codes "a") 0 (body 17 33) ∷ Turn 0 1000 ∷ []
-  pub lines : lines_for (codes "a") told ≡ codes "reply a 200 -" ∷ (codes "job a 1 " ++ hex) ∷ []
+  pub commands : own_commands (codes "a") (commands_of (lines_of script)) (lines_of told)
+      ≡ Post (codes "a") 0 (body 17 33) ∷ Turn 0 1000 ∷ []
+  pub lines : lines_for (codes "a") (commands_of (lines_of script)) (lines_of told)
+      ≡ codes "reply a 200 -" ∷ (codes "job a 1 " ++ hex) ∷ []
   pub alone : AnswersAlone (codes "a") plain [] (Post (codes "a") 0 (body 17 33) ∷ Turn 0 1000 ∷ [])
       (codes "reply a 200 -" ∷ (codes "job a 1 " ++ hex) ∷ [])
   pub no_value : AnswersAlone (codes "a") plain [] (Post (codes "a") 0 (0 ∷ 0 ∷ []) ∷ [])

@@ -1,5 +1,5 @@
 -- What the definitions give on small shards whose own steps are known, worked out by hand. This project's own rules.
-use Rattle.std.specs.Prelude.{◌≡◌, ℕ, zero, suc, true, List, [], ◌∷◌, map, Option, Some, None}
+use Rattle.std.specs.Prelude.{◌≡◌, ℕ, zero, suc, List, [], ◌∷◌, map, Option, Some, None}
 use Rattle.tail_settings.specs.Policy.{PolicyData, latency, leaf}
 use Rattle.tail_settings.specs.Section.{SectionData}
 use Rattle.tenant_rules.specs.declared.reply.StepReply.TheVariants as replies
@@ -10,8 +10,8 @@ use Rattle.tenant_shard.specs.declared.step.Step.{Step}
 use Rattle.tenant_shard.specs.declared.step.Step.TheVariants.{Post, Turn}
 use Rattle.tenant_shard.specs.declared.step.Outcome.{Outcome}
 use Rattle.tenant_shard.specs.declared.step.Outcome.TheVariants as outcome
-use Rattle.tenant_shard.specs.Lists.{Lists}
-use Rattle.tenant_shard.specs.Outcomes.{plain, own_step, Answer, Answered, named}
+use Rattle.tenant_shard.specs.Lives.{Lives, new_life}
+use Rattle.tenant_shard.specs.Outcomes.{plain, Piped, asked_in, Answer, Answered, named}
 use Rattle.tenant_shard.specs.Run.{after, IsNext, Run}
 use Rattle.tenant_shard.specs.Alone.{alone, own_steps, told_to}
 
@@ -43,11 +43,11 @@ sections_of_two (suc zero) = Some one_second
 sections_of_two (suc (suc tenant)) = None
 
 -- tenant 0 waits two seconds, tenant 1 one, and neither has had a step
-abbrev pub two : Lists
-two = record { sections = sections_of_two; pasts = λ tenant. []; known = λ tenant. true }
+abbrev pub two : Lives
+two tenant = new_life (sections_of_two tenant)
 
 -- a span of each: 0 is ready at 2000, 1 at 1500
-abbrev pub posted : Lists
+abbrev pub posted : Lives
 posted = after (Post 500 (prepared 1 18 34)) (taken 1) (after (Post 0 (prepared 0 17 33)) (taken 0) two)
 
 -- a post for the tenant's policies isn't refused, and a turn isn't idle when a tenant is ready
@@ -71,12 +71,13 @@ pub record FourSteps : Type 0 where
 -- the promise: what the first is told in the run is what its pipeline alone answers to its own steps
 pub record EachIsTold : Type 0 where
   pub steps_of_0 : own_steps 0 four_steps four_outcomes
-      ≡ own_step (Post 0 (prepared 0 17 33)) ∷ plain (own.Turn 2000) ∷ []
-  pub alone_0 : alone two_seconds [] (own_step (Post 0 (prepared 0 17 33)) ∷ plain (own.Turn 2000) ∷ [])
+      ≡ asked_in (Post 0 (prepared 0 17 33)) ∷ Piped (plain (own.Turn 2000)) ∷ []
+  pub alone_0 : alone (new_life (Some two_seconds))
+      (asked_in (Post 0 (prepared 0 17 33)) ∷ Piped (plain (own.Turn 2000)) ∷ [])
       ≡ accepted ∷ Answered (replies.Job 1 (body 17 33)) ∷ []
   pub told_to_0 : told_to 0 four_outcomes ≡ taken 0 ∷ outcome.Job 0 1 (body 17 33) ∷ []
   pub named_0 : map (named 0) (accepted ∷ Answered (replies.Job 1 (body 17 33)) ∷ [])
       ≡ taken 0 ∷ outcome.Job 0 1 (body 17 33) ∷ []
   pub steps_of_1 : own_steps 1 four_steps four_outcomes
-      ≡ own_step (Post 500 (prepared 1 18 34)) ∷ plain (own.Turn 2000) ∷ []
+      ≡ asked_in (Post 500 (prepared 1 18 34)) ∷ Piped (plain (own.Turn 2000)) ∷ []
   pub told_to_1 : told_to 1 four_outcomes ≡ taken 1 ∷ outcome.Job 1 1 (body 18 34) ∷ []

@@ -107,6 +107,14 @@ fn post_of<R: Threads + Sync>(
     Ok(Step::Post { now, prepared })
 }
 
+/// The coming of the tenant of the document's first letter, with the section of the one of its last.
+fn added(settings: &Settings, document: &[u8]) -> Result<Step, Fail> {
+    let tenant = number_of(document.first());
+    let own = number_of(document.last());
+    let section = settings.section(own).ok_or("no such section")?.copy()?;
+    Ok(Step::Add { tenant, section })
+}
+
 /// The step that a command asks for.
 fn asked<R: Threads + Sync>(
     rt: &R,
@@ -135,6 +143,11 @@ fn asked<R: Threads + Sync>(
             now: moment,
         }),
         Command::Drain { name, moment } => Ok(Step::Drain {
+            tenant: number_of(name.as_bytes().first()),
+            now: moment,
+        }),
+        Command::Add { document } => added(settings, document.as_slice()),
+        Command::Retire { name, moment } => Ok(Step::Retire {
             tenant: number_of(name.as_bytes().first()),
             now: moment,
         }),

@@ -37,6 +37,38 @@ report b 1000 = report b accepted=1 undecided=0 pending=0 queued=0 active=1 \
 exported=0 not_sampled=0 too_early=0 queue_full=0 \
 retry_exhausted=0 back_end_refused=0 back_end_rejected=0 invalid=0 over_budget=0";
 
+/// A tenant comes with the second's section, unless it is or was a member, and goes once it was drained and holds no
+/// span. In a document `63` is c and `62` is b.
+const COMING: &str = "post c.b 0 11.21 = refused c 22
+retire c 0 = refused c 22
+add 6162 = refused a 25
+add 6362 = done c
+add 6362 = refused c 25
+post c.a 0 11.21 = refused c 23
+post c.b 0 11.21 = reply c 200 -
+drain c 999 = done c
+retire c 999 = refused c 26
+turn 0 999 = job c 1 11.21
+retire c 999 = refused c 26
+answer c 999 1 0 200 - - = done c
+retire c 999 = report c accepted=1 undecided=0 pending=0 queued=0 active=0 \
+exported=1 not_sampled=0 too_early=0 queue_full=0 \
+retry_exhausted=0 back_end_refused=0 back_end_rejected=0 invalid=0 over_budget=0
+retire c 999 = refused c 22
+post c.b 999 11.22 = refused c 22
+add 6362 = refused c 25";
+
+/// The first comes to the second's shard, and leaves it.
+const STRANGER: &str = "add 6161 = done a
+post a 0 11.21 = reply a 200 -
+turn 0 1000 = worked a
+retire a 1000 = refused a 26
+drain a 1000 = done a
+retire a 1000 = report a accepted=1 undecided=0 pending=0 queued=0 active=0 \
+exported=0 not_sampled=1 too_early=0 queue_full=0 \
+retry_exhausted=0 back_end_refused=0 back_end_rejected=0 invalid=0 over_budget=0
+add 6161 = refused a 25";
+
 /// What the steps of a story are told in one run of a new shard with these members.
 fn told<R: Threads + Sync>(
     rt: &R,
@@ -75,6 +107,8 @@ fn members_are_told_their_own(rt: HostRuntime) -> Result<(), Fail> {
         (BASE, both, EQUAL),
         (BASE, both, ALONE),
         (BASE, second, ALONE),
+        (ERRORS, both, COMING),
+        (ERRORS, second, STRANGER),
     ];
     for (table, members, story) in cases {
         assert!(rt; is_true(&rt, rt.alloc(), table, members, story)?, "{story}");

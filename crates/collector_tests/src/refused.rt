@@ -16,7 +16,7 @@ use tenant_shard::{Outcome, Shard, Step, Stopped};
 const TABLES: [&str; 3] = [TWO_OR_THREE, NARROW, ERRORS];
 
 /// Spans join, come late and are evicted, batches are sent again and given up, are taken, rejected and refused, a queue
-/// is full, and tenants are drained.
+/// is full, and tenants are drained. A fourth comes with the section of c, and goes.
 const STORY: &str = "post a 0 1001:11.21+11.22/1002:12.23 = reply a 200 -
 post b 0 1001:11.21/12.22 = reply b 200 -
 post c 0 11.21.7a021802+12.22 = reply c 200 -
@@ -54,6 +54,16 @@ retry_exhausted=1 back_end_refused=0 back_end_rejected=0 invalid=0 over_budget=0
 report c 2300 = report c accepted=6 undecided=0 pending=0 queued=0 \
 active=0 exported=1 not_sampled=3 too_early=0 queue_full=0 \
 retry_exhausted=0 back_end_refused=2 back_end_rejected=0 invalid=0 over_budget=0
+add 6863 = done h
+post h.c 2300 11.21.7a021802 = reply h 200 -
+drain h 2300 = done h
+turn 0 2300 = job h 1 11.21.7a021802
+retire h 2300 = refused h 26
+answer h 2300 1 0 200 - - = done h
+retire h 2300 = report h accepted=1 undecided=0 pending=0 queued=0 \
+active=0 exported=1 not_sampled=0 too_early=0 queue_full=0 \
+retry_exhausted=0 back_end_refused=0 back_end_rejected=0 invalid=0 over_budget=0
+add 6863 = refused h 25
 turn 0 999999 = idle 0";
 
 /// Of traces that left a remembers one that was sampled and one that wasn't, b two that were sampled, and c none.

@@ -17,9 +17,10 @@ use Rattle.shard_agenda.specs.Pick.{NotAfter}
 use Rattle.replay_script.proofs.OnLiterals.{script_on_literals, answers_on_literals}
 use Rattle.replay_script.specs.Command.{Post, Turn, Answer, Report, Drain}
 use Rattle.replay_script.specs.Line.{lines_of}
-use Rattle.trace_collector.specs.Answered.{lists_of, joined, posted, HasNoValue, IsAnswered}
+use Rattle.trace_collector.specs.Answered.{lives_of, joined, posted, HasNoValue, IsAnswered}
 use Rattle.trace_collector.specs.Alone.{AnswersAlone}
-use Rattle.trace_collector.specs.Script.{no_steps, ScriptText, BeginsScriptText}
+use Rattle.trace_collector.specs.Session.{Session, no_steps}
+use Rattle.trace_collector.specs.Script.{ScriptText, BeginsScriptText}
 use Rattle.trace_collector.proofs.One.{told_one, script_answered_one, same_value}
 use Rattle.collector_tests.specs.Parts.{plain, body}
 use Rattle.collector_tests.specs.ReplayExamples.{value, one_tenant, counters, hex, script, told, begun, faulty_script}
@@ -43,6 +44,10 @@ has_none exact v is = let same : false ≡ true = ap is_ok ((exact (0 ∷ 0 ∷ 
 
 -- ---- the steps
 
+-- the tenant stays, with these own steps
+abbrev of_one : (ℕ → List Own) → Session
+of_one pasts = record { table = one_tenant; pasts = pasts }
+
 abbrev the_post : OwnStep
 the_post = posted 0 0 plain (value 17 33)
 
@@ -50,43 +55,43 @@ abbrev accepted : Outcome
 accepted = outcome.Reply 0 (record { status = 200; body = [] })
 
 abbrev after_post : ℕ → List Own
-after_post = joined (Some 0) the_post accepted (lists_of one_tenant no_steps 0)
+after_post = joined (Some 0) the_post accepted (lives_of one_tenant no_steps 0)
 
 abbrev idled : ℕ → List Own
-idled = joined None (plain_step (own.Turn 999)) outcome.Idle (lists_of one_tenant after_post 0)
+idled = joined None (plain_step (own.Turn 999)) outcome.Idle (lives_of one_tenant after_post 0)
 
 abbrev the_job : Outcome
 the_job = outcome.Job 0 1 (body 17 33)
 
 abbrev handed : ℕ → List Own
-handed = joined None (plain_step (own.Turn 1000)) the_job (lists_of one_tenant idled 0)
+handed = joined None (plain_step (own.Turn 1000)) the_job (lives_of one_tenant idled 0)
 
 none_either : (b : Bool) (past : List Own) (seen : Option ℕ) → ready_after (if b then None else None) past true seen ≡ None
 none_either true past seen = refl
 none_either false past seen = refl
 
 -- no other tenant is ever ready
-no_other : (pasts : ℕ → List Own) (n : ℕ) → ready_at (lists_of one_tenant pasts 0) [] (suc n) ≡ None
+no_other : (pasts : ℕ → List Own) (n : ℕ) → ready_at (lives_of one_tenant pasts 0) [] (suc n) ≡ None
 no_other pasts n =
     let apart : (0 == suc n) ≡ false = ne_eqb 0 (suc n) (λ e. omega (arith, e)) in
     let none : section_at one_tenant (suc n) ≡ None = rw apart refl in
     subst (λ (section : Option SectionData). ready_after (if suc n % 1 == 0 then section else None) (pasts (suc n)) true None ≡ None) (sym none)
     (none_either (suc n % 1 == 0) (pasts (suc n)) None)
 
-post_is_answered : Exact → IsAnswered one_tenant no_steps (Post (codes "a") 0 (body 17 33)) (Some (codes "reply a 200 -\n")) after_post
+post_is_answered : Exact → IsAnswered (of_one no_steps) (Post (codes "a") 0 (body 17 33)) (Some (codes "reply a 200 -\n")) (of_one after_post)
 unfolding pipelines_on_literals answers_on_literals
-post_is_answered exact = inl (plain, value 17 33, refl, has_this_value exact, (accepted, refl, refl, refl))
+post_is_answered exact = (refl, inl (plain, value 17 33, refl, has_this_value exact, (accepted, refl, refl, refl)))
 
-idle_before : (tenant moment : ℕ) → ready_at (lists_of one_tenant after_post 0) [] tenant ≡ Some moment → 999 < moment
+idle_before : (tenant moment : ℕ) → ready_at (lives_of one_tenant after_post 0) [] tenant ≡ Some moment → 999 < moment
 unfolding pipelines_on_literals
 idle_before zero moment h = omega (arith, some_same 1000 moment h)
 idle_before (suc n) moment h = absurd (never moment (sym (no_other after_post n) ∙ h))
 
-turn_is_idle : IsAnswered one_tenant after_post (Turn 0 999) (Some (codes "idle 0\n")) idled
+turn_is_idle : IsAnswered (of_one after_post) (Turn 0 999) (Some (codes "idle 0\n")) (of_one idled)
 unfolding answers_on_literals pipelines_on_literals
-turn_is_idle = (outcome.Idle, (None, idle_before, refl), refl, refl)
+turn_is_idle = (refl, (outcome.Idle, (None, idle_before, refl), refl, refl))
 
-first_ready : (tenant moment : ℕ) → ready_at (lists_of one_tenant idled 0) [] tenant ≡ Some moment → NotAfter 1000 0 moment tenant
+first_ready : (tenant moment : ℕ) → ready_at (lives_of one_tenant idled 0) [] tenant ≡ Some moment → NotAfter 1000 0 moment tenant
 unfolding pipelines_on_literals
 first_ready zero moment h = inr (some_same 1000 moment h, omega arith)
 first_ready (suc n) moment h = absurd (never moment (sym (no_other idled n) ∙ h))
@@ -94,9 +99,9 @@ first_ready (suc n) moment h = absurd (never moment (sym (no_other idled n) ∙ 
 abbrev job_line : List ℕ
 job_line = codes "job a 1 " ++ (hex ++ codes "\n")
 
-turn_hands_out : IsAnswered one_tenant idled (Turn 0 1000) (Some job_line) handed
+turn_hands_out : IsAnswered (of_one idled) (Turn 0 1000) (Some job_line) (of_one handed)
 unfolding pipelines_on_literals answers_on_literals
-turn_hands_out = (the_job, (Some 0, (1000, refl, omega arith, first_ready), refl), refl, refl)
+turn_hands_out = (refl, (the_job, (Some 0, (1000, refl, omega arith, first_ready), refl), refl, refl))
 
 -- ---- scripts
 
@@ -104,12 +109,12 @@ whole_text : Exact → ScriptText one_tenant script told None
 unfolding script_on_literals
 whole_text exact = (
   Some (codes "reply a 200 -\n"),
-  after_post,
+  of_one after_post,
   post_is_answered exact,
   (
     codes "idle 0\n" ++ job_line,
     refl,
-    (Some (codes "idle 0\n"), idled, turn_is_idle, (job_line, refl, (Some job_line, handed, turn_hands_out, ([], refl, (refl, refl))))),
+    (Some (codes "idle 0\n"), of_one idled, turn_is_idle, (job_line, refl, (Some job_line, of_one handed, turn_hands_out, ([], refl, (refl, refl))))),
   ),
 )
 
@@ -123,25 +128,28 @@ begins exact = (
   refl,
   (
     Some (codes "reply a 200 -\n"),
-    after_post,
+    of_one after_post,
     post_is_answered exact,
-    (codes "idle 0\n", refl, (Some (codes "idle 0\n"), idled, turn_is_idle, ([], refl, (refl, refl)))),
+    (codes "idle 0\n", refl, (Some (codes "idle 0\n"), of_one idled, turn_is_idle, ([], refl, (refl, refl)))),
   ),
 )
 
 -- with no step before, no tenant is ready
-none_ready : (tenant moment : ℕ) → ready_at (lists_of one_tenant no_steps 0) [] tenant ≡ Some moment → 0 < moment
+none_ready : (tenant moment : ℕ) → ready_at (lives_of one_tenant no_steps 0) [] tenant ≡ Some moment → 0 < moment
 unfolding pipelines_on_literals
 none_ready zero moment h = absurd (never moment h)
 none_ready (suc n) moment h = absurd (never moment (sym (no_other no_steps n) ∙ h))
+
+abbrev turned : ℕ → List Own
+turned = joined None (plain_step (own.Turn 0)) outcome.Idle (lives_of one_tenant no_steps 0)
 
 second_faulty : ScriptText one_tenant faulty_script (codes "idle 0\n") (Some 2)
 unfolding script_on_literals answers_on_literals
 second_faulty = (
   Some (codes "idle 0\n"),
-  joined None (plain_step (own.Turn 0)) outcome.Idle (lists_of one_tenant no_steps 0),
-  (outcome.Idle, (None, none_ready, refl), refl, refl),
-  ([], refl, (None, joined None (plain_step (own.Turn 0)) outcome.Idle (lists_of one_tenant no_steps 0), (refl, refl), (refl, refl))),
+  of_one turned,
+  (refl, (outcome.Idle, (None, none_ready, refl), refl, refl)),
+  ([], refl, (None, of_one turned, (refl, (refl, refl)), (refl, refl))),
 )
 
 pub returns-clause-scripts : goal.returns-clause-scripts
@@ -209,8 +217,8 @@ some_told none = let lengths : 98 ≡ 0 = ap length none in omega (arith, length
 half_told : Exact → ScriptText one_tenant script begun None → ⊥
 unfolding Exact
 half_told exact half =
-    let same = told_one (IsAnswered one_tenant) (λ h k k' command line line'. script_answered_one (same_value exact) one_tenant h k k' command line line')
-    (lines_of script) 1 no_steps told begun None None (whole_text exact) half in
+    let same = told_one IsAnswered (λ h k k' command line line'. script_answered_one (same_value exact) h k k' command line line')
+    (lines_of script) 1 (of_one no_steps) told begun None None (whole_text exact) half in
     let lengths : 98 ≡ 16 = ap length same.0 in
     omega (arith, lengths)
 

@@ -2,7 +2,7 @@ use Rattle.std.proofs.Common.{◌≡◌, ℕ, zero, suc, ◌<◌, true, false, [
 use Rattle.tenant_rules.specs.Own as own
 use Rattle.tenant_shard.specs.declared.step.Outcome.TheVariants.{Job, Idle}
 use Rattle.tenant_shard.specs.declared.step.Step.TheVariants.{Turn}
-use Rattle.tenant_shard.specs.Lists.{Lists}
+use Rattle.tenant_shard.specs.Lives.{Lives}
 use Rattle.tenant_shard.specs.Outcomes.{plain, told_whom}
 use Rattle.tenant_shard.specs.Pick.{ready_at}
 use Rattle.shard_agenda.specs.Pick.{NotAfter, IsPick}
@@ -49,7 +49,7 @@ returns-clause-nexts c = record {
 -- ---- a run
 
 -- the job of tenant 1 was handed out
-abbrev handed : Lists
+abbrev handed : Lives
 handed = after (Turn 2000) (Job 1 1 (body 18 34)) posted
 
 handed_0_first : (tenant moment : ℕ) → ready_at handed [] tenant ≡ Some moment → NotAfter 2000 0 moment tenant
