@@ -12,21 +12,24 @@ use tail_policy::Policy;
 /// Holds the note of a span that starts at 0 until the note of one that starts later was begun.
 #[derive(Drop)]
 struct Gate {
+    // How many turns a note is held at most.
+    turns: u32,
     begun: AtomicBool,
     passed: AtomicBool,
 }
 
 impl Gate {
-    fn closed() -> Gate {
+    fn closed(turns: u32) -> Gate {
         Gate {
+            turns,
             begun: AtomicBool::new(false),
             passed: AtomicBool::new(false),
         }
     }
 
-    /// Waits for the later span, at most 1,000,000 turns.
+    /// Waits for the later span.
     fn hold(&self) {
-        for _ in 0..1_000_000 {
+        for _ in 0..self.turns {
             if self.begun.load(Ordering::SeqCst) {
                 self.passed.store(true, Ordering::SeqCst);
                 return;
@@ -81,7 +84,7 @@ fn checked<'a>(rt: &impl Abort, span: &'a [u8]) -> SpanRef<'a> {
 
 #[test]
 fn the_first_part_waits_for_the_second(rt: HostRuntime) -> Result<(), Fail> {
-    let gate = Gate::closed();
+    let gate = Gate::closed(1_000_000);
     let spans = [checked(&rt, b""), checked(&rt, LATER)];
     let notes = note_all(&rt, rt.alloc(), &gate, &spans, 2)?;
     assert_eq!(rt; notes.len(), 2);
@@ -91,7 +94,7 @@ fn the_first_part_waits_for_the_second(rt: HostRuntime) -> Result<(), Fail> {
 
 #[test]
 fn one_part_waits_in_vain(rt: HostRuntime) -> Result<(), Fail> {
-    let gate = Gate::closed();
+    let gate = Gate::closed(10_000);
     let spans = [checked(&rt, b""), checked(&rt, LATER)];
     let notes = note_all(&rt, rt.alloc(), &gate, &spans, 1)?;
     assert_eq!(rt; notes.len(), 2);
