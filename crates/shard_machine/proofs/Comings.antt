@@ -101,15 +101,11 @@ pub record IsDismissed (t : ℕ) (words : List TenantGenerator) (leaves : Bool) 
   pub removed : leaves ≡ true → IsRemoved t words left
   pub others : leaves ≡ false → left ≡ words
 
+goes : (t : ℕ) (words left : List TenantGenerator) (leaves : Bool) → IsDismissed t words leaves left → Retires t leaves words left
+goes t words left true dismissed = dismissed.removed refl
+goes t words left false dismissed = dismissed.others refl
+
 module _ (t now : ℕ) (words left : List TenantGenerator) (views views' : List View) (are : AreMembers words views) (o : Outcome) (dismissed : IsDismissed t words (reports o) left) where
-  -- whether it went
-  by_leaving : (b : Bool) → reports o ≡ b → (b ≡ true → IsRemoved t words left) → (b ≡ false → left ≡ words) → Retires t b words left
-  by_leaving true is removed others = removed refl
-  by_leaving false is removed others = others refl
-
-  goes : Retires t (reports o) words left
-  goes = by_leaving (reports o) refl dismissed.removed dismissed.others
-
   -- it was no member
   nobody : reports o ≡ false → views' ≡ views → AreMembers left views'
   nobody stays same = with_same_words words left views views' are (dismissed.others stays) (stay_same views views' same)
@@ -142,8 +138,8 @@ module _ (t now : ℕ) (words left : List TenantGenerator) (views views' : List 
       member u m.before m.after m.whose.0 m.was (m.is_now ∙ ap (λ (b : Bool). if b && reports o then None else Some m.after) retires) m.others
   leaves (inr (inr (u, a))) = absurd (never_comes (asked_in (steps.Retire t now)) (plain (own.Retire now)) a.whose.section refl a.whose.comes)
 
-pub left_go_on : (step : Step) (t now : ℕ) (words left : List TenantGenerator) (views views' : List View) (o : Outcome) → step ≡ steps.Retire t now → AreMembers words views → IsDismissed t words (reports o) left → GeneratorsGoOn step o words left
-left_go_on step t now words left views views' o is are dismissed = subst (λ s. GeneratorsGoOn s o words left) (sym is) (goes t now words left views views' are o dismissed)
+pub left_go_on : (step : Step) (t now : ℕ) (words left : List TenantGenerator) (o : Outcome) → step ≡ steps.Retire t now → IsDismissed t words (reports o) left → GeneratorsGoOn step o words left
+left_go_on step t now words left o is dismissed = subst (λ s. GeneratorsGoOn s o words left) (sym is) (goes t words left (reports o) dismissed)
 
 pub left_members : (step : Step) (t now : ℕ) (words left : List TenantGenerator) (views views' : List View) (o : Outcome) → step ≡ steps.Retire t now → AreMembers words views → IsDismissed t words (reports o) left → ShardFollows step views o views' → AreMembers left views'
 left_members step t now words left views views' o is are dismissed follows = leaves t now words left views views' are o dismissed (subst (λ s. ShardFollows s views o views') is follows)
@@ -165,3 +161,8 @@ goes_told step words (Err fault) is_plain = tt
 pub members_told : {E : Type 0} (step : Step) (words : List TenantGenerator) (views views' : List View) (told : Result Outcome E) → IsPlain step → AreMembers words views → IfOk told (λ o. ShardFollows step views o views') → OnErr told (ShardRefuses step views views') → AreMembers words views'
 members_told step words views views' (Ok o) is_plain are follows refuses = plain_members step words views o views' is_plain are follows
 members_told step words views views' (Err fault) is_plain are follows refuses = members_refused step words words views views' are refl (inl refuses)
+
+-- what holds in any case holds where it was refused memory
+pub if_refused : {A E : Type 0} (P : Type 0) (told : Result A E) → P → OnErr told P
+if_refused P (Ok o) holds = tt
+if_refused P (Err fault) holds = holds
