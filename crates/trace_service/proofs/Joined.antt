@@ -43,7 +43,7 @@ module _ (first : SettingsData) (shards : ℕ) (present : Present) (old : Caller
   joins now text newcomer left new line came who joined =
       let name = string_bytes newcomer.name in
       let told = added now who.grown text name newcomer.section joined.outcome joined.receipt new came who.admits
-          (rw who.number at who.name) (rw who.number at who.section) (rw who.number at joined.made) joined.goes in
+      (rw who.number at who.name) (rw who.number at who.section) (rw who.number at joined.made) joined.goes in
       subst (λ l. IsAdded first shards present old l new line)
       (sym (joined.left_are ∙ ap (λ n. present ++ (n, name) ∷ []) who.number))
       (subst (λ t. IsAdded first shards present old (present ++ (now.next, name) ∷ []) new t)
@@ -52,12 +52,12 @@ module _ (first : SettingsData) (shards : ℕ) (present : Present) (old : Caller
   -- or it didn't
   stayed_out : (newcomer : Newcomer) (new : CallerState) (why : NotAdded) → IsNotJoined shards newcomer old new why
       → IsAdded first shards present old present new (not_added_text why)
-  stayed_out newcomer new (Refused number) no =
-      refused newcomer.number number newcomer.section no.0 no.1 new no.2 no.3
-  stayed_out newcomer new OutOfMemory no = no_memory new (inr (newcomer.number, no))
+  stayed_out newcomer new (Refused number) out =
+      refused newcomer.number number newcomer.section out.0 out.1 new out.2 out.3
+  stayed_out newcomer new OutOfMemory out = no_memory new (inr (newcomer.number, out))
 
   pub joins_not : (newcomer : Newcomer) (left : Present) (new : CallerState) (why : NotAdded)
       → IsNotJoined shards newcomer old new why → left ≡ present
       → IsAdded first shards present old left new (not_added_text why)
-  joins_not newcomer left new why no same =
-      subst (λ l. IsAdded first shards present old l new (not_added_text why)) (sym same) (stayed_out newcomer new why no)
+  joins_not newcomer left new why out same =
+      subst (λ l. IsAdded first shards present old l new (not_added_text why)) (sym same) (stayed_out newcomer new why out)
