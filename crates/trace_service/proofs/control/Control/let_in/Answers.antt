@@ -31,5 +31,5 @@ pub returns-clause-not_added : goal.returns-clause-not_added
 returns-clause-not_added g c =
     IfErr-weaker c.join.result _ _
     (λ why out. joins_not g.J.Naming.first (length c.args.self.now.context.hub.now) (present_in c.args.roster.now) c.args.self.now.context.caller
-    _ (present_in c.join.new.roster) c.join.new.self.context.caller why out.0 out.1)
+    c.in_ok-newcomer.newcomer (present_in c.join.new.roster) c.join.new.self.context.caller why out.0 out.1)
     (rw c.reserve.ensures.same at c.join.ensures.not_joined)
