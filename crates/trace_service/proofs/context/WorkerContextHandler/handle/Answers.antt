@@ -9,7 +9,7 @@ pub returns-in-Ok-To : goal.returns-in-Ok-To
 returns-in-Ok-To g c =
     let found = c.in-Ok-To.ensures in
     let message = seen c.args.message.now in
-    handled found.0 found.1 (sent_to _ _ _ _ _ message.body _ (route_of (names_in found.0) message) found.0 c.in-Ok-To.tenant c.in-Ok-To.section (rw c.in-Ok-To.field-0-is at found.2) c.post.ensures)
+    handled found.0 found.1 (sent_to _ _ _ _ _ message.body _ (route_of (names_in found.0) message) found.0 c.in-Ok-To.tenant c.in-Ok-To.section (rw c.in-Ok-To.field-0-is at found.2) (rw c.deref.ensures.value at c.post.ensures))
 
 pub returns-in-Ok-Nowhere : goal.returns-in-Ok-Nowhere
 returns-in-Ok-Nowhere g c =
