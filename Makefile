@@ -15,6 +15,7 @@ test: checks
 	@said=$$(python3 tests/random_settings.py $(PROGRAM)/out/trace_collector_program) || { echo "$$said"; exit 1; }
 	@said=$$(python3 tests/service.py $(PROGRAM)/out/trace_collector_program) || { echo "$$said"; exit 1; }
 	@said=$$(python3 tests/replay/steady.py $(PROGRAM)/out/trace_collector_program 100000) || { echo "$$said"; exit 1; }
+	@said=$$(python3 tests/replay/lives.py $(PROGRAM)/out/trace_collector_program 2000) || { echo "$$said"; exit 1; }
 
 # Seconds, with Python alone: the definitions that docs/ quotes stand so in their
 # files, each public definition has its comment, want of memory is made only where

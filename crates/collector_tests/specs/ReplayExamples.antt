@@ -1,6 +1,6 @@
 -- What the definitions give on a small script, worked out by hand, for the tests. Scripts are this project's own rule
 -- (docs/SCRIPT.md), bodies OTLP 1.x's, in the proto3 encoding.
-use Rattle.std.specs.Prelude.{◌≡◌, ℕ, pos, List, [], ◌∷◌, ◌++◌, replicate, codes, Some, None, Ok, Err}
+use Rattle.std.specs.Prelude.{◌≡◌, ℕ, pos, List, [], ◌∷◌, ◌++◌, length, replicate, codes, Some, None, Ok, Err}
 use Rattle.otlp_trace.specs.Data.{SpanData, RequestData}
 use Rattle.tail_settings.specs.Fault.{not_toml}
 use Rattle.tail_settings.specs.Examples.{default_global}

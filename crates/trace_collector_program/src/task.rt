@@ -15,9 +15,11 @@ usage: trace_collector replay SETTINGS | serve SETTINGS [--audit] [--verbose]
                    TOML file, and prints what each command is answered
   serve SETTINGS   receives bodies over HTTP and sends what is kept to the tenants' back ends, until
                    standard input ends and all is sent; a line `report NAME` there prints that
-                   tenant's counters, and at the end all are printed; with --audit also a line
-                   `audit SHARD ENTRIES` for each shard's log, which is kept in memory then; with
-                   --verbose standard error is told where it listens and what its end waits for
+                   tenant's counters, and at the end all are printed; `add PATH` lets a tenant come
+                   whose table [[tenant]] is in that file, and `retire NAME` lets one go once all it
+                   holds is sent; with --audit also a line `audit SHARD ENTRIES` for each shard's
+                   log, which is kept in memory then; with --verbose standard error is told where
+                   it listens and what its end waits for
   check SETTINGS   says what is wrong with that TOML file, or prints the settings in force; warns of
                    keys that no setting has
   --help           prints this text
@@ -33,6 +35,10 @@ usage: trace_collector replay SETTINGS | serve SETTINGS [--audit] [--verbose]
                          delay before the next attempt; prints `done NAME` or `refused NAME 21`
   report NAME MOMENT     prints `report NAME` and the tenant's counters
   drain NAME MOMENT      the tenant takes no more spans and sends all it holds; prints `done NAME`
+  add HEX                a tenant comes, whose table [[tenant]] is in that settings document;
+                         prints `added NAME NUMBER` or `refused add N`
+  retire NAME MOMENT     a tenant that was drained and holds no span leaves; prints `report NAME` and
+                         its last counters, or `refused NAME 26`
 
 Bytes are hexadecimal digits, `-` for none, and so are seconds that aren't given. Empty lines and
 lines that begin with `#` are skipped.

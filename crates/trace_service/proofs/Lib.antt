@@ -9,3 +9,5 @@ pub mod Handled
 pub mod Present
 pub mod Came
 pub mod Admitted
+pub mod Asked
+pub mod Joined

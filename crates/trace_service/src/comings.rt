@@ -8,7 +8,7 @@ ghost use Rattle.tail_settings.specs.Change.{admitted};
 ghost use Rattle.tail_settings.specs.Fault.{fault_view};
 ghost use Rattle.tail_settings.specs.Settings.{SettingsData};
 ghost use Rattle.trace_service.specs.Comings.{IsAdded, IsJoined, IsNotJoined, IsUnread, not_added_text, why_not};
-ghost use Rattle.trace_service.specs.Commands.{IsRetiredOf, stays};
+ghost use Rattle.trace_service.specs.Commands.{IsRetiredOf, left_by, stays};
 ghost use Rattle.trace_service.specs.InForce.{CameOf, IsNewcomer};
 ghost use Rattle.trace_service.specs.Roster.{present_in};
 ghost use Rattle.trace_service.specs.declared.comings.NotAdded.TheVariants as why;
@@ -98,16 +98,20 @@ where
         ensures hub { self.new.context.hub ≡ self.old.context.hub }
     {
         match self.let_in(roster, path) {
-            Ok(line) => write_text(output, line.as_slice())?,
+            Ok(line) => {
+                write_text(output, line.as_slice())?;
+                Ok(())
+            }
             Err(NotAdded::Refused(number)) => {
                 let line = self.line_again(Told::NotAdded(number));
                 write_text(output, line.as_slice())?;
+                Ok(())
             }
             Err(NotAdded::OutOfMemory) => {
                 write_text(output, b"refused add memory\n".as_slice())?;
+                Ok(())
             }
         }
-        Ok(())
     }
 
     /// The line of the tenant that came whose document is in the file at this path.
@@ -220,10 +224,7 @@ where
             name: tenant.name.as_str(),
             outcome: &outcome,
         });
-        if !stays(&outcome) {
-            self.strike(number);
-            roster.remove(number);
-        }
+        self.let_go(roster, number, &outcome);
         write_text(output, line.as_slice())?;
         Ok(())
     }
@@ -242,6 +243,17 @@ where
             self.beat.pause();
         }
         unreachable!()
+    }
+
+    /// After its retirement the tenant of this number is present no more, unless it stays.
+    fn let_go(&self, roster: &mut Roster, number: u32, outcome: &Outcome)
+        ensures { present_in roster.new ≡ left_by outcome.now number (present_in roster.old) }
+    {
+        if stays(outcome) {
+            return;
+        }
+        self.strike(number);
+        roster.remove(number);
     }
 
     /// Takes the tenant of this number out of the settings in force.

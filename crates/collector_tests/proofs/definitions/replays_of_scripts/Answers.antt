@@ -80,7 +80,7 @@ no_other pasts n =
 
 post_is_answered : Exact → IsAnswered (of_one no_steps) (Post (codes "a") 0 (body 17 33)) (Some (codes "reply a 200 -\n")) (of_one after_post)
 unfolding pipelines_on_literals answers_on_literals
-post_is_answered exact = (refl, inl (plain, value 17 33, refl, has_this_value exact, (accepted, refl, refl, refl)))
+post_is_answered exact = (refl, inl (plain, value 17 33, refl, has_this_value exact, (accepted, (refl, refl, refl))))
 
 idle_before : (tenant moment : ℕ) → ready_at (lives_of one_tenant after_post 0) [] tenant ≡ Some moment → 999 < moment
 unfolding pipelines_on_literals
@@ -89,7 +89,7 @@ idle_before (suc n) moment h = absurd (never moment (sym (no_other after_post n)
 
 turn_is_idle : IsAnswered (of_one after_post) (Turn 0 999) (Some (codes "idle 0\n")) (of_one idled)
 unfolding answers_on_literals pipelines_on_literals
-turn_is_idle = (refl, (outcome.Idle, (None, idle_before, refl), refl, refl))
+turn_is_idle = (refl, (outcome.Idle, ((None, idle_before, refl), refl, refl)))
 
 first_ready : (tenant moment : ℕ) → ready_at (lives_of one_tenant idled 0) [] tenant ≡ Some moment → NotAfter 1000 0 moment tenant
 unfolding pipelines_on_literals
@@ -101,7 +101,7 @@ job_line = codes "job a 1 " ++ (hex ++ codes "\n")
 
 turn_hands_out : IsAnswered (of_one idled) (Turn 0 1000) (Some job_line) (of_one handed)
 unfolding pipelines_on_literals answers_on_literals
-turn_hands_out = (refl, (the_job, (Some 0, (1000, refl, omega arith, first_ready), refl), refl, refl))
+turn_hands_out = (refl, (the_job, ((Some 0, (1000, refl, omega arith, first_ready), refl), refl, refl)))
 
 -- ---- scripts
 
@@ -148,7 +148,7 @@ unfolding script_on_literals answers_on_literals
 second_faulty = (
   Some (codes "idle 0\n"),
   of_one turned,
-  (refl, (outcome.Idle, (None, none_ready, refl), refl, refl)),
+  (refl, (outcome.Idle, ((None, none_ready, refl), refl, refl))),
   ([], refl, (None, of_one turned, (refl, (refl, refl)), (refl, refl))),
 )
 

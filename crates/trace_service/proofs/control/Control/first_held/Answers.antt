@@ -13,7 +13,7 @@ loop-tenant-preserved g c =
       hub = empty.hub ∙ before.hub;
       last = before.last;
       empty = empty_more _ _ c.args.tenants.now c.loop-tenant.tenant-index c.tenant-item.result c.loop-tenant-test.true c.tenant-item.is before.empty
-          (rw (c.if-not-branch.false, before.caller, before.hub) at empty.empty);
+          (rw (c.if-not-is_empty.false, before.caller, before.hub) at empty.empty);
     }
 
 pub returns-clause-none : goal.returns-clause-none

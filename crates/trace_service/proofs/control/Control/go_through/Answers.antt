@@ -13,6 +13,6 @@ returns g c =
     c.read_commands-heard.new.roster.tenants.items _ _ (g.O.Write.contents c.read_commands-heard.new.output) _
     _ c.read_commands-heard.new.self.context.caller c.drain_all.new.self.context.caller _
     _ c.read_commands-heard.new.self.beat.last c.drain_all.new.self.beat.last _
-    c.in_ok-heard.was c.in_ok-told.was (rw c.all_arrive.ensures at heard.commands_read)
+    c.in_ok-heard.was c.in_ok-told.was (rw (c.replace-roster.ensures.value, c.all_arrive.ensures) at heard.commands_read)
     (rw (heard.hub, c.tenants.ensures) at drained.drained) (rw (hub, c.tenants-2.ensures) at waited.empty)
-    (rw (waited.hub ∙ hub, waited.caller, waited.last, c.tenants-3.ensures) at c.print_reports-told.ensures)
+    (rw (waited.hub ∙ hub, waited.caller, waited.last, c.tenants-3.ensures) at c.print_reports-told.ensures.reported)

@@ -20,6 +20,9 @@ loop-tenant-preserved g c =
 
 pub returns : goal.returns
 returns g c =
-    subst (λ ts. AreReported (length c.args.self.now.context.hub.now) c.args.self.now.context.caller c.args.self.now.beat.last (g.O.Write.contents c.args.output.now)
-    (map entry_of ts) c.loop-tenant.self.context.caller c.loop-tenant.self.beat.last (g.O.Write.contents c.loop-tenant.output))
-    (take_all c.loop-tenant.tenant-index c.args.tenants.now c.loop-tenant-test.false) c.loop-tenant.invariant.told
+    record {
+      reported = subst (λ ts. AreReported (length c.args.self.now.context.hub.now) c.args.self.now.context.caller c.args.self.now.beat.last
+          (g.O.Write.contents c.args.output.now) (map entry_of ts) c.loop-tenant.self.context.caller c.loop-tenant.self.beat.last
+          (g.O.Write.contents c.loop-tenant.output))
+          (take_all c.loop-tenant.tenant-index c.args.tenants.now c.loop-tenant-test.false) c.loop-tenant.invariant.told;
+    }

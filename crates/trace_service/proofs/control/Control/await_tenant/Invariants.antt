@@ -1,5 +1,5 @@
 use Rattle.std.proofs.Common.{◌≡◌}
-use Rattle.trace_service.proofs.comings.Control.await_tenant.Given as goal
+use Rattle.trace_service.proofs.control.Control.await_tenant.Given as goal
 
 abbrev pub invariant-looks : goal.invariant-looks
 invariant-looks g l = record {

@@ -1,0 +1,35 @@
+use Rattle.std.proofs.Common.{length}
+use Rattle.std.proofs.lemmas.Result.{err_from_is_err_and, IfOk-weaker, IfErr-weaker}
+use Rattle.trace_service.specs.Roster.{present_in}
+use Rattle.trace_service.proofs.Joined.{not_heard, without_room, not_let_in, joins, joins_not}
+use Rattle.trace_service.proofs.control.Control.let_in.Goals as goal
+
+pub returns-in_err-text-clause-not_added : goal.returns-in_err-text-clause-not_added
+returns-in_err-text-clause-not_added g c =
+    let p = err_from_is_err_and c.from_residual.result c.from_residual.ensures.1 in
+    rw (p.1, p.2) (not_heard _ _ _ _ _ c.in_err-text.ensures)
+
+pub returns-in_err-reserve-clause-not_added : goal.returns-in_err-reserve-clause-not_added
+returns-in_err-reserve-clause-not_added g c =
+    let p = err_from_is_err_and c.from_residual-in_err-reserve.result c.from_residual-in_err-reserve.ensures.1 in
+    rw (p.1, c.reserve.ensures.same) (without_room _ _ _ _ p.0 p.2)
+
+pub returns-in_err-newcomer-clause-not_added : goal.returns-in_err-newcomer-clause-not_added
+returns-in_err-newcomer-clause-not_added g c =
+    let p = err_from_is_err_and c.from_residual-in_err-newcomer.result c.from_residual-in_err-newcomer.ensures.1 in
+    rw (p.1, c.reserve.ensures.same) (not_let_in _ _ _ _ _ _ p.0 p.2 c.in_err-newcomer.ensures.fault)
+
+pub returns-clause-added : goal.returns-clause-added
+returns-clause-added g c =
+    let came = c.in_ok-newcomer.ensures.on_success in
+    IfOk-weaker c.join.result _ _
+    (λ line joined. joins g.J.Naming.first (length c.args.self.now.context.hub.now) (present_in c.args.roster.now) c.args.self.now.context.caller
+    came.0 _ _ (present_in c.join.new.roster) c.join.new.self.context.caller line.items came.1 came.2 joined)
+    (rw c.reserve.ensures.same at c.join.ensures.joined)
+
+pub returns-clause-not_added : goal.returns-clause-not_added
+returns-clause-not_added g c =
+    IfErr-weaker c.join.result _ _
+    (λ why out. joins_not g.J.Naming.first (length c.args.self.now.context.hub.now) (present_in c.args.roster.now) c.args.self.now.context.caller
+    c.in_ok-newcomer.newcomer (present_in c.join.new.roster) c.join.new.self.context.caller why out.0 out.1)
+    (rw c.reserve.ensures.same at c.join.ensures.not_joined)

@@ -1,0 +1,19 @@
+use Rattle.std.proofs.Common.{sym, ◌∙◌}
+use Rattle.trace_service.proofs.control.Control.retire.Goals as goal
+
+pub returns-clause-retired : goal.returns-clause-retired
+returns-clause-retired g c =
+    let told = c.line_again-line.ensures in
+    let seen = c.await_tenant.ensures in
+    let drained = c.make.ensures in
+    rw (sym c.in-Some.ensures.number) (record {
+      after_drain = c.make.new.self.context.caller;
+      drain_end = c.make.new.self.beat.last;
+      drain = c.make.result;
+      drained = drained.made;
+      empty = rw drained.hub at seen.empty;
+      outcome = c.make-outcome.result;
+      made = rw (told.last, told.caller) (rw (seen.hub ∙ drained.hub, seen.caller, seen.last) at c.make-outcome.ensures.made);
+      left_are = c.let_go.ensures;
+      line = rw (c.as_slice.ensures.value, told.line, c.as_str.ensures.value, c.in-Some.ensures.name) at c.in_ok-write_text.ensures;
+    })
