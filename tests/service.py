@@ -55,7 +55,7 @@ def main():
     if len(words) == 1 and words[0].isdigit():
         run("agreement", lambda folder: print(agreement.agrees(folder, int(words[0])), "spans", flush=True))
     elif len(words) == 2 and words[0] == "comings":
-        run("comings", lambda folder: print(comings.many(folder, int(words[1])), "kB", flush=True))
+        run("comings", lambda folder: comings.memory_of_many(folder, int(words[1])))
     elif words:
         for name in words:
             print(f"{name}: {run(name, TESTS[name]):.1f} s", flush=True)

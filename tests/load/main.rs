@@ -1,5 +1,5 @@
 //! Load for the collector as a service, and a back end for it: what `load post` and `load sink` do stands in post.rs
-//! and sink.rs. measure.py builds and starts both.
+//! and sink.rs. measure.py builds and starts both, and so does comings.py.
 
 mod http;
 mod post;
@@ -11,6 +11,7 @@ use std::time::Duration;
 use std::{env, io, process};
 
 fn load_of(words: &[String]) -> Option<Load> {
+    let each = words.last().is_some_and(|word| word == "each");
     let words: Vec<u32> = words.iter().filter_map(|word| word.parse().ok()).collect();
     let [port, tenants, connections, rate, seconds, spans] = *words else {
         return None;
@@ -22,6 +23,7 @@ fn load_of(words: &[String]) -> Option<Load> {
         rate,
         time: Duration::from_secs(seconds.into()),
         spans: spans as usize,
+        each,
     })
 }
 
@@ -36,6 +38,6 @@ fn main() -> io::Result<()> {
         }
         _ => {}
     }
-    eprintln!("load sink | load post PORT TENANTS CONNECTIONS RATE SECONDS SPANS");
+    eprintln!("load sink | load post PORT TENANTS CONNECTIONS RATE SECONDS SPANS [each]");
     process::exit(2)
 }

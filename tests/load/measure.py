@@ -33,23 +33,37 @@ TICKS = os.sysconf("SC_CLK_TCK")
 MOST = 60
 
 
-def settings(port, back_end, tenants, connections):
-    """Each connection has a receiver, and all that may come before it is decided has room."""
-    text = (f'[global]\nlisten = "127.0.0.1:{port}"\nshards = 2\nparts = 1\nreceivers = {max(connections, 4)}\n'
+def globals_of(port, connections):
+    """Each connection has a receiver."""
+    return (f'[global]\nlisten = "127.0.0.1:{port}"\nshards = 2\nparts = 1\nreceivers = {max(connections, 4)}\n'
             "senders = 4\n")
-    for number in range(tenants):
-        text += (f'[[tenant]]\nname = "tenant-{number}"\nendpoint = "127.0.0.1:{back_end}"\nmax_spans = 30000000\n'
-                 "[tenant.tail_sampling]\ndecision_wait_ms = 1000\nnum_traces = 1000000\n"
-                 '[[tenant.tail_sampling.policy]]\ntype = "status_code"\nstatus_codes = ["ERROR", "OK", "UNSET"]\n'
-                 "[tenant.batch]\nsend_batch_size = 1000\nsend_batch_max_size = 1000\n"
-                 "[tenant.sending_queue]\nqueue_size = 100000\nnum_consumers = 4\n")
-    return text
+
+
+def section(name, back_end):
+    """All that may come before it is decided has room."""
+    return (f'[[tenant]]\nname = "{name}"\nendpoint = "127.0.0.1:{back_end}"\nmax_spans = 30000000\n'
+            "[tenant.tail_sampling]\ndecision_wait_ms = 1000\nnum_traces = 1000000\n"
+            '[[tenant.tail_sampling.policy]]\ntype = "status_code"\nstatus_codes = ["ERROR", "OK", "UNSET"]\n'
+            "[tenant.batch]\nsend_batch_size = 1000\nsend_batch_max_size = 1000\n"
+            "[tenant.sending_queue]\nqueue_size = 100000\nnum_consumers = 4\n")
+
+
+def settings(port, back_end, tenants, connections):
+    sections = (section(f"tenant-{number}", back_end) for number in range(tenants))
+    return globals_of(port, connections) + "".join(sections)
 
 
 def free_port():
     with socket.socket() as probe:
         probe.bind(("127.0.0.1", 0))
         return probe.getsockname()[1]
+
+
+def built(folder):
+    """The path of the load and the back end, built in this folder."""
+    load = str(Path(folder, "load"))
+    subprocess.run(["rustc", "--edition", "2021", "-O", "-o", load, HERE / "main.rs"], check=True)
+    return load
 
 
 def numbers(line):
@@ -168,8 +182,13 @@ def row(told, tenants, connections):
             f"| {told['processor'] * 1e6 / max(told['spans'], 1):.2f} | {told['megabytes']:,.0f} |")
 
 
-def main():
+def add_processors(asked):
     processors = os.cpu_count() or 1
+    asked.add_argument("--own", default="0-1" if processors > 1 else "0", help="the program's processors")
+    asked.add_argument("--others", default=f"2-{processors - 1}" if processors > 2 else "0", help="load and back end's")
+
+
+def main():
     asked = argparse.ArgumentParser(description="Measures a collector as a service.")
     asked.add_argument("program")
     asked.add_argument("--seconds", type=int, default=10, help="how long each row posts")
@@ -177,15 +196,13 @@ def main():
     asked.add_argument("--tenants", type=int, nargs="+", default=TENANTS)
     asked.add_argument("--connections", type=int, nargs="+", default=CONNECTIONS)
     asked.add_argument("--rates", type=int, nargs="+", default=(RATE, 0), help="requests a second, 0: all it takes")
-    asked.add_argument("--own", default="0-1" if processors > 1 else "0", help="the program's processors")
-    asked.add_argument("--others", default=f"2-{processors - 1}" if processors > 2 else "0", help="load and back end's")
+    add_processors(asked)
     words = asked.parse_args()
     wrong = 0
     print("| Tenants | Connections | Requests a second | half within | 99 of 100 within | Spans a second taken "
           "| come to the back end | Processor seconds for a million | Memory, MB |\n" + "|---" * 9 + "|")
     with tempfile.TemporaryDirectory() as folder:
-        load = str(Path(folder, "load"))
-        subprocess.run(["rustc", "--edition", "2021", "-O", "-o", load, HERE / "main.rs"], check=True)
+        load = built(folder)
         for rate in words.rates:
             for tenants in words.tenants:
                 for connections in words.connections:

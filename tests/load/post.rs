@@ -1,11 +1,13 @@
-//! `load post PORT TENANTS CONNECTIONS RATE SECONDS SPANS`: posts bodies of so many spans to a collector for so long,
+//! `load post PORT TENANTS CONNECTIONS RATE SECONDS SPANS [each]`: posts bodies of so many spans to a collector for so long,
 //! for `tenant-0` and so on in turn, over so many connections that stay open, at so many requests a second in all;
 //! with RATE 0 each connection posts as soon as it was answered. At a rate a request's time is from the moment at
 //! which it was due, so one that waits for a slow one before it counts as slow too.
 //!
 //! It prints one line: how many requests were answered, of these how many not by 200 with an empty body, how many
 //! spans the others had, the seconds from the first request to the last answer, and of the requests' times in
-//! microseconds the one that half of them and that 99 of 100 don't exceed, and the longest.
+//! microseconds the one that half of them and that 99 of 100 don't exceed, and the longest. With `each` a line for each
+//! request follows: its tenant's number, its time, when it was answered in microseconds since 1970, and 1 where that was
+//! by 200 with an empty body, else 0.
 
 use crate::http::Reader;
 use crate::wire::{
@@ -14,7 +16,7 @@ use crate::wire::{
 use std::io::{self, Write};
 use std::net::TcpStream;
 use std::thread;
-use std::time::{Duration, Instant};
+use std::time::{Duration, Instant, SystemTime};
 
 const START: u64 = 1_700_000_000_000_000_000;
 const SPANS_OF_A_TRACE: usize = 12;
@@ -43,6 +45,8 @@ pub struct Load {
     pub time: Duration,
     /// Of each request.
     pub spans: usize,
+    /// Whether each request is told of.
+    pub each: bool,
 }
 
 /// A request's bytes but for the ids, which are other ones in each request.
@@ -52,11 +56,12 @@ struct Body {
     ids: Vec<usize>,
 }
 
-#[derive(Default)]
+/// A request that was answered.
 struct Told {
-    micros: Vec<u64>,
-    others: u64,
-    spans: u64,
+    tenant: usize,
+    micros: u64,
+    at: SystemTime,
+    taken: bool,
 }
 
 fn attribute(text: &mut Vec<u8>, field: u64, key: &str, value: &str) {
@@ -119,12 +124,12 @@ fn mixed(mut number: u64) -> u64 {
 }
 
 /// What one connection was told.
-fn connection(load: Load, number: usize, start: Instant) -> io::Result<Told> {
+fn connection(load: Load, number: usize, start: Instant) -> io::Result<Vec<Told>> {
     let peer = TcpStream::connect(("127.0.0.1", load.port))?;
     peer.set_nodelay(true)?;
     let mut reader = Reader::new(&peer);
     let mut body = Body::new(load.spans);
-    let mut told = Told::default();
+    let mut told = Vec::new();
     for request in 0.. {
         let turn = request as usize * load.connections + number;
         let due = match load.rate {
@@ -148,12 +153,12 @@ fn connection(load: Load, number: usize, start: Instant) -> io::Result<Told> {
         let Some(reply) = reader.next()? else {
             return Err(io::Error::from(io::ErrorKind::UnexpectedEof));
         };
-        told.micros.push(due.elapsed().as_micros() as u64);
-        if reply.start.starts_with("HTTP/1.1 200 ") && reply.body.is_empty() {
-            told.spans += load.spans as u64;
-        } else {
-            told.others += 1;
-        }
+        told.push(Told {
+            tenant: turn % load.tenants,
+            micros: due.elapsed().as_micros() as u64,
+            at: SystemTime::now(),
+            taken: reply.start.starts_with("HTTP/1.1 200 ") && reply.body.is_empty(),
+        });
     }
     Ok(told)
 }
@@ -164,24 +169,41 @@ pub fn run(load: Load) -> io::Result<()> {
     let threads: Vec<_> = (0..load.connections)
         .map(|number| thread::spawn(move || connection(load, number, start)))
         .collect();
-    let mut all = Told::default();
+    let mut all = Vec::new();
     for thread in threads {
-        let told = thread.join().expect("a connection ends")?;
-        all.micros.extend(told.micros);
-        all.others += told.others;
-        all.spans += told.spans;
+        all.extend(thread.join().expect("a connection ends")?);
     }
-    let millis = start.elapsed().as_millis();
-    all.micros.sort_unstable();
-    let most = all.micros.last().copied().unwrap_or(0);
-    let within = |share: usize| all.micros.get(all.micros.len() * share / 100).copied().unwrap_or(most);
+    print_sums(load, &all, start.elapsed().as_millis());
+    if load.each {
+        print_each(&all)?;
+    }
+    Ok(())
+}
+
+fn print_sums(load: Load, all: &[Told], millis: u128) {
+    let mut micros: Vec<u64> = all.iter().map(|told| told.micros).collect();
+    micros.sort_unstable();
+    let most = micros.last().copied().unwrap_or(0);
+    let within = |share: usize| micros.get(micros.len() * share / 100).copied().unwrap_or(most);
+    let taken = all.iter().filter(|told| told.taken).count();
     println!(
         "requests={} others={} spans={} millis={millis} half={} most_99={} most={most}",
-        all.micros.len(),
-        all.others,
-        all.spans,
+        all.len(),
+        all.len() - taken,
+        taken * load.spans,
         within(50),
         within(99)
     );
+}
+
+fn print_each(all: &[Told]) -> io::Result<()> {
+    let mut out = io::stdout().lock();
+    for told in all {
+        let at = told
+            .at
+            .duration_since(SystemTime::UNIX_EPOCH)
+            .map_or(0, |time| time.as_micros());
+        writeln!(out, "{} {} {at} {}", told.tenant, told.micros, u8::from(told.taken))?;
+    }
     Ok(())
 }

@@ -1,12 +1,16 @@
 """Tenants that come and go while the service runs, by lines of its input."""
 
 import threading
+from collections import Counter
 from pathlib import Path
+from types import SimpleNamespace
 
+from serving.agreement import SPAN, body_of, compare
 from serving.talk import BackEnd, Service, body, check, in_threads, line_of, request, tenant, wait_for
 
-# So many come and go, one after the other, in the test of memory.
+# So many come and go, one after the other, in the test of memory, and beside others.
 ROUNDS = 200
+BESIDE = 30
 # Pages that one round may leave behind, in kB: a tenant without spans takes 4, its span 10.
 MOST_A_ROUND = 1
 FORBIDDEN = (403, b"\x12\x0eunknown tenant")
@@ -128,6 +132,47 @@ def while_it_goes(folder):
         check("the end", service.end(), (0, line_of("a", accepted=20, exported=20), b""))
 
 
+def beside_others(folder):
+    """While clients of two tenants post without a rest, others come, take spans and go. Of each tenant, those that went
+    too, the spans that clients were told are taken, its last counters, and what came to its back end are the same."""
+    told, over = {"a": [], "b": [], "c": []}, threading.Event()
+    with BackEnd() as ones, BackEnd() as others, BackEnd() as guests:
+        sections = [tenant(name, end, wait=20, timeout=20, batch=64, most=10_000_000)
+                    for name, end in (("a", ones), ("b", others))]
+        path = document(folder, tenant("c", guests, wait=86_400_000))
+        with Service(folder, sections) as service:
+            def post(name, number, peer):
+                text, ids = body_of(name, 0, number)
+                check("a post", service.post(name, text, peer), (200, b""))
+                told[name] += ids
+                return len(ids)
+
+            def steady(name):
+                with service.connect() as peer:
+                    number = 0
+                    while not over.is_set():
+                        post(name, number, peer)
+                        number += 1
+
+            def come_and_go():
+                try:
+                    with service.connect() as peer:
+                        for number in range(BESIDE):
+                            check("it comes", added(service, path), f"added c {number + 2}\n")
+                            count = post("c", number, peer)
+                            check("it goes", retired(service, "c"), line_of("c", accepted=count, exported=count))
+                finally:
+                    over.set()
+
+            in_threads(come_and_go, lambda: steady("a"), lambda: steady("b"))
+            status, out, err = service.end()
+        check("status and standard error", (status, err), (0, b""))
+        for name, line, end in zip("ab", out.splitlines(keepends=True), (ones, others)):
+            compare(name, line, [SimpleNamespace(spans=told)], end)
+        found = Counter(span for text in guests.bodies() for span in SPAN.findall(text))
+        check("what came of those that went", found == Counter(told["c"]), True)
+
+
 def memory_of(service):
     """How much memory the process has, in kB."""
     status = Path(f"/proc/{service.run.pid}/status").read_text()
@@ -135,8 +180,8 @@ def memory_of(service):
 
 
 def many(folder, rounds):
-    """So many tenants come, take a span of ten thousand bytes each, send it and go: how much more memory the process
-    has at the end than after a tenth of them, in kB."""
+    """So many tenants come, take a span of ten thousand bytes each, send it and go: the memory that the process has
+    once a hundred, or a tenth of them, have gone, and at the end, in kB."""
     text = request((b"\1" * 16, b"\1" * 8, b"\x2a\x90\x4e" + b"n" * 10_000))
     with BackEnd() as back_end, Service(folder, [tenant("a", back_end)]) as service, service.connect() as peer:
         path = document(folder, tenant("c", back_end, wait=86_400_000))
@@ -146,18 +191,25 @@ def many(folder, rounds):
             check("a post", service.post("c", text, peer), (200, b""))
             check("it goes", retired(service, "c"), line_of("c", accepted=1, exported=1))
             back_end.posts.clear()
-            if number + 1 == max(rounds // 10, 1):
+            if number + 1 == min(max(rounds // 10, 1), 100):
                 first = memory_of(service)
-        more = memory_of(service) - first
+        last = memory_of(service)
         peer.close()
         check("the end", service.end(), (0, line_of("a"), b""))
-    return more
+    return first, last
 
 
 def memory_comes_back(folder):
     """Tenants that come, take spans, send them and go leave no memory behind."""
-    more = many(folder, ROUNDS)
-    check(f"memory that {ROUNDS} left, {more} kB", more <= ROUNDS * MOST_A_ROUND, True)
+    first, last = many(folder, ROUNDS)
+    check(f"memory that {ROUNDS} left, {last - first} kB", last - first <= ROUNDS * MOST_A_ROUND, True)
 
 
-TESTS = (without_spans, with_spans, with_an_audit, refused_documents, while_it_goes, memory_comes_back)
+def memory_of_many(folder, rounds):
+    """The same of so many, which may leave a tenth more than the first hundred of them."""
+    first, last = many(folder, rounds)
+    check(f"memory rose from {first} to {last} kB", last * 10 <= first * 11, True)
+    print(f"{first} kB once the first had gone, {last} kB at the end", flush=True)
+
+
+TESTS = (without_spans, with_spans, with_an_audit, refused_documents, while_it_goes, beside_others, memory_comes_back)
