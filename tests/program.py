@@ -18,6 +18,8 @@ PROGRAM = os.path.abspath(sys.argv[1] if len(sys.argv) > 1 else HERE / "trace_co
 SETTINGS = str(HERE / "crates/trace_collector_program/data/settings.toml")
 USAGE = b"usage: trace_collector replay SETTINGS | serve SETTINGS [--audit]\n"
 SPAN = "0a20121e121c0a101111111111111111111111111111111112082121212121212121"
+# the options of `serve` that have a number, and the greatest one
+MOST = {"--connections": 65_536, "--senders": 4_096, "--client-timeout": 2**32 - 1, "--back-end-timeout": 2**32 - 1}
 failed = 0
 
 
@@ -39,7 +41,13 @@ def usage():
              ["check", SETTINGS, "more"], ["serve"], ["serve", SETTINGS, "more"], ["serve", "--audit", SETTINGS],
              ["serve", SETTINGS, "--audit", "more"], ["replay", SETTINGS, "--audit"], ["replay", SETTINGS, "--verbose"],
              ["serve", SETTINGS, "--verbose", "--verbose"], ["serve", SETTINGS, "--audit", "--verbose", "more"],
-             [b"replay", b"\xff"], [b"\xff"], [b"--help", b"\xc3("])
+             [b"replay", b"\xff"], [b"\xff"], [b"--help", b"\xc3("], ["serve", "--connections", "1", SETTINGS],
+             ["replay", SETTINGS, "--connections", "1"], ["check", SETTINGS, "--senders", "1"],
+             ["serve", SETTINGS, "--connections"], ["serve", SETTINGS, "--connections", "--audit"],
+             ["serve", SETTINGS, "--audit", "--senders"], ["serve", SETTINGS, "--senders=1"],
+             *(["serve", SETTINGS, option, value] for option, most in MOST.items()
+               for value in ("0", str(most + 1), "-1", "+1", "1.0", "1ms", "0x1", " 1", "", str(2**64 + 1))),
+             *(["serve", SETTINGS, option, "1", "--verbose", option, "1"] for option in MOST))
     for arguments in wrong:
         check(arguments, ended(arguments), (2, b"", USAGE))
     status, out, err = ended(["--help"])
@@ -420,6 +428,11 @@ def course():
         check("one that tells", served("--verbose"), (0, report * 2, stages))
         for options in (("--audit", "--verbose"), ("--verbose", "--audit")):
             check(options, served(*options), (0, report * 2 + audit, stages))
+        numbers = {"--connections": "300", "--senders": "00300", **{option: str(MOST[option]) for option in list(MOST)[2:]}}
+        words = [word for option, value in numbers.items() for word in (option, value)]
+        check("all options", served("--verbose", *words, "--audit"), (0, report * 2 + audit, stages))
+        turned = [word for option in reversed(MOST) for word in (option, "1")]
+        check("the least of all, turned round", served("--audit", *turned), (0, report * 2 + audit, b""))
         with open("/dev/full", "wb") as full:
             check("a full disk", served("--verbose", stderr=full), (0, report * 2, None))
         reader, writer = os.pipe()

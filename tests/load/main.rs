@@ -1,8 +1,9 @@
 //! Load for the collector as a service, and a back end for it: what `load post` and `load sink` do stands in post.rs
-//! and sink.rs. measure.py builds and starts both, and so does comings.py.
+//! and sink.rs. measure.py builds and starts both, and so do the others that stand beside it.
 
 mod http;
 mod post;
+mod shares;
 mod sink;
 mod wire;
 
@@ -13,11 +14,10 @@ use std::{env, io, process};
 fn load_of(words: &[String]) -> Option<Load> {
     let each = words.last().is_some_and(|word| word == "each");
     let words: Vec<u32> = words.iter().filter_map(|word| word.parse().ok()).collect();
-    let [port, tenants, connections, rate, seconds, spans] = *words else {
-        return None;
-    };
+    let (&[port, tenants, connections, rate, seconds, spans], rest) = words.split_first_chunk()?;
     Some(Load {
         port: port.try_into().ok()?,
+        first: rest.first().map_or(0, |first| *first as usize),
         tenants: tenants as usize,
         connections: connections as usize,
         rate,
@@ -38,6 +38,6 @@ fn main() -> io::Result<()> {
         }
         _ => {}
     }
-    eprintln!("load sink | load post PORT TENANTS CONNECTIONS RATE SECONDS SPANS [each]");
+    eprintln!("load sink | load post PORT TENANTS CONNECTIONS RATE SECONDS SPANS [FIRST] [each]");
     process::exit(2)
 }

@@ -105,10 +105,13 @@ class BackEnd(Started):
         super().__init__(processors, load, "sink")
         self.port = int(self.run.stdout.readline().split()[1])
 
-    def spans(self):
-        self.run.stdin.write("\n")
+    def asked(self, line):
+        self.run.stdin.write(line + "\n")
         self.run.stdin.flush()
-        return numbers(self.run.stdout.readline())["spans"]
+        return numbers(self.run.stdout.readline())
+
+    def spans(self):
+        return self.asked("")["spans"]
 
 
 class Service(Started):

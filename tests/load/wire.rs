@@ -3,6 +3,8 @@
 pub const REQUEST_RESOURCE_SPANS: u64 = 1;
 pub const RESOURCE_SPANS_SCOPE_SPANS: u64 = 2;
 pub const SCOPE_SPANS_SPANS: u64 = 2;
+pub const SPAN_START: u64 = 7;
+pub const SPAN_END: u64 = 8;
 
 /// Writes a varint.
 pub fn put_varint(text: &mut Vec<u8>, mut value: u64) {
@@ -33,7 +35,18 @@ pub fn put_fixed(text: &mut Vec<u8>, field: u64, value: u64) {
 }
 
 /// The contents of all fields of bytes with this number. Groups don't stand in what is read here.
-pub fn pieces(mut text: &[u8], field: u64) -> Vec<&[u8]> {
+pub fn pieces(text: &[u8], field: u64) -> Vec<&[u8]> {
+    contents(text, field << 3 | 2)
+}
+
+/// The last fixed64 with this number.
+pub fn fixed(text: &[u8], field: u64) -> Option<u64> {
+    let bytes = contents(text, field << 3 | 1).pop()?;
+    Some(u64::from_le_bytes(bytes.try_into().ok()?))
+}
+
+/// What stands behind each tag like this one.
+fn contents(mut text: &[u8], wanted: u64) -> Vec<&[u8]> {
     let mut found = Vec::new();
     while !text.is_empty() {
         let tag = take_varint(&mut text);
@@ -47,7 +60,7 @@ pub fn pieces(mut text: &[u8], field: u64) -> Vec<&[u8]> {
             _ => 4,
         };
         let (content, rest) = text.split_at(length.min(text.len()));
-        if tag == field << 3 | 2 {
+        if tag == wanted {
             found.push(content);
         }
         text = rest;

@@ -5,6 +5,7 @@ import socket
 import subprocess
 import threading
 import time
+from contextlib import suppress
 from pathlib import Path
 
 from replay.make_script import piece
@@ -141,7 +142,9 @@ class BackEnd:
         with self.lock:
             self.reply, held, self.held = reply, self.held, []
         for peer in held:
-            peer.sendall(reply)
+            # who waited may have given up
+            with suppress(OSError):
+                peer.sendall(reply)
             peer.close()
 
     def bodies(self):
@@ -174,6 +177,7 @@ class Service:
         self.run = subprocess.Popen(words, stdin=pipe, stdout=pipe, stderr=pipe)
         # Whoever waits for what it prints waits no longer.
         self.watch = threading.Timer(2 * MOST, self.run.kill)
+        self.watch.daemon = True
         self.watch.start()
         self.port = None
         self.ended = None

@@ -19,10 +19,11 @@ fn what_is_written_to_a_queue_is_read_from_it(rt: HostRuntime) {
     assert!(rt; line.failures() == 0);
 }
 
-/// A stream that is interrupted in so many calls before each that isn't. So many of these take or give a byte, and then
-/// they fail, or neither take nor give any.
+/// A stream that pauses in so many calls, with this error, before each in which it doesn't. So many of these take or
+/// give a byte, and then they fail, or neither take nor give any.
 #[derive(Drop)]
 struct Fits {
+    pause: ErrorKind,
     pauses: u32,
     paused: u32,
     calls: u32,
@@ -33,7 +34,7 @@ impl Fits {
     fn next(&mut self) -> io::Result<usize> {
         if self.paused < self.pauses {
             self.paused += 1;
-            return Err(ErrorKind::Interrupted.into());
+            return Err(self.pause.into());
         }
         self.paused = 0;
         if self.calls == 0 {
@@ -69,6 +70,7 @@ impl Write for Fits {
 #[test]
 fn what_is_interrupted_is_tried_again(rt: HostRuntime) {
     let mut line = StreamLine::new(Fits {
+        pause: ErrorKind::Interrupted,
         pauses: 5,
         paused: 0,
         calls: 4,
@@ -85,9 +87,30 @@ fn what_is_interrupted_is_tried_again(rt: HostRuntime) {
     assert!(rt; line.failures() == 2);
 }
 
+/// A socket's limits of time are told so, and then the peer has rested for long enough.
+#[test]
+fn what_runs_into_a_limit_is_not_tried_again(rt: HostRuntime) {
+    for pause in [ErrorKind::WouldBlock, ErrorKind::TimedOut] {
+        let mut line = StreamLine::new(Fits {
+            pause,
+            pauses: 1,
+            paused: 0,
+            calls: 2,
+            fails: true,
+        });
+        let mut room = [0u8; 2];
+        assert!(rt; line.read_some(&mut room).is_err());
+        assert!(rt; line.read_some(&mut room).unwrap_or(9) == 1);
+        assert!(rt; line.write_some(b"a").is_err());
+        assert!(rt; line.write_some(b"a").unwrap_or(9) == 1);
+        assert!(rt; line.failures() == 2);
+    }
+}
+
 #[test]
 fn a_stream_that_takes_no_byte_has_failed(rt: HostRuntime) {
     let mut line = StreamLine::new(Fits {
+        pause: ErrorKind::Interrupted,
         pauses: 0,
         paused: 0,
         calls: 0,

@@ -46,7 +46,7 @@ pub fn post_job<A: Addresses, D: Dial>(
     }
 }
 
-/// Posts each job over a line of its own to its tenant's address. It waits for as long as the back end does.
+/// Posts each job over a line of its own to its tenant's address. It waits for as long as the line does.
 #[derive(Drop)]
 pub struct DialingBackEnd<A, D> {
     dialer: D,

@@ -5,6 +5,8 @@
 #[cfg(test)]
 mod calls;
 #[cfg(test)]
+mod coming_tests;
+#[cfg(test)]
 mod counter;
 #[cfg(test)]
 mod gate_tests;

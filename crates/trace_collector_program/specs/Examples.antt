@@ -1,6 +1,6 @@
 -- What the definitions give on small arguments, faults and texts, for the tests, worked out by hand. This project's own
 -- rules.
-use Rattle.std.specs.Prelude.{◌≡◌, true, false, codes, ℕ, List, [], ◌∷◌, map, Some, None, Ok, Err}
+use Rattle.std.specs.Prelude.{◌≡◌, true, false, codes, ℕ, List, [], ◌∷◌, map, Option, Some, None, Ok, Err}
 use Rattle.std.specs.declared.io.ErrorKind.TheVariants as kinds
 use Rattle.tail_settings.specs.declared.fault.SettingsFault.TheVariants as settings
 use Rattle.trace_collector.specs.declared.engine.ReplayFault.TheVariants as replay_faults
@@ -8,7 +8,8 @@ use Rattle.trace_collector.specs.Replay.{IsReplay}
 use Rattle.trace_collector_program.specs.Fault.{IsOfFile, IsOfArguments, IsOfText}
 use Rattle.trace_collector_program.specs.Run.{IsRun}
 use Rattle.trace_collector_program.specs.Status.{status_of, end_status}
-use Rattle.trace_collector_program.specs.Task.{replay, serve, check, help, version, task_of}
+use Rattle.trace_collector_program.specs.Task.{TaskData, replay, serve, check, help, version, none_given, task_of}
+use Rattle.trace_collector_program.specs.declared.task.ServeOptions.{ServeOptions}
 use Rattle.trace_collector_program.specs.declared.check.End.TheVariants.{Good, Faulty}
 use Rattle.trace_collector_program.specs.declared.ProgramFault.{ProgramFault}
 use Rattle.trace_collector_program.specs.declared.ProgramFault.TheVariants.{Usage, Replay}
@@ -20,6 +21,17 @@ command = codes "replay"
 
 abbrev pub path : List ℕ
 path = codes "settings.toml"
+
+-- what these options behind a path ask for
+abbrev pub served_with : List (List ℕ) → Option TaskData
+served_with options = task_of (codes "serve" ∷ path ∷ options)
+
+abbrev pub audited_and_verbose : ServeOptions
+audited_and_verbose = record none_given { audit = true; verbose = true }
+
+-- the options that have a number
+abbrev pub numbered : List (List ℕ)
+numbered = codes "--connections" ∷ codes "--senders" ∷ codes "--client-timeout" ∷ codes "--back-end-timeout" ∷ []
 
 pub record Arguments : Type 0 where
   pub named : task_of (command ∷ path ∷ []) ≡ Some (replay path)
@@ -37,17 +49,39 @@ pub record Arguments : Type 0 where
   pub one_word_more : task_of (command ∷ path ∷ path ∷ []) ≡ None
   pub no_path : task_of (command ∷ []) ≡ None
   pub none : task_of [] ≡ None
-  pub served : task_of (codes "serve" ∷ path ∷ []) ≡ Some (serve path false false)
-  pub audited : task_of (codes "serve" ∷ path ∷ codes "--audit" ∷ []) ≡ Some (serve path true false)
+  pub served : task_of (codes "serve" ∷ path ∷ []) ≡ Some (serve path none_given)
+  pub audited : served_with (codes "--audit" ∷ []) ≡ Some (serve path (record none_given { audit = true }))
   pub serve_alone : task_of (codes "serve" ∷ []) ≡ None
-  pub serve_two : task_of (codes "serve" ∷ path ∷ path ∷ []) ≡ None
+  pub serve_two : served_with (path ∷ []) ≡ None
   pub audit_first : task_of (codes "serve" ∷ codes "--audit" ∷ path ∷ []) ≡ None
-  pub audited_and_more : task_of (codes "serve" ∷ path ∷ codes "--audit" ∷ path ∷ []) ≡ None
-  pub verbose : task_of (codes "serve" ∷ path ∷ codes "--verbose" ∷ []) ≡ Some (serve path false true)
-  pub both : task_of (codes "serve" ∷ path ∷ codes "--audit" ∷ codes "--verbose" ∷ []) ≡ Some (serve path true true)
-  pub other_way_round : task_of (codes "serve" ∷ path ∷ codes "--verbose" ∷ codes "--audit" ∷ []) ≡ Some (serve path true true)
-  pub twice : task_of (codes "serve" ∷ path ∷ codes "--verbose" ∷ codes "--verbose" ∷ []) ≡ None
-  pub both_and_more : task_of (codes "serve" ∷ path ∷ codes "--audit" ∷ codes "--verbose" ∷ path ∷ []) ≡ None
+  pub audited_and_more : served_with (codes "--audit" ∷ path ∷ []) ≡ None
+  pub verbose : served_with (codes "--verbose" ∷ []) ≡ Some (serve path (record none_given { verbose = true }))
+  pub both : served_with (codes "--audit" ∷ codes "--verbose" ∷ []) ≡ Some (serve path audited_and_verbose)
+  pub other_way_round : served_with (codes "--verbose" ∷ codes "--audit" ∷ []) ≡ Some (serve path audited_and_verbose)
+  pub twice : served_with (codes "--verbose" ∷ codes "--verbose" ∷ []) ≡ None
+  pub both_and_more : served_with (codes "--audit" ∷ codes "--verbose" ∷ path ∷ []) ≡ None
+  pub all : served_with (codes "--back-end-timeout" ∷ codes "4294967295" ∷ codes "--audit" ∷ codes "--senders" ∷ codes "4096"
+      ∷ codes "--client-timeout" ∷ codes "1" ∷ codes "--verbose" ∷ codes "--connections" ∷ codes "065536" ∷ [])
+      ≡ Some (serve path (record {
+        audit = true;
+        verbose = true;
+        connections = Some 65536;
+        senders = Some 4096;
+        client_timeout = Some 1;
+        back_end_timeout = Some 4294967295;
+      }))
+  pub no_value : served_with (codes "--connections" ∷ []) ≡ None
+  pub option_as_value : served_with (codes "--connections" ∷ codes "--audit" ∷ []) ≡ None
+  pub too_few : map (λ option. served_with (option ∷ codes "0" ∷ [])) numbered ≡ None ∷ None ∷ None ∷ None ∷ []
+  pub too_many : served_with (codes "--connections" ∷ codes "65537" ∷ []) ≡ None
+  pub too_many_senders : served_with (codes "--senders" ∷ codes "4097" ∷ []) ≡ None
+  pub too_long : served_with (codes "--client-timeout" ∷ codes "4294967296" ∷ []) ≡ None
+  pub too_long_back_end : served_with (codes "--back-end-timeout" ∷ codes "4294967296" ∷ []) ≡ None
+  pub signed : served_with (codes "--senders" ∷ codes "+1" ∷ []) ≡ None
+  pub no_digits : served_with (codes "--senders" ∷ [] ∷ []) ≡ None
+  pub joined : served_with (codes "--senders=1" ∷ []) ≡ None
+  pub twice_numbered : served_with (codes "--senders" ∷ codes "1" ∷ codes "--audit" ∷ codes "--senders" ∷ codes "1" ∷ []) ≡ None
+  pub unknown : served_with (codes "--receivers" ∷ codes "1" ∷ []) ≡ None
   pub replay_audited : task_of (command ∷ path ∷ codes "--audit" ∷ []) ≡ None
   pub other_command : task_of (codes "run" ∷ path ∷ []) ≡ None
   pub capital : task_of (codes "Replay" ∷ path ∷ []) ≡ None

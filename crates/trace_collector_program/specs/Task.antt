@@ -1,6 +1,8 @@
 -- What the program's arguments ask for. This project's own rule (docs/OPERATING.md).
-use Rattle.std.specs.Prelude.{ℕ, List, [], ◌∷◌, codes, Bool, true, false, ◌&&◌, ◌||◌, Option, Some, None, if◌then◌else◌}
+use Rattle.std.specs.Prelude.{ℕ, List, [], ◌∷◌, codes, Bool, true, false, ◌&&◌, ◌||◌, not, nat_le, nat_lt, length, Option, Some, None, option_map, option_and_then, if◌then◌else◌}
 use Rattle.std.specs.Str.{bytes_eq}
+use Rattle.replay_script.specs.Word.{number_of, tested}
+use Rattle.trace_collector_program.specs.declared.task.ServeOptions.{ServeOptions}
 use Rattle.trace_collector_program.specs.declared.task.Task.{Task}
 use Rattle.trace_collector_program.specs.declared.task.Task.TheVariants.{Replay, Serve, Check, Help, Version}
 
@@ -8,9 +10,8 @@ use Rattle.trace_collector_program.specs.declared.task.Task.TheVariants.{Replay,
 pub data TaskData : Type 0 where
   -- the script on standard input is replayed under the settings in the file of this path
   replay : List ℕ → TaskData
-  -- the collector serves under the settings in the file of this path, with or without an audit, and with or without
-  -- telling of its course
-  serve : List ℕ → Bool → Bool → TaskData
+  -- the collector serves under the settings in the file of this path, and so
+  serve : List ℕ → ServeOptions → TaskData
   -- the settings in the file of this path are checked
   check : List ℕ → TaskData
   -- the help is printed
@@ -21,7 +22,7 @@ pub data TaskData : Type 0 where
 -- the task that a value of the code stands for
 abbrev pub task_view : Task → TaskData
 task_view (Replay settings) = replay settings.now
-task_view (Serve settings audit verbose) = serve settings.now audit verbose
+task_view (Serve settings options) = serve settings.now options
 task_view (Check settings) = check settings.now
 task_view Help = help
 task_view Version = version
@@ -33,40 +34,77 @@ option_of word =
     else if bytes_eq word (codes "--version") then Some version
     else None
 
--- `replay`, `serve` or `check`, with a path
-abbrev pub on_file : List ℕ → List ℕ → Option TaskData
-on_file command path =
-    if bytes_eq command (codes "replay") then Some (replay path)
-    else if bytes_eq command (codes "serve") then Some (serve path false false)
+-- no option of `serve`
+abbrev pub none_given : ServeOptions
+none_given = record {
+  audit = false;
+  verbose = false;
+  connections = None;
+  senders = None;
+  client_timeout = None;
+  back_end_timeout = None;
+}
+
+-- the number from 1 to `most` that a word writes in decimal digits
+abbrev pub up_to : ℕ → List ℕ → Option ℕ
+up_to most word = tested (λ number. nat_le 1 number && nat_le number most) (number_of word)
+
+-- the value of an option that may stand once
+abbrev pub once : Option ℕ → Option ℕ → Option ℕ
+once None value = value
+once (Some before) value = None
+
+-- an option that has no value
+abbrev pub is_flag : List ℕ → Bool
+is_flag word = bytes_eq word (codes "--audit") || bytes_eq word (codes "--verbose")
+
+-- what is given with such an option more, which may stand once
+abbrev pub with_flag : ServeOptions → List ℕ → Option ServeOptions
+with_flag given word =
+    if bytes_eq word (codes "--audit") && not given.audit then Some (record given { audit = true })
+    else if bytes_eq word (codes "--verbose") && not given.verbose then Some (record given { verbose = true })
+    else None
+
+-- a limit of time is below 2^32 milliseconds
+abbrev pub most_millis : ℕ
+most_millis = 4294967295
+
+-- what is given with another option more and its value: so many connections and senders, and milliseconds
+abbrev pub with_value : ServeOptions → List ℕ → List ℕ → Option ServeOptions
+with_value given name value =
+    if bytes_eq name (codes "--connections") then
+    option_map (λ n. record given { connections = Some n }) (once given.connections (up_to 65536 value))
+    else if bytes_eq name (codes "--senders") then
+    option_map (λ n. record given { senders = Some n }) (once given.senders (up_to 4096 value))
+    else if bytes_eq name (codes "--client-timeout") then
+    option_map (λ n. record given { client_timeout = Some n }) (once given.client_timeout (up_to most_millis value))
+    else if bytes_eq name (codes "--back-end-timeout") then
+    option_map (λ n. record given { back_end_timeout = Some n })
+    (once given.back_end_timeout (up_to most_millis value))
+    else None
+
+-- What is given with all options that these words spell, in any order: first of all the value of the option of this
+-- name, where one is awaited.
+unfoldable pub options_from : ServeOptions → Option (List ℕ) → List (List ℕ) → Option ServeOptions
+options_from given None [] = Some given
+options_from given (Some name) [] = None
+options_from given (Some name) (word ∷ words) =
+    option_and_then (λ more. options_from more None words) (with_value given name word)
+options_from given None (word ∷ words) =
+    if is_flag word then option_and_then (λ more. options_from more None words) (with_flag given word)
+    else options_from given (Some word) words
+
+-- `serve` with a path and options behind it, or `replay` or `check` with a path and nothing more
+abbrev pub on_file : List ℕ → List ℕ → List (List ℕ) → Option TaskData
+on_file command path words =
+    if bytes_eq command (codes "serve") then option_map (serve path) (options_from none_given None words)
+    else if nat_lt 0 (length words) then None
+    else if bytes_eq command (codes "replay") then Some (replay path)
     else if bytes_eq command (codes "check") then Some (check path)
     else None
 
--- `serve`, with a path and `--audit` or `--verbose`
-abbrev pub with_option : List ℕ → List ℕ → List ℕ → Option TaskData
-with_option command path word =
-    if bytes_eq command (codes "serve") then
-    if bytes_eq word (codes "--audit") then Some (serve path true false)
-    else if bytes_eq word (codes "--verbose") then Some (serve path false true) else None
-    else None
-
--- they are `--audit` and `--verbose`, one way round or the other
-abbrev pub are_both : List ℕ → List ℕ → Bool
-are_both word last =
-    (bytes_eq word (codes "--audit") && bytes_eq last (codes "--verbose"))
-    || (bytes_eq word (codes "--verbose") && bytes_eq last (codes "--audit"))
-
--- `serve`, with a path, `--audit` and `--verbose`
-abbrev pub with_both : List ℕ → List ℕ → List ℕ → List ℕ → Option TaskData
-with_both command path word last =
-    if bytes_eq command (codes "serve") then
-    if are_both word last then Some (serve path true true) else None
-    else None
-
--- an option alone, a command with a path, or that with one option or both, and nothing else
+-- an option alone, or a command with a path and what stands behind it
 abbrev pub task_of : List (List ℕ) → Option TaskData
 task_of (word ∷ []) = option_of word
-task_of (command ∷ path ∷ []) = on_file command path
-task_of (command ∷ path ∷ word ∷ []) = with_option command path word
-task_of (command ∷ path ∷ word ∷ last ∷ []) = with_both command path word last
-task_of (command ∷ path ∷ word ∷ last ∷ more ∷ words) = None
+task_of (command ∷ path ∷ words) = on_file command path words
 task_of [] = None

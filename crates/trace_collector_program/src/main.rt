@@ -41,6 +41,7 @@ use tail_settings::SettingsFault;
 use task::{HELP, Task, VERSION, asked_task};
 use thiserror::Error;
 use trace_collector::{ReplayFault, replay};
+use trace_service::Documents;
 
 /// So much of the script is read at once.
 const READ_SIZE: usize = 65_536;
@@ -129,7 +130,7 @@ fn ended(rt: &impl Eprint, end: Result<End, ProgramFault>) -> ExitCode
 fn run<R>(rt: &R) -> Result<End, ProgramFault>
 where
     R: Env + Files + Input + Print + Eprint + AllocGlobal + Clock + Threads + Wait + Sync,
-    R: RandomSource + Net<Listener = TcpListener, Stream = TcpStream>,
+    R: RandomSource + Net<Listener = TcpListener, Stream = TcpStream> + Documents,
 {
     let args = match env::args(rt) {
         Ok(args) => args,
@@ -141,13 +142,7 @@ where
     }
     match asked_task(words.as_slice()) {
         Some(Task::Replay { settings }) => replay_file(rt, settings)?,
-        Some(
-            Task::Serve {
-                settings,
-                audit,
-                verbose,
-            },
-        ) => serve_file(rt, settings, audit, verbose)?,
+        Some(Task::Serve { settings, options }) => serve_file(rt, settings, &options)?,
         Some(Task::Check { settings }) => return check_file(rt, settings),
         Some(Task::Help) => rt.println(HELP)?,
         Some(Task::Version) => rt.println(VERSION)?,

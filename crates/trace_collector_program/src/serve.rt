@@ -1,9 +1,12 @@
 //! The word `serve`.
 
-ghost use Rattle.std.specs.Prelude.{◌≡◌, IfOk, IfErr, Ok};
+ghost use Rattle.std.specs.Prelude.{◌≡◌, IfOk, IfErr, Ok, option_map};
+ghost use Rattle.std.specs.Duration.{as_nanos};
 ghost use Rattle.tail_settings.specs.Settings.{settings_of, settings_view};
 ghost use Rattle.trace_collector_program.specs.Fault.{of_service, IsOfSettings};
+ghost use Rattle.trace_collector_program.specs.Serve.{IsAsked, nanos_of};
 
+use crate::task::ServeOptions;
 use crate::{ProgramFault, READ_SIZE, settings_text};
 use decision_cache::HashKeys;
 use std::alloc::Global;
@@ -13,11 +16,11 @@ use std::random::RandomSource;
 use std::rt::Files;
 use std::sync::Wait;
 use std::thread::Threads;
-use std::time::Clock;
+use std::time::{Clock, Duration};
 use std::{fs, io};
 use tail_settings::{Settings, load};
 use trace_collector::ReplayFault;
-use trace_service::{Observer, ServiceFault, Stage, run_service};
+use trace_service::{Documents, Observer, ServiceFault, ServiceOptions, Stage, run_service};
 
 impl From<ServiceFault> for ProgramFault {
     ghost from_gives = { λ fault given. given ≡ of_service fault };
@@ -70,13 +73,13 @@ impl<R: Eprint> Course<'_, R> {
     }
 }
 
-/// Serves under the settings in a file, until standard input ends and all is sent. Reports, and with `audit` the
-/// lengths of the logs, are written to standard output, and where it is `verbose` its course to standard error. Trace
+/// Serves under the settings in a file, until standard input ends and all is sent. Reports, and with an audit the
+/// lengths of the logs, are written to standard output, and where it is verbose its course to standard error. Trace
 /// ids are hashed with keys that are drawn for this run.
-pub fn serve_file<R>(rt: &R, path: &str, audit: bool, verbose: bool) -> Result<(), ProgramFault>
+pub fn serve_file<R>(rt: &R, path: &str, options: &ServeOptions) -> Result<(), ProgramFault>
 where
     R: Files + Input + Print + Eprint + AllocGlobal + Clock + Threads + Wait + Sync,
-    R: RandomSource + Net<Listener = TcpListener, Stream = TcpStream>,
+    R: RandomSource + Net<Listener = TcpListener, Stream = TcpStream> + Documents,
 {
     let text = settings_text(fs::read(rt, path)?)?;
     let alloc = rt.alloc();
@@ -88,7 +91,7 @@ where
     let mut course = Course {
         rt,
         listener: &listener,
-        is_verbose: verbose,
+        is_verbose: options.verbose,
     };
     run_service(
         rt,
@@ -98,10 +101,33 @@ where
         &mut input,
         &mut output,
         &mut course,
-        audit,
-        keys,
+        service_options(options, keys),
     )?;
     Ok(())
+}
+
+/// How the service is run that these options ask for.
+fn service_options(options: &ServeOptions, keys: HashKeys) -> ServiceOptions
+    ensures { IsAsked options.now keys result }
+{
+    ServiceOptions {
+        audit: options.audit,
+        keys,
+        connections: options.connections,
+        senders: options.senders,
+        client_timeout: duration(options.client_timeout),
+        back_end_timeout: duration(options.back_end_timeout),
+    }
+}
+
+/// So many milliseconds.
+fn duration(millis: Option<u32>) -> Option<Duration>
+    ensures { option_map as_nanos result ≡ nanos_of millis }
+{
+    match millis {
+        Some(millis) => Some(Duration::from_millis(u64::from(millis))),
+        None => None,
+    }
 }
 
 /// The settings that a text means.

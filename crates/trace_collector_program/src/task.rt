@@ -1,14 +1,17 @@
 //! What the arguments ask for.
 
-ghost use Rattle.std.specs.Prelude.{◌≡◌, map, option_map, string_bytes};
-ghost use Rattle.trace_collector_program.specs.Task.{are_both, option_of, on_file, task_of, task_view, with_both, with_option};
+ghost use Rattle.std.specs.Prelude.{◌≡◌, map, option_map, string_bytes, None};
+ghost use Rattle.std.specs.Char.{is_ascii_digit};
+ghost use Rattle.std.specs.List.{list_all};
+ghost use Rattle.replay_script.specs.Word.{number_of};
+ghost use Rattle.trace_collector_program.specs.Task.{is_flag, none_given, on_file, once, option_of, options_from, task_of, task_view, up_to, with_flag, with_value};
 
 /// What `--help` prints.
 pub const HELP: &str =
     "trace_collector is a collector of OTLP traces that many tenants share. It serves, or replays scripts of what
 happens to it.
 
-usage: trace_collector replay SETTINGS | serve SETTINGS [--audit] [--verbose]
+usage: trace_collector replay SETTINGS | serve SETTINGS [--audit]
        trace_collector check SETTINGS
 
   replay SETTINGS  does the script on standard input, a command a line, under the settings in that
@@ -17,14 +20,27 @@ usage: trace_collector replay SETTINGS | serve SETTINGS [--audit] [--verbose]
                    standard input ends and all is sent; a line `report NAME` there prints that
                    tenant's counters, and at the end all are printed; `add PATH` lets a tenant come
                    whose table [[tenant]] is in that file, and `retire NAME` lets one go once all it
-                   holds is sent; with --audit also a line `audit SHARD ENTRIES` for each shard's
-                   log, which is kept in memory then; with --verbose standard error is told where
-                   it listens and what its end waits for
+                   holds is sent
   check SETTINGS   says what is wrong with that TOML file, or prints the settings in force; warns of
                    keys that no setting has
   --help           prints this text
   --version        prints the version
 
+Behind `serve SETTINGS`, in any order and each once at most:
+  --audit                prints at the end `audit SHARD ENTRIES` for each shard's log, which is kept
+                         in memory then
+  --verbose              tells standard error where it listens and what its end waits for
+  --connections N        serves N connections at a time, 1 to 65536; else as many as the settings
+                         have receivers
+  --senders N            sends N batches at a time, 1 to 4096; else as many as the settings have
+                         senders
+  --client-timeout MS    closes a client's connection that rests for MS milliseconds, 1 to
+                         4294967295; else none is closed for resting
+  --back-end-timeout MS  a back end that doesn't take a connection within MS milliseconds, 1 to
+                         4294967295, or rests for so long, has failed, and the batch is tried again;
+                         else it is waited for
+
+The lines of a script:
   post NAME MOMENT HEX   a request body in protobuf arrives for that tenant, at a moment in milliseconds;
                          prints `reply NAME STATUS HEX`
   turn SHARD MOMENT      a worker asks that shard for a job;
@@ -48,6 +64,42 @@ Exit statuses: 0 done; 1 a fault of the settings, the script, the input or the o
 /// What `--version` prints.
 pub const VERSION: &str = "trace_collector 0.1.0";
 
+/// So many connections can be asked for.
+const MOST_CONNECTIONS: u32 = 65_536;
+
+/// So many senders can be asked for.
+const MOST_SENDERS: u32 = 4_096;
+
+/// A number has at most so many digits, so that it is below 2^64.
+const MAX_DIGITS: usize = 19;
+
+/// No option of `serve`.
+const NONE_GIVEN: ServeOptions = ServeOptions {
+    audit: false,
+    verbose: false,
+    connections: None,
+    senders: None,
+    client_timeout: None,
+    back_end_timeout: None,
+};
+
+/// How the collector serves, beside its settings.
+#[derive(Clone, Copy, Debug, PartialEq, Eq)]
+pub struct ServeOptions {
+    /// Its logs keep all.
+    pub audit: bool,
+    /// It tells of its course.
+    pub verbose: bool,
+    /// So many connections are served at a time, from 1 to 65,536.
+    pub connections: Option<u32>,
+    /// So many jobs are posted at a time, from 1 to 4,096.
+    pub senders: Option<u32>,
+    /// So many milliseconds, from 1, a client's connection may rest.
+    pub client_timeout: Option<u32>,
+    /// So many milliseconds, from 1, a back end's connection may take to come about, and then rest.
+    pub back_end_timeout: Option<u32>,
+}
+
 /// What the program is to do.
 #[derive(Clone, Copy, Debug, PartialEq, Eq)]
 pub enum Task<'a> {
@@ -55,12 +107,10 @@ pub enum Task<'a> {
     Replay {
         settings: &'a str,
     },
-    /// The collector serves under the settings in this file. With `audit` its logs keep all, and `verbose` it tells of
-    /// its course.
+    /// The collector serves under the settings in this file.
     Serve {
         settings: &'a str,
-        audit: bool,
-        verbose: bool,
+        options: ServeOptions,
     },
     /// The settings in this file are checked.
     Check {
@@ -77,82 +127,33 @@ pub fn asked_task(args: &[String]) -> Option<Task<'_>>
     ensures { option_map task_view result ≡ task_of (map string_bytes args.now) }
 {
     match args {
+        [] => None,
         [word] => option(word.as_str()),
-        [command, path] => on_file(command.as_str(), path.as_str()),
-        [command, path, word] => with_option(command.as_str(), path.as_str(), word.as_str()),
-        [command, path, word, last] => with_both(
-            command.as_str(),
-            path.as_str(),
-            word.as_str(),
-            last.as_str(),
-        ),
-        _ => None,
+        [command, path, words @ ..] => on_file(command.as_str(), path.as_str(), words),
     }
 }
 
-/// What a command asks for of the file of this path.
-fn on_file<'a>(command: &str, path: &'a str) -> Option<Task<'a>>
-    ensures { option_map task_view result ≡ on_file command.now path.now }
+/// What a command asks for of the file of this path, with these words behind it.
+fn on_file<'a>(command: &str, path: &'a str, words: &[String]) -> Option<Task<'a>>
+    ensures { option_map task_view result ≡ on_file command.now path.now (map string_bytes words.now) }
 {
+    if command == "serve" {
+        let options = serve_options(words)?;
+        return Some(Task::Serve {
+            settings: path,
+            options,
+        });
+    }
+    if !words.is_empty() {
+        return None;
+    }
     if command == "replay" {
         Some(Task::Replay { settings: path })
-    } else if command == "serve" {
-        Some(Task::Serve {
-            settings: path,
-            audit: false,
-            verbose: false,
-        })
     } else if command == "check" {
         Some(Task::Check { settings: path })
     } else {
         None
     }
-}
-
-/// What a command with an option asks for of the file of this path.
-fn with_option<'a>(command: &str, path: &'a str, word: &str) -> Option<Task<'a>>
-    ensures { option_map task_view result ≡ with_option command.now path.now word.now }
-{
-    if command != "serve" {
-        return None;
-    }
-    if word == "--audit" {
-        Some(Task::Serve {
-            settings: path,
-            audit: true,
-            verbose: false,
-        })
-    } else if word == "--verbose" {
-        Some(Task::Serve {
-            settings: path,
-            audit: false,
-            verbose: true,
-        })
-    } else {
-        None
-    }
-}
-
-/// What a command with two options asks for of the file of this path.
-fn with_both<'a>(command: &str, path: &'a str, word: &str, last: &str) -> Option<Task<'a>>
-    ensures { option_map task_view result ≡ with_both command.now path.now word.now last.now }
-{
-    if command == "serve" && are_both(word, last) {
-        Some(Task::Serve {
-            settings: path,
-            audit: true,
-            verbose: true,
-        })
-    } else {
-        None
-    }
-}
-
-/// Whether they are `--audit` and `--verbose`, one way round or the other.
-fn are_both(word: &str, last: &str) -> bool
-    ensures { result ≡ are_both word.now last.now }
-{
-    word == "--audit" && last == "--verbose" || word == "--verbose" && last == "--audit"
 }
 
 /// What a word alone asks for.
@@ -166,4 +167,118 @@ fn option(word: &str) -> Option<Task<'_>>
     } else {
         None
     }
+}
+
+/// What is given with all options that these words spell, in any order.
+fn serve_options(words: &[String]) -> Option<ServeOptions>
+    ensures { result ≡ options_from none_given None (map string_bytes words.now) }
+{
+    let mut given = NONE_GIVEN;
+    let mut left = words;
+    while let [word, behind @ ..] = left {
+        if is_flag(word.as_str()) {
+            given = with_flag(given, word.as_str())?;
+            left = behind;
+        } else {
+            let [value, behind @ ..] = behind else {
+                return None;
+            };
+            given = with_value(given, word.as_str(), value.as_str())?;
+            left = behind;
+        }
+    }
+    Some(given)
+}
+
+/// Whether it is an option that has no value.
+fn is_flag(word: &str) -> bool
+    ensures { result ≡ is_flag word.now }
+{
+    word == "--audit" || word == "--verbose"
+}
+
+/// What is given with such an option more, which may stand once.
+fn with_flag(given: ServeOptions, word: &str) -> Option<ServeOptions>
+    ensures { result ≡ with_flag given word.now }
+{
+    if word == "--audit" && !given.audit {
+        Some(ServeOptions {
+            audit: true,
+            ..given
+        })
+    } else if word == "--verbose" && !given.verbose {
+        Some(ServeOptions {
+            verbose: true,
+            ..given
+        })
+    } else {
+        None
+    }
+}
+
+/// What is given with another option more and its value, which may stand once too.
+fn with_value(given: ServeOptions, name: &str, value: &str) -> Option<ServeOptions>
+    ensures { result ≡ with_value given name.now value.now }
+{
+    if name == "--connections" {
+        let connections = Some(once(given.connections, up_to(MOST_CONNECTIONS, value))?);
+        Some(ServeOptions {
+            connections,
+            ..given
+        })
+    } else if name == "--senders" {
+        let senders = Some(once(given.senders, up_to(MOST_SENDERS, value))?);
+        Some(ServeOptions { senders, ..given })
+    } else if name == "--client-timeout" {
+        let client_timeout = Some(once(given.client_timeout, up_to(u32::MAX, value))?);
+        Some(ServeOptions {
+            client_timeout,
+            ..given
+        })
+    } else if name == "--back-end-timeout" {
+        let back_end_timeout = Some(once(given.back_end_timeout, up_to(u32::MAX, value))?);
+        Some(ServeOptions {
+            back_end_timeout,
+            ..given
+        })
+    } else {
+        None
+    }
+}
+
+/// The value of an option that may stand once.
+fn once(before: Option<u32>, value: Option<u32>) -> Option<u32>
+    ensures { result ≡ once before value }
+{
+    match before {
+        None => value,
+        Some(_) => None,
+    }
+}
+
+/// The number from 1 to `most` that a word writes.
+fn up_to(most: u32, word: &str) -> Option<u32>
+    ensures { result ≡ up_to most word.now }
+{
+    let number = number(word)?;
+    if number < 1 || number > u64::from(most) {
+        return None;
+    }
+    Some(number as u32)
+}
+
+/// The number that a word writes in 1 to 19 decimal digits.
+fn number(word: &str) -> Option<u64>
+    ensures { result ≡ number_of word.now }
+{
+    if word.is_empty() || word.len() > MAX_DIGITS || !has_digits(word.as_bytes()) {
+        return None;
+    }
+    word.parse().ok()
+}
+
+fn has_digits(word: &[u8]) -> bool
+    ensures { result ≡ list_all is_ascii_digit word.now }
+{
+    word.iter().all(|byte| byte.is_ascii_digit())
 }

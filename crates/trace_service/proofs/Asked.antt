@@ -6,6 +6,7 @@ use Rattle.otlp_front.specs.Route.{number_of}
 use Rattle.shared_hub.specs.Logs.{CallerState}
 use Rattle.tail_settings.specs.Settings.{SettingsData}
 use Rattle.trace_service.specs.Comings.{Present, IsAdded}
+use Rattle.trace_service.specs.Documents.{Reads}
 use Rattle.trace_service.specs.Commands.{AsksNothing, IsReportedOf, IsRetiredOf, IsAnswered, reports, adds, retires, asks_nothing}
 
 -- a line has one byte at a place
@@ -41,34 +42,34 @@ retires_nobody present line name text none = record {
   no_going = λ other same. no_other present (codes "retire ") name other (sym text ∙ same) none;
 }
 
-module _ (first : SettingsData) (shards : ℕ) (line : List ℕ) (present : Present) (old : CallerState) (before : ℕ)
+module _ (reads : Reads) (first : SettingsData) (shards : ℕ) (line : List ℕ) (present : Present) (old : CallerState) (before : ℕ)
     (so_far : Option (List ℕ)) (name : List ℕ) (left : Present) (new : CallerState) (last : ℕ) (written : Option (List ℕ)) where
   report_of : (found : Option ℕ) → number_of present name ≡ found → line ≡ codes "report " ++ name
       → IsReportedOf shards name found old before so_far new last written
-      → IsAnswered first shards line present old before so_far present new last written
+      → IsAnswered reads first shards line present old before so_far present new last written
   report_of (Some tenant) is text told = reports name tenant text is told refl
   report_of None is text told = asks_nothing (report_of_nobody present line name text is) told.0 told.1 told.2 refl
 
   pub answers_report : {T E : Type 0} (r : Result T E) → line ≡ codes "report " ++ name
       → OnOk r (IsReportedOf shards name (number_of present name) old before so_far new last written)
-      → OnOk r (IsAnswered first shards line present old before so_far present new last written)
+      → OnOk r (IsAnswered reads first shards line present old before so_far present new last written)
   answers_report (Ok x) text told = report_of (number_of present name) refl text told
   answers_report (Err e) text told = tt
 
   pub answers_add : {T E : Type 0} (r : Result T E) → line ≡ codes "add " ++ name → last ≡ before
-      → OnOk r ((told : List ℕ) × IsAdded first shards present old left new told × Appends so_far written told)
-      → OnOk r (IsAnswered first shards line present old before so_far left new last written)
+      → OnOk r ((told : List ℕ) × IsAdded reads first shards name present old left new told × Appends so_far written told)
+      → OnOk r (IsAnswered reads first shards line present old before so_far left new last written)
   answers_add (Ok x) text same told = adds name told.0 text told.1 told.2 same
   answers_add (Err e) text same told = tt
 
   retirement_of : (found : Option ℕ) → number_of present name ≡ found → line ≡ codes "retire " ++ name
       → IsRetiredOf shards name found present old before so_far left new last written
-      → IsAnswered first shards line present old before so_far left new last written
+      → IsAnswered reads first shards line present old before so_far left new last written
   retirement_of (Some tenant) is text told = retires name tenant text is told
   retirement_of None is text told = asks_nothing (retires_nobody present line name text is) told.1 told.2 told.3 told.0
 
   pub answers_retire : {T E : Type 0} (r : Result T E) → line ≡ codes "retire " ++ name
       → OnOk r (IsRetiredOf shards name (number_of present name) present old before so_far left new last written)
-      → OnOk r (IsAnswered first shards line present old before so_far left new last written)
+      → OnOk r (IsAnswered reads first shards line present old before so_far left new last written)
   answers_retire (Ok x) text told = retirement_of (number_of present name) refl text told
   answers_retire (Err e) text told = tt

@@ -3,17 +3,18 @@ use Rattle.std.proofs.Common.{◌≡◌, ℕ, Bool, true, false, List, [], ◌�
 use Rattle.shared_hub.specs.Logs.{CallerState}
 use Rattle.tail_settings.specs.Settings.{SettingsData}
 use Rattle.trace_service.specs.Comings.{Present}
+use Rattle.trace_service.specs.Documents.{Reads}
 use Rattle.trace_service.specs.Commands.{TakesLine, IsAnswered, AreAnswered, no_answer, answer_more, AreFirst, no_line, line_more, AreCommandsRead}
 
 -- of a known text these are the first lines, and what stands behind them is left
 abbrev pub Taken : Option (List ℕ) → Option (List ℕ) → List (List ℕ) → Type 0
 Taken before after lines = IfSome before (λ text. (rest : List ℕ) × (after ≡ Some rest) × AreFirst text lines rest)
 
-pub record HeardSoFar (settings : SettingsData) (shards : ℕ) (before after : Option (List ℕ)) (present : Present) (old : CallerState) (first : ℕ)
+pub record HeardSoFar (reads : Reads) (settings : SettingsData) (shards : ℕ) (before after : Option (List ℕ)) (present : Present) (old : CallerState) (first : ℕ)
     (so_far : Option (List ℕ)) (left : Present) (new : CallerState) (last : ℕ) (written : Option (List ℕ)) : Type 0 where
   pub lines : List (List ℕ)
   pub taken : Taken before after lines
-  pub answered : AreAnswered settings shards present old first so_far lines left new last written
+  pub answered : AreAnswered reads settings shards present old first so_far lines left new last written
 
 taken_none : (before : Option (List ℕ)) → Taken before before []
 taken_none None = tt
@@ -32,14 +33,14 @@ taken_all (Some text) mid after lines line t l =
     let none : t.0 ≡ [] = subst (λ (m : Option (List ℕ)). IfSome m (λ rest. TakesLine rest after line false)) t.1 l in
     subst (λ r. AreFirst text lines r) none t.2
 
-module _ (settings : SettingsData) (shards : ℕ) (before : Option (List ℕ)) (present : Present) (old : CallerState) (first : ℕ) (so_far : Option (List ℕ)) where
-  pub heard_none : HeardSoFar settings shards before before present old first so_far present old first so_far
+module _ (reads : Reads) (settings : SettingsData) (shards : ℕ) (before : Option (List ℕ)) (present : Present) (old : CallerState) (first : ℕ) (so_far : Option (List ℕ)) where
+  pub heard_none : HeardSoFar reads settings shards before before present old first so_far present old first so_far
   heard_none = record { lines = []; taken = taken_none before; answered = no_answer }
 
   pub heard_more : (mid after : Option (List ℕ)) (known left : Present) (now new : CallerState) (then_last last : ℕ) (text written : Option (List ℕ)) (line : List ℕ)
-      → HeardSoFar settings shards before mid present old first so_far known now then_last text
-      → IfSome mid (λ rest. TakesLine rest after line true) → IsAnswered settings shards line known now then_last text left new last written
-      → HeardSoFar settings shards before after present old first so_far left new last written
+      → HeardSoFar reads settings shards before mid present old first so_far known now then_last text
+      → IfSome mid (λ rest. TakesLine rest after line true) → IsAnswered reads settings shards line known now then_last text left new last written
+      → HeardSoFar reads settings shards before after present old first so_far left new last written
   heard_more mid after known left now new then_last last text written line h takes answer = record {
     lines = h.lines ++ line ∷ [];
     taken = taken_more before mid after h.lines line h.taken takes;
@@ -47,9 +48,9 @@ module _ (settings : SettingsData) (shards : ℕ) (before : Option (List ℕ)) (
   }
 
   pub heard_all : (mid after : Option (List ℕ)) (left : Present) (new : CallerState) (last : ℕ) (written : Option (List ℕ)) (line : List ℕ)
-      → HeardSoFar settings shards before mid present old first so_far left new last written
+      → HeardSoFar reads settings shards before mid present old first so_far left new last written
       → IfSome mid (λ rest. TakesLine rest after line false)
-      → AreCommandsRead settings shards before present old first so_far left new last written
+      → AreCommandsRead reads settings shards before present old first so_far left new last written
   heard_all mid after left new last written line h takes = record {
     lines = h.lines;
     known = taken_all before mid after h.lines line h.taken takes;

@@ -11,3 +11,6 @@ pub mod Came
 pub mod Admitted
 pub mod Asked
 pub mod Joined
+pub mod Talked
+pub mod Jobs
+pub mod Given

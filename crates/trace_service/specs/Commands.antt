@@ -18,6 +18,7 @@ use Rattle.trace_service.specs.declared.input.ReadResult.TheVariants.{Byte, Noth
 use Rattle.trace_service.specs.declared.chore.Chore.{Chore}
 use Rattle.trace_service.specs.declared.chore.Chore.TheVariants.{Report, Drain, Retire}
 use Rattle.trace_service.specs.Comings.{Present, IsAdded}
+use Rattle.trace_service.specs.Documents.{Reads}
 use Rattle.trace_service.specs.Moments.{Rises}
 
 -- the line asks for nothing: for the counters of nobody who is present, for nobody to come, and for nobody to go
@@ -140,30 +141,31 @@ IsRetiredOf shards name None present old before so_far left new last written =
 
 -- Of the tenants that are present the line was answered: by the report of the one for whose counters it asks; by what
 -- came of its tenant's coming or going; or by nothing, where it asks for nothing. These are present then.
-pub data IsAnswered (first : SettingsData) (shards : ℕ) (line : List ℕ) (present : Present) (old : CallerState)
-    (before : ℕ) (so_far : Option (List ℕ)) (left : Present) (new : CallerState) (last : ℕ)
+pub data IsAnswered (reads : Reads) (first : SettingsData) (shards : ℕ) (line : List ℕ) (present : Present)
+    (old : CallerState) (before : ℕ) (so_far : Option (List ℕ)) (left : Present) (new : CallerState) (last : ℕ)
     (written : Option (List ℕ)) : Type 0 where
   reports : (name : List ℕ) (tenant : ℕ) → line ≡ codes "report " ++ name → number_of present name ≡ Some tenant
       → IsReported name old new shards tenant before last so_far written → left ≡ present
-      → IsAnswered first shards line present old before so_far left new last written
-  adds : (path told : List ℕ) → line ≡ codes "add " ++ path → IsAdded first shards present old left new told
+      → IsAnswered reads first shards line present old before so_far left new last written
+  adds : (path told : List ℕ) → line ≡ codes "add " ++ path → IsAdded reads first shards path present old left new told
       → Appends so_far written told → last ≡ before
-      → IsAnswered first shards line present old before so_far left new last written
+      → IsAnswered reads first shards line present old before so_far left new last written
   retires : (name : List ℕ) (tenant : ℕ) → line ≡ codes "retire " ++ name → number_of present name ≡ Some tenant
       → IsRetired name present old new shards tenant before last so_far left written
-      → IsAnswered first shards line present old before so_far left new last written
+      → IsAnswered reads first shards line present old before so_far left new last written
   asks_nothing : AsksNothing present line → new ≡ old → last ≡ before → written ≡ so_far → left ≡ present
-      → IsAnswered first shards line present old before so_far left new last written
+      → IsAnswered reads first shards line present old before so_far left new last written
 
 -- these lines were answered, one after the other
-pub data AreAnswered (first : SettingsData) (shards : ℕ) (present : Present) (old : CallerState) (before : ℕ)
-    (so_far : Option (List ℕ)) : List (List ℕ) → Present → CallerState → ℕ → Option (List ℕ) → Type 0 where
-  no_answer : AreAnswered first shards present old before so_far [] present old before so_far
+pub data AreAnswered (reads : Reads) (first : SettingsData) (shards : ℕ) (present : Present) (old : CallerState)
+    (before : ℕ) (so_far : Option (List ℕ))
+    : List (List ℕ) → Present → CallerState → ℕ → Option (List ℕ) → Type 0 where
+  no_answer : AreAnswered reads first shards present old before so_far [] present old before so_far
   answer_more : (lines : List (List ℕ)) (known : Present) (mid : CallerState) (between : ℕ) (text : Option (List ℕ))
       (line : List ℕ) (left : Present) (new : CallerState) (last : ℕ) (written : Option (List ℕ))
-      → AreAnswered first shards present old before so_far lines known mid between text
-      → IsAnswered first shards line known mid between text left new last written
-      → AreAnswered first shards present old before so_far (lines ++ line ∷ []) left new last written
+      → AreAnswered reads first shards present old before so_far lines known mid between text
+      → IsAnswered reads first shards line known mid between text left new last written
+      → AreAnswered reads first shards present old before so_far (lines ++ line ∷ []) left new last written
 
 -- these are the text's first lines, and that is what stands behind them
 pub data AreFirst (text : List ℕ) : List (List ℕ) → List ℕ → Type 0 where
@@ -172,12 +174,12 @@ pub data AreFirst (text : List ℕ) : List (List ℕ) → List ℕ → Type 0 wh
       → TakesLine rest (Some after) line true → AreFirst text (lines ++ line ∷ []) after
 
 -- all lines of the input were answered: of one that is known these are all its lines. These tenants are present then
-pub record AreCommandsRead (first : SettingsData) (shards : ℕ) (input : Option (List ℕ)) (present : Present)
-    (old : CallerState) (before : ℕ) (so_far : Option (List ℕ)) (left : Present) (new : CallerState) (last : ℕ)
-    (written : Option (List ℕ)) : Type 0 where
+pub record AreCommandsRead (reads : Reads) (first : SettingsData) (shards : ℕ) (input : Option (List ℕ))
+    (present : Present) (old : CallerState) (before : ℕ) (so_far : Option (List ℕ)) (left : Present)
+    (new : CallerState) (last : ℕ) (written : Option (List ℕ)) : Type 0 where
   pub lines : List (List ℕ)
   pub known : IfSome input (λ text. AreFirst text lines [])
-  pub answered : AreAnswered first shards present old before so_far lines left new last written
+  pub answered : AreAnswered reads first shards present old before so_far lines left new last written
 
 -- each of these tenants was seen to hold no span
 abbrev pub AreEmptyOn : CallerState → ℕ → List ℕ → Type 0

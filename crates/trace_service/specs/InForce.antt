@@ -1,9 +1,10 @@
 -- Settings in force, to which tenants come and which they leave while threads look at them under a lock. This project's
 -- own rule.
-use Rattle.std.specs.Prelude.{◌≡◌, ℕ, List, [], Option, Some, None, Ok, option_map, string_bytes}
+use Rattle.std.specs.Prelude.{◌≡◌, ◌⊎◌, ℕ, List, [], Option, Some, None, Ok, Err, option_map, string_bytes}
 use Rattle.otlp_front.specs.Route.{Route, post, refuse, unknown_tenant}
 use Rattle.otlp_front.specs.Seen.{response_for}
-use Rattle.tail_settings.specs.Change.{Change, after, admitted}
+use Rattle.tail_settings.specs.Change.{Change, after, admitted, struck}
+use Rattle.tail_settings.specs.Fault.{FaultData}
 use Rattle.tail_settings.specs.Section.{SectionData, section_view}
 use Rattle.tail_settings.specs.Settings.{SettingsData, tenant_at, section_at}
 use Rattle.trace_service.specs.declared.in_force.Newcomer.{Newcomer}
@@ -55,3 +56,10 @@ pub record IsNewcomer (now : SettingsData) (text : List ℕ) (newcomer : Newcome
   pub number : newcomer.number ≡ now.next
   pub name : option_map (λ t. t.name) (tenant_at grown newcomer.number) ≡ Some (string_bytes newcomer.name)
   pub section : section_at grown newcomer.number ≡ Some (section_view newcomer.section)
+
+-- nobody came under settings with this document, and these are left: its first fault is told, and nothing has changed;
+-- or memory was refused, and nothing has changed, or its tenant was let in and struck again, so its number is used up
+abbrev pub IsTurnedAway : SettingsData → List ℕ → Option FaultData → SettingsData → Type 0
+IsTurnedAway now text (Some fault) left = (admitted now text ≡ Err fault) × (left ≡ now)
+IsTurnedAway now text None left =
+    (left ≡ now) ⊎ ((grown : SettingsData) × (admitted now text ≡ Ok grown) × (left ≡ struck grown now.next))

@@ -2,7 +2,9 @@ pub mod Moments
 pub mod InForce
 pub mod Post
 pub mod Work
+pub mod Jobs
 pub mod Assignment
+pub mod Documents
 pub mod Comings
 pub mod Commands
 pub mod Told

@@ -1,27 +1,30 @@
 -- What a service comes to, from its start to its end. This project's own rule.
-use Rattle.std.specs.Prelude.{◌≡◌, ℕ, List, ◌∷◌, length, map, Bool, true, Option, Some, slice_get, All}
+use Rattle.std.specs.Prelude.{◌≡◌, ℕ, ◌≤◌, List, ◌∷◌, length, map, Bool, true, Option, Some, slice_get, All}
 use Rattle.atomic_table.specs.Seated.{TableId}
+use Rattle.job_lane.specs.Lane.{SeatLists, IsWholeRun}
 use Rattle.machine_hub.specs.declared.view.Home.{Home}
 use Rattle.machine_hub.specs.Hub.{AreShardRuns, new_caller}
 use Rattle.otlp_front.specs.Route.{names_in}
 use Rattle.shard_machine.specs.MachineState.{MachineState, MachineDoes}
-use Rattle.shared_hub.specs.Logs.{CallerState, LoggedShard, AreLogged, AreOneRun}
+use Rattle.shared_hub.specs.Logs.{CallerState, LoggedShard, AreLogged, AreOneRun, AreOneHistory}
 use Rattle.shared_hub.specs.Shards.{AreOpened}
 use Rattle.tail_settings.specs.Settings.{SettingsData}
 use Rattle.trace_service.specs.Audit.{audit_text, IsFollowed}
 use Rattle.trace_service.specs.Comings.{Present}
 use Rattle.trace_service.specs.Commands.{AreDrained, AreEmptyOn, AreReported, AreCommandsRead}
+use Rattle.trace_service.specs.Documents.{Reads}
+use Rattle.trace_service.specs.Jobs.{AreThreads}
 
 -- What who reads the input did, by calls of one caller and in this order: all lines of the input were answered, each
 -- tenant that was present then was drained, each was seen to hold no span, and each one's report was written.
-pub record IsDirected (first : SettingsData) (present : Present) (shards : ℕ) (input : Option (List ℕ))
+pub record IsDirected (reads : Reads) (first : SettingsData) (present : Present) (shards : ℕ) (input : Option (List ℕ))
     (old : CallerState) (before : ℕ) (so_far : Option (List ℕ)) (new : CallerState) (last : ℕ)
     (written : Option (List ℕ)) : Type 0 where
   pub left : Present
   pub after_input : CallerState
   pub input_end : ℕ
   pub text : Option (List ℕ)
-  pub heard : AreCommandsRead first shards input present old before so_far left after_input input_end text
+  pub heard : AreCommandsRead reads first shards input present old before so_far left after_input input_end text
   pub after_drains : CallerState
   pub drain_end : ℕ
   pub drained : AreDrained shards after_input input_end (map (λ tenant. tenant.0) left) after_drains drain_end
@@ -29,7 +32,7 @@ pub record IsDirected (first : SettingsData) (present : Present) (shards : ℕ) 
   pub told : AreReported shards after_drains drain_end text left new last written
 
 -- of a hub's callers, which had made no call, one did that
-pub record IsCourse (first : SettingsData) (present : Present) (shards : ℕ) (input : Option (List ℕ))
+pub record IsCourse (reads : Reads) (first : SettingsData) (present : Present) (shards : ℕ) (input : Option (List ℕ))
     (fresh : CallerState) (so_far : Option (List ℕ)) (callers : List CallerState) (written : Option (List ℕ))
     : Type 0 where
   pub before : ℕ
@@ -37,23 +40,34 @@ pub record IsCourse (first : SettingsData) (present : Present) (shards : ℕ) (i
   pub own : CallerState
   pub others : List CallerState
   pub callers_are : callers ≡ own ∷ others
-  pub directed : IsDirected first present shards input fresh before so_far own last written
+  pub directed : IsDirected reads first present shards input fresh before so_far own last written
 
 -- What a service did to its shards, and what it wrote: there was a hub of the settings' shards, and one of its callers,
 -- which had made no call before, read the input and wrote what its calls at these shards gave. All callers' calls at a
--- shard are one run of it, log or not, of which each tenant was told what its pipeline alone answers to its own steps.
--- Where an audit is asked for the logs keep, and their lines were written last, each shard's under its number.
-pub record IsServed (table : SettingsData) (audit : Bool) (input so_far written : Option (List ℕ)) : Type 0 where
+-- shard are one run of it, log or not, of which each tenant was told what its pipeline alone answers to its own steps,
+-- and from its first want of memory on one history. The other callers were threads', with all seats of one lane: the
+-- jobs that were pushed there are those of turns that these callers made, each that was popped is one of them, and so
+-- many were popped and so many are left. Where an audit is asked for the logs keep, and their lines were written last,
+-- each shard's under its number.
+pub record IsServed (reads : Reads) (table : SettingsData) (audit : Bool) (input so_far written : Option (List ℕ))
+    : Type 0 where
   pub slots : List TableId
   pub homes : List (Home MachineState)
   pub opened : AreOpened table homes
   pub callers : List CallerState
   pub text : Option (List ℕ)
-  pub course : IsCourse table (names_in table).tenants table.global.shards input (new_caller slots homes) so_far
+  pub course : IsCourse reads table (names_in table).tenants table.global.shards input (new_caller slots homes) so_far
       callers text
   pub shards : List LoggedShard
   pub calls : AreShardRuns MachineDoes homes callers shards
   pub one_run : AreOneRun table callers
+  pub one_history : AreOneHistory table callers shards
+  pub seats : List SeatLists
+  pub threads : AreThreads table.global.shards (new_caller slots homes) callers seats
+  pub taken : ℕ
+  pub left : ℕ
+  pub lane : IsWholeRun seats taken left
+  pub room : left ≤ table.global.lane_size
   pub logged : AreLogged table shards
   pub count : length shards ≡ table.global.shards
   pub numbered : (k : ℕ) (s : LoggedShard) → slice_get shards k ≡ Some s → s.number ≡ k

@@ -1,9 +1,11 @@
 //! Who works at what.
 
 ghost use Rattle.std.specs.Prelude.{◌≡◌, ◌<◌, ◌≤◌, ◌+◌, ◌∷◌, List, length, map, All, IfOk, vec_len};
+ghost use Rattle.job_lane.specs.Lane.{new_seat};
 ghost use Rattle.machine_hub.specs.Hub.{AreCallersOf, slots_of};
 ghost use Rattle.shared_hub.specs.Logs.{CallerState};
 ghost use Rattle.trace_service.specs.Assignment.{place_of, places};
+ghost use Rattle.trace_service.specs.Jobs.{AreThreads, IsThread};
 
 use crate::naming::Naming;
 use crate::shared::Shared;
@@ -22,11 +24,14 @@ pub(crate) fn assign_threads<'h, J: Naming, R: Wait + Clock>(
 ) -> Result<Vec<Worker<'h, J, R>>, AllocError>
     requires hub { shared.now.hub.now ≡ J.slots }
     requires callers { AreCallersOf J.slots callers.items }
-    requires seats { All (λ s. s.lane ≡ J.lane) seats.items }
+    requires seats { All (λ s. s ≡ new_seat J.lane) seats.items }
+    requires new { All (λ c. c ≡ J.fresh) callers.items }
     requires enough { vec_len callers ≤ vec_len seats }
     ensures places { IfOk result (λ workers. map (λ w. (w.role, w.context.shard)) workers.items
         ≡ places (length shared.now.hub.now) shared.now.staff.senders (vec_len callers)) }
     ensures count { IfOk result (λ workers. vec_len workers ≡ vec_len callers) }
+    ensures idle { IfOk result (λ workers.
+        All (λ w. (w.context.caller ≡ J.fresh) × (w.seat ≡ new_seat J.lane)) workers.items) }
 {
     let shards = shared.hub.shards();
     let senders = shared.staff.senders as usize;
@@ -56,21 +61,28 @@ fn role_of(number: usize, shards: usize, senders: usize) -> (Role, usize)
     }
 }
 
-/// The callers of all workers, after their work, and the caller of who read the input.
+/// The callers and the seats of all workers, after their work, and the caller of who read the input.
 pub(crate) fn collect_callers<'h, J: Naming, R: Wait + Clock>(
     alloc: Global,
     mut workers: Vec<Worker<'h, J, R>>,
     own: Caller,
-) -> Result<Vec<Caller>, AllocError>
-    requires { slots_of own ≡ J.slots }
-    ensures same_hub { IfOk result (λ all. AreCallersOf J.slots all.items) }
-    ensures all { IfOk result (λ all. vec_len all ≡ 1 + vec_len workers.entry) }
-    ensures own_first { IfOk result (λ all. (others : List CallerState) × (all.items ≡ own ∷ others)) }
+) -> Result<(Vec<Caller>, Vec<LaneSeat>), AllocError>
+    requires own { slots_of own ≡ J.slots }
+    requires did { All (λ w. IsThread (length J.slots) J.fresh w.context.caller w.seat) workers.items }
+    ensures same_hub { IfOk result (λ r. AreCallersOf J.slots r.0.items) }
+    ensures all { IfOk result (λ r. vec_len r.0 ≡ 1 + vec_len workers.entry) }
+    ensures own_first { IfOk result (λ r. (others : List CallerState) × (r.0.items ≡ own ∷ others)) }
+    ensures same_lane { IfOk result (λ r. All (λ s. s.lane ≡ J.lane) r.1.items) }
+    ensures all_seats { IfOk result (λ r. vec_len r.1 ≡ vec_len workers.entry) }
+    ensures threads { IfOk result (λ r. AreThreads (length J.slots) J.fresh r.0.items r.1.items) }
 {
     let mut callers = Vec::new(alloc);
+    let mut seats = Vec::new(alloc);
     callers.push(own)?;
     while let Some(worker) = workers.pop() {
-        callers.push(worker.into_context().into_caller())?;
+        let (caller, seat) = worker.into_parts();
+        callers.push(caller)?;
+        seats.push(seat)?;
     }
-    Ok(callers)
+    Ok((callers, seats))
 }

@@ -28,7 +28,7 @@ pub(crate) trait Director {
 /// The team's work, in a thread of its own, with that of its director beside it: how the input and the output fared.
 pub(crate) fn work_beside<R, F, D, I, O, L>(
     rt: &R,
-    mut team: F,
+    team: &mut F,
     director: &mut D,
     input: &mut I,
     output: &mut O,
@@ -42,13 +42,14 @@ where
     I: BufRead,
     O: Write,
     L: Observer,
-    requires { F.pre team }
-    ensures { OnOk result (D.directs director.old (I.remaining input.old) (O.contents output.old) director.new
+    requires { F.pre team.old }
+    ensures team { F.step team.old tt team.new }
+    ensures directed { OnOk result (D.directs director.old (I.remaining input.old) (O.contents output.old) director.new
         (O.contents output.new)) }
 {
     let ((), ended) = join_mut(
         rt,
-        &mut team,
+        team,
         &mut ||
             ensures { OnOk result (D.directs director.entry.now (I.remaining input.entry.now)
                 (O.contents output.entry.now) director.exit.now (O.contents output.exit.now)) }

@@ -1,20 +1,22 @@
 //! Tenants that come and go while the service runs, as lines of the input ask.
 
-ghost use Rattle.std.specs.Prelude.{◌≡◌, ◌<◌, ◌%◌, ℕ, List, Err, length, vec_len, vec_capacity, true, IfOk, IfErr, IfSome, OnOk};
+ghost use Rattle.std.specs.Prelude.{◌≡◌, ◌<◌, ◌%◌, ℕ, List, Ok, length, string_bytes, vec_len, vec_capacity, true, IfOk, IfErr, OnOk};
 ghost use Rattle.std.specs.Io.KnownBytes.{Appends};
+ghost use Rattle.std.specs.IoError.{error_kind};
 ghost use Rattle.otlp_front.specs.Route.{number_of};
 ghost use Rattle.shared_hub.specs.Logs.{IsEmptyOn};
-ghost use Rattle.tail_settings.specs.Change.{admitted};
 ghost use Rattle.tail_settings.specs.Fault.{fault_view};
 ghost use Rattle.tail_settings.specs.Settings.{SettingsData};
-ghost use Rattle.trace_service.specs.Comings.{IsAdded, IsJoined, IsNotJoined, IsUnread, not_added_text, why_not};
+ghost use Rattle.trace_service.specs.Comings.{IsAdded, IsJoined, IsNotJoined, not_added_text, why_not};
 ghost use Rattle.trace_service.specs.Commands.{IsRetiredOf, left_by, stays};
-ghost use Rattle.trace_service.specs.InForce.{CameOf, IsNewcomer};
+ghost use Rattle.trace_service.specs.Documents.{IsOfReading, IsUnread};
+ghost use Rattle.trace_service.specs.InForce.{CameOf, IsNewcomer, IsTurnedAway};
 ghost use Rattle.trace_service.specs.Roster.{present_in};
 ghost use Rattle.trace_service.specs.declared.comings.NotAdded.TheVariants as why;
 
 use crate::chore::Chore;
 use crate::control::Control;
+use crate::documents::Documents;
 use crate::in_force::Newcomer;
 use crate::naming::Naming;
 use crate::reports::{Told, write_text};
@@ -23,12 +25,11 @@ use crate::service::ServiceFault;
 use export_edge::Beat;
 use shared_hub::HubFault;
 use std::alloc::AllocError;
-use std::io::{ErrorKind, Read, Write};
+use std::io::{ErrorKind, Write};
 use std::net::{Net, TcpListener, TcpStream};
-use std::rt::Files;
 use std::sync::Wait;
 use std::time::Clock;
-use std::{fs, io, str};
+use std::{io, str};
 use tail_settings::SettingsFault;
 use tenant_shard::{Outcome, Step};
 
@@ -57,7 +58,7 @@ impl From<AllocError> for NotAdded {
 
 /// Of a file only the want of memory is told apart.
 impl From<io::Error> for NotAdded {
-    ghost from_gives = { λ _ given. IsUnread given };
+    ghost from_gives = { λ error given. IsOfReading (error_kind error) given };
 
     fn from(error: io::Error) -> NotAdded {
         if error.kind() == ErrorKind::OutOfMemory {
@@ -82,7 +83,7 @@ impl From<SettingsFault> for NotAdded {
 impl<'h, J, R> Control<'h, J, R>
 where
     J: Naming,
-    R: Net<Listener = TcpListener, Stream = TcpStream> + Wait + Clock + Files,
+    R: Net<Listener = TcpListener, Stream = TcpStream> + Wait + Clock + Documents,
 {
     /// Lets the tenant come whose document is in the file at this path, and prints what came of it.
     pub fn add<O: Write>(
@@ -91,9 +92,9 @@ where
         output: &mut O,
         path: &[u8],
     ) -> Result<(), ServiceFault>
-        ensures added { OnOk result ((line : List ℕ) × IsAdded J.first (length self.old.context.hub.now)
-            (present_in roster.old) self.old.context.caller (present_in roster.new) self.new.context.caller line
-            × Appends (O.contents output.old) (O.contents output.new) line) }
+        ensures added { OnOk result ((line : List ℕ) × IsAdded R.reads J.first (length self.old.context.hub.now)
+            path.now (present_in roster.old) self.old.context.caller (present_in roster.new) self.new.context.caller
+            line × Appends (O.contents output.old) (O.contents output.new) line) }
         ensures last { self.new.beat.last ≡ self.old.beat.last }
         ensures hub { self.new.context.hub ≡ self.old.context.hub }
     {
@@ -116,10 +117,10 @@ where
 
     /// The line of the tenant that came whose document is in the file at this path.
     fn let_in(&mut self, roster: &mut Roster, path: &[u8]) -> Result<Vec<u8>, NotAdded>
-        ensures added { IfOk result (λ line. IsAdded J.first (length self.old.context.hub.now)
+        ensures added { IfOk result (λ line. IsAdded R.reads J.first (length self.old.context.hub.now) path.now
             (present_in roster.old) self.old.context.caller (present_in roster.new) self.new.context.caller
             line.items) }
-        ensures not_added { IfErr result (λ why. IsAdded J.first (length self.old.context.hub.now)
+        ensures not_added { IfErr result (λ why. IsAdded R.reads J.first (length self.old.context.hub.now) path.now
             (present_in roster.old) self.old.context.caller (present_in roster.new) self.new.context.caller
             (not_added_text why)) }
         ensures last { self.new.beat.last ≡ self.old.beat.last }
@@ -133,14 +134,13 @@ where
 
     /// The text of the file at this path.
     fn document(&self, path: &[u8]) -> Result<String, NotAdded>
-        ensures { IfErr result IsUnread }
+        ensures text { IfOk result (λ text. R.reads path.now (Ok (string_bytes text))) }
+        ensures unread { IfErr result (λ why. IsUnread R.reads path.now why) }
     {
         let Ok(path) = str::from_utf8(path) else {
             return Err(NotAdded::Refused(NOT_READ));
         };
-        let mut file = fs::open(self.rt, path)?;
-        let mut bytes = Vec::new(self.alloc);
-        file.read_to_end(&mut bytes)?;
+        let bytes = self.rt.read_document(self.alloc, path)?;
         match String::from_utf8(bytes) {
             Ok(text) => Ok(text),
             Err(_) => Err(NotAdded::Refused(NOT_READ)),
@@ -151,8 +151,8 @@ where
     fn newcomer(&self, text: &str) -> Result<Newcomer, SettingsFault>
         ensures on_success { IfOk result (λ newcomer. (now : SettingsData) × CameOf J.first now
             × IsNewcomer now text.now newcomer) }
-        ensures fault { IfErr result (λ e. IfSome (fault_view e) (λ f. (now : SettingsData) × CameOf J.first now
-            × (admitted now text.now ≡ Err f))) }
+        ensures fault { IfErr result (λ e. (now left : SettingsData) × CameOf J.first now × CameOf J.first left
+            × IsTurnedAway now text.now (fault_view e) left) }
     {
         self.settings.lock(self.rt).admit(self.alloc, text)
     }

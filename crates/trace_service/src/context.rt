@@ -103,6 +103,10 @@ impl<'h, J: Naming, R: Wait + Clock> WorkerContext<'h, J, R> {
         self.alloc
     }
 
+    pub fn rt(&self) -> &'h R {
+        self.rt
+    }
+
     /// Makes one step at this tenant's shard.
     pub fn step(&mut self, tenant: u32, step: Step) -> Result<Outcome, HubFault>
         ensures call { IfOk result (λ outcome. (receipt : Option Receipt)

@@ -12,6 +12,8 @@ use crate::beside::Director;
 use crate::chore::Chore;
 use crate::context::WorkerContext;
 use crate::course::{Observer, Stage};
+use crate::documents::Documents;
+use crate::entrance::{wake, wake_at_last};
 use crate::in_force::InForce;
 use crate::input::{Line, next_line};
 use crate::naming::Naming;
@@ -24,13 +26,9 @@ use std::alloc::{AllocError, Global};
 use std::io::{BufRead, Write};
 use std::mem;
 use std::net::{Net, TcpListener, TcpStream};
-use std::rt::Files;
 use std::sync::{Mutex, Wait};
-use std::time::{Clock, Duration};
+use std::time::Clock;
 use tenant_shard::Outcome;
-
-/// So many milliseconds a connection that wakes a receiver may take.
-const LONGEST_WAKE: u64 = 100;
 
 /// Who reads the input: the tenants that it knows, its context, and how it reaches the listener.
 #[derive(Drop)]
@@ -39,7 +37,6 @@ pub(crate) struct Control<'h, J: Naming, R> {
     pub alloc: Global,
     pub settings: &'h Mutex<InForce<J>>,
     pub roster: Roster,
-    pub receivers: u32,
     pub listener: &'h TcpListener,
     pub context: WorkerContext<'h, J, R>,
     pub beat: ServiceBeat<'h, R>,
@@ -48,7 +45,7 @@ pub(crate) struct Control<'h, J: Naming, R> {
 impl<'h, J, R> Control<'h, J, R>
 where
     J: Naming,
-    R: Net<Listener = TcpListener, Stream = TcpStream> + Wait + Clock + Files,
+    R: Net<Listener = TcpListener, Stream = TcpStream> + Wait + Clock + Documents,
 {
     /// Once all threads are there reads the input to its end, has every tenant send what it holds, and prints the
     /// reports. Whatever comes of it, the other threads are told that the work is over.
@@ -59,7 +56,7 @@ where
         observer: &mut L,
         threads: usize,
     ) -> Result<(), ServiceFault>
-        ensures { OnOk result (IsDirected J.first (present_in self.old.roster) (length self.old.context.hub.now)
+        ensures { OnOk result (IsDirected R.reads J.first (present_in self.old.roster) (length self.old.context.hub.now)
             (I.remaining input.old) self.old.context.caller self.old.beat.last (O.contents output.old)
             self.new.context.caller self.new.beat.last (O.contents output.new)) }
     {
@@ -72,11 +69,12 @@ where
         observer.observe(Stage::Draining);
         self.drain_all(roster.tenants());
         self.beat.signals().close();
-        self.wake_receivers();
+        let is_woken = wake(self.rt, self.listener);
         self.await_empty(roster.tenants(), observer);
         let told = self.print_reports(roster.tenants(), output);
         observer.observe(Stage::Closing);
         self.beat.signals().end();
+        wake_at_last(self.rt, self.listener, is_woken);
         heard?;
         told?;
         Ok(())
@@ -89,7 +87,7 @@ where
         input: &mut I,
         output: &mut O,
     ) -> Result<(), ServiceFault>
-        ensures commands_read { OnOk result (AreCommandsRead J.first (length self.old.context.hub.now)
+        ensures commands_read { OnOk result (AreCommandsRead R.reads J.first (length self.old.context.hub.now)
             (I.remaining input.old) (present_in roster.old) self.old.context.caller self.old.beat.last
             (O.contents output.old) (present_in roster.new) self.new.context.caller self.new.beat.last
             (O.contents output.new)) }
@@ -112,7 +110,7 @@ where
         output: &mut O,
         line: &[u8],
     ) -> Result<(), ServiceFault>
-        ensures answered { OnOk result (IsAnswered J.first (length self.old.context.hub.now)
+        ensures answered { OnOk result (IsAnswered R.reads J.first (length self.old.context.hub.now)
             line.now (present_in roster.old)
             self.old.context.caller self.old.beat.last (O.contents output.old) (present_in roster.new)
             self.new.context.caller self.new.beat.last (O.contents output.new)) }
@@ -228,18 +226,6 @@ where
         unreachable!()
     }
 
-    /// Makes a connection for each receiver to the listener's own address, so that none waits for one. Where the
-    /// listener has no room for more, none waits: what came before wakes them.
-    fn wake_receivers(&self) {
-        let Ok(address) = self.listener.local_addr() else {
-            return;
-        };
-        let longest = Duration::from_millis(LONGEST_WAKE);
-        for _ in 0..self.receivers {
-            let _woken = TcpStream::connect_timeout(self.rt, &address, longest);
-        }
-    }
-
     /// Waits until none of these tenants holds a span.
     fn await_empty<L: Observer>(&mut self, tenants: &[Present], observer: &mut L)
         ensures empty { AreEmptyOn self.old.context.caller (length self.old.context.hub.now)
@@ -283,13 +269,13 @@ where
 impl<'h, J, R> Director for Control<'h, J, R>
 where
     J: Naming,
-    R: Net<Listener = TcpListener, Stream = TcpStream> + Wait + Clock + Files,
+    R: Net<Listener = TcpListener, Stream = TcpStream> + Wait + Clock + Documents,
 {
     ghost use Rattle.std.specs.Prelude.{length};
     ghost use Rattle.trace_service.specs.Roster.{present_in};
     ghost use Rattle.trace_service.specs.Whole.{IsDirected};
 
-    ghost directs = { λ old input so_far new written. IsDirected J.first (present_in old.roster)
+    ghost directs = { λ old input so_far new written. IsDirected R.reads J.first (present_in old.roster)
         (length old.context.hub.now) input old.context.caller old.beat.last so_far new.context.caller new.beat.last
         written };
 

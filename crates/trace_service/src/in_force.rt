@@ -1,13 +1,13 @@
 //! The settings in force, which all threads share under a lock.
 
-ghost use Rattle.std.specs.Prelude.{◌≡◌, IfOk, IfErr, IfSome, IsSome, option_map, string_bytes};
+ghost use Rattle.std.specs.Prelude.{◌≡◌, Ok, IfOk, OnOk, IfErr, IsSome, option_map, string_bytes};
 ghost use Rattle.http_edge.specs.Seen.{seen};
 ghost use Rattle.otlp_front.specs.Route.{names_in, route_of};
 ghost use Rattle.tail_settings.specs.Change.{admitted, struck};
 ghost use Rattle.tail_settings.specs.Fault.{fault_view};
 ghost use Rattle.tail_settings.specs.Section.{section_view};
 ghost use Rattle.tail_settings.specs.Settings.{settings_view, tenant_at, section_at};
-ghost use Rattle.trace_service.specs.InForce.{CameOf, IsNewcomer, IsTenant, IsWhere};
+ghost use Rattle.trace_service.specs.InForce.{CameOf, IsNewcomer, IsTenant, IsTurnedAway, IsWhere};
 
 use crate::naming::Naming;
 use arrayvec::ArrayString;
@@ -85,8 +85,10 @@ impl<J: Naming> InForce<J> {
     pub fn admit(&mut self, alloc: Global, text: &str) -> Result<Newcomer, SettingsFault>
         ensures on_success { IfOk result (λ newcomer.
             IsNewcomer (settings_view self.old.settings) text.now newcomer) }
-        ensures fault { IfErr result (λ e. IfSome (fault_view e)
-            (λ f. admitted (settings_view self.old.settings) text.now ≡ Err f)) }
+        ensures grown { OnOk result (admitted (settings_view self.old.settings) text.now
+            ≡ Ok (settings_view self.new.settings)) }
+        ensures fault { IfErr result (λ e. IsTurnedAway (settings_view self.old.settings) text.now (fault_view e)
+            (settings_view self.new.settings)) }
     {
         let number = self.settings.admit(alloc, text)?;
         match self.newcomer(alloc, number) {

@@ -1,15 +1,17 @@
 //! The collector as a service: threads that receive bodies, make turns, send jobs and take answers, over shards that
 //! they share.
 //!
-//! [`post_body`] posts one body to its tenant's shard. [`run_service`] has as many threads as the settings say, until
-//! the input ends and all tenants have sent what they held. A thread works with a context, which makes turns of one
-//! shard, takes answers and handles messages; what its calls did to the hub its caller knows, and no lock is held while
-//! bytes are read, bodies are read, notes are made or payloads are sent.
+//! [`post_body`] posts one body to its tenant's shard. [`run_service`] has as many threads as its options and the
+//! settings say, until the input ends and all tenants have sent what they held. A thread works with a context, which
+//! makes turns of one shard, takes answers and handles messages; what its calls did to the hub its caller knows, and no
+//! shard is locked while bytes are read, bodies are read, notes are made or payloads are sent.
 //!
 //! It stands on `shared_hub` for the shards, on `export_edge` and `job_lane` for jobs, on `http_edge`, `otlp_front` and
 //! `otlp_prepare` for bodies, on `http_line` for connections, on `tail_settings` for what it serves under, and on
 //! `replay_script` for how a report is spelled. How it starts and ends is this project's own.
 #![tactic(auto)]
+
+ghost use Rattle.trace_service.specs.Jobs.{PoppedWereGiven};
 
 mod assignment;
 mod beat;
@@ -19,10 +21,13 @@ mod comings;
 mod context;
 mod control;
 mod course;
+mod documents;
+mod entrance;
 mod in_force;
 mod input;
 mod lingering;
 mod naming;
+mod options;
 mod post;
 mod receiving;
 mod reports;
@@ -32,5 +37,15 @@ mod shared;
 mod workers;
 
 pub use crate::course::{Observer, Stage};
+pub use crate::documents::Documents;
+pub use crate::options::ServiceOptions;
 pub use crate::post::post_body;
 pub use crate::service::{ServiceFault, run_service};
+
+/// Each job that was popped from a service's lane, and so each that was sent, is one that a call of its callers gave: a
+/// law over what a service comes to.
+pub fn popped_jobs_were_given()
+    ensures { PoppedWereGiven }
+{
+    job_lane::pops_were_pushed();
+}

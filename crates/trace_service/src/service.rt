@@ -1,15 +1,17 @@
 //! The service, from its start to its end.
 
-ghost use Rattle.std.specs.Prelude.{◌≡◌, ◌<◌, ◌≤◌, length, All, IfOk, OnOk, replicate, vec_len};
+ghost use Rattle.std.specs.Prelude.{◌≡◌, ◌<◌, ◌+◌, length, All, IfOk, OnOk, replicate, vec_len};
 ghost use Rattle.std.specs.IoError.{error_kind};
 ghost use Rattle.std.specs.Thread.{IsSync};
+ghost use Rattle.job_lane.specs.Lane.{new_seat};
 ghost use Rattle.machine_hub.specs.Hub.{AreCallersOf, AreShardRuns, new_caller};
-ghost use Rattle.shared_hub.specs.Logs.{AreLogged, AreOneRun};
+ghost use Rattle.shared_hub.specs.Logs.{AreLogged, AreOneRun, AreOneHistory};
 ghost use Rattle.shared_hub.specs.Shards.{AreOpened, kept};
 ghost use Rattle.tail_settings.specs.Settings.{SettingsData, settings_view};
 ghost use Rattle.shard_machine.specs.MachineState.{MachineDoes};
 ghost use Rattle.shared_hub.specs.declared.fault.HubFault.TheVariants as hub_faults;
 ghost use Rattle.trace_service.specs.Fault.{IsOfLine};
+ghost use Rattle.trace_service.specs.Jobs.{AreThreads, IsThread};
 ghost use Rattle.trace_service.specs.Roster.{present_in};
 ghost use Rattle.trace_service.specs.Whole.{IsCourse, IsDirected, IsServed};
 ghost use Rattle.trace_service.specs.declared.service.ServiceFault.TheVariants as faults;
@@ -19,21 +21,22 @@ use crate::beat::{ServiceBeat, Signals};
 use crate::beside::work_beside;
 use crate::control::Control;
 use crate::course::{Observer, Stage};
+use crate::documents::Documents;
+use crate::entrance::Entrance;
 use crate::in_force::InForce;
 use crate::naming::Naming;
+use crate::options::ServiceOptions;
 use crate::reports::write_audit;
 use crate::roster::Roster;
 use crate::shared::{Shared, Staff};
 use crate::workers::{Worker, work_all};
-use decision_cache::HashKeys;
-use job_lane::{Lane, LaneSeat};
+use job_lane::{Lane, LaneKeeper, LaneSeat};
 use shared_hub::{Caller, HubFault, HubKeeper, ShardLog, SharedHub};
 use std::alloc::{AllocError, Global};
 use std::io;
 use std::io::{BufRead, ErrorKind, Write};
 use std::marker::Brand;
 use std::net::{Net, TcpListener, TcpStream};
-use std::rt::Files;
 use std::sync::{Mutex, Wait};
 use std::thread::Threads;
 use std::time::{Clock, Instant};
@@ -87,12 +90,12 @@ impl From<HubFault> for ServiceFault {
     }
 }
 
-/// Serves until the input ends and all tenants have sent what they held: as many receivers and senders as the settings
-/// say, a turner for each shard, and one lane. A line `report NAME` of the input prints that tenant's counters, `add
-/// PATH` lets a tenant come whose document is in a file, and `retire NAME` lets one go once it has sent what it held.
-/// All reports are printed at the end; with `audit` also how many entries each shard's log has. After a fault of the
-/// input or the output the service ends as it does at the input's end, and then says so. The observer is told of its
-/// course. No client knows the keys, under which trace ids are hashed.
+/// Serves until the input ends and all tenants have sent what they held: as many receivers and senders as the options
+/// say, or else the settings, a turner for each shard, and one lane. A line `report NAME` of the input prints that
+/// tenant's counters, `add PATH` lets a tenant come whose document is in a file, and `retire NAME` lets one go once it
+/// has sent what it held. All reports are printed at the end; with an audit also how many entries each shard's log has.
+/// After a fault of the input or the output the service ends as it does at the input's end, and then says so. The
+/// observer is told of its course.
 pub fn run_service<R, I, O, L>(
     rt: &R,
     alloc: Global,
@@ -101,23 +104,38 @@ pub fn run_service<R, I, O, L>(
     input: &mut I,
     output: &mut O,
     observer: &mut L,
-    audit: bool,
-    keys: HashKeys,
+    options: ServiceOptions,
 ) -> Result<(), ServiceFault>
 where
-    R: Net<Listener = TcpListener, Stream = TcpStream> + Threads + Wait + Clock + Files + Sync,
+    R: Net<Listener = TcpListener, Stream = TcpStream> + Threads + Wait + Clock + Documents + Sync,
     I: BufRead,
     O: Write,
     L: Observer,
-    ensures { OnOk result (IsServed (settings_view settings) audit (I.remaining input.old) (O.contents output.old)
-        (O.contents output.new)) }
+    ensures { OnOk result (IsServed R.reads (settings_view settings) options.audit (I.remaining input.old)
+        (O.contents output.old) (O.contents output.new)) }
 {
     let global = &settings.global;
-    let threads = global.shards as usize + global.senders as usize + global.receivers as usize + 1;
-    let (hub, keeper, callers) = SharedHub::open(rt, alloc, &settings, threads, audit, keys)?;
-    let (lane, _keeper, seats) = Lane::open(alloc, global.lane_size as usize, threads)?;
+    let staff = Staff::of(global, &options);
+    let workers = global.shards as usize + staff.senders as usize + staff.receivers as usize;
+    let ServiceOptions { audit, keys, .. } = options;
+    // Who reads the input has a caller too, and no seat.
+    let (hub, keeper, callers) = SharedHub::open(rt, alloc, &settings, workers + 1, audit, keys)?;
+    let (lane, lane_keeper, seats) = Lane::open(alloc, global.lane_size as usize, workers)?;
     run_named::<Brand, R, I, O, L>(
-        rt, alloc, settings, listener, hub, keeper, callers, &lane, seats, input, output, observer,
+        rt,
+        alloc,
+        settings,
+        staff,
+        listener,
+        hub,
+        keeper,
+        callers,
+        lane,
+        lane_keeper,
+        seats,
+        input,
+        output,
+        observer,
         audit,
     )
 }
@@ -127,11 +145,13 @@ fn run_named<J, R, I, O, L>(
     rt: &R,
     alloc: Global,
     settings: Settings,
+    staff: Staff,
     listener: &TcpListener,
     hub: SharedHub,
     keeper: HubKeeper,
     callers: Vec<Caller>,
-    lane: &Lane,
+    lane: Lane,
+    lane_keeper: LaneKeeper,
     seats: Vec<LaneSeat>,
     input: &mut I,
     output: &mut O,
@@ -140,7 +160,7 @@ fn run_named<J, R, I, O, L>(
 ) -> Result<(), ServiceFault>
 where
     J: Naming + Send + Sync,
-    R: Net<Listener = TcpListener, Stream = TcpStream> + Threads + Wait + Clock + Files + Sync,
+    R: Net<Listener = TcpListener, Stream = TcpStream> + Threads + Wait + Clock + Documents + Sync,
     I: BufRead,
     O: Write,
     L: Observer,
@@ -148,8 +168,11 @@ where
     requires hub { hub ≡ J.slots }
     requires keeper { keeper.slots ≡ hub }
     requires callers { AreCallersOf J.slots callers.items }
-    requires lane { lane.now.name ≡ J.lane }
-    requires seats { All (λ s. s.lane ≡ J.lane) seats.items }
+    requires lane { lane.name ≡ J.lane }
+    requires room { lane.capacity ≡ settings.global.lane_size }
+    requires lane_keeper { lane_keeper ≡ lane.name }
+    requires seats { All (λ s. s ≡ new_seat J.lane) seats.items }
+    requires all_seats { vec_len seats ≡ lane_keeper.seats }
     requires opened { AreOpened (settings_view settings) keeper.homes }
     requires keeps { kept keeper.homes ≡ replicate settings.global.shards audit }
     requires not_empty { 0 < vec_len callers }
@@ -157,18 +180,18 @@ where
     requires fresh { J.fresh ≡ new_caller J.slots keeper.homes }
     requires new { All (λ c. c ≡ J.fresh) callers.items }
     requires shards { length J.slots ≡ settings.global.shards }
-    requires enough { vec_len callers ≤ vec_len seats }
-    ensures { OnOk result (IsServed (settings_view settings) audit (I.remaining input.old) (O.contents output.old)
-        (O.contents output.new)) }
+    requires enough { vec_len callers ≡ 1 + vec_len seats }
+    ensures { OnOk result (IsServed R.reads (settings_view settings) audit (I.remaining input.old)
+        (O.contents output.old) (O.contents output.new)) }
 {
     let roster = Roster::of(alloc, &settings)?;
-    let staff = Staff::of(&settings.global);
     let in_force = Mutex::new(InForce::<J>::new(settings));
-    let (callers, ended) = at_work::<J, R, I, O, L>(
-        rt, alloc, &in_force, roster, staff, listener, &hub, callers, lane, seats, input, output,
+    let (callers, seats, ended) = at_work::<J, R, I, O, L>(
+        rt, alloc, &in_force, roster, staff, listener, &hub, callers, &lane, seats, input, output,
         observer,
     )?;
     observer.observe(Stage::Ended);
+    let _totals = lane.close(rt, lane_keeper, seats);
     let shards = end_hub(rt, hub, keeper, callers);
     write_audit(alloc, output, shards.as_slice(), audit)?;
     ended?;
@@ -188,6 +211,8 @@ fn end_hub<R: Wait>(
     ensures calls { AreShardRuns MachineDoes keeper.homes callers.items result.items }
     ensures logged { (table : SettingsData) → AreOpened table keeper.homes → AreLogged table result.items }
     ensures one_run { (table : SettingsData) → AreOpened table keeper.homes → AreOneRun table callers.items }
+    ensures one_history { (table : SettingsData) → AreOpened table keeper.homes
+        → AreOneHistory table callers.items result.items }
 {
     let Ok(shards) = hub.close(rt, keeper, callers) else {
         unreachable!()
@@ -195,7 +220,7 @@ fn end_hub<R: Wait>(
     shards
 }
 
-/// All threads' work, to its end: the callers, and how the input and the output fared.
+/// All threads' work, to its end: the callers, the seats, and how the input and the output fared.
 fn at_work<J, R, I, O, L>(
     rt: &R,
     alloc: Global,
@@ -210,23 +235,26 @@ fn at_work<J, R, I, O, L>(
     input: &mut I,
     output: &mut O,
     observer: &mut L,
-) -> Result<(Vec<Caller>, Result<(), ServiceFault>), ServiceFault>
+) -> Result<(Vec<Caller>, Vec<LaneSeat>, Result<(), ServiceFault>), ServiceFault>
 where
     J: Naming + Send + Sync,
-    R: Net<Listener = TcpListener, Stream = TcpStream> + Threads + Wait + Clock + Files + Sync,
+    R: Net<Listener = TcpListener, Stream = TcpStream> + Threads + Wait + Clock + Documents + Sync,
     I: BufRead,
     O: Write,
     L: Observer,
     requires hub { hub.now ≡ J.slots }
     requires callers { AreCallersOf J.slots callers.items }
     requires lane { lane.now.name ≡ J.lane }
-    requires seats { All (λ s. s.lane ≡ J.lane) seats.items }
+    requires seats { All (λ s. s ≡ new_seat J.lane) seats.items }
     requires not_empty { 0 < vec_len callers }
-    requires enough { vec_len callers ≤ vec_len seats }
+    requires enough { vec_len callers ≡ 1 + vec_len seats }
     requires new { All (λ c. c ≡ J.fresh) callers.items }
     ensures same_hub { IfOk result (λ r. AreCallersOf J.slots r.0.items) }
     ensures all { IfOk result (λ r. vec_len r.0 ≡ vec_len callers) }
-    ensures course { IfOk result (λ r. OnOk r.1 (IsCourse J.first (present_in roster) (length J.slots)
+    ensures same_lane { IfOk result (λ r. All (λ s. s.lane ≡ J.lane) r.1.items) }
+    ensures all_seats { IfOk result (λ r. vec_len r.1 ≡ vec_len seats) }
+    ensures threads { IfOk result (λ r. AreThreads (length J.slots) J.fresh r.0.items r.1.items) }
+    ensures course { IfOk result (λ r. OnOk r.2 (IsCourse R.reads J.first (present_in roster) (length J.slots)
         (I.remaining input.old) J.fresh (O.contents output.old) r.0.items (O.contents output.new))) }
 {
     let signals = Signals::new();
@@ -252,23 +280,26 @@ fn sharing<'h, J, R, I, O, L>(
     input: &mut I,
     output: &mut O,
     observer: &mut L,
-) -> Result<(Vec<Caller>, Result<(), ServiceFault>), ServiceFault>
+) -> Result<(Vec<Caller>, Vec<LaneSeat>, Result<(), ServiceFault>), ServiceFault>
 where
     J: Naming + Send + Sync,
-    R: Net<Listener = TcpListener, Stream = TcpStream> + Threads + Wait + Clock + Files + Sync,
+    R: Net<Listener = TcpListener, Stream = TcpStream> + Threads + Wait + Clock + Documents + Sync,
     I: BufRead,
     O: Write,
     L: Observer,
     requires hub { hub.now ≡ J.slots }
     requires callers { AreCallersOf J.slots callers.items }
     requires lane { lane.now.name ≡ J.lane }
-    requires seats { All (λ s. s.lane ≡ J.lane) seats.items }
+    requires seats { All (λ s. s ≡ new_seat J.lane) seats.items }
     requires not_empty { 0 < vec_len callers }
-    requires enough { vec_len callers ≤ vec_len seats }
+    requires enough { vec_len callers ≡ 1 + vec_len seats }
     requires new { All (λ c. c ≡ J.fresh) callers.items }
     ensures same_hub { IfOk result (λ r. AreCallersOf J.slots r.0.items) }
     ensures all { IfOk result (λ r. vec_len r.0 ≡ vec_len callers) }
-    ensures course { IfOk result (λ r. OnOk r.1 (IsCourse J.first (present_in roster) (length J.slots)
+    ensures same_lane { IfOk result (λ r. All (λ s. s.lane ≡ J.lane) r.1.items) }
+    ensures all_seats { IfOk result (λ r. vec_len r.1 ≡ vec_len seats) }
+    ensures threads { IfOk result (λ r. AreThreads (length J.slots) J.fresh r.0.items r.1.items) }
+    ensures course { IfOk result (λ r. OnOk r.2 (IsCourse R.reads J.first (present_in roster) (length J.slots)
         (I.remaining input.old) J.fresh (O.contents output.old) r.0.items (O.contents output.new))) }
 {
     let start = Instant::now(rt)?;
@@ -279,7 +310,7 @@ where
         staff,
         hub,
         lane,
-        listener,
+        entrance: Entrance::new(listener, staff.client_timeout),
         beat: ServiceBeat::new(rt, signals, start),
         threads: callers.len(),
     };
@@ -295,23 +326,26 @@ fn work_on<'h, J, R, I, O, L>(
     input: &mut I,
     output: &mut O,
     observer: &mut L,
-) -> Result<(Vec<Caller>, Result<(), ServiceFault>), ServiceFault>
+) -> Result<(Vec<Caller>, Vec<LaneSeat>, Result<(), ServiceFault>), ServiceFault>
 where
     J: Naming + Send + Sync,
-    R: Net<Listener = TcpListener, Stream = TcpStream> + Threads + Wait + Clock + Files + Sync,
+    R: Net<Listener = TcpListener, Stream = TcpStream> + Threads + Wait + Clock + Documents + Sync,
     I: BufRead,
     O: Write,
     L: Observer,
     requires hub { shared.now.hub.now ≡ J.slots }
     requires callers { AreCallersOf J.slots callers.items }
     requires lane { shared.now.lane.now.name ≡ J.lane }
-    requires seats { All (λ s. s.lane ≡ J.lane) seats.items }
+    requires seats { All (λ s. s ≡ new_seat J.lane) seats.items }
     requires not_empty { 0 < vec_len callers }
-    requires enough { vec_len callers ≤ vec_len seats }
+    requires enough { vec_len callers ≡ 1 + vec_len seats }
     requires new { All (λ c. c ≡ J.fresh) callers.items }
     ensures same_hub { IfOk result (λ r. AreCallersOf J.slots r.0.items) }
     ensures all { IfOk result (λ r. vec_len r.0 ≡ vec_len callers) }
-    ensures course { IfOk result (λ r. OnOk r.1 (IsCourse J.first (present_in roster) (length J.slots)
+    ensures same_lane { IfOk result (λ r. All (λ s. s.lane ≡ J.lane) r.1.items) }
+    ensures all_seats { IfOk result (λ r. vec_len r.1 ≡ vec_len seats) }
+    ensures threads { IfOk result (λ r. AreThreads (length J.slots) J.fresh r.0.items r.1.items) }
+    ensures course { IfOk result (λ r. OnOk r.2 (IsCourse R.reads J.first (present_in roster) (length J.slots)
         (I.remaining input.old) J.fresh (O.contents output.old) r.0.items (O.contents output.new))) }
 {
     let shards = shared.hub.shards();
@@ -324,8 +358,7 @@ where
         alloc: shared.alloc,
         settings: shared.settings,
         roster,
-        receivers: shared.staff.receivers,
-        listener: shared.listener,
+        listener: shared.entrance.listener(),
         context: shared.context(own, 0),
         beat: shared.beat.again(),
     };
@@ -339,7 +372,8 @@ where
         observer,
     );
     let own = control.context.into_caller();
-    Ok((collect_callers(shared.alloc, workers, own)?, ended))
+    let (callers, seats) = collect_callers(shared.alloc, workers, own)?;
+    Ok((callers, seats, ended))
 }
 
 /// The workers' work, with that of who reads the input beside it: how the input and the output fared.
@@ -353,19 +387,23 @@ fn all_work<'h, J, R, I, O, L>(
 ) -> Result<(), ServiceFault>
 where
     J: Naming + Send + Sync,
-    R: Net<Listener = TcpListener, Stream = TcpStream> + Threads + Wait + Clock + Files + Sync,
+    R: Net<Listener = TcpListener, Stream = TcpStream> + Threads + Wait + Clock + Documents + Sync,
     I: BufRead,
     O: Write,
     L: Observer,
-    requires { shared.now.lane.now.name ≡ J.lane }
-    ensures { OnOk result (IsDirected J.first (present_in control.old.roster) (length control.old.context.hub.now)
-        (I.remaining input.old) control.old.context.caller control.old.beat.last (O.contents output.old)
-        control.new.context.caller control.new.beat.last (O.contents output.new)) }
+    requires lane { shared.now.lane.now.name ≡ J.lane }
+    requires idle { All (λ w. (w.context.caller ≡ J.fresh) × (w.seat ≡ new_seat J.lane)) workers.old }
+    ensures did { All (λ w. IsThread (length J.slots) J.fresh w.context.caller w.seat) workers.new }
+    ensures directed { OnOk result (IsDirected R.reads J.first (present_in control.old.roster)
+        (length control.old.context.hub.now) (I.remaining input.old) control.old.context.caller control.old.beat.last
+        (O.contents output.old) control.new.context.caller control.new.beat.last (O.contents output.new)) }
 {
     work_beside(
         shared.rt,
-        ||
-            requires { IsSync R.row × (shared.now.lane.now.name ≡ J.lane) }
+        &mut ||
+            requires { IsSync R.row × (shared.now.lane.now.name ≡ J.lane)
+                × All (λ w. (w.context.caller ≡ J.fresh) × (w.seat ≡ new_seat J.lane)) workers.now }
+            ensures { All (λ w. IsThread (length J.slots) J.fresh w.context.caller w.seat) workers.exit.now }
         { work_all(shared, workers) },
         control,
         input,

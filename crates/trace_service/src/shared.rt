@@ -1,40 +1,49 @@
 //! What all threads share.
 
-ghost use Rattle.std.specs.Prelude.{◌≡◌, ◌<◌, ◌≤◌, length};
+ghost use Rattle.std.specs.Prelude.{◌≡◌, ◌<◌, ◌≤◌, length, unwrap_or};
 ghost use Rattle.machine_hub.specs.Hub.{slots_of};
 
 use crate::beat::ServiceBeat;
 use crate::context::WorkerContext;
+use crate::entrance::Entrance;
 use crate::in_force::InForce;
 use crate::naming::Naming;
+use crate::options::ServiceOptions;
 use job_lane::Lane;
 use shared_hub::{Caller, SharedHub};
 use std::alloc::Global;
-use std::net::TcpListener;
 use std::sync::{Mutex, Wait};
-use std::time::Clock;
+use std::time::{Clock, Duration};
 use tail_settings::GlobalSettings;
 
-/// How many threads there are of a kind, which no change of the settings changes.
+/// How many threads there are of a kind, and how long they wait for those outside. It stays as the settings change.
 #[derive(Clone, Copy, Debug)]
 pub(crate) struct Staff {
     pub senders: u32,
     pub receivers: u32,
+    /// For a client, by a receiver.
+    pub client_timeout: Option<Duration>,
+    /// For a back end, by a sender.
+    pub back_end_timeout: Option<Duration>,
     /// For the notes of one body, the one that it came to among them.
     pub parts: u32,
     pub ghost parts_range: { (0 < parts) × (parts ≤ 16) },
 }
 
 impl Staff {
-    /// As many as the settings say.
-    pub fn of(global: &GlobalSettings) -> Staff
-        ensures senders { result.senders ≡ global.now.senders }
-        ensures receivers { result.receivers ≡ global.now.receivers }
+    /// As the options say, and else the settings.
+    pub fn of(global: &GlobalSettings, options: &ServiceOptions) -> Staff
+        ensures senders { result.senders ≡ unwrap_or options.now.senders global.now.senders }
+        ensures receivers { result.receivers ≡ unwrap_or options.now.connections global.now.receivers }
         ensures parts { result.parts ≡ global.now.parts }
+        ensures client { result.client_timeout ≡ options.now.client_timeout }
+        ensures back_end { result.back_end_timeout ≡ options.now.back_end_timeout }
     {
         Staff {
-            senders: global.senders,
-            receivers: global.receivers,
+            senders: options.senders.unwrap_or(global.senders),
+            receivers: options.connections.unwrap_or(global.receivers),
+            client_timeout: options.client_timeout,
+            back_end_timeout: options.back_end_timeout,
             parts: global.parts,
         }
     }
@@ -49,7 +58,7 @@ pub(crate) struct Shared<'h, J: Naming, R> {
     pub staff: Staff,
     pub hub: &'h SharedHub,
     pub lane: &'h Lane,
-    pub listener: &'h TcpListener,
+    pub entrance: Entrance<'h>,
     pub beat: ServiceBeat<'h, R>,
     /// How many threads there are.
     pub threads: usize,

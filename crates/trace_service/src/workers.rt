@@ -1,19 +1,23 @@
 //! The threads' work.
 
-ghost use Rattle.std.specs.Prelude.{◌≡◌};
+ghost use Rattle.std.specs.Prelude.{◌≡◌, length, All};
 ghost use Rattle.std.specs.Thread.{IsSync};
+ghost use Rattle.job_lane.specs.Lane.{new_seat};
+ghost use Rattle.trace_service.specs.Jobs.{IsThread};
 
 use crate::beat::ServiceBeat;
 use crate::context::WorkerContext;
+use crate::entrance::Entrance;
 use crate::in_force::BackEnds;
 use crate::lingering::linger;
 use crate::naming::Naming;
 use crate::receiving::{Reception, receive_all};
 use crate::shared::Shared;
 use export_edge::{Beat, TcpBackEnd, run_sender, run_turner};
-use http_edge::serve;
+use http_edge::{Handler, serve};
 use http_line::StreamLine;
 use job_lane::LaneSeat;
+use shared_hub::Caller;
 use std::net::{Net, TcpListener, TcpStream};
 use std::sync::Wait;
 use std::thread::{Threads, for_each_mut};
@@ -44,12 +48,16 @@ pub(crate) struct Worker<'h, J: Naming, R> {
 
 impl<'h, J: Naming, R: Wait + Clock> Worker<'h, J, R> {
     ghost use Rattle.std.specs.Prelude.{◌≡◌};
+    ghost use Rattle.job_lane.specs.Lane.{new_seat};
+    ghost use Rattle.machine_hub.specs.Hub.{slots_of};
 
     /// A thread's things, before its work.
     pub fn new(role: Role, context: WorkerContext<'h, J, R>, seat: LaneSeat) -> Worker<'h, J, R>
-        requires { seat.lane ≡ J.lane }
+        requires { seat ≡ new_seat J.lane }
         ensures role { result.role ≡ role }
         ensures shard { result.context.shard ≡ context.entry.shard }
+        ensures caller { result.context.caller ≡ context.entry.caller }
+        ensures seat { result.seat ≡ seat }
     {
         Worker {
             role,
@@ -58,9 +66,14 @@ impl<'h, J: Naming, R: Wait + Clock> Worker<'h, J, R> {
         }
     }
 
-    /// The context, after the work.
-    pub fn into_context(self) -> WorkerContext<'h, J, R> {
-        self.context
+    /// The caller and the seat, after the work.
+    pub fn into_parts(self) -> (Caller, LaneSeat)
+        ensures same_hub { slots_of result.0 ≡ J.slots }
+        ensures caller { result.0 ≡ self.entry.context.caller }
+        ensures same_lane { result.1.lane ≡ J.lane }
+        ensures seat { result.1 ≡ self.entry.seat }
+    {
+        (self.context.into_caller(), self.seat)
     }
 }
 
@@ -69,7 +82,9 @@ pub(crate) fn work_all<'h, J, R>(shared: &Shared<'h, J, R>, workers: &mut [Worke
 where
     J: Naming + Send + Sync,
     R: Net<Listener = TcpListener, Stream = TcpStream> + Threads + Wait + Clock + Sync,
-    requires { shared.now.lane.now.name ≡ J.lane }
+    requires lane { shared.now.lane.now.name ≡ J.lane }
+    requires idle { All (λ w. (w.context.caller ≡ J.fresh) × (w.seat ≡ new_seat J.lane)) workers.old }
+    ensures did { All (λ w. IsThread (length J.slots) J.fresh w.context.caller w.seat) workers.new }
 {
     let threads = workers.len();
     if threads == 0 {
@@ -80,17 +95,22 @@ where
         workers,
         threads,
         &|_i: usize, worker: &mut Worker<J, R>|
-            requires { IsSync R.row × (shared.now.lane.now.name ≡ J.lane) }
+            requires { IsSync R.row × (shared.now.lane.now.name ≡ J.lane)
+                × (worker.old.context.caller ≡ J.fresh) × (worker.old.seat ≡ new_seat J.lane) }
+            ensures { IsThread (length J.slots) J.fresh worker.new.context.caller worker.new.seat }
         { work(shared, worker) },
     );
 }
 
 /// One thread's work, once all are there.
-fn work<J, R>(shared: &Shared<'_, J, R>, worker: &mut Worker<'_, J, R>)
+fn work<'h, J, R>(shared: &Shared<'h, J, R>, worker: &mut Worker<'h, J, R>)
 where
     J: Naming,
     R: Net<Listener = TcpListener, Stream = TcpStream> + Threads + Wait + Clock + Sync,
-    requires { shared.now.lane.now.name ≡ J.lane }
+    requires lane { shared.now.lane.now.name ≡ J.lane }
+    requires fresh { worker.old.context.caller ≡ J.fresh }
+    requires new { worker.old.seat ≡ new_seat J.lane }
+    ensures { IsThread (length J.slots) J.fresh worker.new.context.caller worker.new.seat }
 {
     let mut beat = worker.context.beat();
     if !all_arrive(&mut beat, shared.threads) {
@@ -112,7 +132,8 @@ where
                 rt: shared.rt,
                 settings: shared.settings,
             };
-            let mut back_end = TcpBackEnd::new(shared.rt, shared.alloc, back_ends);
+            let limit = shared.staff.back_end_timeout;
+            let mut back_end = TcpBackEnd::new(shared.rt, shared.alloc, back_ends, limit);
             run_sender(
                 shared.rt,
                 shared.lane,
@@ -122,7 +143,7 @@ where
                 &mut beat,
             );
         }
-        Role::Receiver => receive_all(shared.rt, shared.listener, &mut worker.context),
+        Role::Receiver => receive_all(shared.rt, &shared.entrance, &mut worker.context),
     }
 }
 
@@ -148,14 +169,17 @@ pub(crate) fn all_arrive<C: Clock>(beat: &mut ServiceBeat<'_, C>, threads: usize
 impl<'h, J: Naming, R: Wait + Clock> Reception for WorkerContext<'h, J, R> {
     type Guest = TcpStream;
 
-    type Door = TcpListener;
+    type Door = Entrance<'h>;
 
-    // What threads told one another, who comes, and what is said over a socket is not known.
+    ghost use Rattle.trace_service.specs.Receiving.{IsTalk};
+
+    // What threads told one another and who comes is not known.
     ghost looks = { λ _ _ _. Unit {0} };
 
     ghost takes = { λ _ _ _. Unit {0} };
 
-    ghost serves = { λ _ _ _. Unit {0} };
+    // Over whatever connection, what is written are this context's replies to what is read.
+    ghost serves = { λ old _ new. IsTalk ⟦<WorkerContext<'h, J, R> as Handler>⟧.answers old new };
 
     ghost rests = { λ _ _. Unit {0} };
 
@@ -163,11 +187,8 @@ impl<'h, J: Naming, R: Wait + Clock> Reception for WorkerContext<'h, J, R> {
         self.signals().is_closing()
     }
 
-    fn next(&mut self, door: &TcpListener) -> Option<TcpStream> {
-        match door.accept() {
-            Ok((stream, _peer)) => Some(stream),
-            Err(_) => None,
-        }
+    fn next(&mut self, door: &Entrance<'h>) -> Option<TcpStream> {
+        door.admit(self.rt(), self.signals())
     }
 
     /// Its faults are nobody's but its own: a connection that failed is given up, and what was posted over it stands.

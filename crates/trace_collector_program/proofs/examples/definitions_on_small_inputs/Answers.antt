@@ -4,11 +4,14 @@ use Rattle.std.proofs.lemmas.Str.{IsUtf8-from_is_utf8, is_utf8-from_IsUtf8}
 use Rattle.std.specs.Char.{encode_utf8}
 use Rattle.std.specs.Str.{IsUtf8, chars, is_utf8}
 use Rattle.std.specs.declared.io.ErrorKind.TheVariants as kinds
+use Rattle.replay_script.specs.Word.{number_of}
 use Rattle.trace_collector.specs.declared.engine.ReplayFault.TheVariants as replay_faults
+use Rattle.trace_collector_program.specs.Task.{options_from}
 use Rattle.trace_collector_program.specs.declared.ProgramFault.TheVariants.{Usage, Replay}
 use Rattle.trace_collector_program.proofs.examples.definitions_on_small_inputs.Goals as goal
 
 pub returns-clause-arguments : goal.returns-clause-arguments
+unfolding number_of options_from
 returns-clause-arguments c = record {
   named = refl;
   same_word = refl;
@@ -35,6 +38,19 @@ returns-clause-arguments c = record {
   other_way_round = refl;
   twice = refl;
   both_and_more = refl;
+  all = refl;
+  no_value = refl;
+  option_as_value = refl;
+  too_few = refl;
+  too_many = refl;
+  too_many_senders = refl;
+  too_long = refl;
+  too_long_back_end = refl;
+  signed = refl;
+  no_digits = refl;
+  joined = refl;
+  twice_numbered = refl;
+  unknown = refl;
   replay_audited = refl;
   other_command = refl;
   capital = refl;

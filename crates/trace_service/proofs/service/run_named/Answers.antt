@@ -1,11 +1,18 @@
-use Rattle.std.proofs.Common.{◌∙◌, sym, length}
+use Rattle.std.proofs.Common.{◌≡◌, ◌∙◌, sym, subst, length, All, arith}
+use Rattle.job_lane.specs.Lane.{LaneName, SeatLists}
 use Rattle.machine_hub.specs.Hub.{new_caller}
 use Rattle.otlp_front.specs.Route.{names_in}
 use Rattle.trace_service.specs.Roster.{present_in}
 use Rattle.trace_service.proofs.Audited.{are_numbered}
 use Rattle.trace_service.proofs.Coursed.{course_told, kept_if}
+use Rattle.trace_service.proofs.Jobs.{threads_told}
 use Rattle.tail_settings.specs.Settings.{settings_view}
 use Rattle.trace_service.proofs.service.run_named.Goals as goal
+
+pub close-totals-requires-clause-same_lane : goal.close-totals-requires-clause-same_lane
+close-totals-requires-clause-same_lane g c =
+    let all : LaneName → Type 0 = λ name. All (λ (s : SeatLists). s.lane ≡ name) c.in_ok-callers.seats.items in
+    subst all (sym c.requires.lane ∙ sym c.requires.lane_keeper) c.in_ok-callers.ensures.same_lane
 
 pub returns : goal.returns
 returns g c =
@@ -22,12 +29,20 @@ returns g c =
       opened = c.requires.opened;
       callers = callers;
       text = text;
-      course = course_told c.in_ok-callers.ended _ g.J.Naming.first table (present_in c.in_ok-roster.roster) (names_in table).tenants (length slots) table.global.shards
+      course = course_told g.R.Documents.reads c.in_ok-callers.ended _ g.J.Naming.first table (present_in c.in_ok-roster.roster) (names_in table).tenants (length slots) table.global.shards
           (g.I.Read.remaining c.args.input.now) (g.O.Write.contents c.args.output.now) text g.J.Naming.fresh (new_caller slots homes) callers
           c.in_ok-ended.was (sym c.requires.first) c.in_ok-roster.ensures c.requires.shards c.requires.fresh c.in_ok-callers.ensures.course;
       shards = shards;
       calls = runs;
       one_run = c.end_hub-shards.ensures.one_run table c.requires.opened;
+      one_history = c.end_hub-shards.ensures.one_history table c.requires.opened;
+      seats = c.in_ok-callers.seats.items;
+      threads = threads_told (length slots) table.global.shards g.J.Naming.fresh (new_caller slots homes) callers c.in_ok-callers.seats.items
+          c.requires.shards c.requires.fresh c.in_ok-callers.ensures.threads;
+      taken = c.close-totals.result.taken;
+      left = c.close-totals.result.left;
+      lane = c.close-totals.ensures.run;
+      room = omega (arith, c.close-totals.ensures.left, c.requires.room);
       logged = c.end_hub-shards.ensures.logged table c.requires.opened;
       count = runs.count ∙ c.requires.opened.count;
       numbered = are_numbered table homes callers shards runs c.requires.opened;

@@ -1,4 +1,5 @@
-use Rattle.std.proofs.Common.{◌≡◌, ◌∙◌, Some, ap, length}
+use Rattle.std.proofs.Common.{◌≡◌, ◌∙◌, Some, ap, drop, length, rules}
+use Rattle.std.proofs.lemmas.List.{take_at}
 use Rattle.std.proofs.lemmas.List.Elements.{All-pop}
 use Rattle.machine_hub.specs.Hub.{slots_of}
 use Rattle.shared_hub.specs.Logs.{CallerState}
@@ -11,14 +12,26 @@ assign_threads-requires-clause-callers g c =
     let P : CallerState → Type 0 = λ x. slots_of x ≡ g.J.Naming.slots in
     (All-pop P c.args.callers.items c.pop.new.self.items (Some c.in-Some.own) c.in-Some.ensures.items c.requires.callers).0
 
+pub assign_threads-requires-clause-new : goal.assign_threads-requires-clause-new
+assign_threads-requires-clause-new g c =
+    let P : CallerState → Type 0 = λ x. x ≡ g.J.Naming.fresh in
+    (All-pop P c.args.callers.items c.pop.new.self.items (Some c.in-Some.own) c.in-Some.ensures.items c.requires.new).0
+
+pub collect_callers-requires-clause-did : goal.collect_callers-requires-clause-did
+collect_callers-requires-clause-did g c =
+    let after = c.all_work-ended.new.workers in
+    let len = c.in_ok-workers.workers.len in
+    let same = take_at after (drop (length after) c.in_ok-workers.workers.items) len (search rules) in
+    rw same c.all_work-ended.ensures.did
+
 pub returns-clause-course : goal.returns-clause-course
 returns-clause-course g c =
     let P : CallerState → Type 0 = λ x. x ≡ g.J.Naming.fresh in
     let new : c.in-Some.own ≡ g.J.Naming.fresh =
     (All-pop P c.args.callers.items c.pop.new.self.items (Some c.in-Some.own) c.in-Some.ensures.items c.requires.new).1 in
-    course_from c.all_work-ended.result g.J.Naming.first (present_in c.args.roster) (length c.context.result.hub.now)
+    course_from g.R.Documents.reads c.all_work-ended.result g.J.Naming.first (present_in c.args.roster) (length c.context.result.hub.now)
     (length g.J.Naming.slots) (g.I.Read.remaining c.args.input.now) (g.O.Write.contents c.args.output.now)
     (g.O.Write.contents c.all_work-ended.new.output) c.context.result.caller g.J.Naming.fresh
     c.all_work-ended.new.control.context.caller _ _ _ (ap length (c.context.ensures.hub ∙ c.requires.hub))
-    (c.context.ensures.caller ∙ new) (rw c.into_caller-own.ensures.caller at c.in_ok-collect_callers.ensures.own_first)
-    c.all_work-ended.ensures
+    (c.context.ensures.caller ∙ new) (rw c.into_caller-own.ensures.caller at c.in_ok-callers.ensures.own_first)
+    c.all_work-ended.ensures.directed

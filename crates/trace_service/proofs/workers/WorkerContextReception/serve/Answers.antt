@@ -1,0 +1,8 @@
+use Rattle.trace_service.proofs.Talked.{talked}
+use Rattle.trace_service.proofs.workers.WorkerContextReception.serve.Goals as goal
+
+pub returns : goal.returns
+returns g c = talked _ _ _ _ _ c.serve.result c.serve.ensures.talk c.serve.ensures.fault
+
+pub returns-then-is_ok : goal.returns-then-is_ok
+returns-then-is_ok g c = talked _ _ _ _ _ c.serve.result c.serve.ensures.talk c.serve.ensures.fault

@@ -1,0 +1,35 @@
+//! Where the documents of those who come are read from.
+
+ghost use Rattle.std.specs.Prelude.{ℕ, List, Result, Ok, Err, IfOk, IfErr};
+ghost use Rattle.std.specs.IoError.{error_kind};
+ghost use Rattle.std.specs.declared.io.ErrorKind.{ErrorKind};
+
+use std::alloc::Global;
+use std::io::Read;
+use std::rt::Files;
+use std::{fs, io};
+
+/// Reads the documents of those who come.
+pub trait Documents {
+    // What is at this path was read, and had these bytes, or that failed for a reason of this kind.
+    ghost reads: { List ℕ → Result (List ℕ) ErrorKind → Type 0 };
+
+    /// The bytes of the file at this path.
+    fn read_document(&self, alloc: Global, path: &str) -> io::Result<Vec<u8>>
+        ensures bytes { IfOk result (λ bytes. reads path.now (Ok bytes.items)) }
+        ensures failure { IfErr result (λ error. reads path.now (Err (error_kind error))) };
+}
+
+impl<R: Files> Documents for R {
+    ghost use Rattle.trace_service.specs.Documents.{IsOfFile};
+
+    // The library says neither which file a path opens nor why a call failed.
+    ghost reads = { λ _ outcome. IsOfFile R.File.remaining outcome };
+
+    fn read_document(&self, alloc: Global, path: &str) -> io::Result<Vec<u8>> {
+        let mut file = fs::open(self, path)?;
+        let mut bytes = Vec::new(alloc);
+        file.read_to_end(&mut bytes)?;
+        Ok(bytes)
+    }
+}

@@ -1,0 +1,98 @@
+//! Where clients come in.
+
+use crate::beat::Signals;
+use std::io::ErrorKind;
+use std::net::{Net, TcpListener, TcpStream};
+use std::sync::{Mutex, Wait};
+use std::thread;
+use std::time::{Clock, Duration};
+
+/// So many milliseconds pass before the next attempt where no connection can be taken.
+const REST: u64 = 50;
+
+/// So many milliseconds a connection that wakes a receiver may take.
+const LONGEST_WAKE: u64 = 100;
+
+/// Where clients come in, one after another. A thread that waits in the system's call holds a descriptor for whoever
+/// comes, so one receiver does, and the others wait for their turn: idle receivers leave the descriptors to senders.
+#[derive(Drop)]
+pub(crate) struct Entrance<'h> {
+    listener: &'h TcpListener,
+    turn: Mutex<()>,
+    limit: Option<Duration>,
+}
+
+impl<'h> Entrance<'h> {
+    /// An entrance for clients whose connections may rest for so long.
+    pub fn new(listener: &'h TcpListener, limit: Option<Duration>) -> Entrance<'h> {
+        Entrance {
+            listener,
+            turn: Mutex::new(()),
+            limit,
+        }
+    }
+
+    /// Where it listens.
+    pub fn listener(&self) -> &'h TcpListener {
+        self.listener
+    }
+
+    /// Waits for the next client. None where the end has come meanwhile, or where none can be taken now.
+    pub fn admit<R: Wait + Clock>(&self, rt: &R, signals: &Signals) -> Option<TcpStream> {
+        let _turn = self.turn.lock(rt);
+        if signals.is_closing() {
+            return None;
+        }
+        match self.listener.accept() {
+            Ok((stream, _peer)) => self.limited(stream),
+            Err(error) => {
+                // One client that has gone again says nothing of the next. Else descriptors or memory are wanting, of
+                // all receivers.
+                if error.kind() != ErrorKind::ConnectionAborted {
+                    thread::sleep(rt, Duration::from_millis(REST));
+                }
+                None
+            }
+        }
+    }
+
+    /// The stream, with the limit for its reads and writes. None where it doesn't take that.
+    fn limited(&self, stream: TcpStream) -> Option<TcpStream> {
+        if self.limit.is_some() {
+            stream.set_read_timeout(self.limit).ok()?;
+            stream.set_write_timeout(self.limit).ok()?;
+        }
+        Some(stream)
+    }
+}
+
+/// Makes a connection to the listener's own address, so that the receiver whose turn it is doesn't wait for one; the
+/// others then take their turns. Where the listener has no room for it, who came before wakes them. False where it
+/// can't be made, as while there is no descriptor.
+pub(crate) fn wake<R>(rt: &R, listener: &TcpListener) -> bool
+where
+    R: Net<Listener = TcpListener, Stream = TcpStream>,
+{
+    let Ok(address) = listener.local_addr() else {
+        return false;
+    };
+    match TcpStream::connect_timeout(rt, &address, Duration::from_millis(LONGEST_WAKE)) {
+        Ok(_) => true,
+        Err(error) => error.kind() == ErrorKind::TimedOut,
+    }
+}
+
+/// Tries again until the receiver is woken: connections that end give their descriptors back.
+pub(crate) fn wake_at_last<R>(rt: &R, listener: &TcpListener, mut is_woken: bool)
+where
+    R: Net<Listener = TcpListener, Stream = TcpStream> + Wait + Clock,
+{
+    'attempts: for _ in rt.forever() {
+        if is_woken {
+            return;
+        }
+        thread::sleep(rt, Duration::from_millis(REST));
+        is_woken = wake(rt, listener);
+    }
+    unreachable!()
+}

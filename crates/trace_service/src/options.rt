@@ -1,0 +1,24 @@
+//! How a service is run, beside its settings.
+
+use decision_cache::HashKeys;
+use std::time::Duration;
+
+/// How a service is run, beside its settings.
+#[derive(Clone, Copy)]
+pub struct ServiceOptions {
+    /// Whether the shards' logs are kept, and their lengths written at the end.
+    pub audit: bool,
+    /// Under these trace ids are hashed. No client knows them.
+    pub keys: HashKeys,
+    /// So many connections are served at a time, each by a thread of its own; without it as many as the settings have
+    /// receivers.
+    pub connections: Option<u32>,
+    /// So many jobs are posted at a time, each by a thread of its own; without it as many as the settings have senders.
+    pub senders: Option<u32>,
+    /// So long a client's connection may rest, within a message and between two of them, before it is closed; without
+    /// it for ever. Not 0.
+    pub client_timeout: Option<Duration>,
+    /// So long a connection to a back end may take to come about, and so long it may rest then, before the job's
+    /// attempt has failed; without it for ever. Not 0.
+    pub back_end_timeout: Option<Duration>,
+}

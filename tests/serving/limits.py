@@ -1,0 +1,227 @@
+"""What the options of `serve` limit: how long clients and back ends may rest, and how many are served at a time."""
+
+import os
+import socket
+import time
+from contextlib import ExitStack, suppress
+from pathlib import Path
+
+from replay.make_script import piece
+from serving.loopback import HEAD, REPLY
+from serving.talk import ERRORS, MOST, TAKEN, BackEnd, Service, body, check, head_of, line_of, read_message, request, tenant, wait_for
+
+WHOLE = head_of("a", 34) + body(18, 1)
+# So many milliseconds of rest are too many. Beside others' work a thread may come much later to what is due.
+LIMIT = 400
+LIMITED = ("--client-timeout", str(LIMIT))
+CONNECTIONS = 300
+# So many descriptors a service has that is to have too few: its standard ones, its listener, and 12 more.
+FEW = 16
+
+
+def heard(peer):
+    """What comes from the service until it closes, and after how many seconds it closed."""
+    start = time.monotonic()
+    peer.settimeout(MOST)
+    text = b""
+    while True:
+        more = peer.recv(1 << 16)
+        if not more:
+            return text, time.monotonic() - start
+        text += more
+
+
+def closes(what, peer, wanted=b""):
+    """The service closes it, not before the limit, and has told it this."""
+    text, after = heard(peer)
+    check(what, (text, after > 0.9 * LIMIT / 1000), (wanted, True))
+
+
+def resting_clients(folder):
+    """Who rests before its request, in its head and in its body is let go after the limit, is told nothing and counts for
+    nothing; others are served meanwhile, and then in its place. A connection rests between two requests too."""
+    with BackEnd() as back_end, Service(folder, [tenant("a", back_end, policies=ERRORS)], *LIMITED) as service:
+        with ExitStack() as stack:
+            silent, in_head, in_body = (stack.enter_context(service.connect()) for _ in range(3))
+            in_head.sendall(HEAD)
+            in_body.sendall(WHOLE[:-1])
+            check("another client", service.post("a", body(1, 1)), (200, b""))
+            for what, peer in (("one that sends nothing", silent), ("one in its head", in_head), ("one in its body", in_body)):
+                text, _ = heard(peer)
+                check(what, text, b"")
+        for what, begun in (("before a request", b""), ("in a head", WHOLE[:9]), ("in a body", WHOLE[:-1])):
+            with service.connect() as peer:
+                peer.sendall(begun)
+                closes(f"resting {what}", peer)
+            with service.connect() as peer:
+                peer.sendall(WHOLE)
+                check("a reply", read_message(peer.recv), REPLY)
+                peer.sendall(begun)
+                closes(f"resting {what}, after another", peer)
+        check("the end", service.end(), (0, line_of("a", accepted=4, not_sampled=4), b""))
+
+
+def slow_clients(folder):
+    """Who sends something before the limit each time isn't let go, however long it takes in all, and who rests for less
+    between requests neither."""
+    with BackEnd() as back_end, Service(folder, [tenant("a", back_end, policies=ERRORS)], "--client-timeout", "3000") as service:
+        with service.connect() as peer:
+            for text in (WHOLE, WHOLE):
+                step = len(text) // 20 + 1
+                for at in range(0, len(text), step):
+                    peer.sendall(text[at:at + step])
+                    time.sleep(0.1)
+                check("a reply", read_message(peer.recv), REPLY)
+        check("the end", service.end(), (0, line_of("a", accepted=2, not_sampled=2), b""))
+
+
+def unread_replies(folder):
+    """Who never reads its replies is let go once there is no more room for them, and the receiver serves others."""
+    with BackEnd() as back_end, Service(folder, [tenant("a", back_end)], *LIMITED, receivers=1) as service:
+        with service.connect() as peer:
+            peer.setsockopt(socket.SOL_SOCKET, socket.SO_RCVBUF, 4096)
+            peer.settimeout(MOST)
+            try:
+                while True:
+                    peer.sendall(b"GET / HTTP/1.1\r\nHost: c\r\n\r\n" * 1000)
+            except OSError as fault:
+                check("it isn't waited for", isinstance(fault, TimeoutError), False)
+            check("the next client", service.post("a", body(1, 1)), (200, b""))
+        check("the end", service.end(), (0, line_of("a", accepted=1, exported=1), b""))
+
+
+def the_end_of_resting(folder):
+    """A client that keeps its connection doesn't keep the service for longer than the limit."""
+    with BackEnd() as back_end, Service(folder, [tenant("a", back_end)], *LIMITED) as service, service.connect() as peer:
+        check("a post", service.post("a", body(1, 1), peer), (200, b""))
+        check("the end", service.end(), (0, line_of("a", accepted=1, exported=1), b""))
+        check("its connection", peer.recv(1), b"")
+
+
+def back_ends_that_rest(folder):
+    """A back end that takes a post and never answers, that answers the half, that never reads a large job, and that takes
+    no connection: each is tried again after the limit, until it answers; with one sender another tenant's jobs go on."""
+    large = request((b"\1" * 16, b"\1" * 8, piece(5, b"n" * 9_000_000)))
+    half = TAKEN[:-1]
+    with ExitStack() as stack:
+        good, silent = stack.enter_context(BackEnd()), stack.enter_context(BackEnd(None))
+        # It keeps the connection open after the half.
+        cut = stack.enter_context(BackEnd(None))
+        unread = stack.enter_context(BackEnd())
+        unread.reads.clear()
+        sections = [tenant("a", silent), tenant("b", cut), tenant("c", unread), tenant("d", good)]
+        service = stack.enter_context(Service(folder, sections, "--senders", "1", "--back-end-timeout", str(LIMIT)))
+        for name, text in (("a", body(1, 1)), ("b", body(2, 1)), ("c", large)):
+            check("a post", service.post(name, text), (200, b""))
+        wait_for(lambda: len(silent.posts) >= 2 and len(cut.posts) >= 2 and unread.came >= 2, "all are tried again")
+        for peer in cut.held[-1:]:
+            with suppress(OSError):
+                peer.sendall(half)
+        check("a post", service.post("d", body(4, 1)), (200, b""))
+        wait_for(lambda: service.report("d") == line_of("d", accepted=1, exported=1), "another's job goes on")
+        for name in "abc":
+            check("not given up", service.report(name), line_of(name, accepted=1, active=1))
+        times = [when for _, _, when in silent.posts]
+        check("not before the limit", all(later - sooner > 0.9 * LIMIT / 1000 for sooner, later in zip(times, times[1:])), True)
+        silent.release()
+        cut.release()
+        unread.reads.set()
+        done = "".join(line_of(name, accepted=1, exported=1) for name in "abcd")
+        check("the end", service.end(), (0, done, b""))
+        check("the same again", (set(silent.bodies()), set(cut.bodies())), ({body(1, 1)}, {body(2, 1)}))
+        # What came of an attempt that was given up is its front.
+        read = unread.bodies()
+        check("the large one again", large in read and all(large.startswith(part) for part in read), True)
+
+
+def no_connection(folder):
+    """A back end whose queue of connections is full isn't waited for beyond the limit, and is tried again."""
+    with BackEnd() as good, socket.create_server(("127.0.0.1", 0), backlog=0) as full, ExitStack() as stack:
+        full.settimeout(MOST)
+        port = full.getsockname()[1]
+        # The first one fills the queue.
+        for _ in range(3):
+            peer = stack.enter_context(socket.socket())
+            peer.setblocking(False)
+            peer.connect_ex(("127.0.0.1", port))
+        away = tenant("a", good).replace(f"127.0.0.1:{good.port}", f"127.0.0.1:{port}")
+        with Service(folder, [away, tenant("b", good)], "--back-end-timeout", "200", senders=1) as service:
+            for name in "ab":
+                check("a post", service.post(name, body(1, 1)), (200, b""))
+            wait_for(lambda: service.report("b") == line_of("b", accepted=1, exported=1), "another's job goes on")
+            check("not given up", service.report("a"), line_of("a", accepted=1, active=1))
+            stack.close()
+            text = b""
+            while not text:
+                taken, _ = full.accept()
+                with taken:
+                    text = read_message(taken.recv)
+                    if text:
+                        taken.sendall(TAKEN)
+            check("the job", text.partition(b"\r\n\r\n")[2], body(1, 1))
+            done = "".join(line_of(name, accepted=1, exported=1) for name in "ab")
+            check("the end", service.end(), (0, done, b""))
+
+
+def many_connections(folder):
+    """With --connections so many clients keep their connections and are served, though there are fewer receivers in the
+    settings; one more waits until one of them goes."""
+    with BackEnd() as back_end, ExitStack() as stack, Service(
+            folder, [tenant("a", back_end, policies=ERRORS)], "--connections", str(CONNECTIONS), receivers=1) as service:
+        peers = [stack.enter_context(service.connect()) for _ in range(CONNECTIONS)]
+        for _ in range(2):
+            for peer in peers:
+                check("a post", service.post("a", body(1, 1), peer), (200, b""))
+        with service.connect() as more:
+            more.sendall(WHOLE)
+            more.settimeout(0.3)
+            try:
+                check("one more", more.recv(1), None)
+            except TimeoutError:
+                pass
+            more.settimeout(MOST)
+            peers[0].close()
+            check("in its place", read_message(more.recv), REPLY)
+        service.run.stdin.close()
+        stack.close()
+        check("the end", service.end(), (0, line_of("a", accepted=601, not_sampled=601), b""))
+
+
+def seconds_of(service):
+    """How much processor time the service took."""
+    words = Path(f"/proc/{service.run.pid}/stat").read_text().rpartition(")")[2].split()
+    return (int(words[11]) + int(words[12])) / os.sysconf("SC_CLK_TCK")
+
+
+def few_descriptors(folder):
+    """Where there are fewer descriptors than receivers, idle ones take none, so that jobs are sent. Once clients have taken
+    them all nothing spins; who comes then is served once others go, jobs are sent again, and the service ends."""
+    under = ("/bin/sh", "-c", f'ulimit -n {FEW} && exec "$0" "$@"')
+    with BackEnd() as back_end, ExitStack() as stack, Service(
+            folder, [tenant("a", back_end)], "--connections", "64", under=under, shards=1, senders=1) as service:
+        check("a post", service.post("a", body(1, 1)), (200, b""))
+        wait_for(lambda: service.report("a") == line_of("a", accepted=1, exported=1), "it is sent")
+        first = stack.enter_context(service.connect())
+        check("a post", service.post("a", body(2, 1), first), (200, b""))
+        wait_for(lambda: len(back_end.posts) == 2, "it is sent")
+        peers = [stack.enter_context(service.connect()) for _ in range(2 * FEW)]
+        wait_for(lambda: len(list(Path(f"/proc/{service.run.pid}/fd").iterdir())) == FEW, "all are taken")
+        before = seconds_of(service)
+        time.sleep(1)
+        check("it rests", seconds_of(service) - before < 0.1, True)
+        check("a post", service.post("a", body(3, 1), first), (200, b""))
+        wait_for(lambda: service.report("a") == line_of("a", accepted=3, active=1, exported=2), "it can't be sent")
+        for peer in peers[:-1]:
+            peer.close()
+        check("who came last", service.post("a", body(4, 1), peers[-1]), (200, b""))
+        wait_for(lambda: service.report("a") == line_of("a", accepted=4, exported=4), "all is sent")
+        peers = [stack.enter_context(service.connect()) for _ in range(2 * FEW)]
+        wait_for(lambda: len(list(Path(f"/proc/{service.run.pid}/fd").iterdir())) == FEW, "all are taken again")
+        service.run.stdin.close()
+        check("a report", service.hear(), line_of("a", accepted=4, exported=4))
+        stack.close()
+        check("the end", service.end(), (0, "", b""))
+
+
+TESTS = (resting_clients, slow_clients, unread_replies, the_end_of_resting, back_ends_that_rest, no_connection,
+         many_connections, few_descriptors)

@@ -1,0 +1,403 @@
+#!/usr/bin/env python3
+"""Has the built program talk with programs that others wrote: `make trace_collector && python3 tests/strangers.py`.
+
+    python3 tests/strangers.py [PROGRAM] [NAME..]     # all, or those of these names
+
+Takes the program's path, `./trace_collector` if there is none. `curl`, `ab`, `wrk` and the Python library h11, a strict
+reader and writer of HTTP/1.1, are used where they are installed; it says which aren't. h11 posts some thousands of
+messages that are made by chance, and is a back end that answers by chance. What has to come is what docs/HTTP.md says. It
+prints what is wrong, and ends with 1 where something is.
+"""
+
+import os
+import random
+import re
+import shutil
+import socket
+import subprocess
+import sys
+import tempfile
+import threading
+import time
+import traceback
+from collections import Counter
+from pathlib import Path
+
+from serving import talk
+from serving.agreement import SPAN
+from serving.talk import MOST, BackEnd, Service, body, check, line_of, request, tenant
+
+try:
+    import h11
+except ImportError:
+    h11 = None
+
+HERE = Path(__file__).resolve().parent.parent
+SEED = 20251126
+MESSAGES, JOBS = 4000, 1500
+TYPE, FIELD = "Content-Type: application/x-protobuf", "X-Scope-OrgID: a"
+URL = "http://127.0.0.1:{}/v1/traces"
+
+
+def curl(service, text, *words, path="/v1/traces", fields=(TYPE, FIELD)):
+    """What curl says of one post: its own status, the reply's, how many connections it made, and how long it took."""
+    heads = [word for field in fields for word in ("-H", field)]
+    command = ["curl", "-sS", "-o", os.devnull, "-w", "%{http_code} %{num_connects} %{time_total}\n", "--data-binary",
+               "@-", *heads, *words, f"http://127.0.0.1:{service.port}{path}"]
+    done = subprocess.run(command, input=text, capture_output=True, timeout=MOST, check=False)
+    code, connects, took = done.stdout.split()[-3:] if done.stdout.split() else (b"0", b"0", b"0")
+    return (done.returncode, int(code), int(connects)), float(took)
+
+
+def by_curl(folder):
+    """As curl sends it: with a length, in chunks, with and without waiting for leave to go on, by HTTP/1.0, with an
+    offer of HTTP/2, many at once, and refused for each reason."""
+    one = body(1, 1)
+    large = request((b"\2" * 16, b"\2" * 8, talk.piece(5, b"n" * 5_000_000)))
+    chunks = ("-H", "Transfer-Encoding: chunked")
+    with BackEnd() as back_end, Service(folder, [tenant("a", back_end, policies=talk.ERRORS)], receivers=60) as service:
+        good = (0, 200, 1)
+        taken = 0
+        for text, words in ((one, ()), (one, chunks), (large, ("-H", "Expect:")), (large, ("-H", "Expect:", *chunks)),
+                            (one, ("--http1.0",)), (one, ("--http2",)), (one, ("-H", "Connection: close"))):
+            check(f"curl {words}", curl(service, text, *words)[0], good)
+            taken += 1
+        for words in ((), chunks):
+            told, took = curl(service, large, *words)
+            check("curl has its leave to go on", (told, took < 1), (good, True))
+            taken += 1
+        too_long = bytes(21_000_000)
+        for words in ((), ("-H", "Expect:"), chunks, ("-H", "Expect:", *chunks)):
+            check(f"too long, {words}", curl(service, too_long, *words)[0], (0, 413, 1))
+        for status, words, how in (
+                (404, (), {"path": "/v1/metrics"}), (405, ("-X", "PUT"), {}), (403, (), {"fields": (TYPE,)}),
+                (415, (), {"fields": (FIELD, "Content-Type: application/json")}), (400, (), {}),
+                (415, ("-H", "Content-Encoding: gzip"), {})):
+            check(f"curl is told {status}", curl(service, one[:-1], *words, **how)[0], (0, status, 1))
+        done = subprocess.run(["curl", "-sS", "-I", URL.format(service.port)], capture_output=True, timeout=MOST,
+                              check=False)
+        check("the head of a reply", (done.returncode, done.stdout[:13]), (0, b"HTTP/1.1 405 "))
+        taken += many_by_curl(folder, service, one)
+        check("the end", service.end(), (0, line_of("a", accepted=taken, not_sampled=taken), b""))
+
+
+def many_by_curl(folder, service, text):
+    """Twenty posts over one connection, and sixty at a time. How many posts these are."""
+    file = Path(folder, "body")
+    file.write_bytes(text)
+    one = f'url = "{URL.format(service.port)}"\ndata-binary = "@{file}"\nheader = "{TYPE}"\nheader = "{FIELD}"\n' \
+        f'output = "{os.devnull}"\nwrite-out = "%{{http_code}} %{{num_connects}}\\n"\nsilent\n'
+    for count, more, wanted in ((20, [], [b"200 1"] + [b"200 0"] * 19), (60, ["-Z", "--parallel-immediate"], None)):
+        done = subprocess.run(["curl", *more, "-K", "-"], input="next\n".join([one] * count).encode(),
+                              capture_output=True, timeout=MOST, check=False)
+        lines = done.stdout.splitlines()
+        check(f"{count} by curl", (done.returncode, lines if wanted else [line[:3] for line in lines]),
+              (0, wanted or [b"200"] * count))
+    return 80
+
+
+def by_ab(folder):
+    """Two thousand posts over twenty connections that are kept, and as many over new ones."""
+    file = Path(folder, "body")
+    file.write_bytes(body(1, 1))
+    with BackEnd() as back_end, Service(folder, [tenant("a", back_end, policies=talk.ERRORS)], receivers=20) as service:
+        for keep in (["-k"], []):
+            words = ["ab", "-q", *keep, "-n", "2000", "-c", "20", "-p", str(file), "-T", "application/x-protobuf", "-H",
+                     FIELD, URL.format(service.port)]
+            said = subprocess.run(words, capture_output=True, text=True, timeout=MOST, check=False).stdout
+            found = {name: int(count) for name, count in re.findall(r"(Complete|Failed|Non-2xx|Keep-Alive) \w+:\s+(\d+)",
+                                                                    said)}
+            # Whoever asks by HTTP/1.0, as it does, is answered once a connection.
+            check(f"ab {keep}", found, {"Complete": 2000, "Failed": 0} | ({"Keep-Alive": 0} if keep else {}))
+        check("the end", service.end(), (0, line_of("a", accepted=4000, not_sampled=4000), b""))
+
+
+def by_wrk(folder):
+    """Fifty connections post for two seconds: nothing fails, and what was taken is what was answered, but for what was
+    on its way at the end."""
+    script = Path(folder, "post.lua")
+    text = "".join(f"\\{byte:03}" for byte in body(1, 1))
+    script.write_text(f'wrk.method = "POST"\nwrk.body = "{text}"\n'
+                      'wrk.headers["Content-Type"] = "application/x-protobuf"\nwrk.headers["X-Scope-OrgID"] = "a"\n')
+    with BackEnd() as back_end, Service(
+            folder, [tenant("a", back_end, policies=talk.ERRORS, most=10_000_000)], receivers=50) as service:
+        words = ["wrk", "-t", "2", "-c", "50", "-d", "2", "-s", str(script), URL.format(service.port)]
+        said = subprocess.run(words, capture_output=True, text=True, timeout=MOST, check=False).stdout
+        count = int(re.search(r"(\d+) requests in", said)[1])
+        check("what wrk says of faults", re.findall("Socket errors.*|Non-2xx.*", said), [])
+        status, out, err = service.end()
+        accepted = int(re.search(r"accepted=(\d+)", out)[1])
+        check("the end", (status, err, out), (0, b"", line_of("a", accepted=accepted, not_sampled=accepted)))
+        check(f"{count} are answered, {accepted} taken", 0 < count <= accepted <= count + 50, True)
+
+
+class Message:
+    """A message by chance, how it is to be answered, and the spans that it brings if it is taken."""
+
+    def __init__(self, chance, number):
+        self.name = chance.choice("ab")
+        self.ids = [(f"{number:016}".encode(), f"{at:08}".encode()) for at in range(1, 1 + chance.randrange(20))]
+        self.text = request(*((trace, span, b"") for trace, span in self.ids)) if self.ids else b""
+        path, self.method = b"/v1/traces", b"POST"
+        kinds, names, encodings = [b"application/x-protobuf"], [self.name.encode()], []
+        self.status = 200
+        fault = chance.choice((200,) * 12 + (400, 403, 403, 404, 404, 405, 405, 415, 415, 415))
+        if fault == 400:
+            # a field without a length, of more bytes than follow, and of no known kind
+            self.text += chance.choice((b"\x0a", b"\x0a\x7f", b"\x0f"))
+        elif fault == 403:
+            names = chance.choice(([], [b"c"], [b"a", b"b"], [b"a", b"a"], [b"A"], [b"a b"]))
+        elif fault == 404:
+            path = chance.choice((b"/", b"/v1/metrics", b"/v1/traces/", b"/V1/traces", b"/v1%2Ftraces", b"*"))
+        elif fault == 405:
+            self.method = chance.choice((b"GET", b"PUT", b"HEAD", b"OPTIONS", b"DELETE", b"post", b"X-Y"))
+        elif fault == 415:
+            kinds, encodings = chance.choice((
+                ([], []), ([b"application/json"], []), (kinds * 2, []), (kinds, [b"gzip"]),
+                (kinds, [b"identity, gzip"]), (kinds, [b"identity", b"br"])))
+        else:
+            path = chance.choice((path, path, path + b"?a=b", b"http://c/v1/traces", b"HTTPS://x:1/v1/traces?"))
+            kinds = [chance.choice((kinds[0], kinds[0].upper(), kinds[0] + b"; charset=x", kinds[0] + b" ;y"))]
+            encodings = [b"Identity"] * chance.randrange(3)
+        self.status = fault
+        fields = [(b"Content-Type", kind) for kind in kinds] + [(b"X-Scope-OrgID", name) for name in names]
+        fields += [(b"Content-Encoding", coding) for coding in encodings] + [(b"Host", b"c")]
+        fields += others(chance, chance.choice((0, 3, 30)))
+        self.waits = chance.random() < 0.1
+        fields += [(b"Expect", chance.choice((b"100-continue", b"100-Continue")))] * self.waits
+        self.chunked = chance.random() < 0.5
+        fields.append((b"Transfer-Encoding", b"chunked") if self.chunked else (b"Content-Length", b"%d" % len(self.text)))
+        self.closes = chance.random() < 0.02
+        fields += [(b"Connection", chance.choice((b"close", b"x, Close")))] * self.closes
+        chance.shuffle(fields)
+        self.head = h11.Request(method=self.method, target=path, headers=[
+            (chance.choice((name, name.lower(), name.upper())), value) for name, value in fields])
+
+
+def others(chance, most):
+    """Fields that nobody heeds."""
+    letters = bytes(range(0x21, 0x7f)) + b" \t" + bytes(range(0x80, 0x100))
+    return [(b"X-%d" % chance.randrange(1000), bytes(chance.choices(letters, k=chance.randrange(60))).strip())
+            for _ in range(chance.randrange(most + 1))]
+
+
+class Client:
+    """h11 over a connection: what it raises is a fault of the service."""
+
+    def __init__(self, service, chance):
+        self.service = service
+        self.chance = chance
+        self.peer = None
+        self.state = None
+
+    def send(self, event):
+        """An event's bytes, in up to three pieces."""
+        text = self.state.send(event)
+        cuts = sorted(self.chance.randrange(len(text) + 1) for _ in range(self.chance.randrange(3)))
+        for start, end in zip([0, *cuts], [*cuts, len(text)]):
+            if start < end:
+                self.peer.sendall(text[start:end])
+
+    def event(self):
+        while (event := self.state.next_event()) is h11.NEED_DATA:
+            self.state.receive_data(self.peer.recv(65536))
+        return event
+
+    def told(self, message):
+        """The status of the reply to a message, or of what stands there else."""
+        if self.peer is None:
+            self.peer, self.state = self.service.connect(), h11.Connection(h11.CLIENT)
+        self.send(message.head)
+        if message.waits:
+            check("leave to go on", self.event().status_code, 100)
+        text = message.text
+        while text:
+            size = self.chance.choice((1, 7, 100, len(text))) if message.chunked else len(text)
+            self.send(h11.Data(data=text[:size]))
+            text = text[size:]
+        self.send(h11.EndOfMessage(headers=others(self.chance, 3) if message.chunked else []))
+        reply = self.event()
+        content = b""
+        while isinstance(event := self.event(), h11.Data):
+            content += event.data
+        check("a reply's end", type(event), h11.EndOfMessage)
+        check("a reply's type", dict(reply.headers).get(b"content-type"), b"application/x-protobuf")
+        check("its content", bool(content), reply.status_code != 200 and message.method != b"HEAD")
+        self.go_on(message)
+        return reply.status_code
+
+    def go_on(self, message):
+        """To the next message, or to the end of the connection where one was asked for."""
+        if message.closes:
+            check("the end of a connection", self.peer.recv(1), b"")
+            self.close()
+        else:
+            self.state.start_next_cycle()
+
+    def close(self):
+        if self.peer:
+            self.peer.close()
+        self.peer = None
+
+
+def by_h11(folder):
+    """Messages by chance, over connections that are kept until one says otherwise: each is answered as it has to be, and
+    what is taken comes, each span once."""
+    chance = random.Random(SEED)
+    with BackEnd() as ones, BackEnd() as twos, Service(
+            folder, [tenant("a", ones, batch=100, timeout=100), tenant("b", twos, batch=100, timeout=100)]) as service:
+        client = Client(service, chance)
+        taken = {"a": Counter(), "b": Counter()}
+        told = Counter()
+        for number in range(MESSAGES):
+            message = Message(chance, number)
+            status = client.told(message)
+            check(f"message {number}, {message.head}", status, message.status)
+            told[status] += 1
+            if status == 200:
+                taken[message.name].update(message.ids)
+        client.close()
+        check("each kind came", sorted(told), [200, 400, 403, 404, 405, 415])
+        done = "".join(line_of(name, accepted=taken[name].total(), exported=taken[name].total()) for name in "ab")
+        check("the end", service.end(), (0, done, b""))
+        for name, back_end in (("a", ones), ("b", twos)):
+            came = Counter(span for text in back_end.bodies() for span in SPAN.findall(text))
+            check(f"{name}'s spans that didn't come once", ((taken[name] - came).total(), (came - taken[name]).total()),
+                  (0, 0))
+
+
+class Answering:
+    """A back end by h11, whose answers are made by chance."""
+
+    def __init__(self):
+        self.chance = random.Random(SEED + 1)
+        self.lock = threading.Lock()
+        # by span, each status that it was answered
+        self.told = {}
+        self.listener = socket.create_server(("127.0.0.1", 0), backlog=256)
+        self.port = self.listener.getsockname()[1]
+
+    def __enter__(self):
+        threading.Thread(target=self.listen, daemon=True).start()
+        return self
+
+    def __exit__(self, *_):
+        self.listener.shutdown(socket.SHUT_RDWR)
+        self.listener.close()
+
+    def listen(self):
+        while True:
+            try:
+                peer, _ = self.listener.accept()
+            except OSError:
+                return
+            threading.Thread(target=self.serve, args=(peer,), daemon=True).start()
+
+    def serve(self, peer):
+        try:
+            with peer:
+                self.answer(peer)
+        except (h11.ProtocolError, OSError, AssertionError) as fault:
+            talk.faults.append(f"a post to h11: {fault!r}")
+
+    def answer(self, peer):
+        state = h11.Connection(h11.SERVER)
+        head, text = None, b""
+        while not isinstance(event := state.next_event(), h11.EndOfMessage):
+            if event is h11.NEED_DATA:
+                state.receive_data(peer.recv(65536))
+            elif isinstance(event, h11.Request):
+                head = event
+            else:
+                assert isinstance(event, h11.Data), event
+                text += event.data
+        fields = dict(head.headers)
+        wanted = {b"host": b"127.0.0.1:%d" % self.port, b"content-type": b"application/x-protobuf",
+                  b"content-length": b"%d" % len(text), b"connection": b"close"}
+        check("a post", (head.method, head.target, fields), (b"POST", b"/v1/traces", wanted))
+        with self.lock:
+            chance = random.Random(self.chance.random())
+            status = chance.choice((200,) * 8 + (429, 502, 503, 504, 400, 500, 301))
+            for span in SPAN.findall(text):
+                self.told.setdefault(span, []).append(status)
+        for event in reply(chance, status):
+            self.send(chance, peer, state.send(event))
+
+    @staticmethod
+    def send(chance, peer, text):
+        cut = chance.randrange(len(text) + 1)
+        for part in (text[:cut], text[cut:]):
+            if part:
+                peer.sendall(part)
+
+
+def reply(chance, status):
+    """An answer by chance: interim ones, fields that nobody heeds, a body with a length or in chunks."""
+    for _ in range(chance.choice((0, 0, 1, 16))):
+        yield h11.InformationalResponse(status_code=chance.choice((100, 102, 103)), headers=others(chance, 2))
+    # An empty partial success.
+    text = b"" if status != 200 or chance.random() < 0.5 else b"\x0a\x00"
+    text = text or (b"" if status == 200 else bytes(chance.randrange(300)))
+    chunked = chance.random() < 0.5
+    framing = (b"Transfer-Encoding", b"chunked") if chunked else (b"Content-Length", b"%d" % len(text))
+    yield h11.Response(status_code=status, reason=b"As it is", headers=[framing, *others(chance, 20)])
+    while text:
+        size = chance.choice((1, 50, len(text))) if chunked else len(text)
+        yield h11.Data(data=text[:size])
+        text = text[size:]
+    yield h11.EndOfMessage(headers=others(chance, 3) if chunked else [])
+
+
+def to_h11(folder):
+    """Jobs to h11, which answers by chance: each post is read, an answer that says so is posted again, and each span is
+    counted as it was answered last."""
+    with Answering() as end:
+        sections = [tenant(name, end, consumers=4) for name in "abcd"]
+        with Service(folder, sections, senders=8) as service:
+            with service.connect() as peer:
+                for number in range(JOBS):
+                    text = request((f"{number:016}".encode(), b"00000001", b""))
+                    check("a post", service.post("abcd"[number % 4], text, peer), (200, b""))
+            status, out, err = service.end()
+        last = Counter(told[-1] for told in end.told.values())
+        again = {status for told in end.told.values() for status in told[:-1]}
+        check("all came", last.total(), JOBS)
+        check("what is posted again", again, {429, 502, 503, 504})
+        counts = Counter()
+        for line in out.splitlines():
+            counts.update({name: int(count) for name, count in re.findall(r"(\w+)=(\d+)", line)})
+        wanted = {"accepted": JOBS, "exported": last[200], "back_end_refused": JOBS - last[200]}
+        check("what is counted", {name: count for name, count in counts.items() if count}, wanted)
+        check("status and standard error", (status, err), (0, b""))
+
+
+TESTS = {test.__name__: test for test in (by_curl, by_ab, by_wrk, by_h11, to_h11)}
+
+
+def is_there(name):
+    word = name.rpartition("_")[2]
+    return h11 is not None if word == "h11" else shutil.which(word) is not None
+
+
+def main():
+    words = sys.argv[1:]
+    talk.program = os.path.abspath(words.pop(0) if words and words[0] not in TESTS else HERE / "trace_collector")
+    for name in words or TESTS:
+        if not is_there(name):
+            print(f"{name}: not installed")
+            continue
+        start, before = time.monotonic(), len(talk.faults)
+        with tempfile.TemporaryDirectory() as folder:
+            try:
+                TESTS[name](folder)
+            except Exception:  # pylint: disable=broad-except
+                talk.faults.append(traceback.format_exc())
+        for fault in talk.faults[before:][:20]:
+            print(f"{name}: {fault}")
+        print(f"{name}: {time.monotonic() - start:.1f} s", flush=True)
+    print("it does as it has to" if not talk.faults else f"{len(talk.faults)} wrong")
+    sys.exit(min(len(talk.faults), 1))
+
+
+if __name__ == "__main__":
+    main()
