@@ -39,6 +39,7 @@ def ended(arguments, script=b"", **how):
 def usage():
     wrong = ([], ["replay"], ["help"], ["-h"], ["--help", "more"], ["replay", SETTINGS, "more"], ["check"],
              ["check", SETTINGS, "more"], ["serve"], ["serve", SETTINGS, "more"], ["serve", "--audit", SETTINGS],
+             ["serve", "--audit"], ["serve", "--verbose"], ["serve", "--verbose", "--audit"], ["serve", "--senders", "--audit"],
              ["serve", SETTINGS, "--audit", "more"], ["replay", SETTINGS, "--audit"], ["replay", SETTINGS, "--verbose"],
              ["serve", SETTINGS, "--verbose", "--verbose"], ["serve", SETTINGS, "--audit", "--verbose", "more"],
              [b"replay", b"\xff"], [b"\xff"], [b"--help", b"\xc3("], ["serve", "--connections", "1", SETTINGS],
@@ -150,6 +151,33 @@ FAULTY = [
     (TENANT.replace("[[tenant.", "max_spans = 2147483648\n[[tenant.") + TENANT.replace('"a"', '"b"'), "settings fault 15\n"
      "more than 1000 tenants, more than 64 policies of one tenant, or a sum of max_spans above 2147483648\n"),
 ]
+# what standard error is told of a good document, and the document: addresses that can't be any, and counts that are too
+# low. The smallest document leaves it at 4 senders and 10 consumers.
+FEW_SENDERS = ("warning: table global: senders is 4, and the tenants' num_consumers are 10 together: back ends that don't "
+               "answer can keep every sender\n")
+SCHEME = "has a scheme, where a host, a colon and a port are wanted\n"
+NO_PORT = "doesn't end with a colon and a port from 0 to 65535\n"
+NO_HOST = "has no host before its port\n"
+ENOUGH = "[global]\nsenders = 10\n"
+LISTENING = "warning: table global: listen "
+SENDING = "warning: tenant a: endpoint "
+DOUBTS = [
+    ("", ENOUGH + TENANT),
+    (FEW_SENDERS.replace("is 4", "is 9"), "[global]\nsenders = 9\n" + TENANT),
+    (FEW_SENDERS.replace("is 4", "is 10").replace("are 10", "are 12"), ENOUGH + TENANT + TENANT.replace('"a"', '"b"').replace(
+        "[[tenant.", "sending_queue.num_consumers = 2\n[[tenant.")),
+    ("warning: table global: receivers is 1, and there are 2 tenants: each client that keeps its connection keeps a receiver\n",
+     "[global]\nreceivers = 1\nsenders = 20\n" + TENANT + TENANT.replace('"a"', '"b"')),
+    ("", "[global]\nreceivers = 2\nsenders = 20\n" + TENANT + TENANT.replace('"a"', '"b"')),
+    *((f"{LISTENING}{address} {wrong}" if wrong else "", f'{ENOUGH}listen = "{address}"\n{TENANT}') for address, wrong in (
+        ("http://0.0.0.0:4318", SCHEME), ("unix:///run/socket", SCHEME), ("://", SCHEME), ("0.0.0.0", NO_PORT), ("4318", NO_PORT),
+        ("0.0.0.0:", NO_PORT), ("0.0.0.0:65536", NO_PORT), ("0.0.0.0:4318/", NO_PORT), ("0.0.0.0:-1", NO_PORT),
+        ("0.0.0.0:00000000000000000000065536", NO_PORT), ("[::1]", NO_PORT), (":4318", NO_HOST), ("0.0.0.0:65535", ""),
+        ("[::]:0", ""), ("localhost:04318", ""), ("a:/:4318", ""))),
+    *((f"{SENDING}{address} {wrong}" if wrong else "", ENOUGH + TENANT.replace("[[tenant.", f'endpoint = "{address}"\n[[tenant.'))
+      for address, wrong in (("https://traces.example.com:443/v1/traces", SCHEME), ("traces.example.com", NO_PORT),
+                             (":443", NO_HOST), ("traces.example.com:443", ""))),
+]
 # a key that no setting has, in a document of one tenant, and the warning of it
 UNKNOWN = [
     ("gobal = 1\n", TENANT, "the document: no setting has the key gobal"),
@@ -209,14 +237,15 @@ def checks():
     with tempfile.TemporaryDirectory() as folder:
         file = Path(folder, "settings.toml")
 
-        def said(text):
+        def said(text, doubts=None):
             file.write_bytes(text.encode() if isinstance(text, str) else text)
             status, out, err = ended(["check", str(file)])
-            check(f"standard error of {text!r}", err, b"")
+            if doubts is not None or status != 0:
+                check(f"standard error of {text!r}", err.decode(), doubts or "")
             return status, out.decode()
 
-        check("the smallest document", said(TENANT), (0, IN_FORCE))
-        check("all of its settings", said(IN_FORCE), (0, IN_FORCE))
+        check("the smallest document", said(TENANT, FEW_SENDERS), (0, IN_FORCE))
+        check("all of its settings", said(IN_FORCE, FEW_SENDERS), (0, IN_FORCE))
         for text, told in FAULTY:
             status, out = said(text)
             check(text, (status, out[: len(told)]), (1, told))
@@ -228,13 +257,16 @@ def checks():
         both = said(TENANT.replace("policy]]", "polcy]]"))
         check("a warning beside a fault", both[1].split("\n")[0::3], ["settings fault 11 policy", "# warning: tenant 1 (a), "
               "table tail_sampling: no setting has the key polcy, so it is ignored"])
+        for doubts, text in DOUBTS:
+            check(f"the status of {text!r}", said(text, doubts)[0], 0)
         cached = TENANT + "[tenant.tail_sampling.decision_cache]\nsampled_cache_size = 2\nnon_sampled_cache_size = 1\n"
         sizes = IN_FORCE.replace("non_sampled_cache_size = 0\nsampled_cache_size = 0", "non_sampled_cache_size = 1\n"
                                  "sampled_cache_size = 2")
         check("sizes of caches", said(cached), (0, sizes))
         check("sizes of caches twice", said(sizes), (0, sizes))
         missing = str(Path(folder, "missing"))
-        check("no file to check", ended(["check", missing]), (1, b"", b"input or output fault\n"))
+        told = f"input or output fault\n{missing}: No such file or directory (os error 2)\n".encode()
+        check("no file to check", ended(["check", missing]), (1, b"", told))
         for example in sorted((HERE / "examples").glob("*.toml")):
             status, out = said(example.read_text())
             check(f"{example.name} is good", (status, "# warning" in out), (0, False))
@@ -242,7 +274,10 @@ def checks():
             if example.name in IN_EXAMPLES:
                 check(f"what {example.name} says", tomllib.loads(out), in_force(*IN_EXAMPLES[example.name]))
         with open("/dev/full", "wb") as full:
-            check("a full disk at a check", ended(["check", SETTINGS], stdout=full), (1, None, b"input or output fault\n"))
+            told = b"input or output fault\nstandard output: No space left on device (os error 28)\n"
+            check("a full disk at a check", ended(["check", SETTINGS], stdout=full), (1, None, told))
+            file.write_text(TENANT)
+            check("a full disk for doubts", ended(["check", str(file)], stderr=full), (0, IN_FORCE.encode(), None))
 
 
 FAULTS = HERE / "docs/FAULTS.md"

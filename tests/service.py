@@ -18,7 +18,7 @@ import time
 import traceback
 from pathlib import Path
 
-from serving import agreement, back_ends, clients, comings, ending, limits, loopback, memory, talk
+from serving import agreement, back_ends, clients, comings, ending, limits, loopback, memory, rest, talk
 
 HERE = Path(__file__).resolve().parent.parent
 SHORT = 3
@@ -32,8 +32,8 @@ def agree(folder):
 
 
 TESTS = {test.__name__: test
-         for test in (*loopback.TESTS, *clients.TESTS, *back_ends.TESTS, *comings.TESTS, *limits.TESTS, *ending.TESTS,
-                      *memory.TESTS, agree)}
+         for test in (*loopback.TESTS, *clients.TESTS, *back_ends.TESTS, *comings.TESTS, *limits.TESTS, *rest.TESTS,
+                      *ending.TESTS, *memory.TESTS, agree)}
 
 
 def run(name, test):

@@ -213,6 +213,8 @@ def without_files(folder):
         process = service.run.pid
         with service.connect() as first:
             check("a post", service.post("a", body(1, 1), first), (200, b""))
+            # Meanwhile the other receiver begins to wait for a connection, for which it sets a place aside.
+            time.sleep(0.3)
             most = resource.prlimit(process, resource.RLIMIT_NOFILE)
             used = set(os.listdir(f"/proc/{process}/fd"))
             free = next(number for number in itertools.count() if str(number) not in used)

@@ -117,6 +117,85 @@ def failing_output(folder):
         check("a full disk", (done.returncode, done.stderr), fault)
 
 
+def without_streams(folder):
+    """A service that is started without standard output or error tells nobody else what they would be told, a client
+    least of all; without standard input it ends at once."""
+    for closed, numbers in ((">&- 2>&-", (1, 2)), (">&-", (1,)), ("2>&-", (2,))):
+        shell = ("/bin/sh", "-c", f'exec "$0" "$@" {closed}')
+        with BackEnd() as back_end, Service(folder, [tenant("a", back_end)], "--verbose", under=shell) as service:
+            stand_ins = [os.readlink(f"/proc/{service.run.pid}/fd/{number}") for number in numbers]
+            check(f"what stands in at {closed}", stand_ins, ["/dev/null"] * len(numbers))
+            with service.connect() as kept:
+                check("a post", service.post("a", body(1, 1), kept), (200, b""))
+                service.say("report a\n")
+                service.run.stdin.close()
+                while (told := service.post("a", body(2, 2), kept)) == (200, b""):
+                    pass
+                check("all that a client is told", told, (503, b"\x12\x0dshutting down"))
+            check("the end", service.end()[0], 0)
+    with BackEnd() as back_end:
+        file = Path(folder, "settings.toml")
+        file.write_text(globals_of() + tenant("a", back_end))
+        words = ["/bin/sh", "-c", 'exec "$0" "$@" <&-', talk.program, "serve", str(file)]
+        done = subprocess.run(words, capture_output=True, timeout=talk.MOST, check=False)
+        check("no input", (done.returncode, done.stdout, done.stderr), (0, line_of("a").encode(), b""))
+
+
+def few_files(folder):
+    """With one file fewer than receivers, senders and all else need at a time the service says so, and doesn't listen. With
+    as many as that none waits for a file."""
+    need = 4 + 2 + 5
+    said = (f"input or output fault\nopen files: at most {need - 1}, and 4 receivers and 2 senders need {need}: raise the limit "
+            "(`ulimit -n`), or lower receivers or senders\n")
+    limited = [("/bin/sh", "-c", f'ulimit -n {most} && exec "$0" "$@"') for most in (need - 1, need)]
+    newcomer = Path(folder, "newcomer.toml")
+    with BackEnd(None) as slow:
+        section = tenant("a", slow, consumers=2)
+        Path(folder, "settings.toml").write_text(globals_of() + section)
+        done = subprocess.run([*limited[0], talk.program, "serve", str(Path(folder, "settings.toml"))], input=b"",
+                              capture_output=True, timeout=talk.MOST, check=False)
+        check("one too few", (done.returncode, done.stdout, done.stderr.decode()), (1, b"", said))
+        newcomer.write_text(tenant("b", slow))
+        with Service(folder, [section], under=limited[1]) as service:
+            kept = [service.connect() for _ in range(4)]
+            for number, client in enumerate(kept, 1):
+                check("a post", service.post("a", body(number, number), client), (200, b""))
+            wait_for(lambda: len(slow.posts) == 2, "each sender waits for its answer")
+            service.say(f"add {newcomer}\n")
+            check("a file is read", service.hear(), "added b 1\n")
+            for client in kept:
+                client.close()
+            slow.release()
+            check("the end", service.end(), (0, line_of("a", accepted=4, exported=4) + line_of("b"), b""))
+
+
+def told_why(folder):
+    """With --verbose a second line tells which file, address, input or output a fault is of, and why."""
+    file, missing = Path(folder, "settings.toml"), Path(folder, "missing")
+
+    def said(path, **how):
+        how = {"stdin": subprocess.DEVNULL, "stdout": subprocess.PIPE, **how}
+        done = subprocess.run([talk.program, "serve", str(path), "--verbose"], stderr=subprocess.PIPE, timeout=talk.MOST,
+                              check=False, **how)
+        return done.returncode, done.stderr.decode()
+
+    fault = "input or output fault\n"
+    check("no file", said(missing), (1, f"{fault}{missing}: No such file or directory (os error 2)\n"))
+    with BackEnd() as back_end, socket.create_server(("127.0.0.1", 0)) as taken:
+        section = tenant("a", back_end)
+        file.write_text(globals_of() + section + section)
+        check("a faulty file", said(file), (1, f"settings fault 14 a\n{file}: `trace_collector check` says it in words\n"))
+        file.write_text('[global]\nlisten = "nowhere"\n' + section)
+        check("no address", said(file), (1, f"{fault}nowhere: invalid socket address\n"))
+        port = taken.getsockname()[1]
+        file.write_text(globals_of(port) + section)
+        check("a port in use", said(file), (1, f"{fault}127.0.0.1:{port}: Address already in use (os error 98)\n"))
+        file.write_text(globals_of() + section)
+        with open("/dev/full", "wb") as full:
+            status, told = said(file, stdout=full)
+        check("a full disk", (status, told.partition(fault)[2]), (1, "standard output: no storage space, answers lost: 1\n"))
+
+
 def failing_input(folder):
     """Where the input can't be read any more the service ends as at its end, and then says what was wrong. What was read
     of a line that has no end counts for nothing."""
@@ -180,4 +259,5 @@ def port_below(process):
         return None
 
 
-TESTS = (drained, giving_up, with_clients, told_of, failing_output, failing_input, started_by_a_script)
+TESTS = (drained, giving_up, with_clients, told_of, failing_output, without_streams, few_files, told_why, failing_input,
+         started_by_a_script)

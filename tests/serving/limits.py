@@ -1,6 +1,7 @@
 """What the options of `serve` limit: how long clients and back ends may rest, and how many are served at a time."""
 
 import os
+import resource
 import socket
 import time
 from contextlib import ExitStack, suppress
@@ -194,11 +195,11 @@ def seconds_of(service):
 
 
 def few_descriptors(folder):
-    """Where there are fewer descriptors than receivers, idle ones take none, so that jobs are sent. Once clients have taken
+    """Where descriptors become fewer than receivers, idle ones take none, so that jobs are sent. Once clients have taken
     them all nothing spins; who comes then is served once others go, jobs are sent again, and the service ends."""
-    under = ("/bin/sh", "-c", f'ulimit -n {FEW} && exec "$0" "$@"')
     with BackEnd() as back_end, ExitStack() as stack, Service(
-            folder, [tenant("a", back_end)], "--connections", "64", under=under, shards=1, senders=1) as service:
+            folder, [tenant("a", back_end)], "--connections", "64", shards=1, senders=1) as service:
+        resource.prlimit(service.run.pid, resource.RLIMIT_NOFILE, (FEW, FEW))
         check("a post", service.post("a", body(1, 1)), (200, b""))
         wait_for(lambda: service.report("a") == line_of("a", accepted=1, exported=1), "it is sent")
         first = stack.enter_context(service.connect())

@@ -6,3 +6,4 @@ pub mod Shape
 pub mod Reports
 pub mod Joined
 pub mod Alone
+pub mod Consumers

@@ -6,5 +6,7 @@ pub mod Put
 pub mod Document
 pub mod FaultTexts
 pub mod Place
+pub mod Address
+pub mod Doubts
 pub mod Report
 pub mod Law

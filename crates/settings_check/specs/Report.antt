@@ -1,5 +1,5 @@
 -- The report on a text, which is good exactly where the text means settings. This project's own rule.
-use Rattle.std.specs.Prelude.{◌≡◌, codes, ℕ, Bool, true, false, List, ◌++◌, Option, Result, Ok, Err}
+use Rattle.std.specs.Prelude.{◌≡◌, codes, ℕ, Bool, true, false, List, [], ◌++◌, Option, Result, Ok, Err}
 use Rattle.std.specs.Str.{IsUtf8}
 use Rattle.toml.specs.Data.{Members}
 use Rattle.toml.specs.Parse.{parse_document}
@@ -7,6 +7,7 @@ use Rattle.toml.specs.Text.{IsDocumentText}
 use Rattle.tail_settings.specs.Fault.{FaultData}
 use Rattle.tail_settings.specs.Settings.{SettingsData, settings_of}
 use Rattle.settings_check.specs.Document.{document_of}
+use Rattle.settings_check.specs.Doubts.{doubts_in}
 use Rattle.settings_check.specs.Place.{NamesFirst, tenants_in}
 use Rattle.settings_check.specs.FaultTexts.{fault_text}
 use Rattle.settings_check.specs.Warning.{warnings_of}
@@ -22,11 +23,13 @@ Reports document (Err fault) is_good text =
     (is_good ≡ false) × (place : List ℕ) × (words : List ℕ) × NamesFirst fault 1 (tenants_in document) place
     × (text ≡ fault_text place fault words ++ warnings_of document)
 
--- the report on a text
-abbrev pub IsReport : List ℕ → Bool → List ℕ → Type 0
-IsReport text is_good report = Reports (parse_document text) (settings_of text) is_good report
+-- the report on a text, and what is doubtful in the settings that it means
+abbrev pub IsReport : List ℕ → Bool → List ℕ → List ℕ → Type 0
+IsReport text is_good report doubts =
+    Reports (parse_document text) (settings_of text) is_good report × (doubts ≡ doubts_in (settings_of text))
 
--- the report on a file's bytes, which are a text or not
-pub record IsFileReport (bytes : List ℕ) (is_good : Bool) (report : List ℕ) : Type 0 where
-  pub text : IsUtf8 bytes → IsReport bytes is_good report
+-- the same of a file's bytes, which are a text or not
+pub record IsFileReport (bytes : List ℕ) (is_good : Bool) (report doubts : List ℕ) : Type 0 where
+  pub text : IsUtf8 bytes → IsReport bytes is_good report doubts
   pub no_text : (IsUtf8 bytes → ⊥) → (is_good ≡ false) × (report ≡ codes "settings fault 10\nthe file is not UTF-8\n")
+      × (doubts ≡ [])

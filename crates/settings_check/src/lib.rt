@@ -3,7 +3,9 @@
 //! [`check`] loads a document by `tail_settings` and reports in text. Where the document is good, the report has all
 //! settings in force as a document of their own, with nothing left to defaults, which loads to the same settings.
 //! Where it isn't, the report has its fault, where that stands, and what the key may be. Either way it warns of each
-//! key that no setting has: `tail_settings` reads past it, so a misspelt key leaves a default in force.
+//! key that no setting has: `tail_settings` reads past it, so a misspelt key leaves a default in force. Beside that it
+//! has the doubts of a good document: addresses that can't be one, and fewer receivers or senders than may be kept at a
+//! time.
 //!
 //! Which documents are good, and what they mean, is for `tail_settings` alone to say. The tables of src/table.rt have
 //! in words what each key may be, as docs/SETTINGS.md has it.
@@ -11,7 +13,9 @@
 //! It stands on `tail_settings`, and on the library's `toml` and `hex`.
 #![tactic(auto)]
 
+mod address;
 mod document;
+mod doubts;
 mod fault_text;
 mod hint;
 mod law;

@@ -9,6 +9,7 @@ ghost use Rattle.settings_check.specs.Report.{IsReport, IsFileReport};
 ghost use Rattle.settings_check.specs.Warning.{warnings_of};
 
 use crate::document::settings_text;
+use crate::doubts::doubts;
 use crate::fault_text::fault_text;
 use crate::place::place;
 use crate::read;
@@ -28,6 +29,9 @@ pub struct Report {
     pub is_good: bool,
     /// The settings in force, or the fault, with the warnings: lines for whoever wrote the document.
     pub text: String,
+    /// What is doubtful in settings that are good: a line for each doubt, of what most likely wasn't meant so. They are
+    /// no part of the text, which has the settings alone.
+    pub doubts: String,
 }
 
 /// The warnings of a document, if there is one.
@@ -49,23 +53,27 @@ fn warnings(alloc: Global, document: Option<&Table>) -> Result<String, AllocErro
 fn good_report(alloc: Global, text: &str, settings: &Settings) -> Result<Report, AllocError>
     requires loaded { settings_of text.now ≡ Ok (settings_view settings.now) }
     requires valid { AreValidSettings (settings_view settings.now) }
-    ensures { IfOk result (λ report. IsReport text.now report.is_good (string_bytes report.text)) }
+    ensures { IfOk result (λ report. IsReport text.now report.is_good (string_bytes report.text)
+        (string_bytes report.doubts)) }
 {
     let (document, _words) = read::document(alloc, text)?;
     let warnings = warnings(alloc, document.as_ref())?;
     let shown = settings_text(alloc, settings)?;
     let head = joined(alloc, warnings.as_str(), "# the settings in force\n")?;
     let told = joined(alloc, head.as_str(), shown.as_str())?;
+    let doubts = doubts(alloc, settings)?;
     Ok(Report {
         is_good: true,
         text: told,
+        doubts,
     })
 }
 
 /// The report on a text that has this fault.
 fn fault_report(alloc: Global, text: &str, fault: &SettingsFault) -> Result<Report, AllocError>
     requires { IfSome (fault_view fault.now) (λ seen. settings_of text.now ≡ Err seen) }
-    ensures { IfOk result (λ report. IsReport text.now report.is_good (string_bytes report.text)) }
+    ensures { IfOk result (λ report. IsReport text.now report.is_good (string_bytes report.text)
+        (string_bytes report.doubts)) }
 {
     let (document, words) = read::document(alloc, text)?;
     let place = place(alloc, document.as_ref(), fault)?;
@@ -75,12 +83,14 @@ fn fault_report(alloc: Global, text: &str, fault: &SettingsFault) -> Result<Repo
     Ok(Report {
         is_good: false,
         text: told,
+        doubts: String::new(alloc),
     })
 }
 
 /// The report on a text.
 fn check_text(alloc: Global, text: &str) -> Result<Report, AllocError>
-    ensures { IfOk result (λ report. IsReport text.now report.is_good (string_bytes report.text)) }
+    ensures { IfOk result (λ report. IsReport text.now report.is_good (string_bytes report.text)
+        (string_bytes report.doubts)) }
 {
     match load(alloc, text) {
         Ok(settings) => good_report(alloc, text, &settings),
@@ -91,13 +101,15 @@ fn check_text(alloc: Global, text: &str) -> Result<Report, AllocError>
 /// Checks the settings in a file's bytes.
 pub fn check(alloc: Global, bytes: &[u8]) -> Result<Report, AllocError>
     // Good where the bytes are a text that means settings, and then with all of them; otherwise with its fault.
-    ensures { IfOk result (λ report. IsFileReport bytes.now report.is_good (string_bytes report.text)) }
+    ensures { IfOk result (λ report. IsFileReport bytes.now report.is_good (string_bytes report.text)
+        (string_bytes report.doubts)) }
 {
     match str::from_utf8(bytes) {
         Ok(text) => check_text(alloc, text),
         Err(_) => Ok(Report {
             is_good: false,
             text: String::from_str(alloc, NO_TEXT)?,
+            doubts: String::new(alloc),
         }),
     }
 }

@@ -64,6 +64,34 @@ sampled_cache_size = 0
 type = \"always_sample\"
 ";
 
+/// A document that has each doubt: a listener without a port, fewer receivers than tenants, fewer senders than the
+/// eleven consumers, and back ends with a scheme and without a host.
+const DOUBTFUL: &str = "tenant = [
+    { name = \"a\", endpoint = \"http://10.0.0.1:4318\", tail_sampling.policy = [{ type = \"always_sample\" }] },
+    { name = \"b\", endpoint = \":4318\", sending_queue.num_consumers = 1,
+      tail_sampling.policy = [{ type = \"always_sample\" }] },
+]
+global = { listen = \"127.0.0.1\", receivers = 1, senders = 10 }
+";
+
+/// What is told of them.
+const DOUBTS: &str =
+    "warning: table global: listen 127.0.0.1 doesn't end with a colon and a port from 0 to 65535
+warning: table global: receivers is 1, and there are 2 tenants: each client that keeps its connection keeps a receiver
+warning: table global: senders is 10, and the tenants' num_consumers are 11 together: back ends that don't answer can \
+     keep every sender
+warning: tenant a: endpoint http://10.0.0.1:4318 has a scheme, where a host, a colon and a port are wanted
+warning: tenant b: endpoint :4318 has no host before its port
+";
+
+#[test]
+fn what_is_doubtful_is_told_beside_a_good_document(rt: HostRuntime) -> Result<(), Fail> {
+    let report = check(rt.alloc(), DOUBTFUL.as_bytes())?;
+    assert!(rt; report.is_good);
+    assert_eq!(rt; report.doubts.as_str(), DOUBTS);
+    Ok(())
+}
+
 #[test]
 fn a_good_document_is_told_with_all_settings_in_force(rt: HostRuntime) -> Result<(), Fail> {
     let report = check(rt.alloc(), MISSPELT.as_bytes())?;

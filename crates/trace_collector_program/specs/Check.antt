@@ -9,6 +9,6 @@ abbrev pub is_good_end : End → Bool
 is_good_end Good = true
 is_good_end Faulty = false
 
--- what is written is the report on a file's bytes, and the end says whether they are good
-abbrev pub IsChecked : List ℕ → List ℕ → End → Type 0
-IsChecked bytes report end = IsFileReport bytes (is_good_end end) report
+-- what is written is the report on a file's bytes, with the doubts beside it, and the end says whether they are good
+abbrev pub IsChecked : List ℕ → List ℕ → List ℕ → End → Type 0
+IsChecked bytes report doubts end = IsFileReport bytes (is_good_end end) report doubts

@@ -54,6 +54,9 @@ pub record Arguments : Type 0 where
   pub serve_alone : task_of (codes "serve" ∷ []) ≡ None
   pub serve_two : served_with (path ∷ []) ≡ None
   pub audit_first : task_of (codes "serve" ∷ codes "--audit" ∷ path ∷ []) ≡ None
+  pub audit_alone : task_of (codes "serve" ∷ codes "--audit" ∷ []) ≡ None
+  pub options_alone : task_of (codes "serve" ∷ codes "--verbose" ∷ codes "--audit" ∷ []) ≡ None
+  pub as_a_path : task_of (codes "serve" ∷ codes "./--audit" ∷ []) ≡ Some (serve (codes "./--audit") none_given)
   pub audited_and_more : served_with (codes "--audit" ∷ path ∷ []) ≡ None
   pub verbose : served_with (codes "--verbose" ∷ []) ≡ Some (serve path (record none_given { verbose = true }))
   pub both : served_with (codes "--audit" ∷ codes "--verbose" ∷ []) ≡ Some (serve path audited_and_verbose)

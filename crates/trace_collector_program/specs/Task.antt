@@ -1,5 +1,5 @@
 -- What the program's arguments ask for. This project's own rule (docs/OPERATING.md).
-use Rattle.std.specs.Prelude.{ℕ, List, [], ◌∷◌, codes, Bool, true, false, ◌&&◌, ◌||◌, not, nat_le, nat_lt, length, Option, Some, None, option_map, option_and_then, if◌then◌else◌}
+use Rattle.std.specs.Prelude.{ℕ, List, [], ◌∷◌, codes, Bool, true, false, ◌&&◌, ◌||◌, not, ◌==◌, nat_le, nat_lt, length, Option, Some, None, option_map, option_and_then, if◌then◌else◌}
 use Rattle.std.specs.Str.{bytes_eq}
 use Rattle.replay_script.specs.Word.{number_of, tested}
 use Rattle.trace_collector_program.specs.declared.task.ServeOptions.{ServeOptions}
@@ -94,10 +94,17 @@ options_from given None (word ∷ words) =
     if is_flag word then option_and_then (λ more. options_from more None words) (with_flag given word)
     else options_from given (Some word) words
 
+-- an option, where the path of a file to serve is to stand: one that begins so is spelled `./--`
+abbrev pub is_option : List ℕ → Bool
+is_option (a ∷ b ∷ rest) = a == 45 && b == 45
+is_option (a ∷ []) = false
+is_option [] = false
+
 -- `serve` with a path and options behind it, or `replay` or `check` with a path and nothing more
 abbrev pub on_file : List ℕ → List ℕ → List (List ℕ) → Option TaskData
 on_file command path words =
-    if bytes_eq command (codes "serve") then option_map (serve path) (options_from none_given None words)
+    if bytes_eq command (codes "serve") then
+    if is_option path then None else option_map (serve path) (options_from none_given None words)
     else if nat_lt 0 (length words) then None
     else if bytes_eq command (codes "replay") then Some (replay path)
     else if bytes_eq command (codes "check") then Some (check path)

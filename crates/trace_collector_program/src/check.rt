@@ -1,16 +1,17 @@
 //! The word `check`.
 
-ghost use Rattle.std.specs.Prelude.{ℕ, List, IfOk, IfErr};
+ghost use Rattle.std.specs.Prelude.{ℕ, List, IfOk, IfErr, string_bytes};
 ghost use Rattle.std.specs.Io.KnownBytes.{Appends};
 ghost use Rattle.trace_collector_program.specs.Check.{IsChecked};
 ghost use Rattle.trace_collector_program.specs.Fault.{IsOutside};
 
-use crate::ProgramFault;
+use crate::reason::Reason;
+use crate::{ProgramFault, read_file};
 use settings_check::check;
 use std::alloc::Global;
+use std::io;
 use std::io::Write;
 use std::rt::Files;
-use std::{fs, io};
 
 /// How the program ends where it has done what it was asked for.
 #[derive(Clone, Copy, Debug, PartialEq, Eq)]
@@ -21,28 +22,40 @@ pub enum End {
     Faulty,
 }
 
-/// Checks the settings in a file, and writes to standard output what is to be said of them.
+/// Checks the settings in a file, and writes to standard output what is to be said of them, and to standard error what
+/// is doubtful in them. What can't be written of that is left out.
 pub fn check_file(
-    rt: &(impl Files + Print + AllocGlobal),
+    rt: &(impl Files + Print + Eprint + AllocGlobal),
     path: &str,
+    reason: &mut Reason,
 ) -> Result<End, ProgramFault> {
-    let settings = fs::read(rt, path)?;
+    reason.tell();
+    let settings = read_file(rt, path, reason)?;
     let mut writer = io::writer(rt);
-    check_into(rt.alloc(), settings.as_slice(), &mut writer)
+    let (end, doubts) = check_into(rt.alloc(), settings.as_slice(), &mut writer, reason)?;
+    let _ = rt.eprint(doubts);
+    Ok(end)
 }
 
-/// Checks the settings in a file's bytes, and writes what is to be said of them.
-fn check_into<W: Write>(alloc: Global, settings: &[u8], writer: &mut W) -> Result<End, ProgramFault>
-    ensures output { IfOk result (λ end. (report : List ℕ)
+/// Checks the settings in a file's bytes, and writes what is to be said of them: the end, and what is doubtful in them.
+fn check_into<W: Write>(
+    alloc: Global,
+    settings: &[u8],
+    writer: &mut W,
+    reason: &mut Reason,
+) -> Result<(End, String), ProgramFault>
+    ensures output { IfOk result (λ r. (report : List ℕ)
         × Appends (W.contents writer.old) (W.contents writer.new) report
-        × IsChecked settings.now report end) }
+        × IsChecked settings.now report (string_bytes r.1) r.0) }
     ensures fault { IfErr result IsOutside }
 {
     let report = check(alloc, settings)?;
-    writer.write_all(report.text.as_bytes())?;
+    if let Err(error) = writer.write_all(report.text.as_bytes()) {
+        return Err(reason.of("standard output", error));
+    }
     if report.is_good {
-        Ok(End::Good)
+        Ok((End::Good, report.doubts))
     } else {
-        Ok(End::Faulty)
+        Ok((End::Faulty, report.doubts))
     }
 }

@@ -4,29 +4,37 @@
 //! of the settings in that file. `trace_collector serve SETTINGS` receives bodies and sends traces under the settings
 //! in that file, until standard input ends. Statuses: 0 done, and settings that are good; 1 a fault of the settings,
 //! the script, the input or the output; 2 wrong usage; 3 no memory. A fault is told in one line on standard error, but
-//! that of settings that are checked, which is on standard output already.
+//! that of settings that are checked, which is on standard output already; `check`, and `serve` with `--verbose`, tell
+//! behind it which file, address, input or output it is of, and why.
 //!
 //! It stands on `trace_collector`, whose `replay` promises what is written, on `settings_check`, whose `check` does so
 //! too, and on `trace_service`.
 #![tactic(auto)]
 
 mod check;
+mod descriptors;
 mod examples;
+mod reason;
 mod serve;
+mod standard;
+mod start;
 mod task;
+mod watched;
 
 ghost use Rattle.std.specs.Prelude.{◌≡◌, ℕ, List, IfSome, IfOk, IfErr, string_bytes};
 ghost use Rattle.std.specs.Io.KnownBytes.{Appends};
 ghost use Rattle.std.specs.IoError.{error_kind};
 ghost use Rattle.std.specs.Process.{exit_status};
-ghost use Rattle.trace_collector_program.specs.Fault.{IsOfFile, IsOfArguments, IsOfText};
+ghost use Rattle.trace_collector_program.specs.Fault.{IsOfFile, IsOfArguments, IsOfText, IsOutside};
 ghost use Rattle.trace_collector_program.specs.Run.{IsRun};
 ghost use Rattle.trace_collector_program.specs.Status.{status_of, end_status};
 ghost use Rattle.trace_collector_program.specs.declared.ProgramFault.TheVariants as faults;
 ghost use Rattle.trace_collector.specs.declared.engine.ReplayFault.TheVariants as replay_faults;
 
 use check::{End, check_file};
+use reason::Reason;
 use serve::serve_file;
+use standard::stand_in;
 use std::alloc::{AllocError, AllocFailed, Global};
 use std::io::{BufRead, BufReader, ErrorKind, Write};
 use std::net::{Net, TcpListener, TcpStream};
@@ -108,11 +116,17 @@ impl<T: Drop> From<AllocFailed<T>> for ProgramFault {
 }
 
 fn main(rt: HostRuntime) -> ExitCode {
-    ended(&rt, run(&rt))
+    // Else a file or a connection that is opened later would be taken for a standard stream.
+    let _first = stand_in(&rt);
+    let _second = stand_in(&rt);
+    let _third = stand_in(&rt);
+    let mut reason = Reason::new(rt.alloc());
+    let end = run(&rt, &mut reason);
+    ended(&rt, end, &reason)
 }
 
-/// The status with which the program ends. A fault is told on standard error.
-fn ended(rt: &impl Eprint, end: Result<End, ProgramFault>) -> ExitCode
+/// The status with which the program ends. A fault is told on standard error, and behind it its reason.
+fn ended(rt: &impl Eprint, end: Result<End, ProgramFault>, reason: &Reason) -> ExitCode
     ensures { exit_status result ≡ end_status end }
 {
     match end {
@@ -122,12 +136,13 @@ fn ended(rt: &impl Eprint, end: Result<End, ProgramFault>) -> ExitCode
             let status = fault.status();
             // Where standard error can't be written, the status has to do.
             let _ = rt.eprintln(fault);
+            reason.print(rt);
             ExitCode::from(status)
         }
     }
 }
 
-fn run<R>(rt: &R) -> Result<End, ProgramFault>
+fn run<R>(rt: &R, reason: &mut Reason) -> Result<End, ProgramFault>
 where
     R: Env + Files + Input + Print + Eprint + AllocGlobal + Clock + Threads + Wait + Sync,
     R: RandomSource + Net<Listener = TcpListener, Stream = TcpStream> + Documents,
@@ -141,9 +156,9 @@ where
         words.push(word)?;
     }
     match asked_task(words.as_slice()) {
-        Some(Task::Replay { settings }) => replay_file(rt, settings)?,
-        Some(Task::Serve { settings, options }) => serve_file(rt, settings, &options)?,
-        Some(Task::Check { settings }) => return check_file(rt, settings),
+        Some(Task::Replay { settings }) => replay_file(rt, settings, reason)?,
+        Some(Task::Serve { settings, options }) => serve_file(rt, settings, &options, reason)?,
+        Some(Task::Check { settings }) => return check_file(rt, settings, reason),
         Some(Task::Help) => rt.println(HELP)?,
         Some(Task::Version) => rt.println(VERSION)?,
         None => return Err(ProgramFault::Usage),
@@ -162,12 +177,27 @@ fn of_arguments(error: io::Error) -> ProgramFault
     }
 }
 
+/// A file's bytes.
+fn read_file(
+    rt: &(impl Files + AllocGlobal),
+    path: &str,
+    reason: &mut Reason,
+) -> Result<Vec<u8>, ProgramFault>
+    ensures { IfErr result IsOutside }
+{
+    match fs::read(rt, path) {
+        Ok(bytes) => Ok(bytes),
+        Err(error) => Err(reason.of(path, error)),
+    }
+}
+
 /// Replays the script on standard input under the settings in a file.
 fn replay_file(
     rt: &(impl Files + Input + Print + AllocGlobal + Threads + Sync),
     path: &str,
+    reason: &mut Reason,
 ) -> Result<(), ProgramFault> {
-    let settings = fs::read(rt, path)?;
+    let settings = read_file(rt, path, reason)?;
     let alloc = rt.alloc();
     let mut reader = BufReader::with_capacity(alloc, READ_SIZE, rt.reader())?;
     let mut writer = io::writer(rt);

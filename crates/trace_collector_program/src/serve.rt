@@ -1,24 +1,25 @@
 //! The word `serve`.
 
-ghost use Rattle.std.specs.Prelude.{◌≡◌, IfOk, IfErr, Ok, option_map};
+ghost use Rattle.std.specs.Prelude.{◌≡◌, option_map};
 ghost use Rattle.std.specs.Duration.{as_nanos};
-ghost use Rattle.tail_settings.specs.Settings.{settings_of, settings_view};
-ghost use Rattle.trace_collector_program.specs.Fault.{of_service, IsOfSettings};
+ghost use Rattle.trace_collector_program.specs.Fault.{of_service};
 ghost use Rattle.trace_collector_program.specs.Serve.{IsAsked, nanos_of};
 
+use crate::reason::Reason;
+use crate::start::{has_descriptors, listen_at, settings_of_file};
 use crate::task::ServeOptions;
-use crate::{ProgramFault, READ_SIZE, settings_text};
+use crate::watched::Watched;
+use crate::{ProgramFault, READ_SIZE};
 use decision_cache::HashKeys;
-use std::alloc::Global;
-use std::io::BufReader;
+use std::io;
+use std::io::{BufReader, ErrorKind};
 use std::net::{Net, TcpListener, TcpStream};
 use std::random::RandomSource;
 use std::rt::Files;
 use std::sync::Wait;
 use std::thread::Threads;
 use std::time::{Clock, Duration};
-use std::{fs, io};
-use tail_settings::{Settings, load};
+use thiserror::Error;
 use trace_collector::ReplayFault;
 use trace_service::{Documents, Observer, ServiceFault, ServiceOptions, Stage, run_service};
 
@@ -33,6 +34,14 @@ impl From<ServiceFault> for ProgramFault {
             ServiceFault::Line => ProgramFault::Replay(ReplayFault::Line),
         }
     }
+}
+
+/// Answers couldn't be written.
+#[derive(Debug, Drop, Error)]
+#[error("{kind}, answers lost: {lost}")]
+struct Loss {
+    kind: ErrorKind,
+    lost: u64,
 }
 
 /// Tells the service's course on standard error, a line a stage, where that is asked for. What can't be written is left
@@ -76,24 +85,35 @@ impl<R: Eprint> Course<'_, R> {
 /// Serves under the settings in a file, until standard input ends and all is sent. Reports, and with an audit the
 /// lengths of the logs, are written to standard output, and where it is verbose its course to standard error. Trace
 /// ids are hashed with keys that are drawn for this run.
-pub fn serve_file<R>(rt: &R, path: &str, options: &ServeOptions) -> Result<(), ProgramFault>
+pub fn serve_file<R>(
+    rt: &R,
+    path: &str,
+    options: &ServeOptions,
+    reason: &mut Reason,
+) -> Result<(), ProgramFault>
 where
     R: Files + Input + Print + Eprint + AllocGlobal + Clock + Threads + Wait + Sync,
     R: RandomSource + Net<Listener = TcpListener, Stream = TcpStream> + Documents,
 {
-    let text = settings_text(fs::read(rt, path)?)?;
+    if options.verbose {
+        reason.tell();
+    }
     let alloc = rt.alloc();
-    let settings = settings_in(alloc, text.as_str())?;
-    let listener = TcpListener::bind(rt, settings.global.listen.as_str())?;
+    let settings = settings_of_file(rt, path, reason)?;
+    let global = &settings.global;
+    let connections = options.connections.unwrap_or(global.receivers);
+    let senders = options.senders.unwrap_or(global.senders);
+    has_descriptors(rt, connections, senders, reason)?;
+    let listener = listen_at(rt, global.listen.as_str(), reason)?;
     let keys = HashKeys::draw(rt)?;
-    let mut input = BufReader::with_capacity(alloc, READ_SIZE, rt.reader())?;
-    let mut output = io::writer(rt);
+    let mut input = BufReader::with_capacity(alloc, READ_SIZE, Watched::new(rt.reader()))?;
+    let mut output = Watched::new(io::writer(rt));
     let mut course = Course {
         rt,
         listener: &listener,
         is_verbose: options.verbose,
     };
-    run_service(
+    let served = run_service(
         rt,
         alloc,
         settings,
@@ -102,7 +122,9 @@ where
         &mut output,
         &mut course,
         service_options(options, keys),
-    )?;
+    );
+    put_streams(reason, input.get_ref(), &output);
+    served?;
     Ok(())
 }
 
@@ -130,13 +152,13 @@ fn duration(millis: Option<u32>) -> Option<Duration>
     }
 }
 
-/// The settings that a text means.
-fn settings_in(alloc: Global, text: &str) -> Result<Settings, ProgramFault>
-    ensures on_success { IfOk result (λ settings. settings_of text.now ≡ Ok (settings_view settings)) }
-    ensures fault { IfErr result (IsOfSettings text.now) }
-{
-    match load(alloc, text) {
-        Ok(settings) => Ok(settings),
-        Err(fault) => Err(ProgramFault::Replay(ReplayFault::from(fault))),
+/// The reasons for which the input and the output failed, where they did.
+fn put_streams<I, O>(reason: &mut Reason, input: &Watched<I>, output: &Watched<O>) {
+    if let Some(kind) = input.fault() {
+        reason.put("standard input", &kind);
+    }
+    if let Some(kind) = output.fault() {
+        let lost = output.failed();
+        reason.put("standard output", &Loss { kind, lost });
     }
 }

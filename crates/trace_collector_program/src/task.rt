@@ -4,7 +4,7 @@ ghost use Rattle.std.specs.Prelude.{◌≡◌, map, option_map, string_bytes, No
 ghost use Rattle.std.specs.Char.{is_ascii_digit};
 ghost use Rattle.std.specs.List.{list_all};
 ghost use Rattle.replay_script.specs.Word.{number_of};
-ghost use Rattle.trace_collector_program.specs.Task.{is_flag, none_given, on_file, once, option_of, options_from, task_of, task_view, up_to, with_flag, with_value};
+ghost use Rattle.trace_collector_program.specs.Task.{is_flag, is_option, none_given, on_file, once, option_of, options_from, task_of, task_view, up_to, with_flag, with_value};
 
 /// What `--help` prints.
 pub const HELP: &str =
@@ -138,6 +138,9 @@ fn on_file<'a>(command: &str, path: &'a str, words: &[String]) -> Option<Task<'a
     ensures { option_map task_view result ≡ on_file command.now path.now (map string_bytes words.now) }
 {
     if command == "serve" {
+        if is_option(path) {
+            return None;
+        }
         let options = serve_options(words)?;
         return Some(Task::Serve {
             settings: path,
@@ -154,6 +157,13 @@ fn on_file<'a>(command: &str, path: &'a str, words: &[String]) -> Option<Task<'a
     } else {
         None
     }
+}
+
+/// Whether an option stands where the path of a file to serve is to stand.
+fn is_option(path: &str) -> bool
+    ensures { result ≡ is_option path.now }
+{
+    matches!(path.as_bytes(), [b'-', b'-', ..])
 }
 
 /// What a word alone asks for.

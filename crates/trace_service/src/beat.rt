@@ -1,12 +1,11 @@
 //! The moment, pauses, and what threads tell one another of the service's course.
 
+use crate::rest::{Bells, Rest};
 use export_edge::Beat;
+use std::alloc::{AllocError, Global};
+use std::sync::Wait;
 use std::sync::atomic::{AtomicBool, AtomicUsize, Ordering};
-use std::thread;
-use std::time::{Clock, Duration, Instant};
-
-/// A pause before another attempt, in milliseconds.
-const PAUSE: u64 = 1;
+use std::time::{Clock, Instant};
 
 /// What threads tell one another of the service's course. Each sign is given once and stays.
 #[derive(Drop)]
@@ -15,16 +14,28 @@ pub(crate) struct Signals {
     here: AtomicUsize,
     closing: AtomicBool,
     over: AtomicBool,
+    bells: Bells,
 }
 
 impl Signals {
-    /// Nobody is there yet.
-    pub fn new() -> Signals {
-        Signals {
+    /// Nobody is there yet. Nothing is due by the time alone where nothing happened for so many milliseconds.
+    pub fn new(
+        alloc: Global,
+        shards: usize,
+        senders: u32,
+        longest_wait: u64,
+    ) -> Result<Signals, AllocError> {
+        Ok(Signals {
             here: AtomicUsize::new(0),
             closing: AtomicBool::new(false),
             over: AtomicBool::new(false),
-        }
+            bells: Bells::new(alloc, shards, senders, longest_wait)?,
+        })
+    }
+
+    /// What wakes those who rest.
+    pub fn bells(&self) -> &Bells {
+        &self.bells
     }
 
     /// One thread more is at its work.
@@ -51,6 +62,7 @@ impl Signals {
     pub fn end(&self) {
         self.close();
         self.over.store(true, Ordering::SeqCst);
+        self.bells.ring_all();
     }
 
     /// Whether the work is over.
@@ -59,13 +71,14 @@ impl Signals {
     }
 }
 
-/// Counts milliseconds from one instant, and pauses one. Where the clock fails the moment stays as it was.
+/// Counts milliseconds from one instant, and pauses. Where the clock fails the moment stays as it was.
 #[derive(Drop)]
 pub(crate) struct ServiceBeat<'b, C> {
     clock: &'b C,
     signals: &'b Signals,
     start: Instant,
     last: u64,
+    rest: Rest<'b>,
 }
 
 impl<'b, C: Clock> ServiceBeat<'b, C> {
@@ -76,6 +89,7 @@ impl<'b, C: Clock> ServiceBeat<'b, C> {
             signals,
             start,
             last: 0,
+            rest: Rest::short(),
         }
     }
 
@@ -84,18 +98,34 @@ impl<'b, C: Clock> ServiceBeat<'b, C> {
         self.signals
     }
 
-    /// A beat like this.
+    /// A beat like this, for who makes short pauses.
     pub fn again(&self) -> ServiceBeat<'b, C> {
+        self.resting(Rest::short())
+    }
+
+    /// A beat like this, for the turner of this shard.
+    pub fn of_turner(&self, shard: usize) -> ServiceBeat<'b, C> {
+        self.resting(Rest::of_turner(self.signals.bells(), shard))
+    }
+
+    /// A beat like this, for a sender.
+    pub fn of_sender(&self) -> ServiceBeat<'b, C> {
+        self.resting(Rest::of_sender(self.signals.bells()))
+    }
+
+    /// A beat like this, for who rests so.
+    fn resting(&self, rest: Rest<'b>) -> ServiceBeat<'b, C> {
         ServiceBeat {
             clock: self.clock,
             signals: self.signals,
             start: self.start,
             last: self.last,
+            rest,
         }
     }
 }
 
-impl<C: Clock> Beat for ServiceBeat<'_, C> {
+impl<C: Wait + Clock> Beat for ServiceBeat<'_, C> {
     ghost use Rattle.std.specs.Prelude.{◌≡◌, ◌≤◌};
 
     // The moment that it gives is its last one, and not below the one before.
@@ -104,10 +134,12 @@ impl<C: Clock> Beat for ServiceBeat<'_, C> {
     ghost rests = { λ old new. new.last ≡ old.last };
 
     fn is_over(&mut self) -> bool {
+        self.rest.look();
         self.signals.is_over()
     }
 
     fn now(&mut self) -> u64 {
+        self.rest.time();
         if let Ok(elapsed) = self.start.elapsed(self.clock) {
             let millis = u64::try_from(elapsed.as_millis()).unwrap_or(u64::MAX);
             self.last = self.last.max(millis);
@@ -116,6 +148,6 @@ impl<C: Clock> Beat for ServiceBeat<'_, C> {
     }
 
     fn pause(&mut self) {
-        thread::sleep(self.clock, Duration::from_millis(PAUSE));
+        self.rest.pause(self.clock);
     }
 }

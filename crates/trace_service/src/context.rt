@@ -8,6 +8,7 @@ use crate::beat::{ServiceBeat, Signals};
 use crate::in_force::{Destination, InForce};
 use crate::naming::Naming;
 use crate::post::{post_body, refused, without_memory};
+use crate::teller::Teller;
 use bytes::Bytes;
 use export_edge::{AnswerRefused, AnswerSink, Beat, JobSource, TurnResult};
 use http_edge::{Handler, HttpMessage, Reply};
@@ -35,6 +36,7 @@ pub(crate) struct WorkerContext<'h, J: Naming, R> {
     // Whose turns it makes.
     shard: usize,
     beat: ServiceBeat<'h, R>,
+    teller: Teller<'h>,
     of: PhantomData<J>,
     ghost hub_is: { hub.now ≡ J.slots },
     ghost ours: { slots_of caller ≡ J.slots },
@@ -76,6 +78,7 @@ impl<'h, J: Naming, R: Wait + Clock> WorkerContext<'h, J, R> {
             hub,
             caller,
             shard,
+            teller: Teller::new(beat.signals(), shard),
             beat,
             of: PhantomData,
         }
@@ -92,6 +95,16 @@ impl<'h, J: Naming, R: Wait + Clock> WorkerContext<'h, J, R> {
     /// A beat for this thread.
     pub fn beat(&self) -> ServiceBeat<'h, R> {
         self.beat.again()
+    }
+
+    /// A beat for this thread, which makes turns.
+    pub fn turner_beat(&self) -> ServiceBeat<'h, R> {
+        self.beat.of_turner(self.shard)
+    }
+
+    /// A beat for this thread, which sends jobs.
+    pub fn sender_beat(&self) -> ServiceBeat<'h, R> {
+        self.beat.of_sender()
     }
 
     /// What threads tell one another.
@@ -117,9 +130,13 @@ impl<'h, J: Naming, R: Wait + Clock> WorkerContext<'h, J, R> {
         ensures hub { self.new.hub ≡ self.old.hub }
     {
         let shard = tenant as usize % self.hub.shards();
+        if let Step::Add { section, .. } = &step {
+            self.signals().bells().expect(section);
+        }
         let (outcome, _receipt) = self
             .hub
             .step(self.rt, self.alloc, &mut self.caller, shard, step)?;
+        self.signals().bells().ring_shard(shard);
         Ok(outcome)
     }
 
@@ -139,14 +156,23 @@ impl<'h, J: Naming, R: Wait + Clock> JobSource for WorkerContext<'h, J, R> {
 
     ghost turns = { λ old t new. (new.shard ≡ old.shard) × MakesTurn old.caller new.caller old.shard t };
 
+    /// The job of the turn before is in the lane by now.
     fn turn(&mut self, now: u64) -> TurnResult {
+        self.teller.begin_turn();
         let step = Step::Turn { now };
         match self
             .hub
             .step(self.rt, self.alloc, &mut self.caller, self.shard, step)
         {
-            Ok((outcome, _receipt)) => turn_result(outcome),
-            Err(_) => TurnResult::Idle,
+            Ok((outcome, _receipt)) => {
+                let turned = turn_result(outcome);
+                self.teller.end_turn(&turned);
+                turned
+            }
+            Err(_) => {
+                self.teller.turn_again();
+                TurnResult::Idle
+            }
         }
     }
 }
@@ -190,7 +216,11 @@ impl<'h, J: Naming, R: Wait + Clock> AnswerSink for WorkerContext<'h, J, R> {
             ticket,
             answer,
         ) {
-            Ok(_) => Ok(()),
+            Ok(_) => {
+                let shard = tenant as usize % self.hub.shards();
+                self.signals().bells().ring_shard(shard);
+                Ok(())
+            }
             Err(_) => Err(AnswerRefused),
         }
     }
@@ -244,18 +274,23 @@ impl<'h, J: Naming, R: Wait + Clock> WorkerContext<'h, J, R> {
     {
         let now = self.beat.now();
         match Bytes::copy_from_slice(self.alloc, body) {
-            Ok(body) => post_body(
-                rt,
-                self.rt,
-                self.alloc,
-                self.hub,
-                &mut self.caller,
-                now,
-                tenant,
-                section,
-                body,
-                self.parts,
-            ),
+            Ok(body) => {
+                let reply = post_body(
+                    rt,
+                    self.rt,
+                    self.alloc,
+                    self.hub,
+                    &mut self.caller,
+                    now,
+                    tenant,
+                    section,
+                    body,
+                    self.parts,
+                );
+                let shard = tenant as usize % self.hub.shards();
+                self.signals().bells().ring_shard(shard);
+                reply
+            }
             Err(AllocError) => without_memory(self.alloc),
         }
     }

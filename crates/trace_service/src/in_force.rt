@@ -10,6 +10,7 @@ ghost use Rattle.tail_settings.specs.Settings.{settings_view, tenant_at, section
 ghost use Rattle.trace_service.specs.InForce.{CameOf, IsNewcomer, IsTenant, IsTurnedAway, IsWhere};
 
 use crate::naming::Naming;
+use crate::rest::longest_wait;
 use arrayvec::ArrayString;
 use export_edge::{Address, Addresses};
 use http_edge::HttpMessage;
@@ -54,6 +55,15 @@ impl<J: Naming> InForce<J> {
             settings,
             of: PhantomData,
         }
+    }
+
+    /// The longest of all tenants' waits, in milliseconds.
+    pub fn longest_wait(&self) -> u64 {
+        let mut longest = 0;
+        'tenants: for (_name, tenant) in self.settings.tenants.iter() {
+            longest = longest.max(longest_wait(&tenant.section));
+        }
+        longest
     }
 
     /// Where a message goes, with a copy of its tenant's section, which shares the policies.

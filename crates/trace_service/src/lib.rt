@@ -31,9 +31,11 @@ mod options;
 mod post;
 mod receiving;
 mod reports;
+mod rest;
 mod roster;
 mod service;
 mod shared;
+mod teller;
 mod workers;
 
 pub use crate::course::{Observer, Stage};

@@ -257,7 +257,8 @@ where
     ensures course { IfOk result (λ r. OnOk r.2 (IsCourse R.reads J.first (present_in roster) (length J.slots)
         (I.remaining input.old) J.fresh (O.contents output.old) r.0.items (O.contents output.new))) }
 {
-    let signals = Signals::new();
+    let longest_wait = settings.lock(rt).longest_wait();
+    let signals = Signals::new(alloc, hub.shards(), staff.senders, longest_wait)?;
     sharing::<J, R, I, O, L>(
         rt, alloc, settings, roster, staff, listener, hub, lane, &signals, callers, seats, input,
         output, observer,

@@ -118,6 +118,7 @@ where
     }
     match worker.role {
         Role::Turner => {
+            let mut beat = worker.context.turner_beat();
             // A job that it still holds at the end is let go with the shards.
             let _held = run_turner(
                 shared.rt,
@@ -128,6 +129,7 @@ where
             );
         }
         Role::Sender => {
+            let mut beat = worker.context.sender_beat();
             let back_ends = BackEnds {
                 rt: shared.rt,
                 settings: shared.settings,
@@ -148,7 +150,7 @@ where
 }
 
 /// Says that this thread is there, and waits for the others. False where they don't come, or the work is over.
-pub(crate) fn all_arrive<C: Clock>(beat: &mut ServiceBeat<'_, C>, threads: usize) -> bool
+pub(crate) fn all_arrive<C: Wait + Clock>(beat: &mut ServiceBeat<'_, C>, threads: usize) -> bool
     ensures { beat.new.last ≡ beat.old.last }
 {
     let signals = beat.signals();

@@ -1,4 +1,4 @@
-use Rattle.std.proofs.Common.{◌≡◌, ◌++◌, codes, Some, string_bytes, sym, ap, subst, ◌∙◌, arith}
+use Rattle.std.proofs.Common.{◌≡◌, ◌++◌, codes, Some, string_bytes, sym, ap, subst, ◌∙◌, arith, rules}
 use Rattle.std.specs.Prelude.{unwrap_or}
 use Rattle.std.proofs.lemmas.Grind.{common_steps}
 use Rattle.toml.specs.Data.{no_members}
@@ -19,4 +19,4 @@ returns c =
     let named = λ (seen : FaultData) (is : fault_view c.args.fault.now ≡ Some seen).
     subst (λ p. NamesFirst seen 1 (tenants_in (parse_document c.args.text.now)) p) (sym c.as_str.ensures.value)
     (subst (λ m. NamesFirst seen 1 (items_in (codes "tenant") m) (string_bytes c.in_ok-place.place)) keys (c.in_ok-place.ensures seen is)) in
-    fault_reports (fault_view c.args.fault.now) c.args.text.now c.as_str.result.now c.as_str-2.result.now (string_bytes c.in_ok-head.head) (string_bytes c.in_ok-told.told) c.in_ok-head.ensures c.requires named whole
+    fault_reports (fault_view c.args.fault.now) c.args.text.now c.as_str.result.now c.as_str-2.result.now (string_bytes c.in_ok-head.head) (string_bytes c.in_ok-told.told) _ c.in_ok-head.ensures c.requires named whole (search rules)

@@ -1,0 +1,98 @@
+//! What is doubtful in settings that are good.
+
+ghost use Rattle.std.specs.Prelude.{◌≡◌, ◌++◌, IfOk, OnOk, string_bytes};
+ghost use Rattle.tail_settings.specs.Settings.{settings_view};
+ghost use Rattle.settings_check.specs.Doubts.{address_line, endpoint_line, endpoint_lines, receivers_line, consumers_of, senders_line, doubts_of};
+
+use crate::address::address_fault;
+use crate::unknown::joined;
+use std::alloc::{AllocError, Global};
+use tail_settings::Settings;
+
+/// The line of a text that can't be an address, behind the words of whose address it is to be; nothing of any other.
+fn address_line(alloc: Global, place: &str, address: &str) -> Result<String, AllocError>
+    ensures { IfOk result (λ line. string_bytes line ≡ address_line place.now address.now) }
+{
+    match address_fault(address.as_bytes()) {
+        Some(wrong) => {
+            let line = format!(in alloc; "warning: {place} {address} {wrong}\n")?;
+            Ok(line)
+        }
+        None => Ok(String::new(alloc)),
+    }
+}
+
+/// The line of fewer receivers than tenants.
+fn receivers_line(alloc: Global, receivers: u32, tenants: u32) -> Result<String, AllocError>
+    ensures { IfOk result (λ line. string_bytes line ≡ receivers_line receivers tenants) }
+{
+    if tenants <= receivers {
+        return Ok(String::new(alloc));
+    }
+    let line = format!(in alloc;
+        "warning: table global: receivers is {receivers}, and there are {tenants} tenants: each client that keeps its connection keeps a receiver\n"
+    )?;
+    Ok(line)
+}
+
+/// How many consumers the tenants have together.
+fn consumers(settings: &Settings) -> u64
+    ensures { result ≡ consumers_of (settings_view settings.now).tenants }
+{
+    settings
+        .tenants
+        .values()
+        .map(|tenant| u64::from(tenant.section.sending_queue.num_consumers))
+        .sum()
+}
+
+/// The line of fewer senders than consumers.
+fn senders_line(alloc: Global, senders: u32, consumers: u64) -> Result<String, AllocError>
+    ensures { IfOk result (λ line. string_bytes line ≡ senders_line senders consumers) }
+{
+    if consumers <= u64::from(senders) {
+        return Ok(String::new(alloc));
+    }
+    let line = format!(in alloc;
+        "warning: table global: senders is {senders}, and the tenants' num_consumers are {consumers} together: back ends that don't answer can keep every sender\n"
+    )?;
+    Ok(line)
+}
+
+/// The line of a tenant's back end.
+fn endpoint_line(alloc: Global, name: &str, endpoint: &str) -> Result<String, AllocError>
+    ensures { IfOk result (λ line. string_bytes line ≡ endpoint_line name.now endpoint.now) }
+{
+    let place = format!(in alloc; "tenant {name}: endpoint")?;
+    address_line(alloc, place.as_str(), endpoint)
+}
+
+/// Appends the lines of the tenants' back ends.
+fn put_endpoint_lines(
+    alloc: Global,
+    out: &mut String,
+    settings: &Settings,
+) -> Result<(), AllocError>
+    ensures { OnOk result (string_bytes out.new
+        ≡ string_bytes out.old ++ endpoint_lines (settings_view settings.now).tenants) }
+{
+    'tenants: for (name, tenant) in settings.tenants.iter() {
+        let line = endpoint_line(alloc, name.as_str(), tenant.section.endpoint.as_str())?;
+        out.push_str(line.as_str())?;
+    }
+    Ok(())
+}
+
+/// What is doubtful in settings: they load, and most likely won't do what was meant. A line for each doubt.
+pub fn doubts(alloc: Global, settings: &Settings) -> Result<String, AllocError>
+    ensures { IfOk result (λ lines. string_bytes lines ≡ doubts_of (settings_view settings.now)) }
+{
+    let global = &settings.global;
+    let listen = address_line(alloc, "table global: listen", global.listen.as_str())?;
+    let receivers = receivers_line(alloc, global.receivers, settings.tenants_len())?;
+    let senders = senders_line(alloc, global.senders, consumers(settings))?;
+    let head = joined(alloc, listen.as_str(), receivers.as_str())?;
+    let mut lines = joined(alloc, head.as_str(), senders.as_str())?;
+    put_endpoint_lines(alloc, &mut lines, settings)?;
+    Ok(lines)
+}

@@ -1,0 +1,66 @@
+//! What is told of a fault beside the fault: which file, address, input or output it is of, and why.
+
+ghost use Rattle.std.specs.Prelude.{◌≡◌, [], false, string_bytes, true};
+ghost use Rattle.std.specs.IoError.{error_kind};
+ghost use Rattle.trace_collector_program.specs.Fault.{IsOfFile};
+
+use crate::ProgramFault;
+use std::alloc::Global;
+use std::fmt::Display;
+use std::io;
+
+/// Why something failed: a line for each reason. Whoever asked for the fault alone isn't told.
+#[derive(Drop)]
+pub struct Reason {
+    alloc: Global,
+    is_told: bool,
+    lines: String,
+}
+
+impl Reason {
+    /// None yet, and nobody who is to be told.
+    pub fn new(alloc: Global) -> Reason
+        ensures silent { result.is_told ≡ false }
+        ensures none { string_bytes result.lines ≡ [] }
+    {
+        Reason {
+            alloc,
+            is_told: false,
+            lines: String::new(alloc),
+        }
+    }
+
+    /// From now on there is someone who is to be told, also of what has failed already.
+    pub fn tell(&mut self)
+        ensures told { self.new.is_told ≡ true }
+        ensures lines { self.new.lines ≡ self.old.lines }
+    {
+        self.is_told = true;
+    }
+
+    /// One more reason: what failed, and why. Where there is no memory for it, it is left out.
+    pub fn put(&mut self, what: &str, why: &impl Display)
+        ensures { self.new.is_told ≡ self.old.is_told }
+    {
+        let Ok(line) = format!(in self.alloc; "{what}: {why}\n") else {
+            return;
+        };
+        let _ = self.lines.push_str(line.as_str());
+    }
+
+    /// The fault of a file, an address, an input or an output, whose reason is kept.
+    pub fn of(&mut self, what: &str, error: io::Error) -> ProgramFault
+        ensures fault { IsOfFile (error_kind error) result }
+        ensures told { self.new.is_told ≡ self.old.is_told }
+    {
+        self.put(what, &error);
+        ProgramFault::from(error)
+    }
+
+    /// Tells the reasons on standard error, where there is someone to be told. What can't be written is left out.
+    pub fn print(&self, rt: &impl Eprint) {
+        if self.is_told {
+            let _ = rt.eprint(self.lines.as_str());
+        }
+    }
+}

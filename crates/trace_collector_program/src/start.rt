@@ -1,0 +1,115 @@
+//! What `serve` needs before it serves: settings, descriptors, and an address to listen at.
+
+ghost use Rattle.std.specs.Prelude.{◌≡◌, IfOk, IfErr, Ok};
+ghost use Rattle.tail_settings.specs.Settings.{settings_of, settings_view};
+ghost use Rattle.trace_collector_program.specs.Fault.{IsOfSettings, IsOutside};
+
+use crate::descriptors::{needed, too_low};
+use crate::reason::Reason;
+use crate::{ProgramFault, read_file, settings_text};
+use std::alloc::Global;
+use std::fs;
+use std::net::{Net, TcpListener, TcpStream};
+use std::rt::Files;
+use tail_settings::{Settings, load};
+use thiserror::Error;
+use trace_collector::ReplayFault;
+
+/// Where Linux tells how many files the process may have open.
+const LIMITS: &str = "/proc/self/limits";
+
+/// Fewer files may be open than a service needs.
+#[derive(Debug, Drop, Error)]
+#[error("at most {limit}, and {receivers} receivers and {senders} senders need {needed}: raise the limit (`ulimit -n`), or \
+     lower receivers or senders")]
+struct Shortage {
+    limit: u32,
+    receivers: u32,
+    senders: u32,
+    needed: u64,
+}
+
+/// The settings in a file.
+pub fn settings_of_file(
+    rt: &(impl Files + AllocGlobal),
+    path: &str,
+    reason: &mut Reason,
+) -> Result<Settings, ProgramFault> {
+    let bytes = read_file(rt, path, reason)?;
+    match settings_of_bytes(rt.alloc(), bytes) {
+        Ok(settings) => Ok(settings),
+        Err(fault) => {
+            if matches!(fault, ProgramFault::Replay(ReplayFault::Settings(_))) {
+                reason.put(path, &"`trace_collector check` says it in words");
+            }
+            Err(fault)
+        }
+    }
+}
+
+/// The settings in a file's bytes.
+fn settings_of_bytes(alloc: Global, bytes: Vec<u8>) -> Result<Settings, ProgramFault>
+    ensures { IfOk result (λ settings. settings_of bytes.items ≡ Ok (settings_view settings)) }
+{
+    let text = settings_text(bytes)?;
+    settings_in(alloc, text.as_str())
+}
+
+/// Listens at an address.
+pub fn listen_at<N: Net<Listener = TcpListener, Stream = TcpStream>>(
+    rt: &N,
+    address: &str,
+    reason: &mut Reason,
+) -> Result<TcpListener, ProgramFault>
+    ensures { IfErr result IsOutside }
+{
+    match TcpListener::bind(rt, address) {
+        Ok(listener) => Ok(listener),
+        Err(error) => Err(reason.of(address, error)),
+    }
+}
+
+/// Fails where the process may not have as many files open as so many receivers and senders need. Where the system
+/// doesn't say how many it may have, it doesn't fail.
+pub fn has_descriptors(
+    rt: &(impl Files + AllocGlobal),
+    receivers: u32,
+    senders: u32,
+    reason: &mut Reason,
+) -> Result<(), ProgramFault>
+    ensures { IfErr result IsOutside }
+{
+    let Ok(limits) = fs::read(rt, LIMITS) else {
+        return Ok(());
+    };
+    match too_low(limits.as_slice(), receivers, senders) {
+        Some(limit) => Err(short_of(limit, receivers, senders, reason)),
+        None => Ok(()),
+    }
+}
+
+/// The fault of a limit of open files that is too low. It is told also to who isn't told of other faults.
+fn short_of(limit: u32, receivers: u32, senders: u32, reason: &mut Reason) -> ProgramFault
+    ensures { IsOutside result }
+{
+    let shortage = Shortage {
+        limit,
+        receivers,
+        senders,
+        needed: needed(receivers, senders),
+    };
+    reason.put("open files", &shortage);
+    reason.tell();
+    ProgramFault::Replay(ReplayFault::Line)
+}
+
+/// The settings that a text means.
+fn settings_in(alloc: Global, text: &str) -> Result<Settings, ProgramFault>
+    ensures on_success { IfOk result (λ settings. settings_of text.now ≡ Ok (settings_view settings)) }
+    ensures fault { IfErr result (IsOfSettings text.now) }
+{
+    match load(alloc, text) {
+        Ok(settings) => Ok(settings),
+        Err(fault) => Err(ProgramFault::Replay(ReplayFault::from(fault))),
+    }
+}
