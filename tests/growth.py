@@ -122,6 +122,12 @@ def due_at_once(n):
     return tenant(more=batches(100, timeout=200)), post(0, body) + "turn 0 1000\n" * (n // 100), "job a 1 "
 
 
+def due_and_pending(n):
+    """The same with batches as they are where nothing is said of them, so that all wait for one that isn't full."""
+    body = request([ids(at + 1, at) for at in range(n)])
+    return tenant(more=""), post(0, body) + "turn 0 1000\nturn 0 1200\n", "job a 1 "
+
+
 def due_and_dropped(n):
     """The same, of which the last alone is kept."""
     body = request([*(ids(at + 1, at) for at in range(n)), ids(n + 1, n) + ERROR])
@@ -212,6 +218,7 @@ SHAPES = {
     "traces": (any_traces, 4_000),
     "traces of chosen ids": (chosen_traces, 4_000),
     "rows due at once, kept": (due_at_once, 8_000),
+    "rows due at once, in no batch": (due_and_pending, 4_000),
     "rows due at once, dropped": (due_and_dropped, 8_000),
     "rows pushed out": (pushed_out, 4_000),
     "late spans": (late_spans, 4_000),

@@ -19,7 +19,8 @@ SETTINGS = str(HERE / "crates/trace_collector_program/data/settings.toml")
 USAGE = b"usage: trace_collector replay SETTINGS | serve SETTINGS [--audit]\n"
 SPAN = "0a20121e121c0a101111111111111111111111111111111112082121212121212121"
 # the options of `serve` that have a number, and the greatest one
-MOST = {"--connections": 65_536, "--senders": 4_096, "--client-timeout": 2**32 - 1, "--back-end-timeout": 2**32 - 1}
+MOST = {"--connections": 65_536, "--senders": 4_096, "--client-timeout": 2**32 - 1, "--request-timeout": 2**32 - 1,
+        "--back-end-timeout": 2**32 - 1}
 failed = 0
 
 

@@ -24,7 +24,7 @@ from serving.talk import (ERRORS, TAKEN, BackEnd, Service, body, check, head_of,
 ROOT = Path(__file__).resolve().parent.parent
 MOST = 2.2
 # What that thread runs and no other does.
-RECEIVER, SENDER, TURNER = ("http_edge::server::answer", "export_edge::sender::run_sender",
+RECEIVER, SENDER, TURNER = ("http_edge::server::", "export_edge::sender::run_sender",
                             "tail_policy::note::TraceNote::samples")
 HEAD = b"POST /v1/traces HTTP/1.1\r\nHost: c\r\nX-Scope-OrgID: t0\r\nContent-Type: application/x-protobuf\r\n"
 

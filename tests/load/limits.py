@@ -121,6 +121,8 @@ def at_rest(words):
     port = free_port()
     with measure.BackEnd(words.others, words.load) as back_end, tempfile.TemporaryDirectory() as folder:
         with Measured(words, folder, port, settings_of(port, back_end.port), words.options) as service:
+            # All its threads are there by then, each with what it took at its start.
+            time.sleep(2)
             return service.kilobytes("VmPeak") // 1024 + 1
 
 

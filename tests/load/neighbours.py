@@ -15,12 +15,16 @@ of a part take turns, as often as `--runs` says. It prints a table of Markdown f
     connections  8 and 32 connections to one tenant: how many spans a second are taken, and come
     quiet        a tenant with ten requests a second, alone, beside another one at full load in its own shard, and
                  beside one in another, with 1, 2 and 4 shards: the time of its replies
+    waiting      forty clients, of which eight are served at a time, each over one connection for two seconds; who isn't
+                 answered within a second, or whose connection is closed, posts the same again over another: how many
+                 spans were posted, how often again, how many were taken twice, and when the last one was done
 
 Every wait has an end: who isn't served until then is a figure. Ends with 1 where of what was taken not all was counted
 and came. Processors are shared out as measure.py does.
 """
 
 import argparse
+import socket
 import statistics
 import subprocess
 import sys
@@ -30,7 +34,7 @@ import time
 from contextlib import ExitStack
 
 import measure
-from measure import RATE, SPANS, free_port, wait_for
+from measure import MOST, RATE, SPANS, free_port, wait_for
 from peers import Measured, Resting, globals_of, plain_section, post, raise_open_files, talk
 
 IDLE = (0, 60, 4096)
@@ -253,7 +257,69 @@ def quiet(words):
             median(runs, "loud_a_second"), *(median(runs, name, 1000) for name in ("half", "most_99", "most")))
 
 
-PARTS = {part.__name__: part for part in (clients, back_ends, rest, connections, quiet)}
+class Impatient(threading.Thread):
+    """Posts spans one after the other over a connection for two seconds from its first reply on, each anew over another
+    connection where no reply came within a second, or this one was closed."""
+
+    def __init__(self, port, number):
+        super().__init__(daemon=True)
+        self.port = port
+        self.number = number
+        self.spans = 0
+        self.again = 0
+
+    def run(self):
+        end, line = None, None
+        while end is None or time.monotonic() < end:
+            text = talk.request((bytes([1, self.number]) + self.spans.to_bytes(14, "big"), b"\1" * 8, b""))
+            while not (line := self.answered(line, text)):
+                self.again += 1
+                time.sleep(0.2)
+            self.spans += 1
+            end = end or time.monotonic() + 2
+            time.sleep(0.1)
+        line.close()
+
+    def answered(self, line, text):
+        """The connection over which the post was answered, or none."""
+        line = line or socket.create_connection(("127.0.0.1", self.port), timeout=1)
+        try:
+            line.sendall(talk.head_of("tenant-0", len(text)) + text)
+            if line.recv(4096):
+                return line
+        except OSError:
+            pass
+        line.close()
+        return None
+
+
+def beside_many(words, folder, options, count):
+    port = free_port()
+    with measure.BackEnd(words.others, words.load) as back_end:
+        settings = globals_of(port, receivers=8) + measure.section("tenant-0", back_end.port)
+        with Measured(words, folder, port, settings, options) as service:
+            start = time.monotonic()
+            many = [Impatient(port, number) for number in range(count)]
+            for one in many:
+                one.start()
+            for one in many:
+                one.join(MOST)
+            found = {"took": time.monotonic() - start, "posted": sum(one.spans for one in many),
+                     "again": sum(one.again for one in many)}
+            # What was given up is served until here.
+            time.sleep(0.5)
+            reports, _ = service.reports()
+            found["twice"] = sum(counts["accepted"] for counts in reports.values()) - found["posted"]
+            return found
+
+
+def waiting(words):
+    head("Options", "Clients", "Spans posted", "posted again", "taken twice", "all done after, s")
+    for options, count, runs in in_turns(words, (40,), beside_many):
+        row(options, count, median(runs, "posted"), median(runs, "again"), median(runs, "twice"), median(runs, "took"))
+
+
+PARTS = {part.__name__: part for part in (clients, back_ends, rest, connections, quiet, waiting)}
 
 
 def main():

@@ -2,6 +2,7 @@
 
 import os
 import re
+import resource
 import signal
 import socket
 import struct
@@ -95,26 +96,67 @@ def told_of(folder):
             check("the end", service.end(), (0, "", b"ended: all threads are done\n"))
 
 
+def skipped(folder):
+    """Lines that ask for nothing are told with --verbose, whatever they hold, and no others."""
+    lines = (("report nobody", "report nobody"), ("report", "report"), ("report  a", "report  a"), ("", ""), ("help", "help"),
+             ("retire nobody", "retire nobody"), ("\x1b[1m\\\t\xe9", "\\x1b[1m\\\\\\t\\xc3\\xa9"), ("x" * 5000, "x" * 4100))
+    with BackEnd() as back_end, Service(folder, [tenant("a", back_end)], "--verbose") as service:
+        check("where", told(service), f"serving at 127.0.0.1:{service.port}\n")
+        for line, shown in lines:
+            check("a report", service.report("a"), line_of("a"))
+            service.say(f"{line}\n")
+            check(line, told(service), f"skipped: {shown}\n")
+        service.say("add nowhere\n")
+        check("a line that is answered", service.hear(), "refused add 10\n")
+        service.run.stdin.close()
+        check("no other is told", told(service), "draining: tenants take no more spans, and send what they hold\n")
+        check("the end", service.end()[:2], (0, line_of("a")))
+
+
 def told(service):
     """The next line of its standard error."""
     return service.run.stderr.readline().decode()
 
 
 def failing_output(folder):
-    """Where a report can't be printed the service ends as at the end of its input, and then says what was wrong."""
+    """Where reports can't be printed they are lost, and the service goes on to the end of its input, and then says what was
+    wrong."""
     fault = (1, b"input or output fault\n")
     with BackEnd() as back_end:
-        section = tenant("a", back_end, wait=86_400_000)
-        with Service(folder, [section]) as service:
-            check("a post", service.post("a", body(1, 1)), (200, b""))
+        section = tenant("a", back_end)
+        with Service(folder, [section], "--verbose") as service:
+            check("where", told(service), f"serving at 127.0.0.1:{service.port}\n")
             service.run.stdout.close()
-            service.say("report a\n")
-            check("nobody reads", (service.run.wait(talk.MOST), service.run.stderr.read()), fault)
+            service.say("report a\nreport a\nreport nobody\n")
+            check("it reads on", told(service), "skipped: report nobody\n")
+            check("a post", service.post("a", body(1, 1)), (200, b""))
+            wait_for(lambda: back_end.posts, "it sends on")
+            service.run.stdin.close()
+            said = service.run.stderr.read()
+            check("nobody reads", (service.run.wait(talk.MOST), said.partition(fault[1])[2]),
+                  (1, b"standard output: broken pipe, answers lost: 3\n"))
             check("what it held was sent", back_end.bodies(), [body(1, 1)])
         with open("/dev/full", "wb") as full:
             done = subprocess.run([talk.program, "serve", str(Path(folder, "settings.toml"))], stdout=full,
                                   stdin=subprocess.DEVNULL, stderr=subprocess.PIPE, timeout=talk.MOST, check=False)
         check("a full disk", (done.returncode, done.stderr), fault)
+
+
+def cut_answers(folder):
+    """Of an answer that a file has no room for a front is written. It is lost, as is each until there is room again; then they
+    are written behind it. At the end it is said how many were lost."""
+    file, line = Path(folder, "answers"), line_of("a")
+    shell = ("/bin/sh", "-c", f'trap "" XFSZ && exec "$0" "$@" > {file}')
+    with BackEnd() as back_end, Service(folder, [tenant("a", back_end)], "--verbose", under=shell) as service:
+        check("where", told(service), f"serving at 127.0.0.1:{service.port}\n")
+        for most, words in ((len(line) + 20, "report a\nreport a\nreport a\n"), (resource.RLIM_INFINITY, "report a\n")):
+            resource.prlimit(service.run.pid, resource.RLIMIT_FSIZE, (most, resource.RLIM_INFINITY))
+            service.say(f"{words}no word\n")
+            check("it reads on", told(service), "skipped: no word\n")
+        status, _, said = service.end()
+        check("the end", (status, said.partition(b"input or output fault\n")[2]),
+              (1, b"standard output: file too large, answers lost: 2\n"))
+        check("what was written", file.read_text(), line + line[:20] + line + line)
 
 
 def without_streams(folder):
@@ -259,5 +301,5 @@ def port_below(process):
         return None
 
 
-TESTS = (drained, giving_up, with_clients, told_of, failing_output, without_streams, few_files, told_why, failing_input,
-         started_by_a_script)
+TESTS = (drained, giving_up, with_clients, told_of, skipped, failing_output, cut_answers, without_streams, few_files, told_why,
+         failing_input, started_by_a_script)

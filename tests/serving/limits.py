@@ -3,19 +3,25 @@
 import os
 import resource
 import socket
+import subprocess
+import sys
 import time
 from contextlib import ExitStack, suppress
 from pathlib import Path
 
 from replay.make_script import piece
 from serving.loopback import HEAD, REPLY
-from serving.talk import ERRORS, MOST, TAKEN, BackEnd, Service, body, check, head_of, line_of, read_message, request, tenant, wait_for
+from serving.talk import (ERRORS, MOST, TAKEN, BackEnd, Service, body, check, head_of, in_threads, line_of, read_message,
+                          request, tenant, wait_for)
 
 WHOLE = head_of("a", 34) + body(18, 1)
 # So many milliseconds of rest are too many. Beside others' work a thread may come much later to what is due.
 LIMIT = 400
 LIMITED = ("--client-timeout", str(LIMIT))
+WHOLE_IN_TIME = ("--request-timeout", str(LIMIT))
 CONNECTIONS = 300
+# With its descriptors it is within 4,096, above which some systems let no process.
+MANY = 4_080
 # So many descriptors a service has that is to have too few: its standard ones, its listener, and 12 more.
 FEW = 16
 
@@ -74,6 +80,77 @@ def slow_clients(folder):
                     time.sleep(0.1)
                 check("a reply", read_message(peer.recv), REPLY)
         check("the end", service.end(), (0, line_of("a", accepted=2, not_sampled=2), b""))
+
+
+def dripped(peer, text):
+    """After how many seconds the service closes who sends a byte of a text each 20 milliseconds, and what it is told; None
+    where it doesn't."""
+    start = time.monotonic()
+    peer.settimeout(0.02)
+    for at in range(len(text)):
+        try:
+            peer.sendall(text[at:at + 1])
+            return peer.recv(1), time.monotonic() - start
+        except TimeoutError:
+            pass
+        except OSError:
+            # It closed while more was on its way.
+            return b"", time.monotonic() - start
+    return None
+
+
+def slow_requests(folder):
+    """A request that isn't whole in time is let go, however often something of it comes, and counts for nothing. The time
+    begins with its first byte: who rests before, between and behind requests isn't let go. Nor does such a client keep the
+    service at its end."""
+    rest, at = 1.5 * LIMIT / 1000, WHOLE.index(b"\r\n\r\n") + 4
+    with BackEnd() as back_end, Service(folder, [tenant("a", back_end, policies=ERRORS)], *WHOLE_IN_TIME) as service:
+        def drips(what, begun, before):
+            with service.connect() as peer:
+                time.sleep(rest)
+                if before:
+                    peer.sendall(before)
+                    check("a reply", read_message(peer.recv), REPLY)
+                    time.sleep(rest)
+                peer.sendall(begun)
+                told, after = dripped(peer, WHOLE[len(begun):]) or (None, 0)
+                check(f"slow {what}", (told, after > 0.9 * LIMIT / 1000), (b"", True))
+
+        in_threads(*(lambda how=how: drips(*how) for before in (b"", WHOLE)
+                     for how in (("in a head", WHOLE[:1], before), ("in a body", WHOLE[:at], before))))
+        with service.connect() as peer, service.connect() as slow:
+            for _ in range(3):
+                # Each has its own time.
+                for part in (WHOLE[:at], WHOLE[at:]):
+                    peer.sendall(part)
+                    time.sleep(0.4 * LIMIT / 1000)
+                check("a reply", read_message(peer.recv), REPLY)
+            peer.close()
+            slow.sendall(head_of("a", 1_000_000))
+            service.run.stdin.close()
+            told, _ = dripped(slow, bytes(1_000_000)) or (None, 0)
+            check("at the end", told, b"")
+            check("the end", service.end(), (0, line_of("a", accepted=5, not_sampled=5), b""))
+
+
+def both_limits(folder):
+    """With both limits who rests is let go after the one, and who drips after the other."""
+    options = ("--client-timeout", str(LIMIT), "--request-timeout", str(3 * LIMIT))
+    with BackEnd() as back_end, Service(folder, [tenant("a", back_end, policies=ERRORS)], *options) as service:
+        with service.connect() as peer:
+            peer.sendall(WHOLE + WHOLE[:9])
+            check("a reply", read_message(peer.recv), REPLY)
+            text, after = heard(peer)
+            check("resting", (text, 0.9 < 1000 * after / LIMIT < 2.5), (b"", True))
+        with service.connect() as peer:
+            told, after = dripped(peer, head_of("a", 1_000_000)) or (None, 0)
+            check("dripping", (told, after > 2.7 * LIMIT / 1000), (b"", True))
+        with service.connect() as peer:
+            for _ in range(2):
+                peer.sendall(WHOLE)
+                check("a reply", read_message(peer.recv), REPLY)
+            closes("between requests", peer)
+        check("the end", service.end(), (0, line_of("a", accepted=3, not_sampled=3), b""))
 
 
 def unread_replies(folder):
@@ -188,6 +265,28 @@ def many_connections(folder):
         check("the end", service.end(), (0, line_of("a", accepted=601, not_sampled=601), b""))
 
 
+def many_threads(folder):
+    """Thousands of connections are served at a time where one processor is shared with others' work, which starting takes as
+    long as it may."""
+    shell = ("/bin/sh", "-c", 'ulimit -S -n "$(ulimit -H -n)" && exec "$0" "$@"')
+    busy = [sys.executable, "-c", "while True: pass"]
+    with BackEnd() as back_end, ExitStack() as stack:
+        others = [stack.enter_context(subprocess.Popen(busy)) for _ in range(2)]
+        processor = min(os.sched_getaffinity(0))
+        try:
+            for other in others:
+                os.sched_setaffinity(other.pid, {processor})
+            under = ("taskset", "-c", str(processor), *shell)
+            with Service(folder, [tenant("a", back_end)], "--connections", str(MANY), under=under) as service:
+                check("a post", service.post("a", body(1, 1)), (200, b""))
+                threads = len(list(Path(f"/proc/{service.run.pid}/task").iterdir()))
+                check("its threads", threads > MANY, True)
+                check("the end", service.end(), (0, line_of("a", accepted=1, exported=1), b""))
+        finally:
+            for other in others:
+                other.kill()
+
+
 def seconds_of(service):
     """How much processor time the service took."""
     words = Path(f"/proc/{service.run.pid}/stat").read_text().rpartition(")")[2].split()
@@ -224,5 +323,5 @@ def few_descriptors(folder):
         check("the end", service.end(), (0, "", b""))
 
 
-TESTS = (resting_clients, slow_clients, unread_replies, the_end_of_resting, back_ends_that_rest, no_connection,
-         many_connections, few_descriptors)
+TESTS = (resting_clients, slow_clients, slow_requests, both_limits, unread_replies, the_end_of_resting, back_ends_that_rest,
+         no_connection, many_connections, many_threads, few_descriptors)

@@ -4,17 +4,59 @@ import re
 import resource
 from pathlib import Path
 
+from replay.make_script import piece
 from serving.talk import ERRORS, BackEnd, Service, body, check, tenant, wait_for
 
 # Each of these spans has a resource of its own, so that a body takes many times its bytes while it is made ready.
 SPANS = 150_000
 ROOMS = [int(8_000_000 * 1.4 ** step) for step in range(16)]
 
+BODY = 1_000_000
+IDS = piece(1, b"\1" * 16) + piece(2, b"\2" * 8)
+SPAN = piece(2, IDS)
+EMPTY = piece(1, b"")
+URL = piece(3, b"u")
+
+
+def alone(text):
+    return text
+
+
+def in_resource(text):
+    return piece(1, text)
+
+
+def in_scope(text):
+    return piece(1, piece(2, text))
+
+
+# What a body has again and again, what stands round it, and how many times its bytes the body takes at most while it is
+# made ready, of which it is one itself.
+SHAPES = {
+    "empty resource spans": (piece(1, b""), alone, 4),
+    "resource spans of an empty scope spans": (piece(1, piece(2, b"")), alone, 4),
+    "empty scope spans": (piece(2, b""), in_resource, 4),
+    "resource spans of an empty span": (piece(1, piece(2, piece(2, b""))), alone, 4),
+    "empty spans": (piece(2, b""), in_scope, 4),
+    "resource spans of a span": (piece(1, piece(2, SPAN)), alone, 24),
+    "the same, with a resource and a scope": (piece(1, EMPTY + piece(2, EMPTY + SPAN)), alone, 24),
+    "the same, with schemas too": (piece(1, EMPTY + piece(2, EMPTY + SPAN + URL) + URL), alone, 24),
+    "scope spans of a span": (piece(2, SPAN), in_resource, 24),
+    "the same, with a scope and a schema": (piece(2, EMPTY + SPAN + URL), in_resource, 24),
+    "spans": (SPAN, in_scope, 10),
+    "spans that are written anew": (piece(2, IDS + piece(3, b"")), in_scope, 13),
+}
+
+
+def bytes_of(process, name):
+    """What the system says of a process's memory under this name, in bytes."""
+    status = Path(f"/proc/{process}/status").read_text()
+    return 1024 * int(re.search(rf"{name}:\s*(\d+)", status)[1])
+
 
 def addresses(process):
     """How many bytes of addresses a process has."""
-    status = Path(f"/proc/{process}/status").read_text()
-    return 1024 * int(re.search(r"VmSize:\s*(\d+)", status)[1])
+    return bytes_of(process, "VmSize")
 
 
 def accepted(service):
@@ -32,7 +74,7 @@ def accepted(service):
 def refused_while_made_ready(folder):
     """A body is posted again and again, each time with room for more addresses, from hardly enough for its bytes to
     what it takes. Who is told 200 has all its spans counted. Before that memory is refused, also while it is made
-    ready."""
+    ready: the client is told 503, and with the same room one span is taken, so what the body took was given back."""
     text = body(1, 1) * SPANS
     with BackEnd() as back_end, Service(folder, [tenant("a", back_end, policies=ERRORS, most=10 * SPANS)], shards=1,
                                         receivers=1, senders=1, parts=1) as service:
@@ -41,16 +83,14 @@ def refused_while_made_ready(folder):
         counted, refused, status = 0, 0, 0
         for room in ROOMS:
             resource.prlimit(process, resource.RLIMIT_AS, (addresses(process) + room, most[1]))
-            try:
-                status, _ = service.post("a", text)
-            except OSError:
-                # It was let go before it had sent all.
-                status = 0
+            status, _ = service.post("a", text)
+            small, _ = service.post("a", body(2, 2)) if status == 503 else (200, b"")
             resource.prlimit(process, resource.RLIMIT_AS, most)
+            check(f"what a client is told with room for {room}", (status in (200, 503), small), (True, 200))
             more = accepted(service) - counted
             counted += more
+            check(f"spans counted with room for {room}", more, SPANS if status == 200 else 1)
             if status == 200:
-                check(f"spans counted of a body that was taken, with room for {room}", more, SPANS)
                 break
             refused += 1
         check("it is taken in the end", status, 200)
@@ -58,4 +98,25 @@ def refused_while_made_ready(folder):
         check("the end", service.end()[::2], (0, b""))
 
 
-TESTS = (refused_while_made_ready,)
+def times_its_bytes(folder, back_end, text):
+    """How many times its bytes a service has more at most while it makes a body ready, whose spans it has no room for,
+    and the status of the reply."""
+    with Service(folder, [tenant("a", back_end, policies=ERRORS, most=1)], shards=1, receivers=1, senders=1,
+                 parts=1) as service:
+        service.post("a", body(1, 1))
+        process = service.run.pid
+        before = bytes_of(process, "VmHWM")
+        status, _ = service.post("a", text)
+        return (bytes_of(process, "VmHWM") - before) / len(text), status
+
+
+def most_while_made_ready(folder):
+    """What a body takes while it is made ready is bounded by its bytes, whatever it is made of."""
+    with BackEnd() as back_end:
+        for shape, (again, round_it, most) in SHAPES.items():
+            times, status = times_its_bytes(folder, back_end, round_it(again * (BODY // len(again))))
+            check(f"{shape}: {times:.1f} times its bytes, at most {most}", times <= most, True)
+            check(f"{shape}: answered", status in (200, 429), True)
+
+
+TESTS = (refused_while_made_ready, most_while_made_ready)

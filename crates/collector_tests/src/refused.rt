@@ -2,7 +2,7 @@
 
 use crate::lines::{answers_of, is_told, parts_of, put_all, step_of, steps_of};
 use crate::sections::{
-    ERRORS, NARROW, NONE_REMEMBERED, ONE_OF_EACH, TWO_DROPPED, TWO_OR_THREE, TWO_SAMPLED,
+    ERRORS, NARROW, NONE_REMEMBERED, ONE_OF_EACH, THREES, TWO_DROPPED, TWO_OR_THREE, TWO_SAMPLED,
     settings_of,
 };
 use std::alloc::{AllocError, Global};
@@ -292,5 +292,52 @@ queue_full=0 retry_exhausted=0 back_end_refused=0 back_end_rejected=0 invalid=0 
 queue_full=0 retry_exhausted=0 back_end_refused=0 back_end_rejected=0 invalid=0 over_budget=0",
     )?;
     assert!(rt; dropped);
+    Ok(())
+}
+
+/// Trace 11 was sampled, and a late span of it is pending from 1000 on.
+const PENDING: &str = "post a 0 11.21+11.22+11.23 = reply a 200 -
+turn 0 1000 = job a 1 11.21+11.22+11.23
+post a 1000 11.24 = reply a 200 -";
+
+/// The first of these late spans waits too, the second fills a batch, and the third waits.
+const LATE: &str = "post a 1100 11.25+11.26+11.27";
+
+/// What leaves then, where they came.
+const LATE_LEAVE: &str = "turn 0 1999 = job a 2 11.24+11.25+11.26
+turn 0 2000 = idle 0
+turn 0 2099 = idle 0
+turn 0 2100 = job a 3 11.27";
+
+/// And where they were refused: the span that was pending, at its own time.
+const ONE_LEAVES: &str = "turn 0 1999 = idle 0
+turn 0 2000 = job a 2 11.24
+turn 0 2099 = idle 0
+turn 0 2100 = idle 0";
+
+/// What leaves after the late spans, and whether they were taken.
+fn left_after<R: Threads + Sync>(
+    rt: &R,
+    alloc: Global,
+    settings: &Settings,
+) -> Result<(Vec<u8>, bool), Fail> {
+    let before = steps_of(rt, alloc, settings, PENDING)?;
+    let tried = step_of(rt, alloc, settings, LATE)?;
+    let after = steps_of(rt, alloc, settings, LATE_LEAVE)?;
+    let mut shard = Shard::open(alloc, settings, &[0])?;
+    let _ = shard.run(before.as_slice())?;
+    let is_taken = shard.step(&tried).is_ok();
+    let outcomes = shard.run(after.as_slice())?;
+    let mut out = Vec::new(alloc);
+    put_all(alloc, &mut out, outcomes.as_slice())?;
+    Ok((out, is_taken))
+}
+
+#[test]
+fn a_refused_post_leaves_what_is_pending_as_it_was(rt: HostRuntime) -> Result<(), Fail> {
+    let settings = settings_of(rt.alloc(), &[THREES])?;
+    let (out, is_taken) = left_after(&rt, rt.alloc(), &settings)?;
+    let wanted = if is_taken { LATE_LEAVE } else { ONE_LEAVES };
+    assert!(rt; out.as_slice() == answers_of(rt.alloc(), wanted)?.as_bytes());
     Ok(())
 }

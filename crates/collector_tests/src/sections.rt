@@ -19,6 +19,11 @@ pub const TWO_OR_THREE: &str = "tail_sampling = { decision_wait_ms = 1000, num_t
 policy = [{ type = \"always_sample\" }] }, \
 batch = { send_batch_size = 2, timeout_ms = 1000, send_batch_max_size = 3 }, sending_queue = { num_consumers = 3 }";
 
+/// Batches have three spans, or wait a second, after a second's wait for a trace.
+pub const THREES: &str = "tail_sampling = { decision_wait_ms = 1000, num_traces = 10, \
+policy = [{ type = \"always_sample\" }] }, \
+batch = { send_batch_size = 3, timeout_ms = 1000, send_batch_max_size = 3 }, sending_queue = { num_consumers = 3 }";
+
 /// Two traces are present, one batch waits, and each is sent a second time at most.
 pub const NARROW: &str = "tail_sampling = { decision_wait_ms = 1000, num_traces = 2, \
 policy = [{ type = \"always_sample\" }] }, batch = { timeout_ms = 0 }, \

@@ -2,7 +2,7 @@
 ghost use Rattle.std.specs.Prelude.{ℕ};
 
 use crate::fault::BenchFault;
-use http_edge::{Handler, HttpMessage, Reply, serve};
+use http_edge::{Handler, HttpMessage, MediaType, Reply, connection_buffer, serve};
 use http_line::MemoryLine;
 use otlp_front::{Route, route};
 use std::alloc::{AllocError, Global};
@@ -41,8 +41,8 @@ struct Front {
 impl Handler for Front {
     ghost answers = { λ _ _ _ _. Unit {0} };
 
-    fn handle<T: Threads + Sync>(&mut self, _rt: &T, message: &HttpMessage) -> Reply {
-        match route(&self.settings, message) {
+    fn handle<T: Threads + Sync>(&mut self, _rt: &T, message: HttpMessage) -> Reply {
+        match route(&self.settings, &message) {
             Route::Post { tenant: _ } => {
                 self.posts = self.posts.saturating_add(1);
                 empty(self.alloc, 200)
@@ -55,6 +55,7 @@ impl Handler for Front {
 fn empty(alloc: Global, status: u16) -> Reply {
     Reply {
         status,
+        media: MediaType::Protobuf,
         body: Vec::new(alloc),
     }
 }
@@ -71,6 +72,7 @@ pub(crate) struct Served {
 pub(crate) struct Connection {
     alloc: Global,
     line: MemoryLine,
+    buffer: Vec<u8>,
     front: Front,
 }
 
@@ -79,6 +81,7 @@ impl Connection {
         Ok(Connection {
             alloc,
             line: MemoryLine::new(input, Vec::new(alloc), Vec::new(alloc), 0),
+            buffer: connection_buffer(alloc)?,
             front: Front {
                 alloc,
                 settings: load(alloc, settings_text(alloc)?.as_str())?,
@@ -89,7 +92,13 @@ impl Connection {
 
     /// Reads and answers to the end of the input.
     pub(crate) fn serve<T: Threads + Sync>(&mut self, rt: &T) -> Result<Served, BenchFault> {
-        serve(rt, self.alloc, &mut self.line, &mut self.front)?;
+        serve(
+            rt,
+            self.alloc,
+            &mut self.line,
+            &mut self.front,
+            &mut self.buffer,
+        )?;
         Ok(Served {
             posts: self.front.posts,
             written: self.line.output().len(),

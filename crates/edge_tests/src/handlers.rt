@@ -1,7 +1,7 @@
 //! Who answers in talks.
 ghost use Rattle.std.specs.Prelude.{ℕ};
 
-use http_edge::{Handler, HttpMessage, Reply};
+use http_edge::{Handler, HttpMessage, MediaType, Reply};
 use otlp_front::{Route, route};
 use std::alloc::{AllocError, Global};
 use std::str;
@@ -10,20 +10,17 @@ use tail_settings::Settings;
 
 /// Answers each message with the body that it was sent, and with the status that its target says.
 #[derive(Drop)]
-pub struct Echo {
-    pub alloc: Global,
-}
+pub struct Echo;
 
 impl Handler for Echo {
     ghost answers = { λ _ _ _ _. Unit {0} };
 
-    fn handle<T: Threads + Sync>(&mut self, _rt: &T, message: &HttpMessage) -> Reply {
-        match Vec::from_slice(self.alloc, &message.body) {
-            Ok(body) => Reply {
-                status: status_of(&message.target),
-                body,
-            },
-            Err(_) => no_memory(self.alloc),
+    fn handle<T: Threads + Sync>(&mut self, _rt: &T, message: HttpMessage) -> Reply {
+        let HttpMessage { target, body, .. } = message;
+        Reply {
+            status: status_of(&target),
+            media: MediaType::Protobuf,
+            body,
         }
     }
 }
@@ -49,8 +46,8 @@ pub struct Front<'a> {
 impl Handler for Front<'_> {
     ghost answers = { λ _ _ _ _. Unit {0} };
 
-    fn handle<T: Threads + Sync>(&mut self, _rt: &T, message: &HttpMessage) -> Reply {
-        match routed(self.alloc, self.settings, message) {
+    fn handle<T: Threads + Sync>(&mut self, _rt: &T, message: HttpMessage) -> Reply {
+        match routed(self.alloc, self.settings, &message) {
             Ok(reply) => reply,
             Err(_) => no_memory(self.alloc),
         }
@@ -61,6 +58,7 @@ fn routed(alloc: Global, settings: &Settings, message: &HttpMessage) -> Result<R
     match route(settings, message) {
         Route::Post { .. } => Ok(Reply {
             status: 200,
+            media: MediaType::Protobuf,
             body: Vec::new(alloc),
         }),
         Route::Refuse(refusal) => refusal.reply(alloc),
@@ -77,7 +75,7 @@ pub struct Lacking {
 impl Handler for Lacking {
     ghost answers = { λ _ _ _ _. Unit {0} };
 
-    fn handle<T: Threads + Sync>(&mut self, _rt: &T, _message: &HttpMessage) -> Reply {
+    fn handle<T: Threads + Sync>(&mut self, _rt: &T, _message: HttpMessage) -> Reply {
         self.asked = true;
         no_memory(self.alloc)
     }
@@ -87,6 +85,7 @@ impl Handler for Lacking {
 fn no_memory(alloc: Global) -> Reply {
     Reply {
         status: 503,
+        media: MediaType::Protobuf,
         body: Vec::new(alloc),
     }
 }

@@ -6,7 +6,7 @@ use crate::names::NAMES;
 use crate::notation::names_of;
 use crate::talks::{LONG_TALKS, TALKS};
 use crate::ways::{Way, walk};
-use http_edge::{EdgeFault, Reply, reply_bytes, serve};
+use http_edge::{EdgeFault, MediaType, Reply, connection_buffer, reply_bytes, serve};
 use http_line::{Line, MemoryLine};
 use std::alloc::{AllocError, Global};
 use std::test::Fail;
@@ -32,7 +32,7 @@ fn echoed<R: Threads + Sync>(
     way: Way,
 ) -> Result<(u32, &'static str), AllocError> {
     let names = names_of(alloc, NAMES)?;
-    walk(rt, alloc, &mut Echo { alloc }, &names, talks, way)
+    walk(rt, alloc, &mut Echo, &names, talks, way)
 }
 
 /// The same of the connections to a front.
@@ -62,7 +62,7 @@ fn talks_that_break_off(rt: HostRuntime) -> Result<(), Fail> {
 /// What is looked at anew stays in proportion to what comes, so this takes seconds at most.
 #[test]
 fn long_talks(rt: HostRuntime) -> Result<(), Fail> {
-    assert_eq!(rt; echoed(&rt, rt.alloc(), LONG_TALKS, Way::Long)?, (18, ""));
+    assert_eq!(rt; echoed(&rt, rt.alloc(), LONG_TALKS, Way::Long)?, (23, ""));
     Ok(())
 }
 
@@ -93,8 +93,7 @@ fn connections_with_or_without_memory(rt: HostRuntime) -> Result<(), Fail> {
     Ok(())
 }
 
-/// Whether a client is told that a handler had no memory: want of memory breaks that off only before the handler is
-/// asked.
+/// Whether a client is told that there was no memory, be it that the handler had none or that it was not asked.
 fn is_told_of_memory<R: Threads + Sync>(rt: &R, alloc: Global) -> Result<bool, AllocError> {
     let input = Vec::from_slice(
         alloc,
@@ -105,9 +104,12 @@ fn is_told_of_memory<R: Threads + Sync>(rt: &R, alloc: Global) -> Result<bool, A
         alloc,
         asked: false,
     };
-    Ok(match serve(rt, alloc, &mut line, &mut handler) {
-        Ok(()) => line.output().ends_with(b"out of memory"),
-        Err(EdgeFault::OutOfMemory) => !handler.asked,
+    let mut buffer = connection_buffer(alloc)?;
+    let told = serve(rt, alloc, &mut line, &mut handler, &mut buffer);
+    let says = line.output().ends_with(b"out of memory");
+    Ok(match told {
+        Ok(()) => says,
+        Err(EdgeFault::OutOfMemory) => says && !handler.asked,
         Err(_) => line.failures() == 1,
     })
 }
@@ -119,14 +121,58 @@ fn a_reply_that_tells_of_memory_needs_none(rt: HostRuntime) -> Result<(), Fail> 
     Ok(())
 }
 
-/// The bytes of a reply without a body and of one with the body `a`.
+/// Whether a reply of this status and kind with the body `a`, after which the connection closes, begins so.
+fn is_written(
+    alloc: Global,
+    status: u16,
+    media: MediaType,
+    begin: &str,
+) -> Result<bool, AllocError> {
+    let body = Vec::from_slice(alloc, b"a")?;
+    let reply = Reply {
+        status,
+        media,
+        body,
+    };
+    let want = format!(in alloc;
+        "HTTP/1.1 {begin}Connection: close\r\nContent-Length: 1\r\n\r\na"
+    )?;
+    Ok(reply_bytes(alloc, &reply, true)?.as_slice() == want.as_bytes())
+}
+
+/// Each kind of content, and each status that no talk has.
+const REPLIES: [(u16, MediaType, &str); 5] = [
+    (
+        200,
+        MediaType::Protobuf,
+        "200 OK\r\nContent-Type: application/x-protobuf\r\n",
+    ),
+    (
+        201,
+        MediaType::Json,
+        "201 Created\r\nContent-Type: application/json\r\n",
+    ),
+    (
+        401,
+        MediaType::Json,
+        "401 Unauthorized\r\nContent-Type: application/json\r\nWWW-Authenticate: Bearer\r\n",
+    ),
+    (
+        409,
+        MediaType::Html,
+        "409 Conflict\r\nContent-Type: text/html; charset=utf-8\r\n",
+    ),
+    (
+        422,
+        MediaType::Metrics,
+        "422 Unprocessable Content\r\nContent-Type: text/plain; version=0.0.4\r\n",
+    ),
+];
+
 #[test]
 fn replies_as_bytes(rt: HostRuntime) -> Result<(), Fail> {
-    let alloc = rt.alloc();
-    let body = Vec::from_slice(alloc, b"a")?;
-    let bytes = reply_bytes(alloc, &Reply { status: 200, body }, true)?;
-    let want =
-        b"HTTP/1.1 200 OK\r\nContent-Type: application/x-protobuf\r\nConnection: close\r\nContent-Length: 1\r\n\r\na";
-    assert_eq!(rt; bytes.as_slice(), want.as_slice());
+    for (status, media, begin) in REPLIES {
+        assert!(rt; is_written(rt.alloc(), status, media, begin)?);
+    }
     Ok(())
 }

@@ -459,7 +459,14 @@ GET /{C}{LONG_FIELD*63}\r\n -> {OK}
 # of 65 fields the last has ended, and the input ends: what is there can't be taken any more
 {CHUNKED}0\r\n{FIELD*65} -> {BAD}
 GET / HTTP/1.1\r\n{FIELD*65} -> {TOO_MANY}
+## Bodies by their length that come in several reads, for which room is made once or twice, with a message behind them
+{LENGTH} 131072\r\n\r\n{Y65536*2}{GET} -> {FOUND}{TYPE}Content-Length: 131072\r\n\r\n{Y65536*2}{OK}
+{LENGTH} 1048576\r\n\r\n{Y65536*16}{GET} -> {FOUND}{TYPE}Content-Length: 1048576\r\n\r\n{Y65536*16}{OK}
+{LENGTH} 1048577\r\n\r\n{Y65536*16}a{GET} -> {FOUND}{TYPE}Content-Length: 1048577\r\n\r\n{Y65536*16}a{OK}
+# one that ends too early
+{LENGTH} 1048577\r\n\r\n{Y65536*16} -> {NOTHING}
 ## Bodies of 20,971,520 bytes, and of one byte more
+{LENGTH} 20971520\r\n\r\n{Y65536*320} -> {FOUND}{TYPE}Content-Length: 20971520\r\n\r\n{Y65536*320}
 {CHUNKED}{CHUNK_65536*320}0\r\n\r\n -> {FOUND}{TYPE}Content-Length: 20971520\r\n\r\n{Y65536*320}
 {CHUNKED}{CHUNK_65536*320}1\r\ny\r\n0\r\n\r\n -> {TOO_LARGE}
 "#;

@@ -1,7 +1,7 @@
 //! The ways in which a talk is gone through.
 
 use crate::notation::{Name, unfolded};
-use http_edge::{EdgeFault, Handler, serve};
+use http_edge::{EdgeFault, Handler, connection_buffer, serve};
 use http_line::{Line, MemoryLine};
 use std::alloc::{AllocError, Global};
 use std::thread::Threads;
@@ -75,7 +75,9 @@ fn is_told_in<R: Threads + Sync, H: Handler>(
 ) -> Result<bool, AllocError> {
     let input = Vec::from_slice(alloc, &talk.input)?;
     let mut line = MemoryLine::new(input, pieces, Vec::new(alloc), 0);
-    Ok(serve(rt, alloc, &mut line, handler).is_ok() && line.output() == talk.want.as_slice())
+    let mut buffer = used_buffer(alloc)?;
+    let told = serve(rt, alloc, &mut line, handler, &mut buffer);
+    Ok(told.is_ok() && line.output() == talk.want.as_slice())
 }
 
 fn is_told_cut<R: Threads + Sync, H: Handler>(
@@ -127,7 +129,7 @@ fn breaks_off<R: Threads + Sync, H: Handler>(
 ) -> Result<bool, AllocError> {
     for fuse in 1..1000u64 {
         let mut line = failing_line(alloc, &talk.input, fuse)?;
-        match serve(rt, alloc, &mut line, handler) {
+        match serve(rt, alloc, &mut line, handler, &mut used_buffer(alloc)?) {
             Ok(()) => return Ok(line.output() == talk.want.as_slice() && line.failures() == 0),
             Err(EdgeFault::OutOfMemory) => return Ok(false),
             Err(_) => if !talk.want.starts_with(line.output()) || line.failures() != 1 {
@@ -145,8 +147,20 @@ fn failing_line(alloc: Global, input: &[u8], fuse: u64) -> Result<MemoryLine, Al
     Ok(MemoryLine::new(input, pieces, Vec::new(alloc), fuse))
 }
 
-/// Whether a talk is as it has to be, is answered with 503 where the handler had no memory, or is broken off for want
-/// of memory after a beginning of what is to be written.
+/// A buffer with what a connection before left in it.
+fn used_buffer(alloc: Global) -> Result<Vec<u8>, AllocError> {
+    let mut buffer = connection_buffer(alloc)?;
+    buffer.extend_from_slice(b"GET /404 HTTP/1.1\r\nHost: before\r\n\r\n")?;
+    Ok(buffer)
+}
+
+/// What a client is told where memory was refused before its reply was there.
+const NO_MEMORY: &[u8] =
+    b"HTTP/1.1 503 Service Unavailable\r\nContent-Type: application/x-protobuf\r\n\
+Connection: close\r\nContent-Length: 15\r\n\r\n\x12\x0dout of memory";
+
+/// Whether a talk is as it has to be, or the client is told that there was no memory: by the handler's reply, or
+/// behind a beginning of what is to be written. Only a line without memory for what is written breaks it off.
 fn is_told_or_refused<R: Threads + Sync, H: Handler>(
     rt: &R,
     alloc: Global,
@@ -155,10 +169,15 @@ fn is_told_or_refused<R: Threads + Sync, H: Handler>(
 ) -> Result<bool, AllocError> {
     let input = Vec::from_slice(alloc, &talk.input)?;
     let mut line = MemoryLine::new(input, Vec::new(alloc), Vec::new(alloc), 0);
-    Ok(match serve(rt, alloc, &mut line, handler) {
+    let mut buffer = used_buffer(alloc)?;
+    Ok(match serve(rt, alloc, &mut line, handler, &mut buffer) {
         Ok(()) => line.output() == talk.want.as_slice() || tells_of_memory(line.output()),
         Err(EdgeFault::ReadFailed) => false,
-        Err(_) => talk.want.starts_with(line.output()),
+        Err(EdgeFault::WriteFailed) => talk.want.starts_with(line.output()),
+        Err(EdgeFault::OutOfMemory) => match line.output().strip_suffix(NO_MEMORY) {
+            Some(front) => talk.want.starts_with(front),
+            None => false,
+        },
     })
 }
 

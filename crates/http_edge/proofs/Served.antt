@@ -1,12 +1,13 @@
 -- Messages one after another, and where a talk ends.
-use Rattle.std.proofs.Common.{◌≡◌, ℕ, ◌≤◌, Bool, true, false, not, List, [], ◌∷◌, ◌++◌, length, drop, Option, if◌then◌else◌, refl, sym, ap, subst, ◌∙◌, append_assoc, append-nil}
+use Rattle.std.proofs.Common.{◌≡◌, ◌≢◌, ℕ, ◌≤◌, Bool, true, false, not, List, [], ◌∷◌, ◌++◌, length, drop, if◌then◌else◌, refl, sym, ap, subst, ◌∙◌, append_assoc, append-nil}
 use Rattle.httparse.specs.Grammar.{RequestHead}
 use Rattle.http_edge.specs.declared.head.Head.{Head}
 use Rattle.http_edge.specs.declared.wire.EdgeFault.{EdgeFault}
+use Rattle.http_edge.specs.declared.wire.EdgeFault.TheVariants.{ReadFailed, OutOfMemory}
 use Rattle.http_edge.specs.Message.{Request, Response, Message, Frame, sized, chunked, HasBody, HasMessage, request_of, closes, expects, max_body}
-use Rattle.http_edge.specs.Talk.{Exchange, exchange_text, interim_text, Asks, told, Runs, Due, MayBreak, MayInterim, interim, replying}
-use Rattle.http_edge.specs.Reply.{continue_text}
-use Rattle.http_edge.specs.Stages.{IsHead, frame_by, message_with, IsCut, IsOver, StaysOpen, Replies}
+use Rattle.http_edge.specs.Talk.{Exchange, exchange_text, interim_text, Asks, told, Runs, Talks, Due, Lacks, Begins, MayInterim, interim, replying, at_reply, breaking, lacking}
+use Rattle.http_edge.specs.Reply.{continue_text, is_for_no_memory, no_memory_text}
+use Rattle.http_edge.specs.Stages.{IsHead, frame_by, message_with, IsBrokenOff, IsShort, IsCut, IsOver, StaysOpen, Replies}
 use Rattle.http_line.specs.Line.{Moves}
 use Rattle.http_line.proofs.Moved.{then_to}
 use Rattle.http_edge.proofs.Heads.{has_head_more}
@@ -63,9 +64,9 @@ may_interim {bytes} {head} {h} read p = record {
   short = p.fits;
 }
 
-pub due_interim : {H : Type 0} {fault : EdgeFault} (answers : H → Request → Response → H → Type 0) (s : H) {bytes : List ℕ} {head : Head}
+pub due_interim : {H : Type 0} (answers : H → Request → Response → H → Type 0) (s : H) {bytes : List ℕ} {head : Head}
     {h : RequestHead} (read front missing : List ℕ) → IsHead bytes head h
-    → (if head.expects then continue_text else []) ≡ front ++ missing → Due fault answers s (bytes ++ read) s (front
+    → (if head.expects then continue_text else []) ≡ front ++ missing → Due answers s (bytes ++ read) s (front
     ++ missing)
 due_interim answers s {bytes} {head} {h} read front missing p e =
     let t : interim_text h ≡ front ++ missing = ap (λ (b : Bool). if b then continue_text else []) (sym p.says.expects)
@@ -90,12 +91,19 @@ unfolding exchange_text
 reply_whole answers {old} {new} {m} {text} {missing} p = ap (λ v. interim_text m.head ++ v) p.text
     ∙ sym (append_assoc (interim_text m.head) text missing)
 
-pub due_reply : {H : Type 0} {fault : EdgeFault} (answers : H → Request → Response → H
+pub due_reply : {H : Type 0} (answers : H → Request → Response → H
     → Type 0) {old new : H} {m : Message} {text missing : List ℕ} (bytes after : List ℕ) → HasMessage bytes m after
-    → (p : Replies answers old new m text missing) → MayBreak fault p.reply
-    → Due fault answers old bytes new ((interim_text m.head ++ text) ++ missing)
-due_reply answers {old} {new} {m} {text} {missing} bytes after has p may =
-    rw (← reply_whole answers p) (replying (record { message = m; reply = p.reply }) after has p.answered may)
+    → Replies answers old new m text missing → Due answers old bytes new ((interim_text m.head ++ text) ++ missing)
+due_reply answers {old} {new} {m} {text} {missing} bytes after has p =
+    rw (← reply_whole answers p) (replying (record { message = m; reply = p.reply }) after has p.answered)
+
+-- there was no memory for the bytes of the reply
+pub lacks_reply : {H : Type 0} (answers : H → Request → Response → H
+    → Type 0) {old new : H} {m : Message} {text missing : List ℕ} (bytes after : List ℕ) → HasMessage bytes m after
+    → (p : Replies answers old new m text missing) → is_for_no_memory p.reply ≡ false
+    → Lacks answers old bytes new (interim_text m.head)
+lacks_reply answers {m = m} bytes after has p is =
+    at_reply (record { message = m; reply = p.reply }) after has p.answered is
 
 -- the message whose head was there and whose body has come
 pub whole_message : {bytes : List ℕ} {head : Head} {h : RequestHead} (read body after : List ℕ) → IsHead bytes head h
@@ -138,16 +146,36 @@ over_after {H} {answers} {old} {new} {L} {gives} {takes} {l0} {l1} {l2} {b0} {b1
       end = λ f. since (q.end f);
     }
 
-pub cut_after : {H : Type 0} {fault : EdgeFault} {answers : H → Request → Response → H
+broken_after : {H : Type 0} {answers : H → Request → Response → H
     → Type 0} {old new : H} {L : Type 0} {gives takes : L → L → List ℕ → Type 0} {l0 l1 l2 : L} {b0 b1 read : List ℕ} → Moves gives takes l0 l1 read []
-    → b1 ≡ b0 ++ read → IsCut fault answers old new gives takes l1 l2 b1
-    → IsCut fault answers old new gives takes l0 l2 b0
-cut_after {H} {fault} {answers} {old} {new} {L} {gives} {takes} {l0} {l1} {l2} {b0} {b1} {read} p e q = record {
+    → b1 ≡ b0 ++ read → IsBrokenOff answers old new gives takes l1 l2 b1
+    → IsBrokenOff answers old new gives takes l0 l2 b0
+broken_after {H} {answers} {old} {new} {L} {gives} {takes} {l0} {l1} {l2} {b0} {b1} {read} p e q = record {
   read = read ++ q.read;
   written = q.written;
   moves = then_to p q.moves refl refl;
   missing = q.missing;
   due = rw (← append_assoc b0 read q.read, ← e) q.due;
+}
+
+short_after : {H : Type 0} {answers : H → Request → Response → H
+    → Type 0} {old new : H} {L : Type 0} {gives takes : L → L → List ℕ → Type 0} {l0 l1 l2 : L} {b0 b1 read : List ℕ} → Moves gives takes l0 l1 read []
+    → b1 ≡ b0 ++ read → IsShort answers old new gives takes l1 l2 b1
+    → IsShort answers old new gives takes l0 l2 b0
+short_after {H} {answers} {old} {new} {L} {gives} {takes} {l0} {l1} {l2} {b0} {b1} {read} p e q = record {
+  read = read ++ q.read;
+  written = q.written;
+  moves = then_to p q.moves refl refl;
+  lacks = rw (← append_assoc b0 read q.read, ← e) q.lacks;
+}
+
+pub cut_after : {H : Type 0} {fault : EdgeFault} {answers : H → Request → Response → H
+    → Type 0} {old new : H} {L : Type 0} {gives takes : L → L → List ℕ → Type 0} {l0 l1 l2 : L} {b0 b1 read : List ℕ} → Moves gives takes l0 l1 read []
+    → b1 ≡ b0 ++ read → IsCut fault answers old new gives takes l1 l2 b1
+    → IsCut fault answers old new gives takes l0 l2 b0
+cut_after p e q = record {
+  broken = λ lack. broken_after p e (q.broken lack);
+  short = λ lack. short_after p e (q.short lack);
 }
 
 -- by the same fault
@@ -157,6 +185,46 @@ pub cut_by : {H : Type 0} {fault other : EdgeFault} {answers : H → Request →
     → IsCut other answers old new gives takes first last before
 cut_by {answers = answers} {old = old} {new = new} {gives = gives} {takes = takes} {first = first} {last = last} {before = before} p e =
     subst (λ f. IsCut f answers old new gives takes first last before) e p
+
+-- a fault of the line broke the talk off
+pub breaks : {H : Type 0} {answers : H → Request → Response → H → Type 0} {old new : H} {fault : EdgeFault} {read : List ℕ}
+    (written missing : List ℕ) → fault ≢ OutOfMemory → Talks answers (Due answers) old read new (written ++ missing)
+    → Begins fault answers old read new written
+breaks written missing line t = (
+  missing,
+  record {
+    exchanges = t.exchanges;
+    rest = t.rest;
+    reads = t.reads;
+    mid = t.mid;
+    runs = t.runs;
+    last = t.last;
+    due = breaking t.last line t.due;
+    writes = t.writes;
+  },
+  λ is. absurd (line is),
+)
+
+-- after want of memory this much was written of the reply that says so
+pub tells : {H : Type 0} {answers : H → Request → Response → H → Type 0} {old new : H} {fault : EdgeFault} {read written : List ℕ}
+    (front missing : List ℕ) → fault ≢ ReadFailed → no_memory_text ≡ front ++ missing → (fault ≡ OutOfMemory → missing ≡ [])
+    → Talks answers (Lacks answers) old read new written → Begins fault answers old read new (written ++ front)
+tells {written = written} front missing no_read parts whole t = (
+  missing,
+  record {
+    exchanges = t.exchanges;
+    rest = t.rest;
+    reads = t.reads;
+    mid = t.mid;
+    runs = t.runs;
+    last = t.last ++ no_memory_text;
+    due = lacking t.last no_read t.due;
+    writes = append_assoc written front missing
+        ∙ (ap (λ v. written ++ v) (sym parts)
+        ∙ (ap (λ v. v ++ no_memory_text) t.writes ∙ append_assoc (told t.exchanges) t.last no_memory_text));
+  },
+  whole,
+)
 
 pub not_is : (b went : Bool) → went ≡ not b → went ≡ true → b ≡ false
 not_is true went e f = absurd (let x : false ≡ true = sym e ∙ f in cc)

@@ -13,6 +13,10 @@ max_head = 65536
 abbrev pub max_part : ℕ
 max_part = 65536
 
+-- so many bytes of one read
+abbrev pub max_read : ℕ
+max_read = 65536
+
 -- so many bytes of a body
 abbrev pub max_body : ℕ
 max_body = 20971520

@@ -1,46 +1,61 @@
 -- The bytes of a reply: a status line, fields and a body (RFC 9112, section 4).
-use Rattle.std.specs.Prelude.{ℕ, Bool, true, ◌==◌, ◌&&◌, List, [], ◌∷◌, ◌++◌, length, if◌then◌else◌, codes, decimal}
+use Rattle.std.specs.Prelude.{ℕ, Bool, true, false, ◌==◌, ◌&&◌, List, [], ◌∷◌, ◌++◌, length, if◌then◌else◌, codes, decimal}
 use Rattle.httparse.specs.Ascii.{crlf_bytes}
 use Rattle.http_edge.specs.Message.{Response}
+use Rattle.http_edge.specs.declared.message.MediaType.{MediaType}
+use Rattle.http_edge.specs.declared.message.MediaType.TheVariants.{Protobuf, Metrics, Json, Html}
 
 -- the reason phrase (RFC 9110, section 15), and none for a status that this server has no use for
 abbrev pub phrase_of : ℕ → List ℕ
 phrase_of status =
     if status == 200 then codes "OK"
+    else (if status == 201 then codes "Created"
     else (if status == 400 then codes "Bad Request"
+    else (if status == 401 then codes "Unauthorized"
     else (if status == 403 then codes "Forbidden"
     else (if status == 404 then codes "Not Found"
     else (if status == 405 then codes "Method Not Allowed"
+    else (if status == 409 then codes "Conflict"
     else (if status == 413 then codes "Content Too Large"
     else (if status == 415 then codes "Unsupported Media Type"
+    else (if status == 422 then codes "Unprocessable Content"
     else (if status == 429 then codes "Too Many Requests"
     else (if status == 431 then codes "Request Header Fields Too Large"
-    else (if status == 503 then codes "Service Unavailable" else [])))))))))
+    else (if status == 503 then codes "Service Unavailable" else [])))))))))))))
 
--- what a 405 (RFC 9110, section 15.5.6) and a 429 (RFC 6585, section 4) tell the client beside
+-- what a 401 (RFC 9110, section 15.5.2, and RFC 6750, section 3), a 405 (RFC 9110, section 15.5.6) and a 429 (RFC 6585,
+-- section 4) tell the client beside
 abbrev pub advice_of : ℕ → List ℕ
 advice_of status =
-    if status == 405 then codes "Allow: POST" ++ crlf_bytes
-    else (if status == 429 then codes "Retry-After: 1" ++ crlf_bytes else [])
+    if status == 401 then codes "WWW-Authenticate: Bearer" ++ crlf_bytes
+    else (if status == 405 then codes "Allow: POST" ++ crlf_bytes
+    else (if status == 429 then codes "Retry-After: 1" ++ crlf_bytes else []))
 
 -- the field that says that the connection ends after this reply (RFC 9112, section 9.6)
 abbrev pub close_line : Bool → List ℕ
 close_line close = if close then codes "Connection: close" ++ crlf_bytes else []
 
+-- the names of what content may be (RFC 9110, section 8.3): Prometheus has its own text format, version 0.0.4
+abbrev pub type_of : MediaType → List ℕ
+type_of Protobuf = codes "application/x-protobuf"
+type_of Metrics = codes "text/plain; version=0.0.4"
+type_of Json = codes "application/json"
+type_of Html = codes "text/html; charset=utf-8"
+
 -- what stands between the reason phrase and the fields that not every reply has
-abbrev pub type_line : List ℕ
-type_line = crlf_bytes ++ codes "Content-Type: application/x-protobuf" ++ crlf_bytes
+abbrev pub type_line : MediaType → List ℕ
+type_line media = crlf_bytes ++ codes "Content-Type: " ++ type_of media ++ crlf_bytes
 
 -- the head of a reply with so long a body
-unfoldable pub head_text_of : Bool → ℕ → ℕ → List ℕ
-head_text_of close status len =
-    codes "HTTP/1.1 " ++ (decimal status ++ (codes " " ++ (phrase_of status ++ (type_line ++ (advice_of status
+unfoldable pub head_text_of : Bool → MediaType → ℕ → ℕ → List ℕ
+head_text_of close media status len =
+    codes "HTTP/1.1 " ++ (decimal status ++ (codes " " ++ (phrase_of status ++ (type_line media ++ (advice_of status
     ++ (close_line close ++ (codes "Content-Length: " ++ (decimal len ++ (crlf_bytes ++ crlf_bytes)))))))))
 
 -- the bytes of a reply as it stands; the answer to HEAD has no body (RFC 9110, section 9.3.2)
 abbrev pub plain_text : Bool → Bool → Response → List ℕ
 plain_text bodiless close reply =
-    head_text_of close reply.status (length reply.body) ++ (if bodiless then [] else reply.body)
+    head_text_of close reply.media reply.status (length reply.body) ++ (if bodiless then [] else reply.body)
 
 -- a `google.rpc.Status` with a message of less than 128 bytes alone (field 2), as OTLP/HTTP has it for refusals
 abbrev pub status_body : List ℕ → List ℕ
@@ -48,7 +63,11 @@ status_body message = 18 ∷ length message ∷ message
 
 -- the reply where there was no memory for another
 abbrev pub out_of_memory : Response
-out_of_memory = record { status = 503; body = status_body (codes "out of memory") }
+out_of_memory = record { status = 503; media = Protobuf; body = status_body (codes "out of memory") }
+
+-- its bytes where the connection closes after it, as they are written where the request is not known
+abbrev pub no_memory_text : List ℕ
+no_memory_text = plain_text false true out_of_memory
 
 -- a 503 without a body stands for it, so that it takes no memory to ask for it
 abbrev pub is_for_no_memory : Response → Bool
@@ -67,7 +86,7 @@ refusal_message status =
 
 -- the reply to a bad message
 abbrev pub refusal : ℕ → Response
-refusal status = record { status = status; body = status_body (refusal_message status) }
+refusal status = record { status = status; media = Protobuf; body = status_body (refusal_message status) }
 
 -- its bytes: the connection closes after it
 abbrev pub refusal_text : Bool → ℕ → List ℕ

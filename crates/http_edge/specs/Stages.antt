@@ -1,6 +1,6 @@
 -- What the private functions find at the front of the buffer, and how far they get. The messages are those of RFC 9112,
 -- as Message has them; the stages are this project's own.
-use Rattle.std.specs.Prelude.{◌≡◌, ℕ, ◌+◌, ◌<◌, ◌≤◌, ◌++◌, Bool, true, false, List, map, take, drop, length, Some, None, Option, ⊤}
+use Rattle.std.specs.Prelude.{◌≡◌, ◌≢◌, ℕ, ◌+◌, ◌<◌, ◌≤◌, ◌++◌, Bool, true, false, List, map, take, drop, length, Some, None, Option, ⊤}
 use Rattle.httparse.specs.Grammar.{RequestHead, HasNoRequest, MayBecomeRequest, print_request}
 use Rattle.httparse.specs.declared.Error.{Error}
 use Rattle.httparse.specs.declared.Error.TheVariants.{TooManyHeaders}
@@ -17,13 +17,14 @@ use Rattle.http_edge.specs.declared.body.BodyRead.TheVariants as Read
 use Rattle.http_edge.specs.declared.body.Pieces.{Pieces}
 use Rattle.http_edge.specs.declared.body.Pieces.TheVariants as Piece
 use Rattle.http_edge.specs.declared.wire.EdgeFault.{EdgeFault}
+use Rattle.http_edge.specs.declared.wire.EdgeFault.TheVariants.{OutOfMemory}
 use Rattle.http_edge.specs.declared.chunks.ChunkedState.{ChunkedState as PartCode}
 use Rattle.http_edge.specs.declared.chunks.ChunkedState.TheVariants.{Line, Bytes, Trailer}
 use Rattle.http_edge.specs.declared.chunks.Piece.{Piece as PieceCode}
 use Rattle.http_edge.specs.declared.chunks.Piece.TheVariants as Found
 use Rattle.http_edge.specs.Chunks.{line_part, bytes_part, trailer_part, Reaches, FailsAt, LacksAt, HasChunkedBody, StopsAt}
 use Rattle.http_edge.specs.Message.{Request, Response, Message, Frame, sized, chunked, headers_of, framing_of, max_fields, max_body, HasHead, HasBody, IsTooLong, IsBroken, LacksBody, HasMessage, request_of, expects, closes, is_bodiless}
-use Rattle.http_edge.specs.Talk.{RefusesHead, head_lines, Exchange, exchange_text, Ends, Due}
+use Rattle.http_edge.specs.Talk.{RefusesHead, head_lines, Exchange, exchange_text, Ends, Due, Lacks}
 use Rattle.http_edge.specs.Reply.{reply_text, refusal_text}
 use Rattle.http_line.specs.Line.{Moves}
 use Rattle.http_edge.specs.Seen.{header_of}
@@ -169,12 +170,28 @@ pub record IsOver {H : Type 0} (answers : H → Request → Response → H
   pub ends : Ends answers old (before ++ read) new text over
   pub end : over ≡ false → ended
 
--- this fault broke it off
-pub record IsCut {H : Type 0} (fault : EdgeFault) (answers : H → Request → Response → H
+-- a failed call of the line broke it off
+pub record IsBrokenOff {H : Type 0} (answers : H → Request → Response → H
     → Type 0) (old new : H) {L : Type 0} (gives takes : L → L → List ℕ → Type 0) (first last : L) (before : List ℕ)
     : Type 0 where
   pub read : List ℕ
   pub written : List ℕ
   pub moves : Moves gives takes first last read written
   pub missing : List ℕ
-  pub due : Due fault answers old (before ++ read) new (written ++ missing)
+  pub due : Due answers old (before ++ read) new (written ++ missing)
+
+-- want of memory ended it, and nothing was said of that
+pub record IsShort {H : Type 0} (answers : H → Request → Response → H
+    → Type 0) (old new : H) {L : Type 0} (gives takes : L → L → List ℕ → Type 0) (first last : L) (before : List ℕ)
+    : Type 0 where
+  pub read : List ℕ
+  pub written : List ℕ
+  pub moves : Moves gives takes first last read written
+  pub lacks : Lacks answers old (before ++ read) new written
+
+-- this fault ended it
+pub record IsCut {H : Type 0} (fault : EdgeFault) (answers : H → Request → Response → H
+    → Type 0) (old new : H) {L : Type 0} (gives takes : L → L → List ℕ → Type 0) (first last : L) (before : List ℕ)
+    : Type 0 where
+  pub broken : fault ≢ OutOfMemory → IsBrokenOff answers old new gives takes first last before
+  pub short : fault ≡ OutOfMemory → IsShort answers old new gives takes first last before

@@ -28,7 +28,7 @@ pub fn read_answer<L: Line>(alloc: Global, line: &mut L) -> Result<Answer, EdgeF
     ensures no_write { result ≢ Err EdgeFault.WriteFailed }
 {
     let mut buffer = Vec::new(alloc);
-    match read_final_head(alloc, line, &mut buffer)? {
+    match read_final_head(line, &mut buffer)? {
         None => Ok(Answer::Failed),
         Some(head) => {
             let answer = read_after(alloc, line, &mut buffer, head)?;
@@ -39,7 +39,6 @@ pub fn read_answer<L: Line>(alloc: Global, line: &mut L) -> Result<Answer, EdgeF
 
 /// Reads the head that no other head follows, after at most so many interim ones. None: none comes.
 fn read_final_head<L: Line>(
-    alloc: Global,
     line: &mut L,
     buffer: &mut Vec<u8>,
 ) -> Result<Option<AnswerHead>, EdgeFault>
@@ -67,7 +66,7 @@ fn read_final_head<L: Line>(
                     return Ok(None);
                 }
                 interims += 1;
-                drop_front(alloc, buffer, head.len)?;
+                drop_front(buffer, head.len);
             }
         }
     }
@@ -102,7 +101,7 @@ fn read_after<L: Line>(
     match head.framing {
         None => Ok(Answer::Failed),
         Some(framing) => {
-            drop_front(alloc, buffer, head.len)?;
+            drop_front(buffer, head.len);
             match read_answer_body(alloc, line, buffer, framing)? {
                 None => Ok(Answer::Failed),
                 Some(body) => Ok(Answer::Http {

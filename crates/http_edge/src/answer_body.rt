@@ -6,7 +6,7 @@ ghost use Rattle.http_edge.specs.Stages.{IsAt};
 ghost use Rattle.http_edge.specs.AnswerBody.{Keeps, HasCome, IsPlainPieces, IsChunkPieces, IsPlainBody, IsAnswerBody};
 
 use crate::chunks::{ChunkedState, Piece, next_piece};
-use crate::wire::{EdgeFault, Watch, drop_front, fill};
+use crate::wire::{EdgeFault, PART_ROOM, Watch, drop_front, fill};
 use http_line::Line;
 use http1::Limits;
 use http1::decode::{Decoded, Decoder};
@@ -117,7 +117,7 @@ fn read_answer_chunks<L: Line>(
     'reads: loop {
         let due = watch.is_due(buffer, ended);
         let (taken, pieces) = take_chunks(buffer, &mut part, &mut kept, due)?;
-        drop_front(alloc, buffer, taken)?;
+        drop_front(buffer, taken);
         match pieces {
             AnswerPieces::End => return Ok(Some(kept.bytes)),
             AnswerPieces::Bad => return Ok(None),
@@ -126,7 +126,7 @@ fn read_answer_chunks<L: Line>(
             },
         }
         watch.drop_front(taken);
-        let more = fill(line, buffer)?;
+        let more = fill(line, buffer, &mut [0u8; PART_ROOM])?;
         ended = !more;
     }
 }
@@ -223,13 +223,13 @@ fn read_plain_body<L: Line>(
     };
     'reads: loop {
         let (taken, pieces) = take_plain(buffer, &mut decoder, &mut kept)?;
-        drop_front(alloc, buffer, taken)?;
+        drop_front(buffer, taken);
         match pieces {
             AnswerPieces::End => return Ok(Some(kept.bytes)),
             AnswerPieces::Bad => return Ok(None),
             AnswerPieces::More => {}
         }
-        if !fill(line, buffer)? {
+        if !fill(line, buffer, &mut [0u8; PART_ROOM])? {
             match framing {
                 Framing::UntilClose => return Ok(Some(kept.bytes)),
                 Framing::NoBody => return Ok(None),

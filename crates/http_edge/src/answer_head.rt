@@ -9,7 +9,7 @@ ghost use Rattle.http_edge.specs.AnswerBody.{IsAnswerHeadProgress};
 
 use crate::fields::{field, framing_in, number};
 use crate::single::Single;
-use crate::wire::{EdgeFault, Watch, fill};
+use crate::wire::{EdgeFault, PART_ROOM, Watch, fill};
 use http_line::Line;
 use http1::framing::Framing;
 use httparse::Status;
@@ -64,7 +64,7 @@ pub(crate) fn read_answer_head<L: Line>(
                 begin => return Ok(begin),
             }
         }
-        if !fill(line, buffer)? {
+        if !fill(line, buffer, &mut [0u8; PART_ROOM])? {
             return Ok(answer_head_at(buffer));
         }
     }

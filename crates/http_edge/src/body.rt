@@ -7,11 +7,14 @@ ghost use Rattle.http_edge.specs.Stages.{frame_by, bytes_due, IsAt, IsPieces, Is
 
 use crate::chunks::{ChunkedState, Piece, bytes_due, next_piece};
 use crate::head::BodyKind;
-use crate::wire::{EdgeFault, Watch, drop_front, fill};
+use crate::wire::{EdgeFault, PART_ROOM, Room, Watch, drop_front, fill};
 use http_line::Line;
 use std::alloc::{AllocError, Global};
 
 const MAX_BODY: usize = 20_971_520;
+
+/// Room for so many bytes of a body is made before they come, so that a head alone takes no more.
+const FIRST_ROOM: usize = 1_048_576;
 
 /// What came of a body.
 #[derive(Debug, Drop)]
@@ -31,74 +34,120 @@ pub(crate) enum Pieces {
     Bad,
 }
 
-/// Reads a body, and takes it from the buffer.
+/// Reads the body that begins after so many bytes of the buffer, and takes it and them from there.
 pub(crate) fn read_body<L: Line>(
     alloc: Global,
     line: &mut L,
+    room: &mut Room,
     buffer: &mut Vec<u8>,
+    from: usize,
     kind: BodyKind,
 ) -> Result<BodyRead, EdgeFault>
-    requires { (n : ℕ) → frame_by kind ≡ sized n → n ≤ max_body }
+    requires within { from ≤ length buffer.old.items }
+    requires fits { (n : ℕ) → frame_by kind ≡ sized n → n ≤ max_body }
     ensures on_success { IfOk result (λ found. (read : List ℕ)
         × Moves L.gives L.takes line.old line.new read []
-        × IsRead (frame_by kind) (buffer.old.items ++ read) buffer.new.items found) }
+        × IsRead (frame_by kind) (drop from buffer.old.items ++ read) buffer.new.items found) }
     ensures on_error { OnErr result ((read : List ℕ)
         × Moves L.gives L.takes line.old line.new read []) }
     ensures end { result ≡ Ok BodyRead.Ended → L.ends line.old < L.ends line.new }
-    ensures work { OnOk result (work (L.reads_left line.new) buffer.new.items ≤ work (L.reads_left line.old)
+    ensures work { OnOk result (work (L.reads_left line.new) buffer.new.items + from ≤ work (L.reads_left line.old)
         buffer.old.items) }
     ensures ends { L.ends line.old ≤ L.ends line.new }
     ensures kept { OnOk result (L.failed line.new ≡ L.failed line.old) }
+    ensures unfailed { result ≡ Err EdgeFault.OutOfMemory → L.failed line.new ≡ L.failed line.old }
     ensures failed { result ≡ Err EdgeFault.ReadFailed → HasFailed (L.failed line.old) (L.failed line.new) }
     ensures no_write { result ≢ Err EdgeFault.WriteFailed }
 {
     match kind {
         BodyKind::Sized(len) => {
-            let body = read_sized(alloc, line, buffer, len as usize)?;
+            let body = read_sized(alloc, line, room, buffer, from, len as usize)?;
             Ok(body)
         }
         BodyKind::Chunks => {
-            let body = read_chunks(alloc, line, buffer)?;
+            drop_front(buffer, from);
+            let body = read_chunks(alloc, line, room, buffer)?;
             Ok(body)
         }
     }
 }
 
-/// Reads a body of so many bytes.
+/// Reads a body of so many bytes. What has come of it is copied, and the others are read to behind it.
 fn read_sized<L: Line>(
     alloc: Global,
     line: &mut L,
+    room: &mut Room,
     buffer: &mut Vec<u8>,
+    from: usize,
     len: usize,
 ) -> Result<BodyRead, EdgeFault>
-    requires { len ≤ max_body }
+    requires within { from ≤ length buffer.old.items }
+    requires fits { len ≤ max_body }
     ensures on_success { IfOk result (λ found. (read : List ℕ)
         × Moves L.gives L.takes line.old line.new read []
-        × IsRead (sized len) (buffer.old.items ++ read) buffer.new.items found) }
+        × IsRead (sized len) (drop from buffer.old.items ++ read) buffer.new.items found) }
     ensures on_error { OnErr result ((read : List ℕ)
         × Moves L.gives L.takes line.old line.new read []) }
     ensures end { result ≡ Ok BodyRead.Ended → L.ends line.old < L.ends line.new }
-    ensures work { OnOk result (work (L.reads_left line.new) buffer.new.items ≤ work (L.reads_left line.old)
+    ensures work { OnOk result (work (L.reads_left line.new) buffer.new.items + from ≤ work (L.reads_left line.old)
         buffer.old.items) }
     ensures ends { L.ends line.old ≤ L.ends line.new }
     ensures kept { OnOk result (L.failed line.new ≡ L.failed line.old) }
+    ensures unfailed { result ≡ Err EdgeFault.OutOfMemory → L.failed line.new ≡ L.failed line.old }
     ensures failed { result ≡ Err EdgeFault.ReadFailed → HasFailed (L.failed line.old) (L.failed line.new) }
     ensures no_write { result ≢ Err EdgeFault.WriteFailed }
 {
-    'reads: while buffer.len() < len {
-        if !fill(line, buffer)? {
+    let mut body = take_front(alloc, buffer, from, len)?;
+    'reads: while body.len() < len {
+        let due = next_stage(body.len(), len) - body.len();
+        body.reserve_exact(due)?;
+        let most = due.min(room.len());
+        if !fill(line, &mut body, &mut room[..most])? {
             return Ok(BodyRead::Ended);
         }
     }
-    let body = Vec::from_slice(alloc, &buffer[..len])?;
-    drop_front(alloc, buffer, len)?;
     Ok(BodyRead::Whole(body))
+}
+
+/// Takes what has come of a body of so many bytes from the buffer, and what stands before it. There is room for more of
+/// it, up to its first part.
+fn take_front(
+    alloc: Global,
+    buffer: &mut Vec<u8>,
+    from: usize,
+    len: usize,
+) -> Result<Vec<u8>, AllocError>
+    requires { from ≤ length buffer.old.items }
+    ensures parts { IfOk result (λ body. body.items ++ buffer.new.items ≡ drop from buffer.old.items) }
+    ensures within { IfOk result (λ body. length body.items ≤ len) }
+    ensures all { IfOk result (λ body. length body.items < len → buffer.new.items ≡ []) }
+    ensures shorter { OnOk result (length buffer.new.items + from ≤ length buffer.old.items) }
+{
+    let end = from + len.min(buffer.len() - from);
+    let mut body = Vec::with_capacity(alloc, len.min(FIRST_ROOM))?;
+    body.extend_from_slice(&buffer[from..end])?;
+    drop_front(buffer, end);
+    Ok(body)
+}
+
+/// For how many bytes of a body there is to be room where so many have come: once the first part has, for all of it.
+fn next_stage(come: usize, len: usize) -> usize
+    requires { come < len }
+    ensures more { come < result }
+    ensures within { result ≤ len }
+{
+    if come < FIRST_ROOM {
+        len.min(FIRST_ROOM)
+    } else {
+        len
+    }
 }
 
 /// Reads a chunked body with its trailer.
 fn read_chunks<L: Line>(
     alloc: Global,
     line: &mut L,
+    room: &mut Room,
     buffer: &mut Vec<u8>,
 ) -> Result<BodyRead, EdgeFault>
     ensures on_success { IfOk result (λ found. (read : List ℕ)
@@ -111,6 +160,7 @@ fn read_chunks<L: Line>(
         buffer.old.items) }
     ensures ends { L.ends line.old ≤ L.ends line.new }
     ensures kept { OnOk result (L.failed line.new ≡ L.failed line.old) }
+    ensures unfailed { result ≡ Err EdgeFault.OutOfMemory → L.failed line.new ≡ L.failed line.old }
     ensures failed { result ≡ Err EdgeFault.ReadFailed → HasFailed (L.failed line.old) (L.failed line.new) }
     ensures no_write { result ≢ Err EdgeFault.WriteFailed }
 {
@@ -121,9 +171,13 @@ fn read_chunks<L: Line>(
     'reads: loop {
         let due = watch.is_due(buffer, ended);
         let (taken, pieces) = take_pieces(buffer, &mut part, &mut body, due)?;
-        drop_front(alloc, buffer, taken)?;
+        drop_front(buffer, taken);
         match pieces {
-            Pieces::End => return Ok(BodyRead::Whole(body)),
+            Pieces::End => {
+                // Who keeps it keeps all its room.
+                body.shrink_to_fit();
+                return Ok(BodyRead::Whole(body));
+            }
             Pieces::TooLong => return Ok(BodyRead::TooLong),
             Pieces::Bad => return Ok(BodyRead::Bad),
             Pieces::More => if ended {
@@ -131,7 +185,7 @@ fn read_chunks<L: Line>(
             },
         }
         watch.drop_front(taken);
-        let more = fill(line, buffer)?;
+        let more = fill(line, buffer, &mut room[..PART_ROOM])?;
         ended = !more;
     }
 }

@@ -1,9 +1,9 @@
 //! Replies as bytes.
 ghost use Rattle.std.specs.Prelude.{◌≡◌, IfOk, false, decimal, if◌then◌else◌};
 ghost use Rattle.http_edge.specs.Seen.{response_of};
-ghost use Rattle.http_edge.specs.Reply.{phrase_of, advice_of, close_line, head_text_of, plain_text, reply_text, out_of_memory, is_for_no_memory, status_body, refusal_message};
+ghost use Rattle.http_edge.specs.Reply.{phrase_of, advice_of, close_line, type_line, head_text_of, plain_text, reply_text, out_of_memory, is_for_no_memory, status_body, refusal_message};
 
-use crate::message::Reply;
+use crate::message::{MediaType, Reply};
 use std::alloc::{AllocError, Global};
 
 /// The bytes of a reply, after which the connection closes or not. A 503 without a body gets the body that says that
@@ -56,21 +56,27 @@ pub(crate) fn plain_bytes(
 ) -> Result<Vec<u8>, AllocError>
     ensures { IfOk result (λ v. v.items ≡ plain_text bodiless close (response_of reply.now)) }
 {
-    let mut text = head_bytes(alloc, reply.status, reply.body.len(), close)?;
+    let mut text = head_bytes(alloc, reply.media, reply.status, reply.body.len(), close)?;
     if !bodiless {
         text.extend_from_slice(&reply.body)?;
     }
     Ok(text)
 }
 
-fn head_bytes(alloc: Global, status: u16, len: usize, close: bool) -> Result<Vec<u8>, AllocError>
-    ensures { IfOk result (λ v. v.items ≡ head_text_of close status len) }
+fn head_bytes(
+    alloc: Global,
+    media: MediaType,
+    status: u16,
+    len: usize,
+    close: bool,
+) -> Result<Vec<u8>, AllocError>
+    ensures { IfOk result (λ v. v.items ≡ head_text_of close media status len) }
 {
     let mut text = Vec::from_slice(alloc, b"HTTP/1.1 ")?;
     text.extend_from_slice(&status_digits(alloc, status)?)?;
     text.extend_from_slice(b" ")?;
     text.extend_from_slice(phrase(status))?;
-    text.extend_from_slice(b"\r\nContent-Type: application/x-protobuf\r\n")?;
+    text.extend_from_slice(type_line(media))?;
     text.extend_from_slice(advice(status))?;
     text.extend_from_slice(closing_line(close))?;
     text.extend_from_slice(b"Content-Length: ")?;
@@ -101,16 +107,32 @@ fn phrase(status: u16) -> &'static [u8]
 {
     match status {
         200 => b"OK",
+        201 => b"Created",
         400 => b"Bad Request",
+        401 => b"Unauthorized",
         403 => b"Forbidden",
         404 => b"Not Found",
         405 => b"Method Not Allowed",
+        409 => b"Conflict",
         413 => b"Content Too Large",
         415 => b"Unsupported Media Type",
+        422 => b"Unprocessable Content",
         429 => b"Too Many Requests",
         431 => b"Request Header Fields Too Large",
         503 => b"Service Unavailable",
         _ => b"",
+    }
+}
+
+/// The field that says what the content is, with the ends of its line and of the line before.
+fn type_line(media: MediaType) -> &'static [u8]
+    ensures { result.now ≡ type_line media }
+{
+    match media {
+        MediaType::Protobuf => b"\r\nContent-Type: application/x-protobuf\r\n",
+        MediaType::Metrics => b"\r\nContent-Type: text/plain; version=0.0.4\r\n",
+        MediaType::Json => b"\r\nContent-Type: application/json\r\n",
+        MediaType::Html => b"\r\nContent-Type: text/html; charset=utf-8\r\n",
     }
 }
 
@@ -119,6 +141,7 @@ fn advice(status: u16) -> &'static [u8]
     ensures { result.now ≡ advice_of status }
 {
     match status {
+        401 => b"WWW-Authenticate: Bearer\r\n",
         405 => b"Allow: POST\r\n",
         429 => b"Retry-After: 1\r\n",
         _ => b"",

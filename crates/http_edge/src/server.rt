@@ -1,45 +1,93 @@
 //! The loop over messages.
 ghost use Rattle.std.specs.Prelude.{◌≡◌, ◌≢◌, ℕ, ◌+◌, ◌<◌, ◌≤◌, ◌⊎◌, Bool, not, List, [], ◌++◌, length, map, take, drop, if◌then◌else◌, IfOk, IfErr, IfSome, OnOk, OnErr, Some, None, true, false, Ok, Err};
 ghost use Rattle.httparse.specs.Grammar.{RequestHead};
-ghost use Rattle.http_edge.specs.Talk.{Talk, Begins, MayBreak, head_lines};
-ghost use Rattle.http_edge.specs.Reply.{refusal_text, reply_text, continue_text};
+ghost use Rattle.http_edge.specs.Talk.{Talk, Talks, Begins, Due, Lacks, head_lines};
+ghost use Rattle.http_edge.specs.Reply.{refusal_text, reply_text, continue_text, is_for_no_memory};
 ghost use Rattle.http_edge.specs.Message.{closes, max_fields, max_head};
 ghost use Rattle.http_line.specs.Line.{Moves};
 ghost use Rattle.http_edge.specs.Steps.{work, HasFailed};
 ghost use Rattle.http_edge.specs.Seen.{seen, header_of, response_of};
 ghost use Rattle.http_edge.specs.Stages.{IsHeadProgress, IsHeadOf, message_with, Replies, StaysOpen, IsOver, IsCut};
+ghost use Rattle.http_edge.specs.declared.wire.EdgeFault.TheVariants.{OutOfMemory};
 
 use crate::body::{BodyRead, read_body};
 use crate::head::{Head, HeadProgress, head_at};
-use crate::message::{Handler, HttpMessage, Reply};
+use crate::message::{Handler, HttpMessage, MediaType, Reply};
 use crate::reply::{is_for_no_memory, no_memory_bytes, plain_bytes, refusal_body};
-use crate::wire::{EdgeFault, Watch, drop_front, fill, send};
+use crate::wire::{EdgeFault, PART_ROOM, Room, Watch, fill, send};
 use http_line::Line;
 use std::alloc::{AllocError, Global};
 use std::thread::Threads;
 
-/// Reads messages and writes the handler's replies, until the connection is to close, a message is
-/// bad, or the input ends.
+/// So many bytes the longest part that is looked at has, and one read more.
+const CONNECTION_ROOM: usize = 65_536 + PART_ROOM;
+
+/// A buffer for one connection after another. It has room for the longest head and for the longest line of a chunk.
+pub fn connection_buffer(alloc: Global) -> Result<Vec<u8>, AllocError>
+    ensures { IfOk result (λ buffer. buffer.items ≡ []) }
+{
+    Vec::with_capacity(alloc, CONNECTION_ROOM)
+}
+
+/// Reads messages and writes the handler's replies, until the connection is to close, a message is bad, or the input
+/// ends. What the buffer has from the connection before is let go. Where memory is refused, the client is told so by a
+/// 503 from constant bytes, once all that was taken for its message is given back, and the connection is to close.
 pub fn serve<T: Threads + Sync, L: Line, H: Handler>(
     rt: &T,
     alloc: Global,
     line: &mut L,
     handler: &mut H,
+    buffer: &mut Vec<u8>,
 ) -> Result<(), EdgeFault>
     // The bytes written are the replies to the messages in the bytes read.
     ensures talk { OnOk result ((read : List ℕ) × (written : List ℕ) × (over : Bool)
         × Moves L.gives L.takes line.old line.new read written
         × Talk H.answers handler.old read handler.new written over
         × (over ≡ false → L.ends line.old < L.ends line.new)) }
-    // After a fault they are a beginning of that. No want of memory breaks off the reply that says so.
+    // After a fault they are a beginning of that, and after want of memory all of it, with a reply that says so.
     ensures fault { IfErr result (λ fault. (read : List ℕ) × (written : List ℕ)
         × Moves L.gives L.takes line.old line.new read written
         × Begins fault H.answers handler.old read handler.new written) }
     ensures read { result ≡ Err EdgeFault.ReadFailed → HasFailed (L.failed line.old) (L.failed line.new) }
     ensures write { result ≡ Err EdgeFault.WriteFailed → HasFailed (L.failed line.old) (L.failed line.new) }
 {
-    let mut buffer = Vec::new(alloc);
-    'messages: while exchange(rt, alloc, line, handler, &mut buffer)? {}
+    buffer.clear();
+    match converse(rt, alloc, line, handler, buffer) {
+        Ok(()) => Ok(()),
+        Err(EdgeFault::OutOfMemory) => {
+            send(line, no_memory_bytes(true, false))?;
+            Err(EdgeFault::OutOfMemory)
+        }
+        Err(EdgeFault::ReadFailed) => Err(EdgeFault::ReadFailed),
+        Err(EdgeFault::WriteFailed) => Err(EdgeFault::WriteFailed),
+    }
+}
+
+/// The same, where nothing is said of want of memory.
+fn converse<T: Threads + Sync, L: Line, H: Handler>(
+    rt: &T,
+    alloc: Global,
+    line: &mut L,
+    handler: &mut H,
+    buffer: &mut Vec<u8>,
+) -> Result<(), EdgeFault>
+    requires { buffer.old.items ≡ [] }
+    ensures talk { OnOk result ((read : List ℕ) × (written : List ℕ) × (over : Bool)
+        × Moves L.gives L.takes line.old line.new read written
+        × Talk H.answers handler.old read handler.new written over
+        × (over ≡ false → L.ends line.old < L.ends line.new)) }
+    ensures broken { IfErr result (λ fault. fault ≢ OutOfMemory → (read : List ℕ) × (written : List ℕ)
+        × Moves L.gives L.takes line.old line.new read written
+        × (missing : List ℕ) × Talks H.answers (Due H.answers) handler.old read handler.new (written ++ missing)) }
+    ensures short { result ≡ Err OutOfMemory → (read : List ℕ) × (written : List ℕ)
+        × Moves L.gives L.takes line.old line.new read written
+        × Talks H.answers (Lacks H.answers) handler.old read handler.new written }
+    ensures unfailed { result ≡ Err EdgeFault.OutOfMemory → L.failed line.new ≡ L.failed line.old }
+    ensures read { result ≡ Err EdgeFault.ReadFailed → HasFailed (L.failed line.old) (L.failed line.new) }
+    ensures write { result ≡ Err EdgeFault.WriteFailed → HasFailed (L.failed line.old) (L.failed line.new) }
+{
+    let mut room: Room = [0u8; 65_536];
+    'messages: while exchange(rt, alloc, line, handler, &mut room, buffer)? {}
     Ok(())
 }
 
@@ -49,6 +97,7 @@ fn exchange<T: Threads + Sync, L: Line, H: Handler>(
     alloc: Global,
     line: &mut L,
     handler: &mut H,
+    room: &mut Room,
     buffer: &mut Vec<u8>,
 ) -> Result<bool, EdgeFault>
     ensures stays_open { result ≡ Ok true → StaysOpen H.answers handler.old handler.new
@@ -63,10 +112,11 @@ fn exchange<T: Threads + Sync, L: Line, H: Handler>(
         buffer.old.items }
     ensures ends { L.ends line.old ≤ L.ends line.new }
     ensures kept { OnOk result (L.failed line.new ≡ L.failed line.old) }
+    ensures unfailed { result ≡ Err EdgeFault.OutOfMemory → L.failed line.new ≡ L.failed line.old }
     ensures read { result ≡ Err EdgeFault.ReadFailed → HasFailed (L.failed line.old) (L.failed line.new) }
     ensures write { result ≡ Err EdgeFault.WriteFailed → HasFailed (L.failed line.old) (L.failed line.new) }
 {
-    match read_head(alloc, line, buffer)? {
+    match read_head(alloc, line, room, buffer)? {
         HeadProgress::More => Ok(false),
         HeadProgress::TooMany => {
             refuse(alloc, line, 431, false)?;
@@ -77,7 +127,7 @@ fn exchange<T: Threads + Sync, L: Line, H: Handler>(
             Ok(false)
         }
         HeadProgress::Whole(head) => {
-            let goes = serve_message(rt, alloc, line, handler, buffer, head)?;
+            let goes = serve_message(rt, alloc, line, handler, room, buffer, head)?;
             Ok(goes)
         }
     }
@@ -87,6 +137,7 @@ fn exchange<T: Threads + Sync, L: Line, H: Handler>(
 fn read_head<L: Line>(
     alloc: Global,
     line: &mut L,
+    room: &mut Room,
     buffer: &mut Vec<u8>,
 ) -> Result<HeadProgress, EdgeFault>
     ensures on_success { IfOk result (λ begin. (read : List ℕ)
@@ -102,12 +153,13 @@ fn read_head<L: Line>(
         buffer.old.items) }
     ensures ends { L.ends line.old ≤ L.ends line.new }
     ensures kept { OnOk result (L.failed line.new ≡ L.failed line.old) }
+    ensures unfailed { result ≡ Err EdgeFault.OutOfMemory → L.failed line.new ≡ L.failed line.old }
     ensures failed { result ≡ Err EdgeFault.ReadFailed → HasFailed (L.failed line.old) (L.failed line.new) }
     ensures no_write { result ≢ Err EdgeFault.WriteFailed }
 {
     let mut watch = Watch::before_head();
     'looks: loop {
-        if let Some(begin) = look(alloc, line, buffer, &mut watch)? {
+        if let Some(begin) = look(alloc, line, room, buffer, &mut watch)? {
             return Ok(begin);
         }
     }
@@ -117,6 +169,7 @@ fn read_head<L: Line>(
 fn look<L: Line>(
     alloc: Global,
     line: &mut L,
+    room: &mut Room,
     buffer: &mut Vec<u8>,
     watch: &mut Watch,
 ) -> Result<Option<HeadProgress>, EdgeFault>
@@ -135,6 +188,7 @@ fn look<L: Line>(
         buffer.old.items }
     ensures ends { L.ends line.old ≤ L.ends line.new }
     ensures kept { OnOk result (L.failed line.new ≡ L.failed line.old) }
+    ensures unfailed { result ≡ Err EdgeFault.OutOfMemory → L.failed line.new ≡ L.failed line.old }
     ensures failed { result ≡ Err EdgeFault.ReadFailed → HasFailed (L.failed line.old) (L.failed line.new) }
     ensures no_write { result ≢ Err EdgeFault.WriteFailed }
 {
@@ -144,7 +198,7 @@ fn look<L: Line>(
             begin => return Ok(Some(begin)),
         }
     }
-    if fill(line, buffer)? {
+    if fill(line, buffer, &mut room[..PART_ROOM])? {
         return Ok(None);
     }
     Ok(Some(head_at(alloc, buffer)?))
@@ -162,14 +216,17 @@ fn refuse<L: Line>(
     ensures on_error { OnErr result ((front : List ℕ) × (missing : List ℕ) × (refusal_text bodiless status ≡ front
         ++ missing)
         × Moves L.gives L.takes line.old line.new [] front) }
+    ensures quiet { result ≡ Err OutOfMemory → Moves L.gives L.takes line.old line.new [] [] }
     ensures end { L.ends line.new ≡ L.ends line.old }
     ensures reads { L.reads_left line.new ≡ L.reads_left line.old }
     ensures kept { OnOk result (L.failed line.new ≡ L.failed line.old) }
+    ensures unfailed { result ≡ Err EdgeFault.OutOfMemory → L.failed line.new ≡ L.failed line.old }
     ensures failed { result ≡ Err EdgeFault.WriteFailed → HasFailed (L.failed line.old) (L.failed line.new) }
     ensures no_read { result ≢ Err EdgeFault.ReadFailed }
 {
     let reply = Reply {
         status,
+        media: MediaType::Protobuf,
         body: Vec::from_slice(alloc, refusal_body(status))?,
     };
     write_reply(alloc, line, &reply, true, bodiless)
@@ -181,6 +238,7 @@ fn serve_message<T: Threads + Sync, L: Line, H: Handler>(
     alloc: Global,
     line: &mut L,
     handler: &mut H,
+    room: &mut Room,
     buffer: &mut Vec<u8>,
     head: Head,
 ) -> Result<bool, EdgeFault>
@@ -197,12 +255,12 @@ fn serve_message<T: Threads + Sync, L: Line, H: Handler>(
         buffer.old.items }
     ensures ends { L.ends line.old ≤ L.ends line.new }
     ensures kept { OnOk result (L.failed line.new ≡ L.failed line.old) }
+    ensures unfailed { result ≡ Err EdgeFault.OutOfMemory → L.failed line.new ≡ L.failed line.old }
     ensures read { result ≡ Err EdgeFault.ReadFailed → HasFailed (L.failed line.old) (L.failed line.new) }
     ensures write { result ≡ Err EdgeFault.WriteFailed → HasFailed (L.failed line.old) (L.failed line.new) }
 {
     interim(line, head.expects)?;
-    drop_front(alloc, buffer, head.len)?;
-    match read_body(alloc, line, buffer, head.kind)? {
+    match read_body(alloc, line, room, buffer, head.len, head.kind)? {
         BodyRead::Ended => Ok(false),
         BodyRead::TooLong => {
             refuse(alloc, line, 413, head.bodiless)?;
@@ -232,6 +290,7 @@ fn interim<L: Line>(line: &mut L, due: bool) -> Result<(), EdgeFault>
     ensures kept { OnOk result (L.failed line.new ≡ L.failed line.old) }
     ensures failed { result ≡ Err EdgeFault.WriteFailed → HasFailed (L.failed line.old) (L.failed line.new) }
     ensures no_read { result ≢ Err EdgeFault.ReadFailed }
+    ensures no_memory { result ≢ Err EdgeFault.OutOfMemory }
 {
     let text: &[u8] = if due {
         b"HTTP/1.1 100 Continue\r\n\r\n"
@@ -254,21 +313,26 @@ fn handle_message<T: Threads + Sync, L: Line, H: Handler>(
         × Moves L.gives L.takes line.old line.new [] text
         × Replies H.answers handler.old handler.new (message_with h body.items) text []
         × (goes ≡ not (closes h))) }
-    ensures on_error { IfErr result (λ fault. (h : RequestHead) → IsHeadOf head h → (text : List ℕ)
+    ensures on_error { OnErr result ((h : RequestHead) → IsHeadOf head h → (text : List ℕ)
         × Moves L.gives L.takes line.old line.new [] text
         × (missing : List ℕ)
-        × (told : Replies H.answers handler.old handler.new (message_with h body.items) text missing)
-        × MayBreak fault told.reply) }
+        × Replies H.answers handler.old handler.new (message_with h body.items) text missing) }
+    ensures short { result ≡ Err OutOfMemory → (h : RequestHead) → IsHeadOf head h
+        → Moves L.gives L.takes line.old line.new [] []
+        × (missing : List ℕ)
+        × (told : Replies H.answers handler.old handler.new (message_with h body.items) [] missing)
+        × (is_for_no_memory told.reply ≡ false) }
     ensures end { L.ends line.new ≡ L.ends line.old }
     ensures reads { L.reads_left line.new ≡ L.reads_left line.old }
     ensures kept { OnOk result (L.failed line.new ≡ L.failed line.old) }
+    ensures unfailed { result ≡ Err EdgeFault.OutOfMemory → L.failed line.new ≡ L.failed line.old }
     ensures failed { result ≡ Err EdgeFault.WriteFailed → HasFailed (L.failed line.old) (L.failed line.new) }
     ensures no_read { result ≢ Err EdgeFault.ReadFailed }
 {
     let closes = head.closes;
     let bodiless = head.bodiless;
     let message = message_of(head, body);
-    let reply = handler.handle(rt, &message);
+    let reply = handler.handle(rt, message);
     write_reply(alloc, line, &reply, closes, bodiless)?;
     Ok(!closes)
 }
@@ -287,10 +351,12 @@ fn write_reply<L: Line>(
     ensures on_error { OnErr result ((front : List ℕ) × (missing : List ℕ)
         × (reply_text bodiless close (response_of reply.now) ≡ front ++ missing)
         × Moves L.gives L.takes line.old line.new [] front) }
-    ensures memory { IfErr result (λ fault. MayBreak fault (response_of reply.now)) }
+    ensures quiet { result ≡ Err OutOfMemory → Moves L.gives L.takes line.old line.new [] [] }
+    ensures memory { result ≡ Err OutOfMemory → is_for_no_memory (response_of reply.now) ≡ false }
     ensures end { L.ends line.new ≡ L.ends line.old }
     ensures reads { L.reads_left line.new ≡ L.reads_left line.old }
     ensures kept { OnOk result (L.failed line.new ≡ L.failed line.old) }
+    ensures unfailed { result ≡ Err EdgeFault.OutOfMemory → L.failed line.new ≡ L.failed line.old }
     ensures failed { result ≡ Err EdgeFault.WriteFailed → HasFailed (L.failed line.old) (L.failed line.new) }
     ensures no_read { result ≢ Err EdgeFault.ReadFailed }
 {

@@ -1,14 +1,14 @@
 //! Reading into a buffer, and writing.
 ghost use Rattle.std.specs.Prelude.{◌≡◌, ◌≢◌, ℕ, ◌+◌, ◌-◌, ◌/◌, ◌<◌, ◌≤◌, List, [], ◌++◌, length, drop, IfOk, OnOk, OnErr, IsTrue, true, false, Ok, Err};
 ghost use Rattle.httparse.specs.Pieces.{is_newline};
-ghost use Rattle.http_edge.specs.Limits.{max_part};
+ghost use Rattle.http_edge.specs.Limits.{max_part, max_read};
 ghost use Rattle.http_line.specs.Line.{Moves};
 ghost use Rattle.http_edge.specs.Steps.{work, HasFailed};
 ghost use Rattle.http_edge.specs.Fault.{fault_number};
 ghost use Rattle.http_edge.specs.declared.wire.EdgeFault.TheVariants.{ReadFailed, WriteFailed, OutOfMemory};
 
 use http_line::{Line, LineFailed};
-use std::alloc::{AllocError, Global};
+use std::alloc::AllocError;
 use thiserror::Error;
 
 /// Why an edge gave up. The line is given up with it.
@@ -46,10 +46,20 @@ impl From<AllocError> for EdgeFault {
     }
 }
 
-const ROOM: usize = 4096;
+/// What a connection reads through.
+pub(crate) type Room = [u8; 65_536];
 
-/// Reads once to the end of the buffer, and says whether a byte came.
-pub(crate) fn fill<L: Line>(line: &mut L, buffer: &mut Vec<u8>) -> Result<bool, EdgeFault>
+/// A head, a chunk and an answer are read in so many bytes at most, so that little is behind what is looked at.
+pub(crate) const PART_ROOM: usize = 4096;
+
+/// Reads once, through this room, to the end of the buffer, and says whether a byte came.
+pub(crate) fn fill<L: Line>(
+    line: &mut L,
+    buffer: &mut Vec<u8>,
+    room: &mut [u8],
+) -> Result<bool, EdgeFault>
+    requires some { 0 < length room.old }
+    requires most { length room.old ≤ max_read }
     ensures on_success { OnOk result ((read : List ℕ)
         × Moves L.gives L.takes line.old line.new read []
         × (buffer.new.items ≡ buffer.old.items ++ read)) }
@@ -58,15 +68,17 @@ pub(crate) fn fill<L: Line>(line: &mut L, buffer: &mut Vec<u8>) -> Result<bool, 
     ensures end { IfOk result (λ more. more ≡ false → (buffer.new.items ≡ buffer.old.items)
         × (L.ends line.old < L.ends line.new)) }
     ensures quiet { result ≡ Ok false → Moves L.gives L.takes line.old line.new [] [] }
+    ensures bound { OnOk result (length buffer.new.items ≤ length buffer.old.items + length room.old) }
+    ensures reads { OnOk result (L.reads_left line.new < L.reads_left line.old) }
     ensures work { OnOk result (work (L.reads_left line.new) buffer.new.items < work (L.reads_left line.old)
         buffer.old.items) }
     ensures ends { L.ends line.old ≤ L.ends line.new }
     ensures kept { OnOk result (L.failed line.new ≡ L.failed line.old) }
+    ensures unfailed { result ≡ Err EdgeFault.OutOfMemory → L.failed line.new ≡ L.failed line.old }
     ensures failed { result ≡ Err EdgeFault.ReadFailed → HasFailed (L.failed line.old) (L.failed line.new) }
     ensures no_write { result ≢ Err EdgeFault.WriteFailed }
 {
-    let mut room = [0u8; ROOM];
-    match line.read_some(&mut room) {
+    match line.read_some(room) {
         Ok(count) => {
             buffer.extend_from_slice(&room[..count])?;
             Ok(count > 0)
@@ -156,20 +168,16 @@ pub(crate) fn is_line_end(b: u8) -> bool
     b == b'\r' || b == b'\n'
 }
 
-/// Drops so many bytes from the front of the buffer.
-pub(crate) fn drop_front(
-    alloc: Global,
-    buffer: &mut Vec<u8>,
-    count: usize,
-) -> Result<(), AllocError>
+/// Drops so many bytes from the front of the buffer, which keeps its room.
+pub(crate) fn drop_front(buffer: &mut Vec<u8>, count: usize)
     requires { count ≤ length buffer.old.items }
-    ensures { OnOk result (buffer.new.items ≡ drop count buffer.old.items) }
+    ensures { buffer.new.items ≡ drop count buffer.old.items }
 {
-    if count > 0 {
-        let rest = Vec::from_slice(alloc, &buffer[count..])?;
-        *buffer = rest;
+    let len = buffer.len();
+    if 0 < count && count < len {
+        buffer.as_mut_slice().copy_within(count..len, 0);
     }
-    Ok(())
+    buffer.truncate(len - count);
 }
 
 /// Writes all the bytes.

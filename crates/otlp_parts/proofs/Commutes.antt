@@ -1,7 +1,8 @@
 -- Reading that keeps texts gives the texts of what is read.
 use Rattle.std.proofs.Common.{◌≡◌, ℕ, zero, suc, ◌+◌, ◌-◌, ◌==◌, append-nil, Bool, true, false, not, cond, if◌then◌else◌, List, [], ◌∷◌, ◌++◌, length, map, filter, Option, Some, None, Result, Ok, Err, refl, sym, ap, ◌∙◌, arith}
-use Rattle.std.specs.Prelude.{unwrap_or}
+use Rattle.std.specs.Prelude.{unwrap_or, flat_map}
 use Rattle.std.specs.List.{sum_by}
+use Rattle.std.proofs.lemmas.Grind.{flat_map-append}
 use Rattle.std.proofs.lemmas.List.{map-append}
 use Rattle.std.proofs.lemmas.List.Elements.{filter-append}
 use Rattle.std.proofs.lemmas.List.Sums.{sum_by-append}
@@ -15,7 +16,7 @@ use Rattle.otlp_read.specs.Numbers.{utf8}
 use Rattle.otlp_read.specs.Value.{no_scope_spans, scope_spans_step, no_resource_spans, resource_spans_step, no_request, request_step, value_of, merged_scope, merged_resource}
 use Rattle.otlp_read.specs.Walk.{◌>>=◌, Step, before, onward, walk_in, walk, read_with, with_another}
 use Rattle.otlp_parts.specs.ReadAs.{span_in, scope_spans_in, resource_spans_in}
-use Rattle.otlp_parts.specs.Texts.{is_valid_span, valid_texts, scope_texts, resource_texts, ScopeTexts, ResourceTexts, BodyTexts, invalid_among, invalid_in_resource, invalid_in, texts_of}
+use Rattle.otlp_parts.specs.Texts.{is_valid_span, valid_texts, scope_with_spans, resource_with_spans, ScopeTexts, ResourceTexts, BodyTexts, invalid_among, invalid_in_resource, invalid_in, texts_of}
 use Rattle.otlp_parts.specs.Kept.{counted, valid_text, KeptScope, with_kept_span, kept_scope_step, kept_scope_in, KeptResource, with_kept_scope, kept_resource_step, kept_resource_in, with_kept_resource, kept_body_step, kept_of}
 
 -- ---- any message
@@ -133,8 +134,11 @@ scope_kept bytes = read_kept keep_scope scope_spans_step kept_scope_step 98 no_s
 
 -- ---- a resource spans
 
+flat_map_one : {A B : Type 0} (f : A → List B) (xs : List A) (x : A) → flat_map f (xs ++ x ∷ []) ≡ flat_map f xs ++ f x
+flat_map_one {B = B} f xs x = flat_map-append f xs (x ∷ []) ∙ ap (λ (l : List B). flat_map f xs ++ l) (append-nil (f x))
+
 keep_resource : ResourceSpansData → KeptResource
-keep_resource r = record { resource = r.resource; schema_url = r.schema_url; scopes = map scope_texts r.scope_spans; invalid = counted (invalid_in_resource r) }
+keep_resource r = record { resource = r.resource; schema_url = r.schema_url; scopes = flat_map scope_with_spans r.scope_spans; invalid = counted (invalid_in_resource r) }
 
 resources_are : {o : Option ResourceData} {u : List ℕ} {k l : List ScopeTexts} {m n : ℕ} → k ≡ l → m ≡ n
     → ◌≡◌ {A = KeptResource} (record { resource = o; schema_url = u; scopes = k; invalid = m }) (record { resource = o; schema_url = u; scopes = l; invalid = n })
@@ -144,7 +148,7 @@ scope_spans_kept : (r : ResourceSpansData) (s : ScopeSpansData) → with_kept_sc
 unfolding keep_resource keep_scope
 scope_spans_kept r s =
     let more : sum_by (λ (t : ScopeSpansData). invalid_among t.spans) (r.scope_spans ++ s ∷ []) ≡ invalid_in_resource r + (0 + invalid_among s.spans) = sum_by-append (λ (t : ScopeSpansData). invalid_among t.spans) r.scope_spans (s ∷ []) in
-    resources_are (sym (map-append scope_texts r.scope_spans (s ∷ []))) (counted_both (invalid_in_resource r) (invalid_among s.spans) ∙ ap counted (omega (arith, more)))
+    resources_are (sym (flat_map_one scope_with_spans r.scope_spans s)) (counted_both (invalid_in_resource r) (invalid_among s.spans) ∙ ap counted (omega (arith, more)))
 
 -- the scope spans are kept as they are read
 through_scope : {K : Type 0} (keep : ResourceSpansData → K) (bytes : List ℕ) (g : KeptScope → K) (xs : List ScopeSpansData) (f : List ScopeSpansData → ResourceSpansData) → ((s : ScopeSpansData) → g (keep_scope s) ≡ keep (f (xs ++ s ∷ [])))
@@ -184,7 +188,7 @@ resource_spans_kept : (v : RequestData) (r : ResourceSpansData) → with_kept_re
 unfolding keep_resource
 resource_spans_kept v r =
     let more : sum_by invalid_in_resource (v.resource_spans ++ r ∷ []) ≡ invalid_in v + (0 + invalid_in_resource r) = sum_by-append invalid_in_resource v.resource_spans (r ∷ []) in
-    bodies_are (sym (map-append resource_texts v.resource_spans (r ∷ []))) (counted_both (invalid_in v) (invalid_in_resource r) ∙ ap counted (omega (arith, more)))
+    bodies_are (sym (flat_map_one resource_with_spans v.resource_spans r)) (counted_both (invalid_in v) (invalid_in_resource r) ∙ ap counted (omega (arith, more)))
 
 through_resource : (v : RequestData) (bytes : List ℕ)
     → (kept_resource_in bytes >>= λ t. Ok (with_kept_resource (counted_texts v) t)) ≡ ((with_another v.resource_spans (resource_spans_in bytes) >>= λ l. Ok (body_with l)) >>= λ b. Ok (counted_texts b))

@@ -9,3 +9,4 @@ pub mod Answer
 pub mod Inner
 pub mod Ids
 pub mod Counts
+pub mod WithSpans

@@ -8,7 +8,7 @@ use Rattle.otlp_read.specs.declared.fault.ReadFault.{ReadFault}
 use Rattle.otlp_read.specs.Numbers.{utf8}
 use Rattle.otlp_read.specs.Walk.{◌>>=◌, Step, Known, known_or_dropped, read_with}
 use Rattle.otlp_parts.specs.ReadAs.{span_in, another_scope, another_resource}
-use Rattle.otlp_parts.specs.Texts.{is_valid_span, ScopeTexts, ResourceTexts, BodyTexts}
+use Rattle.otlp_parts.specs.Texts.{is_valid_span, ScopeTexts, ResourceTexts, BodyTexts, where_any}
 
 -- a count as the code has it, in 64 bits
 abbrev pub counted : ℕ → ℕ
@@ -76,10 +76,10 @@ pub record KeptResource : Type 0 where
 abbrev pub no_kept_resource : KeptResource
 no_kept_resource = record { resource = None; schema_url = []; scopes = []; invalid = 0 }
 
--- with one more scope spans
+-- with one more scope spans, which is kept for its spans alone
 abbrev pub with_kept_scope : KeptResource → KeptScope → KeptResource
 with_kept_scope k s = record k {
-  scopes = k.scopes ++ kept_scope_texts s ∷ [];
+  scopes = k.scopes ++ where_any s.spans (kept_scope_texts s);
   invalid = counted (k.invalid + s.invalid);
 }
 
@@ -118,10 +118,10 @@ kept_resource_texts k = record {
 abbrev pub no_texts : BodyTexts
 no_texts = record { resources = []; invalid = 0 }
 
--- with one more resource spans
+-- with one more resource spans, likewise
 abbrev pub with_kept_resource : BodyTexts → KeptResource → BodyTexts
 with_kept_resource k r = record {
-  resources = k.resources ++ kept_resource_texts r ∷ [];
+  resources = k.resources ++ where_any r.scopes (kept_resource_texts r);
   invalid = counted (k.invalid + r.invalid);
 }
 

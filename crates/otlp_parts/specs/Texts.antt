@@ -1,7 +1,7 @@
 -- The parts of a body: the canonical texts of its valid spans, and of the resources and scopes that they stand in (OTLP
 -- 1.x's trace.proto). A span whose ids aren't as the trace data model of OpenTelemetry has them is left out and
--- counted.
-use Rattle.std.specs.Prelude.{◌≡◌, ℕ, Bool, List, Option, map, option_map, filter, not, ◌&&◌}
+-- counted, and so is what has no other spans.
+use Rattle.std.specs.Prelude.{◌≡◌, ℕ, Bool, List, Option, map, option_map, filter, flat_map, not, ◌&&◌, [], ◌∷◌}
 use Rattle.std.specs.List.{count_by, sum_by}
 use Rattle.otlp_trace.specs.Data.{SpanData, ScopeSpansData, ResourceSpansData, RequestData}
 use Rattle.otlp_trace.specs.Text.{span_text, scope_text, resource_text}
@@ -22,13 +22,14 @@ pub record ScopeTexts : Type 0 where
   pub schema_url : List ℕ
   pub spans : List (List ℕ)
 
--- a resource spans: its resource where it has one, the URL of its schema, and its scope spans in their order
+-- a resource spans: its resource where it has one, the URL of its schema, and in their order those of its scope spans
+-- that have a valid span
 pub record ResourceTexts : Type 0 where
   pub resource : Option (List ℕ)
   pub schema_url : List ℕ
   pub scopes : List ScopeTexts
 
--- a body: its resource spans in their order, and how many of its spans aren't valid
+-- a body: in their order those of its resource spans that have a valid span, and how many of its spans aren't valid
 pub record BodyTexts : Type 0 where
   pub resources : List ResourceTexts
   pub invalid : ℕ
@@ -41,13 +42,26 @@ scope_texts s = record {
   spans = valid_texts s.spans;
 }
 
+-- this, where the list has an entry
+abbrev pub where_any : {A B : Type 0} → List B → A → List A
+where_any [] a = []
+where_any (b ∷ bs) a = a ∷ []
+
+-- the same of a scope spans, where it has a valid span
+abbrev pub scope_with_spans : ScopeSpansData → List ScopeTexts
+scope_with_spans s = where_any (valid_texts s.spans) (scope_texts s)
+
 -- of a resource spans
 abbrev pub resource_texts : ResourceSpansData → ResourceTexts
 resource_texts r = record {
   resource = option_map resource_text r.resource;
   schema_url = r.schema_url;
-  scopes = map scope_texts r.scope_spans;
+  scopes = flat_map scope_with_spans r.scope_spans;
 }
+
+-- the same, where it has a valid span
+abbrev pub resource_with_spans : ResourceSpansData → List ResourceTexts
+resource_with_spans r = where_any (flat_map scope_with_spans r.scope_spans) (resource_texts r)
 
 -- how many of these spans aren't valid
 abbrev pub invalid_among : List SpanData → ℕ
@@ -63,7 +77,7 @@ invalid_in v = sum_by invalid_in_resource v.resource_spans
 
 -- the parts of a body of this value
 abbrev pub texts_of : RequestData → BodyTexts
-texts_of v = record { resources = map resource_texts v.resource_spans; invalid = invalid_in v }
+texts_of v = record { resources = flat_map resource_with_spans v.resource_spans; invalid = invalid_in v }
 
 -- the body has a value, and these are its parts
 pub record ArePartsOf (body : List ℕ) (parts : BodyTexts) : Type 0 where

@@ -1,23 +1,23 @@
 //! Bodies.
 
-ghost use Rattle.std.specs.Prelude.{◌≡◌, ◌≢◌, ◌<◌, ◌≤◌, ◌+◌, ◌*◌, ◌^◌, ◌⊎◌, Ok, IfOk, IfErr, length, slice_range};
+ghost use Rattle.std.specs.Prelude.{◌≡◌, ◌≢◌, ◌<◌, ◌≤◌, ◌+◌, ◌*◌, ◌^◌, ◌⊎◌, ◌++◌, ◌∷◌, [], Ok, IfOk, IfErr, length, map, slice_range};
 ghost use Rattle.otlp_trace.specs.Data.{RequestData};
 ghost use Rattle.otlp_read.specs.declared.fault.ReadFault.{ReadFault};
 ghost use Rattle.otlp_read.specs.Fault.{Gives};
 ghost use Rattle.otlp_read.specs.Value.{IsValue, IsFault};
 ghost use Rattle.otlp_parts.specs.Texts.{BodyTexts, texts_of, ArePartsOf};
 ghost use Rattle.otlp_parts.specs.Kept.{kept_of, kept_body_step, resource_spans_onto, no_texts};
-ghost use Rattle.otlp_parts.specs.Parts.{body_parts_view};
+ghost use Rattle.otlp_parts.specs.Parts.{body_parts_view, resource_parts_view};
 ghost use Rattle.otlp_parts.specs.Sizes.{body_size};
 
 use crate::copies::copied_body;
-use crate::parts::BodyParts;
+use crate::parts::{BodyParts, ResourceParts};
 use crate::resource::{no_resource, resource_parts};
 use crate::walk::{Walked, walk_fields};
 use bytes::Bytes;
 use otlp_read::ReadFault;
 use pb_wire::{Field, Value};
-use std::alloc::Global;
+use std::alloc::{AllocError, Global};
 
 /// The levels that a body has room for, its own among them.
 const BODY_ROOM: u32 = 101;
@@ -33,7 +33,23 @@ fn no_parts(alloc: Global) -> BodyParts
     }
 }
 
+/// What was read, with the parts of one more resource spans.
+fn with_parts(before: BodyParts, parts: ResourceParts) -> Result<BodyParts, AllocError>
+    ensures { IfOk result (λ after. body_parts_view after ≡ record (body_parts_view before) {
+      resources = map resource_parts_view before.resources.items ++ resource_parts_view parts ∷ [];
+    }) }
+{
+    let mut body = before;
+    // A list of one takes the room of one: many bodies have one resource.
+    if body.resources.is_empty() {
+        body.resources.reserve_exact(1)?;
+    }
+    body.resources.push(parts)?;
+    Ok(body)
+}
+
 /// What was read, with one more resource spans.
+#[tactic(auto, using(crate::proofs::WithSpans::resource_left_out))]
 fn with_resource_spans(
     alloc: Global,
     before: BodyParts,
@@ -51,16 +67,14 @@ fn with_resource_spans(
 {
     let inside = text.slice(start..end)?;
     let resource = walk_fields(alloc, no_resource(alloc), &inside, BODY_ROOM - 1, sliced)?;
-    let invalid = resource.invalid;
-    let parts = resource_parts(alloc, resource, sliced)?;
     let mut body = before;
-    // A list of one takes the room of one: many bodies have one resource.
-    if body.resources.is_empty() {
-        body.resources.reserve_exact(1)?;
+    body.invalid = body.invalid.saturating_add(resource.invalid);
+    // A resource is kept for its spans alone.
+    if resource.scopes.is_empty() {
+        return Ok(body);
     }
-    body.resources.push(parts)?;
-    body.invalid = body.invalid.saturating_add(invalid);
-    Ok(body)
+    let parts = resource_parts(alloc, resource, sliced)?;
+    Ok(with_parts(body, parts)?)
 }
 
 impl Walked for BodyParts {

@@ -178,6 +178,7 @@ pub fn resource_parts(
 }
 
 /// What was read, with one more scope spans.
+#[tactic(auto, using(crate::proofs::WithSpans::scope_taken, crate::proofs::WithSpans::scope_left_out))]
 fn with_scope_spans(
     alloc: Global,
     before: ResourceReading,
@@ -195,15 +196,18 @@ fn with_scope_spans(
 {
     let inside = text.slice(start..end)?;
     let scope = walk_fields(alloc, no_scope(alloc), &inside, RESOURCE_ROOM, sliced)?;
-    let invalid = scope.invalid;
-    let parts = scope_parts(alloc, scope, sliced)?;
     let mut reading = before;
+    reading.invalid = reading.invalid.saturating_add(scope.invalid);
+    // A scope is kept for its spans alone.
+    if scope.spans.is_empty() {
+        return Ok(reading);
+    }
+    let parts = scope_parts(alloc, scope, sliced)?;
     // A list of one takes the room of one: most resources have one scope.
     if reading.scopes.is_empty() {
         reading.scopes.reserve_exact(1)?;
     }
     reading.scopes.push(parts)?;
-    reading.invalid = reading.invalid.saturating_add(invalid);
     Ok(reading)
 }
 

@@ -190,6 +190,10 @@ fn with_span(
     let mut reading = before;
     match span_part(alloc, text, start, end, sliced)? {
         Some(span) => {
+            // A list of one takes the room of one: what shares nothing may have a scope of its own.
+            if reading.spans.is_empty() {
+                reading.spans.reserve_exact(1)?;
+            }
             reading.spans.push(span)?;
             Ok(reading)
         }

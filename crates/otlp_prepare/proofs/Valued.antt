@@ -1,21 +1,23 @@
 -- The arrivals of a body's value are those of its parts.
-use Rattle.std.proofs.Common.{◌≡◌, ◌∙◌, ℕ, true, List, [], ◌∷◌, ◌++◌, map, refl, ap, subst}
+use Rattle.std.proofs.Common.{◌≡◌, ◌∙◌, ℕ, true, List, [], ◌∷◌, ◌++◌, map, length, refl, sym, ap, subst, append-nil, arith}
+use Rattle.std.proofs.lemmas.Grind.{flat_map-append}
 use Rattle.std.specs.Prelude.{option_map, filter, flat_map}
 use Rattle.std.specs.List.{AllByRecursion}
 use Rattle.otlp_trace.specs.Data.{SpanData, ScopeSpansData, ResourceSpansData, RequestData}
 use Rattle.otlp_trace.specs.Text.{span_text, resource_text}
 use Rattle.otlp_read.specs.Nested.{NestedSpan, NestedScopeSpans, NestedResourceSpans, NestedRequest}
 use Rattle.otlp_read.specs.Typed.{TypedSpan, TypedScopeSpans, TypedResourceSpans, TypedRequest}
-use Rattle.otlp_parts.specs.Texts.{is_valid_span, BodyTexts, scope_texts, resource_texts, texts_of}
+use Rattle.otlp_parts.specs.Texts.{is_valid_span, valid_texts, BodyTexts, ScopeTexts, where_any, scope_texts, scope_with_spans, resource_texts, resource_with_spans, texts_of}
 use Rattle.span_pool.specs.Stored.{Origin as OriginData}
 use Rattle.tail_settings.specs.Policy.{PolicyData}
 use Rattle.tail_settings.specs.Section.{SectionData}
+use Rattle.tenant_rules.specs.Arrivals.{Arrival}
 use Rattle.otlp_prepare.specs.declared.noted.SpanOrigin.{SpanOrigin}
 use Rattle.otlp_prepare.specs.declared.noted.NotedSpan.{NotedSpan}
 use Rattle.otlp_prepare.specs.Arrivals.{origin_of, arrival_of, arrival_with, arrivals_of_scope, arrivals_of_resource, arrivals_of, arrivals_in}
 use Rattle.otlp_prepare.specs.Prepared.{PreparedData, prepared_of}
-use Rattle.otlp_prepare.specs.BodySpans.{arrivals_in_scope, arrivals_in_resource, arrivals_in_body, UnnotedSpanData, part_arrivals, noted, AreFound, IsSpanRead, IsValidRead, IsResourceRead, IsScopeRead, IsGroupRead, AreRead}
-use Rattle.otlp_prepare.proofs.Lists.{every_front, every_back, every_filtered, every_passed}
+use Rattle.otlp_prepare.specs.BodySpans.{origin_in, arrivals_in_scope, arrivals_in_resource, arrivals_in_body, UnnotedSpanData, part_arrivals, noted, AreFound, IsSpanRead, IsValidRead, IsResourceRead, IsScopeRead, IsGroupRead, AreRead}
+use Rattle.otlp_prepare.proofs.Lists.{every_append, every_front, every_back, every_filtered, every_passed}
 use Rattle.otlp_prepare.proofs.Read.{AllTold, told}
 use Rattle.otlp_prepare.proofs.Joined.{IsShortArrival, noted_arrivals, short_arrivals}
 
@@ -36,10 +38,16 @@ scope_read scope typed nested =
     (every_filtered (NestedSpan 98) is_valid_span scope.spans nested.spans)
     (every_passed is_valid_span scope.spans)
 
+where_any_read : {A B : Type 0} (P : A → Type 0) (bs : List B) (a : A) → P a → AllByRecursion P (where_any bs a)
+where_any_read P [] a read = tt
+where_any_read P (b ∷ bs) a read = (read, tt)
+
 scopes_read : (scopes : List ScopeSpansData) → AllByRecursion TypedScopeSpans scopes → AllByRecursion (NestedScopeSpans 99) scopes
-    → AllByRecursion IsScopeRead (map scope_texts scopes)
+    → AllByRecursion IsScopeRead (flat_map scope_with_spans scopes)
 scopes_read [] typed nested = tt
-scopes_read (scope ∷ scopes) typed nested = (scope_read scope typed.0 nested.0, scopes_read scopes typed.1 nested.1)
+scopes_read (scope ∷ scopes) typed nested =
+    every_append IsScopeRead (scope_with_spans scope) (flat_map scope_with_spans scopes)
+    (where_any_read IsScopeRead (valid_texts scope.spans) (scope_texts scope) (scope_read scope typed.0 nested.0)) (scopes_read scopes typed.1 nested.1)
 
 resource_read : (group : ResourceSpansData) → TypedResourceSpans group → NestedResourceSpans 100 group
     → IsResourceRead (option_map resource_text group.resource)
@@ -52,12 +60,43 @@ group_read group typed nested = record {
 }
 
 groups_read : (groups : List ResourceSpansData) → AllByRecursion TypedResourceSpans groups → AllByRecursion (NestedResourceSpans 100) groups
-    → AllByRecursion IsGroupRead (map resource_texts groups)
+    → AllByRecursion IsGroupRead (flat_map resource_with_spans groups)
 groups_read [] typed nested = tt
-groups_read (group ∷ groups) typed nested = (group_read group typed.0 nested.0, groups_read groups typed.1 nested.1)
+groups_read (group ∷ groups) typed nested =
+    every_append IsGroupRead (resource_with_spans group) (flat_map resource_with_spans groups)
+    (where_any_read IsGroupRead (flat_map scope_with_spans group.scope_spans) (resource_texts group) (group_read group typed.0 nested.0)) (groups_read groups typed.1 nested.1)
 
 pub body_read : (v : RequestData) → TypedRequest v → NestedRequest v → AreRead (texts_of v)
 body_read v typed nested = groups_read v.resource_spans typed.resource_spans nested.resource_spans
+
+-- ---- what has no spans brings nothing
+
+nothing : {A : Type 0} (xs : List A) → length xs ≡ 0 → xs ≡ []
+nothing [] none = refl
+nothing (x ∷ xs) none = absurd (omega (arith, none))
+
+skipped : {A B C : Type 0} (f : A → List C) (bs : List B) (a : A) → (length bs ≡ 0 → f a ≡ []) → flat_map f (where_any bs a) ≡ f a
+skipped f [] a none = sym (none refl)
+skipped f (b ∷ bs) a none = append-nil (f a)
+
+all_scopes : (group : ResourceSpansData) (scopes : List ScopeSpansData)
+    → flat_map (arrivals_in_scope (resource_texts group)) (flat_map scope_with_spans scopes) ≡ flat_map (arrivals_in_scope (resource_texts group)) (map scope_texts scopes)
+all_scopes group [] = refl
+all_scopes group (scope ∷ scopes) =
+    let f : ScopeTexts → List Arrival = arrivals_in_scope (resource_texts group) in
+    let texts = valid_texts scope.spans in
+    let one : flat_map f (scope_with_spans scope) ≡ f (scope_texts scope) =
+    skipped f texts (scope_texts scope) (λ none. ap (λ (xs : List (List ℕ)). map (arrival_with (origin_in (resource_texts group) (scope_texts scope))) xs) (nothing texts none)) in
+    flat_map-append f (scope_with_spans scope) (flat_map scope_with_spans scopes) ∙ (λ j. one j ++ all_scopes group scopes j)
+
+all_groups : (groups : List ResourceSpansData)
+    → flat_map arrivals_in_resource (flat_map resource_with_spans groups) ≡ flat_map arrivals_in_resource (map resource_texts groups)
+all_groups [] = refl
+all_groups (group ∷ groups) =
+    let scopes = flat_map scope_with_spans group.scope_spans in
+    let one : flat_map arrivals_in_resource (resource_with_spans group) ≡ arrivals_in_resource (resource_texts group) =
+    skipped arrivals_in_resource scopes (resource_texts group) (λ none. ap (λ (xs : List ScopeTexts). flat_map (arrivals_in_scope (resource_texts group)) xs) (nothing scopes none)) in
+    flat_map-append arrivals_in_resource (resource_with_spans group) (flat_map resource_with_spans groups) ∙ (λ j. one j ++ all_groups groups j)
 
 -- ---- and tell what arrives
 
@@ -102,13 +141,17 @@ groups_arrive law [] typed nested short = refl
 groups_arrive law (group ∷ groups) typed nested short =
     let one = arrivals_in_resource (resource_texts group) in
     let more = flat_map arrivals_in_resource (map resource_texts groups) in
-    let first = scopes_arrive law group typed.0 nested.0 group.scope_spans typed.0.scope_spans nested.0.scope_spans (every_front IsShortArrival one more short) in
+    let scopes = all_scopes group group.scope_spans in
+    let brief = subst (AllByRecursion IsShortArrival) scopes (every_front IsShortArrival one more short) in
+    let first = scopes ∙ scopes_arrive law group typed.0 nested.0 group.scope_spans typed.0.scope_spans nested.0.scope_spans brief in
     let rest = groups_arrive law groups typed.1 nested.1 (every_back IsShortArrival one more short) in
     λ j. first j ++ rest j
 
 body_arrives : (law : AllTold) (v : RequestData) → TypedRequest v → NestedRequest v
     → AllByRecursion IsShortArrival (arrivals_in_body (texts_of v)) → arrivals_in_body (texts_of v) ≡ arrivals_of v
-body_arrives law v typed nested short = groups_arrive law v.resource_spans typed.resource_spans nested.resource_spans short
+body_arrives law v typed nested short =
+    let all = all_groups v.resource_spans in
+    all ∙ groups_arrive law v.resource_spans typed.resource_spans nested.resource_spans (subst (AllByRecursion IsShortArrival) all short)
 
 -- the spans that were found among the parts of a value, with their notes, are those that arrive
 pub all_arrive : (law : AllTold) (v : RequestData) (body : BodyTexts) (policies : List PolicyData) (origins : List SpanOrigin)

@@ -35,6 +35,24 @@ fn added(
     }
 }
 
+/// A group comes that fills no batch; where it has no span, fills one, or the timer runs out first, nothing changes.
+fn appended(batcher: &mut SpanBatcher, moment: u64, spans: &[usize]) -> Result<(), AllocError>
+    requires { moment ≤ 2 ^ 62 }
+{
+    if spans.is_empty() || batcher.fills(spans.len()) {
+        return Ok(());
+    }
+    match batcher.next_due() {
+        Some(due) => {
+            if due <= moment {
+                return Ok(());
+            }
+            batcher.append(moment, spans)
+        }
+        None => batcher.append(moment, spans),
+    }
+}
+
 /// The timer runs out, where there is one.
 fn fired(batcher: &mut SpanBatcher) -> Option<Batch> {
     match batcher.next_due() {
@@ -198,5 +216,30 @@ due = none";
 fn spans_of_several_groups_share_a_batch(rt: HostRuntime) -> Result<(), Fail> {
     let batcher = SpanBatcher::new(rt.alloc(), 200, 3, 0);
     tell(&rt, rt.alloc(), batcher, ALONE)?;
+    Ok(())
+}
+
+#[test]
+fn spans_that_fill_no_batch_are_appended(rt: HostRuntime) -> Result<(), Fail> {
+    let mut batcher = SpanBatcher::new(rt.alloc(), 200, 3, 0);
+    assert!(rt; !batcher.fills(2) && batcher.fills(3));
+    appended(&mut batcher, 1000, &[21])?;
+    assert!(rt; !batcher.fills(1) && batcher.fills(2));
+    appended(&mut batcher, 1100, &[22])?;
+    assert!(rt; batcher.spans() == [21_usize, 22].as_slice() && batcher.next_due() == Some(1200));
+    Ok(())
+}
+
+#[test]
+fn appended_spans_are_taken_back(rt: HostRuntime) -> Result<(), Fail> {
+    let mut batcher = SpanBatcher::new(rt.alloc(), 200, 4, 0);
+    let none = batcher.mark();
+    appended(&mut batcher, 1000, &[21])?;
+    let one = batcher.mark();
+    appended(&mut batcher, 1100, &[22, 23])?;
+    batcher.cut_back(one);
+    assert!(rt; batcher.spans() == [21_usize].as_slice() && batcher.next_due() == Some(1200));
+    batcher.cut_back(none);
+    assert!(rt; batcher.spans().is_empty() && batcher.next_due().is_none());
     Ok(())
 }

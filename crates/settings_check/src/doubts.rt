@@ -30,7 +30,8 @@ fn receivers_line(alloc: Global, receivers: u32, tenants: u32) -> Result<String,
         return Ok(String::new(alloc));
     }
     let line = format!(in alloc;
-        "warning: table global: receivers is {receivers}, and there are {tenants} tenants: each client that keeps its connection keeps a receiver\n"
+        "warning: table global: receivers is {receivers}, and there are {tenants} tenants: each client that keeps its \
+         connection keeps a receiver\n"
     )?;
     Ok(line)
 }
@@ -54,7 +55,8 @@ fn senders_line(alloc: Global, senders: u32, consumers: u64) -> Result<String, A
         return Ok(String::new(alloc));
     }
     let line = format!(in alloc;
-        "warning: table global: senders is {senders}, and the tenants' num_consumers are {consumers} together: back ends that don't answer can keep every sender\n"
+        "warning: table global: senders is {senders}, and the tenants' num_consumers are {consumers} together: back \
+         ends that don't answer can keep every sender\n"
     )?;
     Ok(line)
 }

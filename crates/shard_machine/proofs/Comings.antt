@@ -1,5 +1,5 @@
 -- Tenants that come and go.
-use Rattle.std.proofs.Common.{◌≡◌, ℕ, List, [], ◌&&◌, ◌⊎◌, inl, inr, Bool, true, false, not, Option, Some, None, is_some, Result, Ok, Err, refl, sym, ap, ◌∙◌, subst}
+use Rattle.std.proofs.Common.{◌≡◌, ℕ, List, [], ◌&&◌, inl, inr, Bool, true, false, not, Some, None, is_some, Result, Ok, Err, refl, sym, ap, ◌∙◌, subst}
 use Rattle.std.specs.Prelude.{IfOk, OnErr, is_none, if◌then◌else◌, ◌≢◌}
 use Rattle.tail_settings.specs.declared.section.Section.{Section}
 use Rattle.tail_settings.specs.Section.{SectionData, section_view}
@@ -10,15 +10,15 @@ use Rattle.tenant_shard.specs.declared.step.Step.TheVariants as steps
 use Rattle.tenant_shard.specs.declared.step.Outcome.{Outcome}
 use Rattle.tenant_shard.specs.declared.step.Outcome.TheVariants.{Done, Refused}
 use Rattle.tenant_shard.specs.View.{View, kept_of, was_of, StaysOf}
-use Rattle.tenant_shard.specs.Outcomes.{OwnStep, Piped, Comes, plain, asked_in, reports, is_retirement, number_used}
+use Rattle.tenant_shard.specs.Outcomes.{OwnStep, Comes, plain, asked_in, reports, is_retirement, number_used}
 use Rattle.tenant_shard.specs.Refusal.{ShardRefuses}
 use Rattle.tenant_shard.specs.Run.{ShardSteps}
-use Rattle.tenant_shard.specs.Follows.{refusal_number, ShardFollows}
+use Rattle.tenant_shard.specs.Follows.{ShardFollows}
 use Rattle.tenant_shard.specs.Chain.{ShardDoes}
-use Rattle.shard_machine.specs.Jitter.{start, TenantGenerator, generator_of, without, IsSeeded, IsRemoved}
+use Rattle.shard_machine.specs.Jitter.{TenantGenerator, generator_of, without, IsSeeded, IsRemoved}
 use Rattle.shard_machine.specs.Drawing.{is_let_in, StepIsRefused}
 use Rattle.shard_machine.specs.MachineState.{ComesIn, Retires, GeneratorsGoOn, AreMembers, lets_in}
-use Rattle.shard_machine.proofs.Members.{never_kept, stay_same, StayMembers, members_at_refusal, with_same_words, with_one, no_words, piped_is, never_comes}
+use Rattle.shard_machine.proofs.Members.{never_kept, stay_same, members_at_refusal, with_same_words, with_one, no_words, piped_is, never_comes}
 use Rattle.shard_machine.proofs.Going.{IsPlain, plain_goes_on, plain_members, members_refused}
 
 some_same : (one other : ℕ) → Some one ≡ Some other → one ≡ other

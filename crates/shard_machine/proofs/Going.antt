@@ -1,12 +1,11 @@
 -- A step with its word.
-use Rattle.std.proofs.Common.{◌≡◌, ℕ, List, ◌&&◌, ◌⊎◌, inl, inr, Bool, true, false, Option, Some, None, is_some, refl, sym, ap, ◌∙◌, subst}
+use Rattle.std.proofs.Common.{◌≡◌, ℕ, List, ◌⊎◌, inl, inr, false, Option, Some, None, is_some, refl, sym, ap, ◌∙◌, subst}
 use Rattle.std.proofs.lemmas.Bool.{cases_eq}
 use Rattle.std.specs.Prelude.{option_map, ◌≢◌}
 use Rattle.rand_pcg.specs.Lcg.{Lcg}
 use Rattle.send_retry.specs.declared.answer.Answer.{Answer}
 use Rattle.send_retry.specs.Class.{answer_view}
 use Rattle.tail_settings.specs.declared.section.Section.{Section}
-use Rattle.tail_settings.specs.Section.{SectionData, section_view}
 use Rattle.tenant_rules.specs.Own as own
 use Rattle.shard_machine.specs.Jitter.{next_word, moved, TenantGenerator, generator_of, IsDraw}
 use Rattle.tenant_shard.specs.declared.step.Step.{Step}

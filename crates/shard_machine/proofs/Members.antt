@@ -14,7 +14,7 @@ use Rattle.tenant_shard.specs.Outcomes.{OwnStep, Asked, Piped, Comes, asked_in, 
 use Rattle.tenant_shard.specs.Refusal.{ShardRefuses}
 use Rattle.tenant_shard.specs.Follows.{ShardFollows}
 use Rattle.tenant_shard.specs.Table.{section_of, opened}
-use Rattle.shard_machine.specs.Jitter.{start, TenantGenerator, generator_of, IsSeeded, IsRemoved}
+use Rattle.shard_machine.specs.Jitter.{start, TenantGenerator, generator_of}
 use Rattle.shard_machine.specs.Drawing.{StepIsRefused}
 use Rattle.shard_machine.specs.MachineState.{AreMembers, AreSeeded}
 

@@ -9,7 +9,7 @@ use Rattle.tail_settings.specs.declared.section.Section.{Section}
 use Rattle.tail_settings.specs.Section.{SectionData, section_view}
 use Rattle.tenant_rules.specs.Own as own
 use Rattle.machine_hub.specs.Runs.{Runs}
-use Rattle.shard_machine.specs.Jitter.{start, next_word, moved, first_words, TenantGenerator, generator_of, or_start, IsDraw, IsSeeded, IsRemoved}
+use Rattle.shard_machine.specs.Jitter.{start, next_word, moved, first_words, TenantGenerator, generator_of, or_start, IsDraw}
 use Rattle.tenant_shard.specs.declared.step.Step.{Step}
 use Rattle.tenant_shard.specs.declared.step.Step.TheVariants as steps
 use Rattle.tenant_shard.specs.declared.step.Outcome.{Outcome}

@@ -1,5 +1,5 @@
 -- From what the calls do to the fields to what they stand for.
-use Rattle.std.proofs.Common.{◌≡◌, ℕ, ◌+◌, ◌<◌, ◌≤◌, List, [], ◌∷◌, ◌++◌, length, refl, sym, subst, ap, ◌∙◌, arith, true, false, leb, Option, Some, None}
+use Rattle.std.proofs.Common.{◌≡◌, ℕ, ◌+◌, ◌<◌, ◌≤◌, List, [], ◌∷◌, ◌++◌, length, length-append, refl, sym, subst, ap, ◌∙◌, arith, true, false, leb, Option, Some, None}
 use Rattle.std.specs.Prelude.{unwrap_or}
 use Rattle.std.proofs.lemmas.Bool.Decides.{nat_tests}
 use Rattle.span_batcher.specs.Batches.{Rules, AreValidRules, Batch}
@@ -151,3 +151,42 @@ module _ {X : Type 0} where
       Some batch ≡ drained x old.spans
   drain_some r start [] x old batch is some e = absurd (omega arith)
   drain_some r start (s ∷ pending) x old batch is some e = ap Some e ∙ ap (λ (o : State X). drained x o.spans) is
+
+-- ---- spans that fill no batch
+
+module _ {X : Type 0} where
+  -- nothing is cut
+  pub append_cuts : (r : Rules) (start : Option ℕ) (pending : List X) (m : ℕ) (spans : List X) (old : State X) → record { rules = r; start = start; spans = pending } ≡ old → AreValidRules r → length old.spans + length spans < threshold old.rules →
+      cuts old.rules m (old.spans ++ spans) ≡ []
+  append_cuts r start pending m spans old is sound lt =
+      let size = length-append old.spans spans in
+      let valid : AreValidRules old.rules = subst (λ (o : State X). AreValidRules o.rules) is sound in
+      (cuts_none old.rules m (old.spans ++ spans) valid (omega (arith, size, lt))).0
+
+module _ {X : Type 0} where
+  few_in : (r : Rules) (start : Option ℕ) (pending spans : List X) (old : State X) (all : List X) → record { rules = r; start = start; spans = pending } ≡ old → all ≡ pending ++ spans → length old.spans + length spans < threshold old.rules → length all < threshold r
+  few_in r start pending spans old all is e lt =
+      let few : length pending + length spans < threshold r = subst (λ (o : State X). length o.spans + length spans < threshold o.rules) (sym is) lt in
+      let size = length-append pending spans in
+      let whole = ap length e in
+      omega (arith, few, size, whole)
+
+module _ {X : Type 0} where
+  -- they are pending with the others
+  pub append_is : (r : Rules) (start : Option ℕ) (pending : List X) (m : ℕ) (spans : List X) (old : State X) (all : List X) (start' : ℕ) → record { rules = r; start = start; spans = pending } ≡ old → AreValidRules r →
+      all ≡ pending ++ spans → length old.spans + length spans < threshold old.rules → start' ≡ unwrap_or start m →
+      record { rules = r; start = Some start'; spans = all } ≡ added m spans old
+  append_is r start pending m spans old all start' is sound e lt e' =
+      let rules : r ≡ old.rules = ap (λ (o : State X). o.rules) is in
+      ap (λ (q : Rules). let new : State X = record { rules = q; start = Some start'; spans = all } in new) rules
+      ∙ (plan_short r start pending m spans old [] all start' is sound e (few_in r start pending spans old all is e lt) refl e').1
+
+module _ {X : Type 0} where
+  -- and no batch is answered
+  pub appends : (r : Rules) (start : Option ℕ) (pending : List X) (m : ℕ) (spans : List X) (old : State X) (all : List X) (start' : ℕ) → record { rules = r; start = start; spans = pending } ≡ old → AreValidRules r → IsAfter (next_due old) m → 0 < length spans →
+      all ≡ pending ++ spans → length old.spans + length spans < threshold old.rules → start' ≡ unwrap_or start m →
+      Adds m spans old [] (record { rules = r; start = Some start'; spans = all })
+  appends r start pending m spans old all start' is sound after some e lt e' =
+      let rules : r ≡ old.rules = ap (λ (o : State X). o.rules) is in
+      subst (λ (q : Rules). Adds m spans old [] (record { rules = q; start = Some start'; spans = all })) (sym rules)
+      (plans_short r start pending m spans old [] all start' is sound after some e (few_in r start pending spans old all is e lt) refl e')

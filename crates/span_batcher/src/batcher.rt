@@ -1,11 +1,13 @@
 //! The pending spans of one tenant.
 
-ghost use Rattle.std.specs.Prelude.{◌≡◌, ℕ, ◌+◌, ◌^◌, ◌≤◌, ◌<◌, List, [], ◌∷◌, ◌++◌, length, IfOk, Option, Some, None, ◌≢◌};
+ghost use Rattle.std.specs.Prelude.{◌≡◌, ℕ, ◌+◌, ◌^◌, ◌≤◌, ◌<◌, List, [], ◌∷◌, ◌++◌, length, IfOk, OnOk, OnErr, Option, Some, None, ◌≢◌, nat_le};
 ghost use Rattle.span_batcher.specs.Batches.{AreValidRules, at_most};
 ghost use Rattle.span_batcher.specs.State.{State, state, next_due, IsAfter, Adds, Fires, Drains, Begins};
 ghost use Rattle.span_batcher.specs.Machine.{rules_of, threshold, start_in, cuts, uncut, added, fired, drained, taken};
+ghost use Rattle.span_batcher.specs.Marks.{mark_of, cut_back};
 
 use crate::batch::Batch;
+use crate::mark::PendingMark;
 use crate::planned::Planned;
 use std::alloc::{AllocError, Global};
 use std::marker::Model;
@@ -124,6 +126,52 @@ impl SpanBatcher {
         }
     }
 
+    /// Whether a group of so many spans fills a batch.
+    pub fn fills(&self, count: usize) -> bool
+        ensures { result ≡ nat_le (threshold self.now.rules) (length self.now.spans + count) }
+    {
+        threshold(self.timeout, self.size).saturating_sub(self.spans.len()) <= count
+    }
+
+    /// A group of spans comes at a moment in milliseconds, before the timer runs out, and fills no batch: it is pending
+    /// with what was. Of many that follow each other, each takes time by its own spans alone. Where memory is refused,
+    /// nothing has changed.
+    pub fn append(&mut self, moment: u64, spans: &[usize]) -> Result<(), AllocError>
+        requires not_empty { 0 < length spans.now }
+        requires moment { moment ≤ 2 ^ 62 }
+        requires timer { IsAfter (next_due self.old) moment }
+        requires fills_none { length self.old.spans + length spans.now < threshold self.old.rules }
+        ensures adds { OnOk result (Adds moment spans.now self.old [] self.new) }
+
+        // What that is, in terms of the pending spans alone.
+        ensures batches { cuts self.old.rules moment (self.old.spans ++ spans.now) ≡ [] }
+        ensures pending { OnOk result (self.new ≡ added moment spans.now self.old) }
+        ensures on_refusal { OnErr result (self.new ≡ self.old) }
+    {
+        self.spans.extend_from_slice(spans)?;
+        self.start = Some(self.start.unwrap_or(moment));
+        Ok(())
+    }
+
+    /// How many spans are pending, and when their timer started.
+    pub fn mark(&self) -> PendingMark
+        ensures { result ≡ mark_of self.now }
+    {
+        PendingMark {
+            count: self.spans.len(),
+            start: self.start,
+        }
+    }
+
+    /// What was appended since a mark was made, with nothing else between, is taken back: what was pending then is
+    /// again, with its timer. It takes no memory.
+    pub fn cut_back(&mut self, mark: PendingMark)
+        ensures { self.new ≡ cut_back mark self.old }
+    {
+        self.start = mark.start;
+        self.spans.truncate(mark.count);
+    }
+
     /// What a group of spans makes of the pending ones at a moment in milliseconds, before the timer runs out. Nothing
     /// changes yet, and `take` makes it so.
     pub fn plan(&self, moment: u64, spans: &[usize]) -> Result<Planned, AllocError>
@@ -138,7 +186,8 @@ impl SpanBatcher {
             planned.batches ≡ cuts self.now.rules moment (self.now.spans ++ spans.now)) }
         ensures pending { IfOk result (λ planned. taken planned self.now ≡ added moment spans.now self.now) }
     {
-        let mut all = Vec::from_slice(self.alloc, &self.spans)?;
+        let mut all = Vec::with_capacity(self.alloc, self.spans.len() + spans.len())?;
+        all.extend_from_slice(&self.spans)?;
         all.extend_from_slice(spans)?;
         if all.len() < threshold(self.timeout, self.size) {
             let start = Some(self.start.unwrap_or(moment));

@@ -23,12 +23,14 @@ ghost use Rattle.span_batcher.specs.Timers.{Passes, AllCome};
 mod batch;
 mod batcher;
 mod encode;
+mod mark;
 mod planned;
 mod request;
 
 pub use batch::Batch;
 pub use batcher::SpanBatcher;
 pub use encode::encode_batch;
+pub use mark::PendingMark;
 pub use planned::Planned;
 pub use request::batches_are_requests;
 

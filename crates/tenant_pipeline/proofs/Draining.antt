@@ -11,6 +11,7 @@ use Rattle.span_batcher.specs.Batches.{Batch}
 use Rattle.span_batcher.specs.State as batcher
 use Rattle.span_batcher.specs.State.{next_due, IsAfter}
 use Rattle.span_batcher.specs.Machine.{fired, drained}
+use Rattle.span_batcher.specs.Marks.{MarkData, cut_back}
 use Rattle.span_pool.specs.Stored.{StoredData}
 use Rattle.tail_policy.specs.declared.note.TraceNote.{TraceNote}
 use Rattle.tail_policy.specs.Note.{verdict_of}
@@ -157,23 +158,19 @@ rest_some own mid p moment offers b some there is_batch sends took room = record
 
 -- it can be taken back
 pub rest_undo : (u v : Undo) (own mid : Pipeline) (offers : ℕ) (change : State → State) → Sends change own mid → Took offers own.sender mid.sender →
-    v.rows ≡ u.rows → v.counters ≡ u.counters → v.former ≡ u.former → v.offers ≡ u.offers + offers →
+    v.rows ≡ u.rows → v.counters ≡ u.counters → v.mark ≡ u.mark → v.former ≡ u.former → v.offers ≡ u.offers + offers →
     (start : Pipeline) → TakesBack u start own → TakesBack v start mid
-rest_undo u v own mid offers change sends took rows counters former more start back =
+rest_undo u v own mid offers change sends took rows counters mark former more start back =
     let kept : mid.batcher ≡ own.batcher = ap (λ (x : Pipeline). x.batcher) sends.same in
     record {
       rows = rows ∙ back.rows;
       ledger = ap ledger_of counters ∙ back.ledger;
-      batcher = (λ i. before (former i) (kept i)) ∙ back.batcher;
+      batcher = (λ i. cut_back (mark i) (before (former i) (kept i))) ∙ back.batcher;
+      mark = let few = back.mark in let same : v.mark.count ≡ u.mark.count = ap (λ (m : MarkData). m.count) mark in let size : length (before v.former mid.batcher).spans ≡ length (before u.former own.batcher).spans = λ i. length (before (former i) (kept i)).spans in omega (arith, few, same, size);
       sender = ap (λ (n : ℕ). undone n mid.sender) more ∙ (undone-add u.offers offers mid.sender ∙ (ap (undone u.offers) took.back ∙ back.sender));
       offers = let count = took.count in let few = back.offers in omega (arith, more, count, few);
       same = back.same ∙ sym (ap (λ (x : Pipeline). let y : Pipeline = record x { rows = start.rows; ledger = start.ledger; batcher = start.batcher; sender = start.sender } in y) sends.same);
     }
-
--- what is taken back so is always some start
-pub some_start : (u : Undo) (own : Pipeline) → u.offers ≤ length own.sender.queue →
-    TakesBack u (record own { rows = u.rows; ledger = ledger_of u.counters; batcher = before u.former own.batcher; sender = undone u.offers own.sender }) own
-some_start u own few = record { rows = refl; ledger = refl; batcher = refl; sender = refl; offers = few; same = refl }
 
 -- ---- all rows
 

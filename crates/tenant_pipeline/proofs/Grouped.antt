@@ -1,16 +1,18 @@
 -- A group of spans waits for a batch: what that makes of a tenant's own, and how it is taken back.
-use Rattle.std.proofs.Common.{◌≡◌, ◌<◌, ◌+◌, ◌++◌, ◌∙◌, ℕ, List, length, map, refl, sym, ap, arith, Option, Some}
+use Rattle.std.proofs.Common.{◌≡◌, ◌<◌, ◌≤◌, ◌+◌, ◌++◌, ◌∙◌, ℕ, List, [], length, length-append, map, refl, sym, ap, subst, arith, Option, Some}
 use Rattle.std.specs.Prelude.{unwrap_or}
-use Rattle.drop_ledger.specs.Ledger.{ledger_of}
+use Rattle.drop_ledger.specs.Ledger.{ledger_of, moved}
 use Rattle.drop_ledger.specs.declared.places.Place.TheVariants.{Undecided, Pending}
 use Rattle.send_queue.specs.Sender.{BatchData}
 use Rattle.tail_settings.specs.SendingQueue.{SendingQueueData}
 use Rattle.tail_settings.specs.declared.section.Section.{Section}
-use Rattle.span_batcher.specs.Batches.{AreValidRules}
+use Rattle.span_batcher.specs.Batches.{AreValidRules, Batch}
 use Rattle.span_batcher.specs.State as batcher
 use Rattle.span_batcher.specs.State.{next_due, IsAfter}
-use Rattle.span_batcher.specs.Machine.{PlannedData, cuts, uncut, added}
+use Rattle.span_batcher.specs.Machine.{PlannedData, cuts, uncut, added, threshold}
+use Rattle.span_batcher.specs.Marks.{MarkData, cut_back}
 use Rattle.tail_policy.specs.declared.note.TraceNote.{TraceNote}
+use Rattle.span_batcher.proofs.Added.{cuts_none}
 use Rattle.tenant_stores.specs.Part.{Part}
 use Rattle.tenant_rules.specs.Arrivals.{Arrival}
 use Rattle.tenant_rules.specs.Batching.{all_sent}
@@ -23,8 +25,8 @@ use Rattle.tenant_pipeline.specs.StateIn.{state_of}
 use Rattle.tenant_pipeline.specs.Outbox.{arrivals_at, AreThere, batch_at, pending_at, undone, Sends, HasRoom, Groups, Took}
 use Rattle.tenant_pipeline.specs.Undo.{before, TakesBack}
 use Rattle.tenant_pipeline.proofs.Grouping.{cuts_are, group_size, added_are, sent_sizes, added_rules, added_spans, added_after}
-use Rattle.tenant_pipeline.proofs.Sending.{undone-add, pending_after}
-use Rattle.tenant_pipeline.proofs.Undoing.{before_same}
+use Rattle.tenant_pipeline.proofs.Sending.{undone-add, took_none, pending_after}
+use Rattle.tenant_pipeline.proofs.Undoing.{before_same, cut_same, mark_stays}
 
 module _ (own mid : Pipeline) (p : Part TraceNote) (moment : ℕ) (keys : List ℕ) (sent : List BatchData) (offers : ℕ)
     (there : AreThere p (own.batcher.spans ++ keys))
@@ -86,15 +88,58 @@ module _ (own mid : Pipeline) (p : Part TraceNote) (moment : ℕ) (keys : List �
 
   -- with the former pending spans noted
   pub undo_by : (planned : PlannedData ℕ) (u v : Undo) → planned.start ≡ own.batcher.start → planned.spans ≡ own.batcher.spans →
-      v.rows ≡ u.rows → v.counters ≡ u.counters → v.former ≡ Some (unwrap_or u.former planned) → v.offers ≡ u.offers + offers →
+      v.rows ≡ u.rows → v.counters ≡ u.counters → v.mark ≡ u.mark → v.former ≡ Some (unwrap_or u.former planned) → v.offers ≡ u.offers + offers →
       (start : Pipeline) → TakesBack u start own → TakesBack v start new
-  undo_by planned u v start_is spans_is rows counters former more start back =
+  undo_by planned u v start_is spans_is rows counters mark former more start back =
       let rules = added_rules moment keys own.batcher in
+      let pending : before v.former b ≡ before u.former own.batcher =
+      ap (λ (o : Option (PlannedData ℕ)). before o b) former ∙ before_same u.former own.batcher b planned rules start_is spans_is in
       record {
         rows = rows ∙ back.rows;
         ledger = ap ledger_of counters ∙ back.ledger;
-        batcher = ap (λ (o : Option (PlannedData ℕ)). before o b) former ∙ (before_same u.former own.batcher b planned rules start_is spans_is ∙ back.batcher);
+        batcher = (λ i. cut_back (mark i) (pending i)) ∙ back.batcher;
+        mark = subst (λ (s : batcher.State ℕ). v.mark.count ≤ length s.spans) (sym pending) (subst (λ (m : MarkData). m.count ≤ length (before u.former own.batcher).spans) (sym mark) back.mark);
         sender = ap (λ (n : ℕ). undone n mid.sender) more ∙ (undone-add u.offers offers mid.sender ∙ (ap (undone u.offers) took.back ∙ back.sender));
         offers = let count = took.count in let few = back.offers in omega (arith, more, count, few);
         same = back.same ∙ sym (ap (λ (x : Pipeline). let y : Pipeline = record x { rows = start.rows; ledger = start.ledger; batcher = start.batcher; sender = start.sender } in y) sends.same);
       }
+
+-- with a group that fills no batch
+abbrev pub appended : Pipeline → ℕ → List ℕ → Pipeline
+appended own moment keys = record own { batcher = added moment keys own.batcher; ledger = moved Undecided Pending (length keys) own.ledger }
+
+module _ (own : Pipeline) (p : Part TraceNote) (moment : ℕ) (keys : List ℕ) (there : AreThere p (own.batcher.spans ++ keys))
+    (none : cuts own.batcher.rules moment (own.batcher.spans ++ keys) ≡ []) where
+  pub groups_appended : AreValidRules own.batcher.rules → 0 < length keys → IsAfter (next_due own.batcher) moment → own.ledger.places.pending ≡ length own.batcher.spans → HasRoom own →
+      Groups moment keys p own (appended own moment keys)
+  groups_appended sound some after counted room =
+      let mid : Pipeline = record own { ledger = moved Undecided Pending (length keys) own.ledger } in
+      let sent : [] ≡ all_sent (map (batch_at p) (cuts own.batcher.rules moment (own.batcher.spans ++ keys))) = ap (λ (bs : List (Batch ℕ)). all_sent (map (batch_at p) bs)) (sym none) in
+      let sends : Sends (λ s. all_queued [] (recount Undecided Pending (length keys) s)) own mid = record {
+        rules = λ s sender ledger i. let t : State = record s { sender = sender i; ledger = moved Undecided Pending (length keys) (ledger i) } in t;
+        same = refl;
+      } in
+      groups_by own mid p moment keys [] 0 there sent sends (took_none own.sender) sound some after counted room
+
+-- the keys are pending behind what was
+pub appended_spans : (b : batcher.State ℕ) (moment : ℕ) (keys : List ℕ) → AreValidRules b.rules → length b.spans + length keys < threshold b.rules → (added moment keys b).spans ≡ b.spans ++ keys
+appended_spans b moment keys sound few =
+    let size = length-append b.spans keys in
+    added_spans moment keys b ∙ (cuts_none b.rules moment (b.spans ++ keys) sound (omega (arith, few, size))).1
+
+-- and what is noted takes it back as before
+pub undo_appended : (own : Pipeline) (moment : ℕ) (keys : List ℕ) (grown : Pipeline) → grown ≡ appended own moment keys →
+    (added moment keys own.batcher).spans ≡ own.batcher.spans ++ keys → (u : Undo) (start : Pipeline) → TakesBack u start own → TakesBack u start grown
+undo_appended own moment keys grown is spans u start back =
+    let b = added moment keys own.batcher in
+    let rules = added_rules moment keys own.batcher in
+    let done : TakesBack u start (appended own moment keys) = record {
+      rows = back.rows;
+      ledger = back.ledger;
+      batcher = cut_same u.mark own.batcher b keys rules spans u.former back.mark ∙ back.batcher;
+      mark = mark_stays u.mark own.batcher b keys rules spans u.former back.mark;
+      sender = back.sender;
+      offers = back.offers;
+      same = back.same;
+    } in
+    subst (λ (o : Pipeline). TakesBack u start o) (sym is) done

@@ -114,6 +114,7 @@ swapped u start own caches back = record {
   rows = back.rows;
   ledger = back.ledger;
   batcher = back.batcher;
+  mark = back.mark;
   sender = back.sender;
   offers = back.offers;
   same = ap (λ (x : Pipeline). let y : Pipeline = record x { caches = own.caches } in y) back.same;
@@ -132,6 +133,7 @@ back_over n u v start own new over back =
       rows = b.rows;
       ledger = b.ledger;
       batcher = b.batcher;
+      mark = b.mark;
       sender = b.sender;
       offers = b.offers;
       same = ap (λ (x : Pipeline). let y : Pipeline = record x { caches = start.caches } in y) b.same

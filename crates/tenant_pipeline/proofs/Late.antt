@@ -2,7 +2,7 @@
 use Rattle.std.proofs.Common.{◌≡◌, ◌<◌, ◌≤◌, ◌+◌, ◌++◌, ◌∙◌, ℕ, List, [], ◌∷◌, length, map, refl, sym, ap, subst, arith, Option, Some, None}
 use Rattle.std.specs.List.{AllByRecursion}
 use Rattle.std.proofs.lemmas.List.{length-map}
-use Rattle.drop_ledger.specs.Ledger.{counted, ledger_of, most_counted, moved, taken}
+use Rattle.drop_ledger.specs.Ledger.{counted, most_counted, moved, taken}
 use Rattle.drop_ledger.specs.declared.places.Place.TheVariants.{Undecided, NotSampled}
 use Rattle.span_batcher.specs.State as batcher
 use Rattle.span_batcher.specs.State.{next_due}
@@ -30,9 +30,8 @@ use Rattle.tenant_pipeline.specs.declared.journal.Journal.{Journal}
 use Rattle.tenant_pipeline.specs.declared.undo.Undo.{Undo}
 use Rattle.tenant_pipeline.specs.StateIn.{arrivals_of, settled_of, waiting_of, counts_in, policies_of, pending_with, state_of, view_in}
 use Rattle.tenant_pipeline.specs.Invariant.{IsNoted, PipelineInvariantAt}
-use Rattle.tenant_pipeline.specs.Outbox.{arrivals_at, AreThere, Groups, pending_at, undone}
+use Rattle.tenant_pipeline.specs.Outbox.{arrivals_at, AreThere, Groups, pending_at}
 use Rattle.tenant_pipeline.specs.Posts.{arrival_at, Came, IsPosting}
-use Rattle.tenant_pipeline.specs.Undo.{before, TakesBack}
 use Rattle.tenant_rules.proofs.Arrived.{more_of}
 use Rattle.tenant_rules.proofs.Sums.{Kept as KeptCounts, fixed_of}
 use Rattle.tenant_pipeline.proofs.Counting.{HasOne, fits_same, late_fits, late_kept, lost_fits}
@@ -121,7 +120,7 @@ module _ (own : Pipeline) (p mid q : Part TraceNote) (moment : ℕ) (journal : J
 
   module _ (new : Pipeline) (journal' : Journal) (groups : Groups moment (key ∷ []) q counted_own new)
       (all : (k : ℕ) → count k journal'.undo.gone.items + count k new.batcher.spans ≡ count k gone + (count k own.batcher.spans + count k (key ∷ [])))
-      (back : (start : Pipeline) → TakesBack journal.undo start counted_own → TakesBack journal'.undo start new) where
+      (offers : journal'.undo.offers ≤ length new.sender.queue) where
     abbrev b : batcher.State ℕ
     b = new.batcher
 
@@ -177,15 +176,11 @@ module _ (own : Pipeline) (p mid q : Part TraceNote) (moment : ℕ) (journal : J
         }
 
     posting_then : (other : List ℕ) → IsPosting moment journal other own p → IsPosting moment journal' other new q
-    posting_then other again =
-        let u = journal.undo in
-        let start : Pipeline = record own { rows = u.rows; ledger = ledger_of u.counters; batcher = before u.former own.batcher; sender = undone u.offers own.sender } in
-        let taken_back = back start (record { rows = refl; ledger = refl; batcher = refl; sender = refl; offers = again.offers; same = refl }) in
-        record {
-          holds = subst (λ (o : Pipeline). PipelineInvariantAt moment journal'.undo.gone.items other o q) (sym groups.same) (held_then other again);
-          quiet = groups.timer;
-          offers = taken_back.offers;
-        }
+    posting_then other again = record {
+      holds = subst (λ (o : Pipeline). PipelineInvariantAt moment journal'.undo.gone.items other o q) (sym groups.same) (held_then other again);
+      quiet = groups.timer;
+      offers = offers;
+    }
 
     pub late_came : Came (λ (t : State). grouped Undecided moment (x ∷ []) (counted_in t)) moment journal journal' own new p q
     late_came = record {

@@ -77,6 +77,7 @@ takes_back undo start own rows ledger back = record {
   rows = back.rows;
   ledger = back.ledger;
   batcher = back.batcher;
+  mark = back.mark;
   sender = back.sender;
   offers = back.offers;
   same = back.same;

@@ -116,7 +116,7 @@ left_out_written invalid over journal start own first p written =
     let undo = written.undo in
     record {
       trail = written.trail;
-      undo = record { rows = undo.rows; ledger = undo.ledger; batcher = undo.batcher; sender = undo.sender; offers = undo.offers; same = undo.same };
+      undo = record { rows = undo.rows; ledger = undo.ledger; batcher = undo.batcher; mark = undo.mark; sender = undo.sender; offers = undo.offers; same = undo.same };
       hits = written.hits;
     }
 

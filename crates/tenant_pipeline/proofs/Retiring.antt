@@ -1,5 +1,5 @@
 -- A tenant that is told its last report has no span that waits for a batch.
-use Rattle.std.proofs.Common.{◌≡◌, ◌∙◌, ℕ, suc, List, [], ◌∷◌, map, length, refl, sym, ap, arith, Bool, true, false, cond, eqb}
+use Rattle.std.proofs.Common.{◌≡◌, ◌∙◌, ℕ, List, [], ◌∷◌, map, length, refl, sym, ap, arith, Bool, true, false, cond, eqb}
 use Rattle.std.specs.Prelude.{◌&&◌}
 use Rattle.std.proofs.lemmas.Bool.Decides.{nat_tests}
 use Rattle.std.proofs.lemmas.List.{length-map}
@@ -11,7 +11,6 @@ use Rattle.tenant_stores.specs.Part.{Part}
 use Rattle.tenant_stores.specs.Shows.{span_at}
 use Rattle.tenant_stores.specs.View.{spans_at}
 use Rattle.tenant_stores.proofs.Keys.{keys_are_shown}
-use Rattle.tenant_rules.specs.declared.reply.StepReply.{StepReply}
 use Rattle.tenant_rules.specs.declared.reply.StepReply.TheVariants as replies
 use Rattle.tenant_rules.specs.Retiring.{holds_none, retire_told}
 use Rattle.tenant_pipeline.specs.declared.pipeline.Pipeline.{Pipeline}

@@ -3,11 +3,12 @@ use Rattle.std.specs.Prelude.{◌≡◌, ◌≤◌, ℕ, length, take, Option, N
 use Rattle.drop_ledger.specs.Ledger.{ledger_of}
 use Rattle.span_batcher.specs.State as batcher
 use Rattle.span_batcher.specs.Machine.{PlannedData, taken}
+use Rattle.span_batcher.specs.Marks.{cut_back}
 use Rattle.tenant_pipeline.specs.declared.pipeline.Pipeline.{Pipeline}
 use Rattle.tenant_pipeline.specs.declared.undo.Undo.{Undo}
 use Rattle.tenant_pipeline.specs.Outbox.{undone}
 
--- what was pending before the first group, where one came
+-- what was pending before the first group that filled a batch, where one did
 abbrev pub before : Option (PlannedData ℕ) → batcher.State ℕ → batcher.State ℕ
 before None b = b
 before (Some former) b = taken former b
@@ -16,7 +17,8 @@ before (Some former) b = taken former b
 pub record TakesBack (undo : Undo) (start own : Pipeline) : Type 0 where
   pub rows : undo.rows ≡ start.rows
   pub ledger : ledger_of undo.counters ≡ start.ledger
-  pub batcher : before undo.former own.batcher ≡ start.batcher
+  pub batcher : cut_back undo.mark (before undo.former own.batcher) ≡ start.batcher
+  pub mark : undo.mark.count ≤ length (before undo.former own.batcher).spans
   pub sender : undone undo.offers own.sender ≡ start.sender
   pub offers : undo.offers ≤ length own.sender.queue
   pub same : start ≡

@@ -118,6 +118,7 @@ impl Pipeline {
             count key undo.old.gone.items + (count key self.old.batcher.spans
             + count key (keys_if (policies_of self.old) ((part_in self.old stores.now).rows number)))) }
         ensures back { (start : Own) → TakesBack undo.old start self.old → TakesBack undo.new start self.new }
+        ensures offers { undo.new.offers ≤ length self.new.sender.queue }
     {
         let Some(row) = stores.row(self.tenant, number) else {
             unreachable!()

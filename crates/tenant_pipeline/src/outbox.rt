@@ -1,10 +1,11 @@
 //! Spans that leave their rows become batches that wait to be sent.
 
 ghost use Rattle.std.specs.Prelude.{◌≡◌, ◌<◌, ◌≤◌, ◌+◌, ◌^◌, ◌++◌, ◌∷◌, [], ℕ, map, length, IfOk, OnOk, OnErr};
+ghost use Rattle.drop_ledger.specs.Ledger.{moved};
 ghost use Rattle.drop_ledger.specs.declared.places.Place.TheVariants.{Undecided, Pending};
 ghost use Rattle.send_queue.specs.View.{batch_view};
 ghost use Rattle.span_batcher.specs.State.{next_due, IsAfter};
-ghost use Rattle.span_batcher.specs.Machine.{cuts, added, taken};
+ghost use Rattle.span_batcher.specs.Machine.{threshold, cuts, added, taken};
 ghost use Rattle.span_batcher.specs.Maps.{spans_of};
 ghost use Rattle.span_batcher.specs.Texts.{spans_in};
 ghost use Rattle.tenant_stores.specs.Part.{part};
@@ -207,6 +208,27 @@ impl Pipeline {
         offered
     }
 
+    /// The undecided spans at these keys leave together at a moment, in milliseconds, fill no batch, and are pending
+    /// with what was. Where memory is refused, nothing has changed.
+    fn append_group(&mut self, moment: u64, keys: &[usize]) -> Result<(), AllocError>
+        requires not_empty { 0 < length keys.now }
+        requires moment { moment ≤ 2 ^ 62 }
+        requires timer { IsAfter (next_due self.old.batcher) moment }
+        requires fills_none { length self.old.batcher.spans + length keys.now < threshold self.old.batcher.rules }
+        requires undecided { length keys.now ≤ self.old.ledger.places.undecided }
+        ensures batches { cuts self.old.batcher.rules moment (self.old.batcher.spans ++ keys.now) ≡ [] }
+        ensures on_success { OnOk result (self.new ≡ record self.old {
+          batcher = added moment keys.now self.old.batcher;
+          ledger = moved Undecided Pending (length keys.now) self.old.ledger;
+        }) }
+        ensures on_refusal { OnErr result (self.new ≡ self.old) }
+    {
+        self.batcher.append(moment, keys)?;
+        self.ledger
+            .move_spans(Place::Undecided, Place::Pending, keys.len() as u64);
+        Ok(())
+    }
+
     /// The undecided spans at these keys leave together at a moment, in milliseconds, and wait for a batch. Batches
     /// that this fills are offered, and the keys of their spans noted as gone. All of it happens, or nothing.
     pub(crate) fn group(
@@ -233,9 +255,13 @@ impl Pipeline {
 
         // It can be taken back as before.
         ensures back { (start : Own) → TakesBack undo.old start self.old → TakesBack undo.new start self.new }
+        ensures offers { undo.new.offers ≤ length self.new.sender.queue }
         ensures on_refusal { OnErr result (self.new ≡ self.old) }
         ensures gone_on_refusal { OnErr result (undo.new.gone.items ≡ undo.old.gone.items) }
     {
+        if !self.batcher.fills(keys.len()) {
+            return self.append_group(moment, keys);
+        }
         let GroupPlan {
             mut planned,
             sent,

@@ -154,9 +154,15 @@ impl Pipeline {
         Ok(())
     }
 
-    /// The first timer runs.
-    fn run_one(&mut self, stores: &mut Stores<TraceNote>, moment: u64) -> Result<(), AllocError>
+    /// The first timer runs, where the first row that waits is due at `decision`.
+    fn run_one(
+        &mut self,
+        stores: &mut Stores<TraceNote>,
+        decision: Option<u64>,
+        moment: u64,
+    ) -> Result<(), AllocError>
         requires invariant { PipelineInvariant self.old stores.old }
+        requires decision { decision ≡ first_due (state_in self.old stores.old).waiting }
         requires due { is_due (next_timer (state_in self.old stores.old)) moment ≡ true }
         requires fits { moment ≤ 2 ^ 62 }
         ensures on_success { OnOk result (state_in self.new stores.new ≡ one_run (state_in self.old stores.old)) }
@@ -169,7 +175,7 @@ impl Pipeline {
         ensures swept { IsSwept self.old → IsSwept self.new }
         ensures clock { self.old.clock ≤ moment → self.new.clock ≤ moment }
     {
-        if is_batch(self.batcher.next_due(), self.first_due(stores)) {
+        if is_batch(self.batcher.next_due(), decision) {
             self.flush(stores)
         } else {
             self.caches.commit();
@@ -203,8 +209,10 @@ impl Pipeline {
         ensures section { self.new.section ≡ self.old.section }
         ensures swept { IsSwept self.old → IsSwept self.new }
     {
-        while is_due(self.next_timer(stores), moment) {
-            self.run_one(stores, moment)?;
+        let mut decision = self.first_due(stores);
+        while is_due(lesser(self.batcher.next_due(), decision), moment) {
+            self.run_one(stores, decision, moment)?;
+            decision = self.first_due(stores);
         }
         Ok(())
     }

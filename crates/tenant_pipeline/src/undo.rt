@@ -9,7 +9,7 @@ ghost use Rattle.tenant_pipeline.specs.Undo.{before, TakesBack};
 use crate::pipeline::{Pipeline, RowCounts};
 use drop_ledger::Ledger;
 use send_queue::SendQueue;
-use span_batcher::{Planned, SpanBatcher};
+use span_batcher::{PendingMark, Planned, SpanBatcher};
 
 /// What a step has changed of its tenant's own so far, so that it can be taken back without memory.
 #[derive(Drop)]
@@ -18,7 +18,9 @@ pub struct Undo {
     pub rows: RowCounts,
     /// The counters as they were.
     pub counters: [u64; 14],
-    /// What was pending before the first group, where one came.
+    /// How many spans were pending, and when their timer started.
+    pub mark: PendingMark,
+    /// What was pending before the first group that filled a batch, where one did.
     pub former: Option<Planned>,
     /// How many batches the queue took.
     pub offers: usize,
@@ -36,13 +38,14 @@ impl Undo {
         Undo {
             rows: own.rows,
             counters: own.ledger.counters(),
+            mark: own.batcher.mark(),
             former: None,
             offers: 0,
             gone: Vec::new(own.alloc),
         }
     }
 
-    /// A group came, before which this was pending, and the queue took so many batches of it.
+    /// A group filled batches, before which this was pending, and the queue took so many of them.
     pub(crate) fn note(&mut self, former: Planned, offers: usize)
         requires offers_bounded { self.old.offers + offers < 2 ^ 64 }
         ensures { self.new ≡ record self.old {
@@ -66,6 +69,7 @@ impl Pipeline {
         let Undo {
             rows,
             counters,
+            mark,
             former,
             offers,
             ..
@@ -73,11 +77,12 @@ impl Pipeline {
         self.rows = rows;
         self.ledger = Ledger::of(counters);
         put_back(&mut self.batcher, former);
+        self.batcher.cut_back(mark);
         take_back_offers(&mut self.sender, offers);
     }
 }
 
-/// What was pending before the first group is pending again, where one came.
+/// What was pending before the first group that filled a batch is pending again, where one did.
 fn put_back(batcher: &mut SpanBatcher, former: Option<Planned>)
     ensures { batcher.new ≡ before former batcher.old }
 {

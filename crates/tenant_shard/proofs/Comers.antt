@@ -1,11 +1,11 @@
 -- Who comes, by what is kept.
-use Rattle.std.proofs.Common.{◌≡◌, ℕ, List, [], ◌∷◌, refl, sym, ap, ◌∙◌, arith, Bool, true, false, eqb, Option, Some, None, inl, inr}
+use Rattle.std.proofs.Common.{◌≡◌, ℕ, List, [], ◌∷◌, sym, ap, ◌∙◌, arith, true, false, Some, None, inl, inr}
 use Rattle.std.proofs.lemmas.Bool.{cases_eq}
 use Rattle.std.proofs.lemmas.Bool.Decides.{nat_tests}
 use Rattle.std.specs.Option.{unwrap_or}
 use Rattle.tail_settings.specs.Section.{SectionData, section_view}
 use Rattle.tail_settings.specs.declared.section.Section.{Section}
-use Rattle.tenant_rules.specs.State.{State, state}
+use Rattle.tenant_rules.specs.State.{state}
 use Rattle.tenant_shard.specs.declared.step.Step.{Step}
 use Rattle.tenant_shard.specs.declared.step.Step.TheVariants as steps
 use Rattle.tenant_shard.specs.declared.step.Outcome.{Outcome}
@@ -13,8 +13,7 @@ use Rattle.tenant_shard.specs.declared.step.Outcome.TheVariants.{Done, Refused}
 use Rattle.tenant_shard.specs.View.{View, kept_of, was_of}
 use Rattle.tenant_shard.specs.Outcomes.{Asked, Piped, Comes, number_used}
 use Rattle.tenant_shard.specs.Follows.{ShardFollows}
-use Rattle.tenant_shard.specs.Chain.{ShardRuns}
-use Rattle.tenant_shard.specs.Comings.{adds, IsNeverLetIn, NeverAgain, AlwaysWelcome}
+use Rattle.tenant_shard.specs.Comings.{adds, NeverAgain, AlwaysWelcome}
 
 some_same : (a b : ℕ) → Some a ≡ Some b → a ≡ b
 some_same a b e = ap (λ o. unwrap_or o a) e

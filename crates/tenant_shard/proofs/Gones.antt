@@ -6,7 +6,7 @@ use Rattle.std.proofs.lemmas.List.Edits.{length-insert, length-remove}
 use Rattle.std.proofs.lemmas.List.Folds.{list_any_at}
 use Rattle.std.proofs.lemmas.List.Sorted.{searched, IsNonDecreasingBy-insert, IsPermutation-insert, list_any-IsPermutation}
 use Rattle.std.specs.Prelude.{◌||◌, option_and_then, IfSome}
-use Rattle.std.specs.List.{insert, remove, list_any}
+use Rattle.std.specs.List.{insert, remove}
 use Rattle.std.specs.List.Sorted.{IsNonDecreasing, IsBinarySearchResult}
 use Rattle.std.specs.Ordering.{nat_cmp}
 use Rattle.std.specs.Result.{MatchResult, is_ok}

@@ -1,10 +1,9 @@
 -- What is asked of a pipeline.
-use Rattle.std.proofs.Common.{◌≡◌, ℕ, List, refl, sym, subst, ap, ◌∙◌, Bool, true, false, None, Some}
+use Rattle.std.proofs.Common.{◌≡◌, ℕ, List, refl, subst, ap, ◌∙◌, Bool, true, false}
 use Rattle.tenant_rules.specs.declared.reply.StepReply.{StepReply}
-use Rattle.tenant_rules.specs.State.{State}
-use Rattle.tenant_shard.specs.View.{View, kept_of, was_of}
-use Rattle.tenant_shard.specs.Outcomes.{OwnStep, Asked, Piped, Comes, Answered, named, is_report, reports, has_left}
-use Rattle.tenant_shard.specs.Steps.{IsForPipeline, IfPiped, ends, kept_after, IsChangeOf, IsToldOf, IsStepOf, IsDepartureOf}
+use Rattle.tenant_shard.specs.View.{View}
+use Rattle.tenant_shard.specs.Outcomes.{OwnStep, Asked, Piped, Comes, Answered, named, reports, has_left}
+use Rattle.tenant_shard.specs.Steps.{IsForPipeline, IfPiped, ends, IsToldOf, IsStepOf, IsDepartureOf}
 use Rattle.tenant_shard.proofs.Wholes.{reports-named}
 
 pub piped_step : (asked : Asked) → IsForPipeline asked → (step : OwnStep) × (asked ≡ Piped step)

@@ -18,11 +18,11 @@ use Rattle.tenant_shard.specs.declared.step.Outcome.{Outcome}
 use Rattle.tenant_shard.specs.declared.step.Outcome.TheVariants.{Idle, Done, Refused}
 use Rattle.tenant_shard.specs.View.{View, kept_of, was_of}
 use Rattle.tenant_shard.specs.Lives.{Life, gone, Lives, MemberStands, LifeStands, ShardStands}
-use Rattle.tenant_shard.specs.Outcomes.{OwnStep, plain, Asked, Piped, Comes, asked_in, named_in, are_for, is_taken, not_member, other_policies, number_used, Answer, Answered, NotTaken, named, told_whom, whose, is_tenant, is_own, reports, has_left}
+use Rattle.tenant_shard.specs.Outcomes.{OwnStep, plain, Asked, Piped, Comes, asked_in, named_in, is_taken, not_member, other_policies, number_used, Answer, Answered, NotTaken, named, told_whom, whose, is_tenant, is_own, reports, has_left}
 use Rattle.tenant_shard.specs.Pick.{ready_in, ready_after, ready_at}
 use Rattle.shard_agenda.specs.Pick.{IsPick}
 use Rattle.tenant_shard.specs.Run.{IsTakenOrNot, IsAnswered, IsAnswerTo, IsOutcomeOf, IsOutcome, came, lived_by, lived, AllKnown, OthersStay, ShardSteps, after}
-use Rattle.tenant_shard.specs.Refusal.{IsStepFor, IsNobodys, Reaches, ReachesNone, IsNewcomer, ShardRefuses}
+use Rattle.tenant_shard.specs.Refusal.{IsStepFor, IsNobodys, Reaches, ReachesNone, ShardRefuses}
 use Rattle.tenant_shard.specs.Follows.{ShardFollows}
 use Rattle.tenant_shard.specs.Steps.{kept_after, IsStepOf, IsLossOf, IsAdditionOf, IsComingOf}
 

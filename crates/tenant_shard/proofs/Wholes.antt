@@ -12,7 +12,7 @@ use Rattle.tenant_shard.specs.declared.step.Outcome.{Outcome}
 use Rattle.tenant_shard.specs.View.{View}
 use Rattle.tenant_shard.specs.Lives.{Life, new_life, gone, Lives, ShardStands}
 use Rattle.tenant_shard.specs.Outcomes.{OwnStep, Asked, Piped, Comes, asked_in, named_in, is_taken, other_policies, Answer, Answered, NotTaken, named, told_whom, whose, is_tenant, is_own, is_report, reports, has_left}
-use Rattle.tenant_shard.specs.Run.{IsTakenOrNot, IsAnswered, IsAnswerTo, IsTurned, IsOutcomeOf, IsOutcome, came, lived_by, lived, AllKnown, after, after_all}
+use Rattle.tenant_shard.specs.Run.{IsTakenOrNot, IsAnswered, IsAnswerTo, IsTurned, IsOutcomeOf, IsOutcome, came, lived_by, lived, after, after_all}
 use Rattle.tenant_shard.specs.Chain.{Chain, ShardRuns, RunsByOwnSteps, StandsAfter}
 use Rattle.tenant_shard.specs.Alone.{said_by, said, alone, own_steps, told_to, EachAlone, OwnStepsDecide}
 use Rattle.tenant_shard.specs.Refusal.{ShardRefuses}

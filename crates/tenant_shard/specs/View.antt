@@ -1,5 +1,5 @@
 -- What a shard keeps of each number that is or was a member's. This project's own rule.
-use Rattle.std.specs.Prelude.{◌≡◌, ℕ, Bool, false, List, [], ◌∷◌, Option, Some, None, if◌then◌else◌, ◌==◌, ◌||◌}
+use Rattle.std.specs.Prelude.{◌≡◌, ℕ, Bool, false, List, [], ◌∷◌, Option, None, if◌then◌else◌, ◌==◌, ◌||◌}
 use Rattle.tenant_rules.specs.State.{State}
 
 -- a number that is or was a member's, and what is kept of it: nothing where it is gone

@@ -31,7 +31,8 @@ audited_and_verbose = record none_given { audit = true; verbose = true }
 
 -- the options that have a number
 abbrev pub numbered : List (List ℕ)
-numbered = codes "--connections" ∷ codes "--senders" ∷ codes "--client-timeout" ∷ codes "--back-end-timeout" ∷ []
+numbered = codes "--connections" ∷ codes "--senders" ∷ codes "--client-timeout" ∷ codes "--request-timeout"
+    ∷ codes "--back-end-timeout" ∷ []
 
 pub record Arguments : Type 0 where
   pub named : task_of (command ∷ path ∷ []) ≡ Some (replay path)
@@ -64,21 +65,24 @@ pub record Arguments : Type 0 where
   pub twice : served_with (codes "--verbose" ∷ codes "--verbose" ∷ []) ≡ None
   pub both_and_more : served_with (codes "--audit" ∷ codes "--verbose" ∷ path ∷ []) ≡ None
   pub all : served_with (codes "--back-end-timeout" ∷ codes "4294967295" ∷ codes "--audit" ∷ codes "--senders" ∷ codes "4096"
-      ∷ codes "--client-timeout" ∷ codes "1" ∷ codes "--verbose" ∷ codes "--connections" ∷ codes "065536" ∷ [])
+      ∷ codes "--client-timeout" ∷ codes "1" ∷ codes "--verbose" ∷ codes "--request-timeout" ∷ codes "20"
+      ∷ codes "--connections" ∷ codes "065536" ∷ [])
       ≡ Some (serve path (record {
         audit = true;
         verbose = true;
         connections = Some 65536;
         senders = Some 4096;
         client_timeout = Some 1;
+        request_timeout = Some 20;
         back_end_timeout = Some 4294967295;
       }))
   pub no_value : served_with (codes "--connections" ∷ []) ≡ None
   pub option_as_value : served_with (codes "--connections" ∷ codes "--audit" ∷ []) ≡ None
-  pub too_few : map (λ option. served_with (option ∷ codes "0" ∷ [])) numbered ≡ None ∷ None ∷ None ∷ None ∷ []
+  pub too_few : map (λ option. served_with (option ∷ codes "0" ∷ [])) numbered ≡ None ∷ None ∷ None ∷ None ∷ None ∷ []
   pub too_many : served_with (codes "--connections" ∷ codes "65537" ∷ []) ≡ None
   pub too_many_senders : served_with (codes "--senders" ∷ codes "4097" ∷ []) ≡ None
   pub too_long : served_with (codes "--client-timeout" ∷ codes "4294967296" ∷ []) ≡ None
+  pub too_long_request : served_with (codes "--request-timeout" ∷ codes "4294967296" ∷ []) ≡ None
   pub too_long_back_end : served_with (codes "--back-end-timeout" ∷ codes "4294967296" ∷ []) ≡ None
   pub signed : served_with (codes "--senders" ∷ codes "+1" ∷ []) ≡ None
   pub no_digits : served_with (codes "--senders" ∷ [] ∷ []) ≡ None

@@ -16,4 +16,5 @@ pub record IsAsked (given : ServeOptions) (keys : HashKeys) (asked : ServiceOpti
   pub connections : asked.connections ≡ given.connections
   pub senders : asked.senders ≡ given.senders
   pub client_timeout : option_map as_nanos asked.client_timeout ≡ nanos_of given.client_timeout
+  pub request_timeout : option_map as_nanos asked.request_timeout ≡ nanos_of given.request_timeout
   pub back_end_timeout : option_map as_nanos asked.back_end_timeout ≡ nanos_of given.back_end_timeout

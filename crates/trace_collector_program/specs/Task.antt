@@ -42,6 +42,7 @@ none_given = record {
   connections = None;
   senders = None;
   client_timeout = None;
+  request_timeout = None;
   back_end_timeout = None;
 }
 
@@ -78,6 +79,8 @@ with_value given name value =
     option_map (λ n. record given { senders = Some n }) (once given.senders (up_to 4096 value))
     else if bytes_eq name (codes "--client-timeout") then
     option_map (λ n. record given { client_timeout = Some n }) (once given.client_timeout (up_to most_millis value))
+    else if bytes_eq name (codes "--request-timeout") then
+    option_map (λ n. record given { request_timeout = Some n }) (once given.request_timeout (up_to most_millis value))
     else if bytes_eq name (codes "--back-end-timeout") then
     option_map (λ n. record given { back_end_timeout = Some n })
     (once given.back_end_timeout (up_to most_millis value))

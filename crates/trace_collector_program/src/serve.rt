@@ -1,8 +1,8 @@
 //! The word `serve`.
 
-ghost use Rattle.std.specs.Prelude.{◌≡◌, option_map};
+ghost use Rattle.std.specs.Prelude.{◌≡◌, ◌↔◌, Ok, IfErr, option_map};
 ghost use Rattle.std.specs.Duration.{as_nanos};
-ghost use Rattle.trace_collector_program.specs.Fault.{of_service};
+ghost use Rattle.trace_collector_program.specs.Fault.{of_service, IsOutside};
 ghost use Rattle.trace_collector_program.specs.Serve.{IsAsked, nanos_of};
 
 use crate::reason::Reason;
@@ -68,6 +68,10 @@ impl<R: Eprint> Course<'_, R> {
                 let address = self.listener.local_addr()?;
                 eprintln!(self.rt; "serving at {address}")
             }
+            Stage::Skipped { line } => {
+                let line = line.escape_ascii();
+                eprintln!(self.rt; "skipped: {line}")
+            }
             Stage::Draining => self.rt.eprintln(
                 "draining: tenants take no more spans, and send what they hold",
             ),
@@ -124,8 +128,19 @@ where
         service_options(options, keys),
     );
     put_streams(reason, input.get_ref(), &output);
-    served?;
-    Ok(())
+    whole(served?)
+}
+
+/// The fault of a service of whose answers so many were lost.
+fn whole(lost: u64) -> Result<(), ProgramFault>
+    ensures whole { result ≡ Ok tt ↔ lost ≡ 0 }
+    ensures fault { IfErr result IsOutside }
+{
+    if lost == 0 {
+        Ok(())
+    } else {
+        Err(ProgramFault::Replay(ReplayFault::Line))
+    }
 }
 
 /// How the service is run that these options ask for.
@@ -138,6 +153,7 @@ fn service_options(options: &ServeOptions, keys: HashKeys) -> ServiceOptions
         connections: options.connections,
         senders: options.senders,
         client_timeout: duration(options.client_timeout),
+        request_timeout: duration(options.request_timeout),
         back_end_timeout: duration(options.back_end_timeout),
     }
 }

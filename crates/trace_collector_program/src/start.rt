@@ -20,8 +20,8 @@ const LIMITS: &str = "/proc/self/limits";
 
 /// Fewer files may be open than a service needs.
 #[derive(Debug, Drop, Error)]
-#[error("at most {limit}, and {receivers} receivers and {senders} senders need {needed}: raise the limit (`ulimit -n`), or \
-     lower receivers or senders")]
+#[error("at most {limit}, and {receivers} receivers and {senders} senders need {needed}: raise the limit \
+     (`ulimit -n`), or lower receivers or senders")]
 struct Shortage {
     limit: u32,
     receivers: u32,

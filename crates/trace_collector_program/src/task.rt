@@ -29,13 +29,16 @@ usage: trace_collector replay SETTINGS | serve SETTINGS [--audit]
 Behind `serve SETTINGS`, in any order and each once at most:
   --audit                prints at the end `audit SHARD ENTRIES` for each shard's log, which is kept
                          in memory then
-  --verbose              tells standard error where it listens and what its end waits for
+  --verbose              tells standard error where it listens, which lines of the input ask for
+                         nothing, what its end waits for, and why it failed
   --connections N        serves N connections at a time, 1 to 65536; else as many as the settings
                          have receivers
   --senders N            sends N batches at a time, 1 to 4096; else as many as the settings have
                          senders
   --client-timeout MS    closes a client's connection that rests for MS milliseconds, 1 to
                          4294967295; else none is closed for resting
+  --request-timeout MS   closes a client's connection whose request isn't whole MS milliseconds after its
+                         first byte, 1 to 4294967295; else it may take any time
   --back-end-timeout MS  a back end that doesn't take a connection within MS milliseconds, 1 to
                          4294967295, or rests for so long, has failed, and the batch is tried again;
                          else it is waited for
@@ -80,6 +83,7 @@ const NONE_GIVEN: ServeOptions = ServeOptions {
     connections: None,
     senders: None,
     client_timeout: None,
+    request_timeout: None,
     back_end_timeout: None,
 };
 
@@ -96,6 +100,8 @@ pub struct ServeOptions {
     pub senders: Option<u32>,
     /// So many milliseconds, from 1, a client's connection may rest.
     pub client_timeout: Option<u32>,
+    /// So many milliseconds, from 1, a client's request may take.
+    pub request_timeout: Option<u32>,
     /// So many milliseconds, from 1, a back end's connection may take to come about, and then rest.
     pub back_end_timeout: Option<u32>,
 }
@@ -243,6 +249,12 @@ fn with_value(given: ServeOptions, name: &str, value: &str) -> Option<ServeOptio
         let client_timeout = Some(once(given.client_timeout, up_to(u32::MAX, value))?);
         Some(ServeOptions {
             client_timeout,
+            ..given
+        })
+    } else if name == "--request-timeout" {
+        let request_timeout = Some(once(given.request_timeout, up_to(u32::MAX, value))?);
+        Some(ServeOptions {
+            request_timeout,
             ..given
         })
     } else if name == "--back-end-timeout" {

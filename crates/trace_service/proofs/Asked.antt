@@ -1,12 +1,13 @@
 -- Lines of the input, by what stands behind their first word.
-use Rattle.std.proofs.Common.{◌≡◌, ℕ, List, [], ◌∷◌, ◌++◌, codes, get_or, Option, Some, None, Result, Ok, Err, OnOk, refl, sym, ap, subst, ◌∙◌, arith}
-use Rattle.std.specs.Io.KnownBytes.{Appends}
+use Rattle.std.proofs.Common.{◌≡◌, ℕ, List, ◌++◌, codes, get_or, Bool, true, false, not, Option, Some, None, is_some, option_map, refl, sym, ap, subst, ◌∙◌, arith}
+use Rattle.std.specs.Bool.{OnTrue}
 use Rattle.std.proofs.lemmas.List.{append_cancel_left}
 use Rattle.otlp_front.specs.Route.{number_of}
 use Rattle.shared_hub.specs.Logs.{CallerState}
 use Rattle.tail_settings.specs.Settings.{SettingsData}
 use Rattle.trace_service.specs.Comings.{Present, IsAdded}
 use Rattle.trace_service.specs.Documents.{Reads}
+use Rattle.trace_service.specs.Output.{Output, IsPut}
 use Rattle.trace_service.specs.Commands.{AsksNothing, IsReportedOf, IsRetiredOf, IsAnswered, reports, adds, retires, asks_nothing}
 
 -- a line has one byte at a place
@@ -18,7 +19,7 @@ no_other : (present : Present) (word name other : List ℕ) → word ++ name ≡
 no_other present word name other same none =
     subst (λ n. number_of present n ≡ None) (append_cancel_left word name other same) none
 
-report_of_nobody : (present : Present) (line name : List ℕ) → line ≡ codes "report " ++ name → number_of present name ≡ None
+pub report_of_nobody : (present : Present) (line name : List ℕ) → line ≡ codes "report " ++ name → number_of present name ≡ None
     → AsksNothing present line
 report_of_nobody present line name text none = record {
   no_report = λ other same. no_other present (codes "report ") name other (sym text ∙ same) none;
@@ -30,7 +31,7 @@ report_of_nobody present line name text none = record {
       absurd (omega (arith, byte));
 }
 
-retires_nobody : (present : Present) (line name : List ℕ) → line ≡ codes "retire " ++ name → number_of present name ≡ None
+pub retires_nobody : (present : Present) (line name : List ℕ) → line ≡ codes "retire " ++ name → number_of present name ≡ None
     → AsksNothing present line
 retires_nobody present line name text none = record {
   no_report = λ other same.
@@ -43,24 +44,22 @@ retires_nobody present line name text none = record {
 }
 
 module _ (reads : Reads) (first : SettingsData) (shards : ℕ) (line : List ℕ) (present : Present) (old : CallerState) (before : ℕ)
-    (so_far : Option (List ℕ)) (name : List ℕ) (left : Present) (new : CallerState) (last : ℕ) (written : Option (List ℕ)) where
+    (so_far : Output) (name : List ℕ) (left : Present) (new : CallerState) (last : ℕ) (written : Output) where
   report_of : (found : Option ℕ) → number_of present name ≡ found → line ≡ codes "report " ++ name
       → IsReportedOf shards name found old before so_far new last written
       → IsAnswered reads first shards line present old before so_far present new last written
   report_of (Some tenant) is text told = reports name tenant text is told refl
   report_of None is text told = asks_nothing (report_of_nobody present line name text is) told.0 told.1 told.2 refl
 
-  pub answers_report : {T E : Type 0} (r : Result T E) → line ≡ codes "report " ++ name
-      → OnOk r (IsReportedOf shards name (number_of present name) old before so_far new last written)
-      → OnOk r (IsAnswered reads first shards line present old before so_far present new last written)
-  answers_report (Ok x) text told = report_of (number_of present name) refl text told
-  answers_report (Err e) text told = tt
+  pub answers_report : line ≡ codes "report " ++ name
+      → IsReportedOf shards name (number_of present name) old before so_far new last written
+      → IsAnswered reads first shards line present old before so_far present new last written
+  answers_report text told = report_of (number_of present name) refl text told
 
-  pub answers_add : {T E : Type 0} (r : Result T E) → line ≡ codes "add " ++ name → last ≡ before
-      → OnOk r ((told : List ℕ) × IsAdded reads first shards name present old left new told × Appends so_far written told)
-      → OnOk r (IsAnswered reads first shards line present old before so_far left new last written)
-  answers_add (Ok x) text same told = adds name told.0 text told.1 told.2 same
-  answers_add (Err e) text same told = tt
+  pub answers_add : line ≡ codes "add " ++ name → last ≡ before
+      → ((told : List ℕ) × IsAdded reads first shards name present old left new told × IsPut so_far written told)
+      → IsAnswered reads first shards line present old before so_far left new last written
+  answers_add text same told = adds name told.0 text told.1 told.2 same
 
   retirement_of : (found : Option ℕ) → number_of present name ≡ found → line ≡ codes "retire " ++ name
       → IsRetiredOf shards name found present old before so_far left new last written
@@ -68,8 +67,14 @@ module _ (reads : Reads) (first : SettingsData) (shards : ℕ) (line : List ℕ)
   retirement_of (Some tenant) is text told = retires name tenant text is told
   retirement_of None is text told = asks_nothing (retires_nobody present line name text is) told.1 told.2 told.3 told.0
 
-  pub answers_retire : {T E : Type 0} (r : Result T E) → line ≡ codes "retire " ++ name
-      → OnOk r (IsRetiredOf shards name (number_of present name) present old before so_far left new last written)
-      → OnOk r (IsAnswered reads first shards line present old before so_far left new last written)
-  answers_retire (Ok x) text told = retirement_of (number_of present name) refl text told
-  answers_retire (Err e) text told = tt
+  pub answers_retire : line ≡ codes "retire " ++ name
+      → IsRetiredOf shards name (number_of present name) present old before so_far left new last written
+      → IsAnswered reads first shards line present old before so_far left new last written
+  answers_retire text told = retirement_of (number_of present name) refl text told
+
+-- whoever finds nobody under a name that a line asks for has found that it asks for nothing
+pub nobody_found : {X Y : Type 0} (P : Type 0) (f : X → Y) (found : Option X) (number : Option Y) (b : Bool) → option_map f found ≡ number
+    → is_some found ≡ not b → (number ≡ None → P) → OnTrue b P
+nobody_found P f (Some x) number true same is nothing = absurd (cc)
+nobody_found P f None number true same is nothing = nothing (sym same)
+nobody_found P f found number false same is nothing = tt

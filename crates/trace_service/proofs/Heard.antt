@@ -1,9 +1,10 @@
 -- Lines that were heard, one more at a time.
-use Rattle.std.proofs.Common.{◌≡◌, ℕ, Bool, true, false, List, [], ◌∷◌, ◌++◌, Option, Some, None, IfSome, refl, sym, subst, ◌∙◌}
+use Rattle.std.proofs.Common.{◌≡◌, ℕ, true, false, List, [], ◌∷◌, ◌++◌, Option, Some, None, IfSome, refl, subst}
 use Rattle.shared_hub.specs.Logs.{CallerState}
 use Rattle.tail_settings.specs.Settings.{SettingsData}
 use Rattle.trace_service.specs.Comings.{Present}
 use Rattle.trace_service.specs.Documents.{Reads}
+use Rattle.trace_service.specs.Output.{Output}
 use Rattle.trace_service.specs.Commands.{TakesLine, IsAnswered, AreAnswered, no_answer, answer_more, AreFirst, no_line, line_more, AreCommandsRead}
 
 -- of a known text these are the first lines, and what stands behind them is left
@@ -11,7 +12,7 @@ abbrev pub Taken : Option (List ℕ) → Option (List ℕ) → List (List ℕ) �
 Taken before after lines = IfSome before (λ text. (rest : List ℕ) × (after ≡ Some rest) × AreFirst text lines rest)
 
 pub record HeardSoFar (reads : Reads) (settings : SettingsData) (shards : ℕ) (before after : Option (List ℕ)) (present : Present) (old : CallerState) (first : ℕ)
-    (so_far : Option (List ℕ)) (left : Present) (new : CallerState) (last : ℕ) (written : Option (List ℕ)) : Type 0 where
+    (so_far : Output) (left : Present) (new : CallerState) (last : ℕ) (written : Output) : Type 0 where
   pub lines : List (List ℕ)
   pub taken : Taken before after lines
   pub answered : AreAnswered reads settings shards present old first so_far lines left new last written
@@ -33,11 +34,11 @@ taken_all (Some text) mid after lines line t l =
     let none : t.0 ≡ [] = subst (λ (m : Option (List ℕ)). IfSome m (λ rest. TakesLine rest after line false)) t.1 l in
     subst (λ r. AreFirst text lines r) none t.2
 
-module _ (reads : Reads) (settings : SettingsData) (shards : ℕ) (before : Option (List ℕ)) (present : Present) (old : CallerState) (first : ℕ) (so_far : Option (List ℕ)) where
+module _ (reads : Reads) (settings : SettingsData) (shards : ℕ) (before : Option (List ℕ)) (present : Present) (old : CallerState) (first : ℕ) (so_far : Output) where
   pub heard_none : HeardSoFar reads settings shards before before present old first so_far present old first so_far
   heard_none = record { lines = []; taken = taken_none before; answered = no_answer }
 
-  pub heard_more : (mid after : Option (List ℕ)) (known left : Present) (now new : CallerState) (then_last last : ℕ) (text written : Option (List ℕ)) (line : List ℕ)
+  pub heard_more : (mid after : Option (List ℕ)) (known left : Present) (now new : CallerState) (then_last last : ℕ) (text written : Output) (line : List ℕ)
       → HeardSoFar reads settings shards before mid present old first so_far known now then_last text
       → IfSome mid (λ rest. TakesLine rest after line true) → IsAnswered reads settings shards line known now then_last text left new last written
       → HeardSoFar reads settings shards before after present old first so_far left new last written
@@ -47,7 +48,7 @@ module _ (reads : Reads) (settings : SettingsData) (shards : ℕ) (before : Opti
     answered = answer_more h.lines known now then_last text line left new last written h.answered answer;
   }
 
-  pub heard_all : (mid after : Option (List ℕ)) (left : Present) (new : CallerState) (last : ℕ) (written : Option (List ℕ)) (line : List ℕ)
+  pub heard_all : (mid after : Option (List ℕ)) (left : Present) (new : CallerState) (last : ℕ) (written : Output) (line : List ℕ)
       → HeardSoFar reads settings shards before mid present old first so_far left new last written
       → IfSome mid (λ rest. TakesLine rest after line false)
       → AreCommandsRead reads settings shards before present old first so_far left new last written

@@ -9,6 +9,7 @@ pub mod Handled
 pub mod Present
 pub mod Came
 pub mod Admitted
+pub mod Put
 pub mod Asked
 pub mod Joined
 pub mod Talked

@@ -1,5 +1,5 @@
 -- Tenants one after the other.
-use Rattle.std.proofs.Common.{◌≡◌, ℕ, ◌+◌, ◌%◌, ◌<◌, ◌==◌, Bool, true, false, cond, not, filter, List, [], ◌∷◌, ◌++◌, length, map, take, drop, get_or, Option, Some, None, refl, sym, ap, subst, ◌∙◌, string_bytes}
+use Rattle.std.proofs.Common.{◌≡◌, ℕ, ◌+◌, ◌%◌, ◌<◌, ◌==◌, Bool, true, false, cond, not, filter, List, [], ◌∷◌, ◌++◌, length, map, take, drop, get_or, Some, refl, sym, ap, subst, ◌∙◌, string_bytes}
 use Rattle.std.specs.Str.{bytes_eq}
 use Rattle.std.proofs.lemmas.List.{map_more, at_drop_more}
 use Rattle.otlp_front.specs.Route.{number_of}
@@ -8,6 +8,7 @@ use Rattle.tenant_shard.specs.declared.step.Outcome.{Outcome}
 use Rattle.trace_service.specs.declared.roster.Present.{Present}
 use Rattle.trace_service.specs.declared.chore.Chore.TheVariants.{Drain}
 use Rattle.trace_service.specs.Commands.{IsMade, step_of, IsReported, AreDrained, drain_more, AreReported, report_more, AreEmptyOn}
+use Rattle.trace_service.specs.Output.{Output}
 use Rattle.trace_service.specs.Roster.{entry_of}
 
 abbrev pub number : Present → ℕ
@@ -60,8 +61,8 @@ module _ (shards : ℕ) (old : CallerState) (before : ℕ) (xs : List Present) (
       subst (λ ts. AreDrained shards old before ts new last) (sym (one_more number xs i x within at))
       (drain_more (map number (take i xs)) mid between x.number outcome new last done made)
 
-module _ (shards : ℕ) (old : CallerState) (before : ℕ) (so_far : Option (List ℕ)) (xs : List Present) (i : ℕ) (x : Present)
-    (mid : CallerState) (between : ℕ) (text : Option (List ℕ)) (new : CallerState) (last : ℕ) (written : Option (List ℕ)) where
+module _ (shards : ℕ) (old : CallerState) (before : ℕ) (so_far : Output) (xs : List Present) (i : ℕ) (x : Present)
+    (mid : CallerState) (between : ℕ) (text : Output) (new : CallerState) (last : ℕ) (written : Output) where
   pub reported_more : i < length xs → x ≡ get_or xs i x → AreReported shards old before so_far (map entry_of (take i xs)) mid between text
       → IsReported (string_bytes x.name) mid new shards x.number between last text written
       → AreReported shards old before so_far (map entry_of (take (i + 1) xs)) new last written

@@ -1,8 +1,8 @@
 -- What the service prints of its shards' logs. This project's own rule.
-use Rattle.std.specs.Prelude.{◌≡◌, ℕ, List, [], ◌∷◌, ◌++◌, codes, length, Bool, true, false, Option}
+use Rattle.std.specs.Prelude.{◌≡◌, ℕ, List, [], ◌∷◌, ◌++◌, codes, length, Bool, true, false}
 use Rattle.std.specs.Fmt.{decimal}
-use Rattle.std.specs.Io.KnownBytes.{Appends}
 use Rattle.shared_hub.specs.Logs.{LoggedShard}
+use Rattle.trace_service.specs.Output.{Output, IsPut}
 
 -- how many entries a shard's log has
 abbrev pub audit_line : ℕ → ℕ → List ℕ
@@ -14,6 +14,6 @@ audit_text [] = []
 audit_text (s ∷ ss) = audit_line s.number (length s.entries) ++ audit_text ss
 
 -- behind what was written so far these lines stand where an audit is asked for, and else nothing
-abbrev pub IsFollowed : Bool → List ℕ → Option (List ℕ) → Option (List ℕ) → Type 0
-IsFollowed true lines so_far written = Appends so_far written lines
+abbrev pub IsFollowed : Bool → List ℕ → Output → Output → Type 0
+IsFollowed true lines so_far written = IsPut so_far written lines
 IsFollowed false lines so_far written = written ≡ so_far

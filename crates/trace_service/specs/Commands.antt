@@ -1,7 +1,6 @@
 -- What the input asks for, and what is done for it and at its end. This project's own rule.
 use Rattle.std.specs.Prelude.{◌≡◌, ℕ, ◌%◌, ◌<◌, List, [], ◌∷◌, ◌++◌, length, filter, not, take, ◌==◌, if◌then◌else◌, codes, Bool, true, false, Option, Some, None, IfSome}
 use Rattle.std.specs.Io.BufRead.{drop_through}
-use Rattle.std.specs.Io.KnownBytes.{Appends}
 use Rattle.export_edge.specs.Work.{Through}
 use Rattle.machine_hub.specs.declared.receipt.Receipt.{Receipt}
 use Rattle.machine_hub.specs.Hub.{IsRefusedOn}
@@ -20,6 +19,7 @@ use Rattle.trace_service.specs.declared.chore.Chore.TheVariants.{Report, Drain, 
 use Rattle.trace_service.specs.Comings.{Present, IsAdded}
 use Rattle.trace_service.specs.Documents.{Reads}
 use Rattle.trace_service.specs.Moments.{Rises}
+use Rattle.trace_service.specs.Output.{Output, IsPut}
 
 -- the line asks for nothing: for the counters of nobody who is present, for nobody to come, and for nobody to go
 pub record AsksNothing (present : Present) (line : List ℕ) : Type 0 where
@@ -76,25 +76,24 @@ pub record IsMade (old new : CallerState) (shards tenant before last : ℕ) (ste
 
 -- one report of the tenant was made at its shard, and what it gave was written under its name
 pub record IsReported (name : List ℕ) (old new : CallerState) (shards tenant before last : ℕ)
-    (so_far written : Option (List ℕ)) : Type 0 where
+    (so_far written : Output) : Type 0 where
   pub outcome : Outcome
   pub made : IsMade old new shards tenant before last (step_of Report tenant) outcome
-  pub line : Appends so_far written (outcome_line name outcome)
+  pub line : IsPut so_far written (outcome_line name outcome)
 
 -- so it was with the tenant of this number, where there is one, and else nothing was done
-abbrev pub IsReportedOf : ℕ → List ℕ → Option ℕ → CallerState → ℕ → Option (List ℕ) → CallerState → ℕ
-    → Option (List ℕ) → Type 0
+abbrev pub IsReportedOf : ℕ → List ℕ → Option ℕ → CallerState → ℕ → Output → CallerState → ℕ → Output → Type 0
 IsReportedOf shards name (Some tenant) old before so_far new last written =
     IsReported name old new shards tenant before last so_far written
 IsReportedOf shards name None old before so_far new last written =
     (new ≡ old) × (last ≡ before) × (written ≡ so_far)
 
 -- these tenants were reported so, one after the other
-pub data AreReported (shards : ℕ) (old : CallerState) (before : ℕ) (so_far : Option (List ℕ))
-    : Present → CallerState → ℕ → Option (List ℕ) → Type 0 where
+pub data AreReported (shards : ℕ) (old : CallerState) (before : ℕ) (so_far : Output)
+    : Present → CallerState → ℕ → Output → Type 0 where
   no_report : AreReported shards old before so_far [] old before so_far
-  report_more : (tenants : Present) (mid : CallerState) (between : ℕ) (text : Option (List ℕ)) (tenant : ℕ)
-      (name : List ℕ) (new : CallerState) (last : ℕ) (written : Option (List ℕ))
+  report_more : (tenants : Present) (mid : CallerState) (between : ℕ) (text : Output) (tenant : ℕ)
+      (name : List ℕ) (new : CallerState) (last : ℕ) (written : Output)
       → AreReported shards old before so_far tenants mid between text
       → IsReported name mid new shards tenant between last text written
       → AreReported shards old before so_far (tenants ++ (tenant, name) ∷ []) new last written
@@ -120,7 +119,7 @@ left_by outcome tenant present =
 -- A tenant was to go: it was drained, then it was seen to hold no span, then it was to retire, and what came of that
 -- was written under its name. These are present then.
 pub record IsRetired (name : List ℕ) (present : Present) (old new : CallerState) (shards tenant before last : ℕ)
-    (so_far : Option (List ℕ)) (left : Present) (written : Option (List ℕ)) : Type 0 where
+    (so_far : Output) (left : Present) (written : Output) : Type 0 where
   pub after_drain : CallerState
   pub drain_end : ℕ
   pub drain : Outcome
@@ -129,11 +128,11 @@ pub record IsRetired (name : List ℕ) (present : Present) (old new : CallerStat
   pub outcome : Outcome
   pub made : IsMade after_drain new shards tenant drain_end last (step_of Retire tenant) outcome
   pub left_are : left ≡ left_by outcome tenant present
-  pub line : Appends so_far written (outcome_line name outcome)
+  pub line : IsPut so_far written (outcome_line name outcome)
 
 -- so it was with the tenant of this number, where there is one, and else nothing was done
-abbrev pub IsRetiredOf : ℕ → List ℕ → Option ℕ → Present → CallerState → ℕ → Option (List ℕ) → Present → CallerState
-    → ℕ → Option (List ℕ) → Type 0
+abbrev pub IsRetiredOf : ℕ → List ℕ → Option ℕ → Present → CallerState → ℕ → Output → Present → CallerState → ℕ
+    → Output → Type 0
 IsRetiredOf shards name (Some tenant) present old before so_far left new last written =
     IsRetired name present old new shards tenant before last so_far left written
 IsRetiredOf shards name None present old before so_far left new last written =
@@ -142,13 +141,13 @@ IsRetiredOf shards name None present old before so_far left new last written =
 -- Of the tenants that are present the line was answered: by the report of the one for whose counters it asks; by what
 -- came of its tenant's coming or going; or by nothing, where it asks for nothing. These are present then.
 pub data IsAnswered (reads : Reads) (first : SettingsData) (shards : ℕ) (line : List ℕ) (present : Present)
-    (old : CallerState) (before : ℕ) (so_far : Option (List ℕ)) (left : Present) (new : CallerState) (last : ℕ)
-    (written : Option (List ℕ)) : Type 0 where
+    (old : CallerState) (before : ℕ) (so_far : Output) (left : Present) (new : CallerState) (last : ℕ)
+    (written : Output) : Type 0 where
   reports : (name : List ℕ) (tenant : ℕ) → line ≡ codes "report " ++ name → number_of present name ≡ Some tenant
       → IsReported name old new shards tenant before last so_far written → left ≡ present
       → IsAnswered reads first shards line present old before so_far left new last written
   adds : (path told : List ℕ) → line ≡ codes "add " ++ path → IsAdded reads first shards path present old left new told
-      → Appends so_far written told → last ≡ before
+      → IsPut so_far written told → last ≡ before
       → IsAnswered reads first shards line present old before so_far left new last written
   retires : (name : List ℕ) (tenant : ℕ) → line ≡ codes "retire " ++ name → number_of present name ≡ Some tenant
       → IsRetired name present old new shards tenant before last so_far left written
@@ -158,11 +157,11 @@ pub data IsAnswered (reads : Reads) (first : SettingsData) (shards : ℕ) (line 
 
 -- these lines were answered, one after the other
 pub data AreAnswered (reads : Reads) (first : SettingsData) (shards : ℕ) (present : Present) (old : CallerState)
-    (before : ℕ) (so_far : Option (List ℕ))
-    : List (List ℕ) → Present → CallerState → ℕ → Option (List ℕ) → Type 0 where
+    (before : ℕ) (so_far : Output)
+    : List (List ℕ) → Present → CallerState → ℕ → Output → Type 0 where
   no_answer : AreAnswered reads first shards present old before so_far [] present old before so_far
-  answer_more : (lines : List (List ℕ)) (known : Present) (mid : CallerState) (between : ℕ) (text : Option (List ℕ))
-      (line : List ℕ) (left : Present) (new : CallerState) (last : ℕ) (written : Option (List ℕ))
+  answer_more : (lines : List (List ℕ)) (known : Present) (mid : CallerState) (between : ℕ) (text : Output)
+      (line : List ℕ) (left : Present) (new : CallerState) (last : ℕ) (written : Output)
       → AreAnswered reads first shards present old before so_far lines known mid between text
       → IsAnswered reads first shards line known mid between text left new last written
       → AreAnswered reads first shards present old before so_far (lines ++ line ∷ []) left new last written
@@ -175,8 +174,8 @@ pub data AreFirst (text : List ℕ) : List (List ℕ) → List ℕ → Type 0 wh
 
 -- all lines of the input were answered: of one that is known these are all its lines. These tenants are present then
 pub record AreCommandsRead (reads : Reads) (first : SettingsData) (shards : ℕ) (input : Option (List ℕ))
-    (present : Present) (old : CallerState) (before : ℕ) (so_far : Option (List ℕ)) (left : Present)
-    (new : CallerState) (last : ℕ) (written : Option (List ℕ)) : Type 0 where
+    (present : Present) (old : CallerState) (before : ℕ) (so_far : Output) (left : Present)
+    (new : CallerState) (last : ℕ) (written : Output) : Type 0 where
   pub lines : List (List ℕ)
   pub known : IfSome input (λ text. AreFirst text lines [])
   pub answered : AreAnswered reads first shards present old before so_far lines left new last written

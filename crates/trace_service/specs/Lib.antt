@@ -6,6 +6,7 @@ pub mod Jobs
 pub mod Assignment
 pub mod Documents
 pub mod Comings
+pub mod Output
 pub mod Commands
 pub mod Told
 pub mod Roster

@@ -14,16 +14,16 @@ use Rattle.trace_service.specs.Comings.{Present}
 use Rattle.trace_service.specs.Commands.{AreDrained, AreEmptyOn, AreReported, AreCommandsRead}
 use Rattle.trace_service.specs.Documents.{Reads}
 use Rattle.trace_service.specs.Jobs.{AreThreads}
+use Rattle.trace_service.specs.Output.{Output}
 
 -- What who reads the input did, by calls of one caller and in this order: all lines of the input were answered, each
 -- tenant that was present then was drained, each was seen to hold no span, and each one's report was written.
 pub record IsDirected (reads : Reads) (first : SettingsData) (present : Present) (shards : ℕ) (input : Option (List ℕ))
-    (old : CallerState) (before : ℕ) (so_far : Option (List ℕ)) (new : CallerState) (last : ℕ)
-    (written : Option (List ℕ)) : Type 0 where
+    (old : CallerState) (before : ℕ) (so_far : Output) (new : CallerState) (last : ℕ) (written : Output) : Type 0 where
   pub left : Present
   pub after_input : CallerState
   pub input_end : ℕ
-  pub text : Option (List ℕ)
+  pub text : Output
   pub heard : AreCommandsRead reads first shards input present old before so_far left after_input input_end text
   pub after_drains : CallerState
   pub drain_end : ℕ
@@ -33,7 +33,7 @@ pub record IsDirected (reads : Reads) (first : SettingsData) (present : Present)
 
 -- of a hub's callers, which had made no call, one did that
 pub record IsCourse (reads : Reads) (first : SettingsData) (present : Present) (shards : ℕ) (input : Option (List ℕ))
-    (fresh : CallerState) (so_far : Option (List ℕ)) (callers : List CallerState) (written : Option (List ℕ))
+    (fresh : CallerState) (so_far : Output) (callers : List CallerState) (written : Output)
     : Type 0 where
   pub before : ℕ
   pub last : ℕ
@@ -48,16 +48,16 @@ pub record IsCourse (reads : Reads) (first : SettingsData) (present : Present) (
 -- and from its first want of memory on one history. The other callers were threads', with all seats of one lane: the
 -- jobs that were pushed there are those of turns that these callers made, each that was popped is one of them, and so
 -- many were popped and so many are left. Where an audit is asked for the logs keep, and their lines were written last,
--- each shard's under its number.
+-- each shard's under its number. So many of what was to be written were lost: where that is none, all was written.
 pub record IsServed (reads : Reads) (table : SettingsData) (audit : Bool) (input so_far written : Option (List ℕ))
-    : Type 0 where
+    (lost : ℕ) : Type 0 where
   pub slots : List TableId
   pub homes : List (Home MachineState)
   pub opened : AreOpened table homes
   pub callers : List CallerState
-  pub text : Option (List ℕ)
-  pub course : IsCourse reads table (names_in table).tenants table.global.shards input (new_caller slots homes) so_far
-      callers text
+  pub text : Output
+  pub course : IsCourse reads table (names_in table).tenants table.global.shards input (new_caller slots homes)
+      (so_far, 0) callers text
   pub shards : List LoggedShard
   pub calls : AreShardRuns MachineDoes homes callers shards
   pub one_run : AreOneRun table callers
@@ -72,4 +72,4 @@ pub record IsServed (reads : Reads) (table : SettingsData) (audit : Bool) (input
   pub count : length shards ≡ table.global.shards
   pub numbered : (k : ℕ) (s : LoggedShard) → slice_get shards k ≡ Some s → s.number ≡ k
   pub kept : audit ≡ true → All (λ s. s.keeps ≡ true) shards
-  pub lines : IsFollowed audit (audit_text shards) text written
+  pub lines : IsFollowed audit (audit_text shards) text (written, lost)

@@ -10,6 +10,7 @@ ghost use Rattle.trace_service.specs.Jobs.{AreThreads, IsThread};
 use crate::naming::Naming;
 use crate::shared::Shared;
 use crate::workers::{Role, Worker};
+use http_edge::connection_buffer;
 use job_lane::LaneSeat;
 use shared_hub::Caller;
 use std::alloc::{AllocError, Global};
@@ -41,7 +42,8 @@ pub(crate) fn assign_threads<'h, J: Naming, R: Wait + Clock>(
             unreachable!()
         };
         let (role, shard) = role_of(workers.len(), shards, senders);
-        workers.push(Worker::new(role, shared.context(caller, shard), seat))?;
+        let buffer = buffer_of(shared.alloc, role)?;
+        workers.push(Worker::new(role, shared.context(caller, shard), seat, buffer))?;
     }
     Ok(workers)
 }
@@ -58,6 +60,14 @@ fn role_of(number: usize, shards: usize, senders: usize) -> (Role, usize)
         (Role::Sender, 0)
     } else {
         (Role::Receiver, 0)
+    }
+}
+
+/// What a worker reads into, which a receiver has from the start.
+fn buffer_of(alloc: Global, role: Role) -> Result<Vec<u8>, AllocError> {
+    match role {
+        Role::Receiver => connection_buffer(alloc),
+        Role::Turner | Role::Sender => Ok(Vec::new(alloc)),
     }
 }
 

@@ -1,5 +1,7 @@
 //! The moment, pauses, and what threads tell one another of the service's course.
 
+use crate::pace::{Pace, Paces, Pause};
+use crate::reserve::Reserve;
 use crate::rest::{Bells, Rest};
 use export_edge::Beat;
 use std::alloc::{AllocError, Global};
@@ -15,6 +17,8 @@ pub(crate) struct Signals {
     closing: AtomicBool,
     over: AtomicBool,
     bells: Bells,
+    paces: Paces,
+    reserve: Reserve,
 }
 
 impl Signals {
@@ -30,6 +34,8 @@ impl Signals {
             closing: AtomicBool::new(false),
             over: AtomicBool::new(false),
             bells: Bells::new(alloc, shards, senders, longest_wait)?,
+            paces: Paces::new(alloc, shards)?,
+            reserve: Reserve::new(alloc)?,
         })
     }
 
@@ -38,9 +44,23 @@ impl Signals {
         &self.bells
     }
 
-    /// One thread more is at its work.
-    pub fn arrive(&self) {
-        let _before = self.here.fetch_add(1, Ordering::SeqCst);
+    /// How moments go on while memory is short.
+    pub fn paces(&self) -> &Paces {
+        &self.paces
+    }
+
+    /// What is kept back for those who let memory go.
+    pub fn reserve(&self) -> &Reserve {
+        &self.reserve
+    }
+
+    /// One thread more is at its work: how many are now. The last of so many wakes the others.
+    pub fn arrive(&self, threads: usize) -> usize {
+        let here = self.here.fetch_add(1, Ordering::SeqCst).saturating_add(1);
+        if here >= threads {
+            self.bells.ring_start();
+        }
+        here
     }
 
     /// How many threads are at their work.
@@ -79,6 +99,7 @@ pub(crate) struct ServiceBeat<'b, C> {
     start: Instant,
     last: u64,
     rest: Rest<'b>,
+    pace: Pace<'b>,
 }
 
 impl<'b, C: Clock> ServiceBeat<'b, C> {
@@ -90,6 +111,7 @@ impl<'b, C: Clock> ServiceBeat<'b, C> {
             start,
             last: 0,
             rest: Rest::short(),
+            pace: Pace::of_clock(),
         }
     }
 
@@ -100,27 +122,45 @@ impl<'b, C: Clock> ServiceBeat<'b, C> {
 
     /// A beat like this, for who makes short pauses.
     pub fn again(&self) -> ServiceBeat<'b, C> {
-        self.resting(Rest::short())
+        self.with(Rest::short(), Pace::of_clock())
+    }
+
+    /// A beat like this, for who waits until all are at their work.
+    pub fn of_arrival(&self) -> ServiceBeat<'b, C> {
+        self.with(Rest::of_arrival(self.signals.bells()), Pace::of_clock())
     }
 
     /// A beat like this, for the turner of this shard.
     pub fn of_turner(&self, shard: usize) -> ServiceBeat<'b, C> {
-        self.resting(Rest::of_turner(self.signals.bells(), shard))
+        self.with(
+            Rest::of_turner(self.signals.bells(), shard),
+            Pace::of_turner(self.signals.paces(), shard),
+        )
+    }
+
+    /// A beat like this, for who makes chores.
+    pub fn of_chores(&self) -> ServiceBeat<'b, C> {
+        self.with(Rest::short(), self.behind_turners())
     }
 
     /// A beat like this, for a sender.
     pub fn of_sender(&self) -> ServiceBeat<'b, C> {
-        self.resting(Rest::of_sender(self.signals.bells()))
+        self.with(Rest::of_sender(self.signals.bells()), self.behind_turners())
     }
 
-    /// A beat like this, for who rests so.
-    fn resting(&self, rest: Rest<'b>) -> ServiceBeat<'b, C> {
+    fn behind_turners(&self) -> Pace<'b> {
+        Pace::of_follower(self.signals.paces())
+    }
+
+    /// A beat like this, for who rests so, and whose moments go on so.
+    fn with(&self, rest: Rest<'b>, pace: Pace<'b>) -> ServiceBeat<'b, C> {
         ServiceBeat {
             clock: self.clock,
             signals: self.signals,
             start: self.start,
             last: self.last,
             rest,
+            pace,
         }
     }
 }
@@ -140,14 +180,20 @@ impl<C: Wait + Clock> Beat for ServiceBeat<'_, C> {
 
     fn now(&mut self) -> u64 {
         self.rest.time();
+        let mut now = self.last;
         if let Ok(elapsed) = self.start.elapsed(self.clock) {
             let millis = u64::try_from(elapsed.as_millis()).unwrap_or(u64::MAX);
-            self.last = self.last.max(millis);
+            now = now.max(millis);
         }
+        self.last = self.last.max(self.pace.moment(self.last, now));
         self.last
     }
 
     fn pause(&mut self) {
-        self.rest.pause(self.clock);
+        match self.pace.pause(self.clock, self.signals.reserve()) {
+            Pause::None => {}
+            Pause::Short => Rest::short().pause(self.clock),
+            Pause::Usual => self.rest.pause(self.clock),
+        }
     }
 }

@@ -1,6 +1,7 @@
 //! The work of all threads, and of who directs it beside.
 
-ghost use Rattle.std.specs.Prelude.{List, ℕ, Option, OnOk};
+ghost use Rattle.std.specs.Prelude.{List, ℕ, Option, IfOk};
+ghost use Rattle.trace_service.specs.Output.{Output};
 
 use crate::course::Observer;
 use crate::service::ServiceFault;
@@ -9,23 +10,24 @@ use std::thread::{Threads, join_mut};
 
 /// Who reads the input, and ends the work.
 pub(crate) trait Director {
-    // From the first state the input was heard to its end, behind what was written so far something was written, and
-    // the second state is left.
-    ghost directs: { Self → Option (List ℕ) → Option (List ℕ) → Self → Option (List ℕ) → Type 0 };
+    // From the first state the input was heard to its end, behind what was written so far something was written or
+    // lost, and the second state is left.
+    ghost directs: { Self → Option (List ℕ) → Option (List ℕ) → Self → Output → Type 0 };
 
-    /// Reads the input to its end, and ends the work.
+    /// Reads the input to its end, and ends the work: how many answers were lost.
     fn direct<I: BufRead, O: Write, L: Observer>(
         &mut self,
         input: &mut I,
         output: &mut O,
         observer: &mut L,
         threads: usize,
-    ) -> Result<(), ServiceFault>
-        ensures { OnOk result (directs self.old (I.remaining input.old) (O.contents output.old) self.new
-            (O.contents output.new)) };
+    ) -> Result<u64, ServiceFault>
+        ensures { IfOk result (λ lost. directs self.old (I.remaining input.old) (O.contents output.old) self.new
+            (O.contents output.new, lost)) };
 }
 
-/// The team's work, in a thread of its own, with that of its director beside it: how the input and the output fared.
+/// The team's work, in a thread of its own, with that of its director beside it: how many answers were lost, or how the
+/// input failed.
 pub(crate) fn work_beside<R, F, D, I, O, L>(
     rt: &R,
     team: &mut F,
@@ -34,7 +36,7 @@ pub(crate) fn work_beside<R, F, D, I, O, L>(
     output: &mut O,
     observer: &mut L,
     threads: usize,
-) -> Result<(), ServiceFault>
+) -> Result<u64, ServiceFault>
 where
     R: Threads,
     F: FnMut() + Send,
@@ -44,15 +46,15 @@ where
     L: Observer,
     requires { F.pre team.old }
     ensures team { F.step team.old tt team.new }
-    ensures directed { OnOk result (D.directs director.old (I.remaining input.old) (O.contents output.old) director.new
-        (O.contents output.new)) }
+    ensures directed { IfOk result (λ lost. D.directs director.old (I.remaining input.old) (O.contents output.old)
+        director.new (O.contents output.new, lost)) }
 {
     let ((), ended) = join_mut(
         rt,
         team,
         &mut ||
-            ensures { OnOk result (D.directs director.entry.now (I.remaining input.entry.now)
-                (O.contents output.entry.now) director.exit.now (O.contents output.exit.now)) }
+            ensures { IfOk result (λ lost. D.directs director.entry.now (I.remaining input.entry.now)
+                (O.contents output.entry.now) director.exit.now (O.contents output.exit.now, lost)) }
         { director.direct(input, output, observer, threads) },
     );
     ended

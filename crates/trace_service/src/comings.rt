@@ -1,7 +1,6 @@
 //! Tenants that come and go while the service runs, as lines of the input ask.
 
-ghost use Rattle.std.specs.Prelude.{◌≡◌, ◌<◌, ◌%◌, ℕ, List, Ok, length, string_bytes, vec_len, vec_capacity, true, IfOk, IfErr, OnOk};
-ghost use Rattle.std.specs.Io.KnownBytes.{Appends};
+ghost use Rattle.std.specs.Prelude.{◌≡◌, ◌<◌, ◌%◌, ℕ, List, Ok, length, string_bytes, vec_len, vec_capacity, true, IfOk, IfErr};
 ghost use Rattle.std.specs.IoError.{error_kind};
 ghost use Rattle.otlp_front.specs.Route.{number_of};
 ghost use Rattle.shared_hub.specs.Logs.{IsEmptyOn};
@@ -10,6 +9,7 @@ ghost use Rattle.tail_settings.specs.Settings.{SettingsData};
 ghost use Rattle.trace_service.specs.Comings.{IsAdded, IsJoined, IsNotJoined, not_added_text, why_not};
 ghost use Rattle.trace_service.specs.Commands.{IsRetiredOf, left_by, stays};
 ghost use Rattle.trace_service.specs.Documents.{IsOfReading, IsUnread};
+ghost use Rattle.trace_service.specs.Output.{IsPut};
 ghost use Rattle.trace_service.specs.InForce.{CameOf, IsNewcomer, IsTurnedAway};
 ghost use Rattle.trace_service.specs.Roster.{present_in};
 ghost use Rattle.trace_service.specs.declared.comings.NotAdded.TheVariants as why;
@@ -21,7 +21,6 @@ use crate::in_force::Newcomer;
 use crate::naming::Naming;
 use crate::reports::{Told, write_text};
 use crate::roster::Roster;
-use crate::service::ServiceFault;
 use export_edge::Beat;
 use shared_hub::HubFault;
 use std::alloc::AllocError;
@@ -90,27 +89,23 @@ where
         &mut self,
         roster: &mut Roster,
         output: &mut O,
+        lost: &mut u64,
         path: &[u8],
-    ) -> Result<(), ServiceFault>
-        ensures added { OnOk result ((line : List ℕ) × IsAdded R.reads J.first (length self.old.context.hub.now)
+    )
+        ensures added { (line : List ℕ) × IsAdded R.reads J.first (length self.old.context.hub.now)
             path.now (present_in roster.old) self.old.context.caller (present_in roster.new) self.new.context.caller
-            line × Appends (O.contents output.old) (O.contents output.new) line) }
+            line × IsPut (O.contents output.old, lost.old) (O.contents output.new, lost.new) line }
         ensures last { self.new.beat.last ≡ self.old.beat.last }
         ensures hub { self.new.context.hub ≡ self.old.context.hub }
     {
         match self.let_in(roster, path) {
-            Ok(line) => {
-                write_text(output, line.as_slice())?;
-                Ok(())
-            }
+            Ok(line) => write_text(output, line.as_slice(), lost),
             Err(NotAdded::Refused(number)) => {
                 let line = self.line_again(Told::NotAdded(number));
-                write_text(output, line.as_slice())?;
-                Ok(())
+                write_text(output, line.as_slice(), lost);
             }
             Err(NotAdded::OutOfMemory) => {
-                write_text(output, b"refused add memory\n".as_slice())?;
-                Ok(())
+                write_text(output, b"refused add memory\n".as_slice(), lost);
             }
         }
     }
@@ -205,16 +200,17 @@ where
         &mut self,
         roster: &mut Roster,
         output: &mut O,
+        lost: &mut u64,
         name: &[u8],
-    ) -> Result<(), ServiceFault>
-        ensures retired { OnOk result (IsRetiredOf (length self.old.context.hub.now) name.now
+    )
+        ensures retired { IsRetiredOf (length self.old.context.hub.now) name.now
             (number_of (present_in roster.old) name.now) (present_in roster.old) self.old.context.caller
-            self.old.beat.last (O.contents output.old) (present_in roster.new) self.new.context.caller
-            self.new.beat.last (O.contents output.new)) }
+            self.old.beat.last (O.contents output.old, lost.old) (present_in roster.new) self.new.context.caller
+            self.new.beat.last (O.contents output.new, lost.new) }
         ensures hub { self.new.context.hub ≡ self.old.context.hub }
     {
         let Some(tenant) = roster.find(name) else {
-            return Ok(());
+            return;
         };
         let number = tenant.number;
         self.make(number, Chore::Drain);
@@ -225,8 +221,7 @@ where
             outcome: &outcome,
         });
         self.let_go(roster, number, &outcome);
-        write_text(output, line.as_slice())?;
-        Ok(())
+        write_text(output, line.as_slice(), lost);
     }
 
     /// Waits until this tenant holds no span.

@@ -1,13 +1,13 @@
 //! Where a thread works: its caller at the shards, and what it does there.
 
-ghost use Rattle.std.specs.Prelude.{◌≡◌, ◌<◌, ◌≤◌, length};
+ghost use Rattle.std.specs.Prelude.{◌≡◌, ◌<◌, ◌≤◌, length, IfOk};
 ghost use Rattle.machine_hub.specs.Hub.{slots_of};
 ghost use Rattle.trace_service.specs.Work.{turned_of};
 
 use crate::beat::{ServiceBeat, Signals};
 use crate::in_force::{Destination, InForce};
 use crate::naming::Naming;
-use crate::post::{post_body, refused, without_memory};
+use crate::post::{is_without_memory, post_body, refused, without_memory};
 use crate::teller::Teller;
 use bytes::Bytes;
 use export_edge::{AnswerRefused, AnswerSink, Beat, JobSource, TurnResult};
@@ -36,7 +36,7 @@ pub(crate) struct WorkerContext<'h, J: Naming, R> {
     // Whose turns it makes.
     shard: usize,
     beat: ServiceBeat<'h, R>,
-    teller: Teller<'h>,
+    teller: Teller<'h, R>,
     of: PhantomData<J>,
     ghost hub_is: { hub.now ≡ J.slots },
     ghost ours: { slots_of caller ≡ J.slots },
@@ -78,7 +78,7 @@ impl<'h, J: Naming, R: Wait + Clock> WorkerContext<'h, J, R> {
             hub,
             caller,
             shard,
-            teller: Teller::new(beat.signals(), shard),
+            teller: Teller::new(rt, beat.signals()),
             beat,
             of: PhantomData,
         }
@@ -136,8 +136,24 @@ impl<'h, J: Naming, R: Wait + Clock> WorkerContext<'h, J, R> {
         let (outcome, _receipt) = self
             .hub
             .step(self.rt, self.alloc, &mut self.caller, shard, step)?;
-        self.signals().bells().ring_shard(shard);
+        self.teller.made(shard);
         Ok(outcome)
+    }
+
+    /// It was refused memory for what lets memory go, and tries again.
+    pub fn want(&mut self)
+        ensures caller { self.new.caller ≡ self.old.caller }
+        ensures hub { self.new.hub ≡ self.old.hub }
+    {
+        self.teller.want();
+    }
+
+    /// It is refused memory no longer.
+    pub fn sate(&mut self)
+        ensures caller { self.new.caller ≡ self.old.caller }
+        ensures hub { self.new.hub ≡ self.old.hub }
+    {
+        self.teller.sate();
     }
 
     /// Whether the tenant holds no span.
@@ -166,11 +182,11 @@ impl<'h, J: Naming, R: Wait + Clock> JobSource for WorkerContext<'h, J, R> {
         {
             Ok((outcome, _receipt)) => {
                 let turned = turn_result(outcome);
-                self.teller.end_turn(&turned);
+                self.teller.end_turn(self.shard, &turned);
                 turned
             }
             Err(_) => {
-                self.teller.turn_again();
+                self.teller.refuse_turn(self.shard);
                 TurnResult::Idle
             }
         }
@@ -217,11 +233,13 @@ impl<'h, J: Naming, R: Wait + Clock> AnswerSink for WorkerContext<'h, J, R> {
             answer,
         ) {
             Ok(_) => {
-                let shard = tenant as usize % self.hub.shards();
-                self.signals().bells().ring_shard(shard);
+                self.teller.answered(tenant as usize % self.hub.shards());
                 Ok(())
             }
-            Err(_) => Err(AnswerRefused),
+            Err(_) => {
+                self.teller.want();
+                Err(AnswerRefused)
+            }
         }
     }
 }
@@ -233,10 +251,11 @@ impl<'h, J: Naming, R: Wait + Clock> Handler for WorkerContext<'h, J, R> {
     ghost answers = { λ old request told new. IsHandled J.first old.beat.last new.beat.last old.caller new.caller
         (length old.hub.now) request told };
 
-    fn handle<T: Threads + Sync>(&mut self, rt: &T, message: &HttpMessage) -> Reply {
-        match self.destination(message) {
+    fn handle<T: Threads + Sync>(&mut self, rt: &T, message: HttpMessage) -> Reply {
+        match self.destination(&message) {
             Ok(Destination::To { tenant, section }) => {
-                self.post(rt, tenant, &section, &message.body)
+                let HttpMessage { body, .. } = message;
+                self.post(rt, tenant, &section, body)
             }
             Ok(Destination::Nowhere(refusal)) => refused(self.alloc, refusal),
             Err(AllocError) => without_memory(self.alloc),
@@ -261,19 +280,23 @@ impl<'h, J: Naming, R: Wait + Clock> WorkerContext<'h, J, R> {
         self.settings.lock(self.rt).destination(message)
     }
 
-    /// Posts a body to the tenant with this number and section, at the moment that it now is.
+    /// Posts a body to the tenant with this number and section, at the moment that it now is. What is kept of the body
+    /// shares its bytes.
     fn post<T: Threads + Sync>(
         &mut self,
         rt: &T,
         tenant: u32,
         section: &Section,
-        body: &[u8],
+        body: Vec<u8>,
     ) -> Reply
         ensures { IsSent (Some (section_view section.now)) self.old.beat.last self.new.beat.last self.old.caller
-            self.new.caller (length self.old.hub.now) tenant body.now (response_of result) }
+            self.new.caller (length self.old.hub.now) tenant body.items (response_of result) }
     {
         let now = self.beat.now();
-        match Bytes::copy_from_slice(self.alloc, body) {
+        if !self.signals().reserve().is_there() {
+            return without_memory(self.alloc);
+        }
+        match bytes_of(body) {
             Ok(body) => {
                 let reply = post_body(
                     rt,
@@ -287,6 +310,9 @@ impl<'h, J: Naming, R: Wait + Clock> WorkerContext<'h, J, R> {
                     body,
                     self.parts,
                 );
+                if is_without_memory(&reply) {
+                    self.signals().paces().slow_down();
+                }
                 let shard = tenant as usize % self.hub.shards();
                 self.signals().bells().ring_shard(shard);
                 reply
@@ -294,4 +320,11 @@ impl<'h, J: Naming, R: Wait + Clock> WorkerContext<'h, J, R> {
             Err(AllocError) => without_memory(self.alloc),
         }
     }
+}
+
+/// A body as what may be shared. No byte is copied.
+fn bytes_of(body: Vec<u8>) -> Result<Bytes, AllocError>
+    ensures { IfOk result (λ bytes. bytes ≡ body.items) }
+{
+    Ok(Bytes::from_vec(body)?)
 }

@@ -1,8 +1,9 @@
 //! Who reads the input, and ends the service.
 
-ghost use Rattle.std.specs.Prelude.{◌≡◌, length, map, string_bytes, OnOk, IfNone};
+ghost use Rattle.std.specs.Prelude.{◌≡◌, length, map, string_bytes, IfOk, OnOk, IfNone};
+ghost use Rattle.std.specs.Bool.{OnTrue};
 ghost use Rattle.trace_service.specs.Whole.{IsDirected};
-ghost use Rattle.trace_service.specs.Commands.{AreDrained, AreEmptyOn, AreReported, IsAnswered, AreCommandsRead, IsMade, IsReported, IsReportedOf, step_of};
+ghost use Rattle.trace_service.specs.Commands.{AreDrained, AreEmptyOn, AreReported, IsAnswered, AreCommandsRead, IsMade, IsReported, IsReportedOf, AsksNothing, step_of};
 ghost use Rattle.otlp_front.specs.Route.{number_of};
 ghost use Rattle.trace_service.specs.Roster.{entry_of, present_in};
 ghost use Rattle.trace_service.specs.Told.{told_text};
@@ -48,49 +49,52 @@ where
     R: Net<Listener = TcpListener, Stream = TcpStream> + Wait + Clock + Documents,
 {
     /// Once all threads are there reads the input to its end, has every tenant send what it holds, and prints the
-    /// reports. Whatever comes of it, the other threads are told that the work is over.
+    /// reports: how many of all answers were lost. Whatever comes of it, the other threads are told that the work is
+    /// over.
     fn go_through<I: BufRead, O: Write, L: Observer>(
         &mut self,
         input: &mut I,
         output: &mut O,
         observer: &mut L,
         threads: usize,
-    ) -> Result<(), ServiceFault>
-        ensures { OnOk result (IsDirected R.reads J.first (present_in self.old.roster) (length self.old.context.hub.now)
-            (I.remaining input.old) self.old.context.caller self.old.beat.last (O.contents output.old)
-            self.new.context.caller self.new.beat.last (O.contents output.new)) }
+    ) -> Result<u64, ServiceFault>
+        ensures { IfOk result (λ lost. IsDirected R.reads J.first (present_in self.old.roster)
+            (length self.old.context.hub.now) (I.remaining input.old) self.old.context.caller self.old.beat.last
+            (O.contents output.old, 0) self.new.context.caller self.new.beat.last (O.contents output.new, lost)) }
     {
-        if !all_arrive(&mut self.beat, threads) {
+        if !all_arrive(&self.beat, threads) {
             return Err(ServiceFault::NoThread);
         }
         let mut roster = mem::replace(&mut self.roster, Roster::new(self.alloc));
         observer.observe(Stage::Serving);
-        let heard = self.read_commands(&mut roster, input, output);
+        let mut lost = 0;
+        let heard = self.read_commands(&mut roster, input, output, &mut lost, observer);
         observer.observe(Stage::Draining);
         self.drain_all(roster.tenants());
         self.beat.signals().close();
         let is_woken = wake(self.rt, self.listener);
         self.await_empty(roster.tenants(), observer);
-        let told = self.print_reports(roster.tenants(), output);
+        self.print_reports(roster.tenants(), output, &mut lost);
         observer.observe(Stage::Closing);
         self.beat.signals().end();
         wake_at_last(self.rt, self.listener, is_woken);
         heard?;
-        told?;
-        Ok(())
+        Ok(lost)
     }
 
     /// Answers the lines of the input, to its end.
-    fn read_commands<I: BufRead, O: Write>(
+    fn read_commands<I: BufRead, O: Write, L: Observer>(
         &mut self,
         roster: &mut Roster,
         input: &mut I,
         output: &mut O,
+        lost: &mut u64,
+        observer: &mut L,
     ) -> Result<(), ServiceFault>
         ensures commands_read { OnOk result (AreCommandsRead R.reads J.first (length self.old.context.hub.now)
             (I.remaining input.old) (present_in roster.old) self.old.context.caller self.old.beat.last
-            (O.contents output.old) (present_in roster.new) self.new.context.caller self.new.beat.last
-            (O.contents output.new)) }
+            (O.contents output.old, lost.old) (present_in roster.new) self.new.context.caller self.new.beat.last
+            (O.contents output.new, lost.new)) }
         ensures hub { self.new.context.hub ≡ self.old.context.hub }
     {
         let mut line = Line::new();
@@ -98,7 +102,11 @@ where
             if !next_line(self.rt, input, &mut line)? {
                 return Ok(());
             }
-            self.run_command(roster, output, line.as_slice())?;
+            if asks_nothing(roster, line.as_slice()) {
+                let line = line.as_slice();
+                observer.observe(Stage::Skipped { line });
+            }
+            self.run_command(roster, output, lost, line.as_slice());
         }
         unreachable!()
     }
@@ -108,53 +116,44 @@ where
         &mut self,
         roster: &mut Roster,
         output: &mut O,
+        lost: &mut u64,
         line: &[u8],
-    ) -> Result<(), ServiceFault>
-        ensures answered { OnOk result (IsAnswered R.reads J.first (length self.old.context.hub.now)
-            line.now (present_in roster.old)
-            self.old.context.caller self.old.beat.last (O.contents output.old) (present_in roster.new)
-            self.new.context.caller self.new.beat.last (O.contents output.new)) }
+    )
+        ensures answered { IsAnswered R.reads J.first (length self.old.context.hub.now)
+            line.now (present_in roster.old) self.old.context.caller self.old.beat.last
+            (O.contents output.old, lost.old) (present_in roster.new)
+            self.new.context.caller self.new.beat.last (O.contents output.new, lost.new) }
         ensures hub { self.new.context.hub ≡ self.old.context.hub }
     {
         if let Some(name) = line.strip_prefix(b"report ".as_slice()) {
-            return self.report(roster, output, name);
+            return self.report(roster, output, lost, name);
         }
         if let Some(path) = line.strip_prefix(b"add ".as_slice()) {
-            return self.add(roster, output, path);
+            return self.add(roster, output, lost, path);
         }
         if let Some(name) = line.strip_prefix(b"retire ".as_slice()) {
-            return self.retire(roster, output, name);
+            self.retire(roster, output, lost, name);
         }
-        Ok(())
     }
 
     /// Prints the report of the tenant of this name, where there is one.
-    fn report<O: Write>(
-        &mut self,
-        roster: &Roster,
-        output: &mut O,
-        name: &[u8],
-    ) -> Result<(), ServiceFault>
-        ensures reported { OnOk result (IsReportedOf (length self.old.context.hub.now) name.now
+    fn report<O: Write>(&mut self, roster: &Roster, output: &mut O, lost: &mut u64, name: &[u8])
+        ensures reported { IsReportedOf (length self.old.context.hub.now) name.now
             (number_of (present_in roster.now) name.now) self.old.context.caller self.old.beat.last
-            (O.contents output.old) self.new.context.caller self.new.beat.last (O.contents output.new)) }
+            (O.contents output.old, lost.old) self.new.context.caller self.new.beat.last
+            (O.contents output.new, lost.new) }
         ensures hub { self.new.context.hub ≡ self.old.context.hub }
     {
-        match roster.find(name) {
-            Some(tenant) => self.print_report(output, tenant),
-            None => Ok(()),
+        if let Some(tenant) = roster.find(name) {
+            self.print_report(output, lost, tenant);
         }
     }
 
     /// Prints a tenant's report.
-    fn print_report<O: Write>(
-        &mut self,
-        output: &mut O,
-        tenant: &Present,
-    ) -> Result<(), ServiceFault>
-        ensures reported { OnOk result (IsReported (string_bytes tenant.now.name) self.old.context.caller
+    fn print_report<O: Write>(&mut self, output: &mut O, lost: &mut u64, tenant: &Present)
+        ensures reported { IsReported (string_bytes tenant.now.name) self.old.context.caller
             self.new.context.caller (length self.old.context.hub.now) tenant.now.number self.old.beat.last
-            self.new.beat.last (O.contents output.old) (O.contents output.new)) }
+            self.new.beat.last (O.contents output.old, lost.old) (O.contents output.new, lost.new) }
         ensures hub { self.new.context.hub ≡ self.old.context.hub }
     {
         let outcome = self.make(tenant.number, Chore::Report);
@@ -162,24 +161,18 @@ where
             name: tenant.name.as_str(),
             outcome: &outcome,
         });
-        write_text(output, line.as_slice())?;
-        Ok(())
+        write_text(output, line.as_slice(), lost);
     }
 
     /// Prints the reports of these tenants, in their order.
-    fn print_reports<O: Write>(
-        &mut self,
-        tenants: &[Present],
-        output: &mut O,
-    ) -> Result<(), ServiceFault>
-        ensures reported { OnOk result (AreReported (length self.old.context.hub.now) self.old.context.caller
-            self.old.beat.last (O.contents output.old) (map entry_of tenants.now) self.new.context.caller
-            self.new.beat.last (O.contents output.new)) }
+    fn print_reports<O: Write>(&mut self, tenants: &[Present], output: &mut O, lost: &mut u64)
+        ensures reported { AreReported (length self.old.context.hub.now) self.old.context.caller
+            self.old.beat.last (O.contents output.old, lost.old) (map entry_of tenants.now) self.new.context.caller
+            self.new.beat.last (O.contents output.new, lost.new) }
     {
         for tenant in tenants {
-            self.print_report(output, tenant)?;
+            self.print_report(output, lost, tenant);
         }
-        Ok(())
     }
 
     /// These tenants take no spans any more, and all send what they hold.
@@ -204,7 +197,10 @@ where
             let step = chore.at(tenant, now);
             match self.context.step(tenant, step) {
                 Ok(outcome) => return outcome,
-                Err(_) => self.beat.pause(),
+                Err(_) => {
+                    self.context.want();
+                    self.beat.pause();
+                }
             }
         }
         unreachable!()
@@ -219,8 +215,14 @@ where
     {
         'attempts: for _ in self.rt.forever() {
             match line_of(self.alloc, told) {
-                Ok(line) => return line,
-                Err(AllocError) => self.beat.pause(),
+                Ok(line) => {
+                    self.context.sate();
+                    return line;
+                }
+                Err(AllocError) => {
+                    self.context.want();
+                    self.beat.pause();
+                }
             }
         }
         unreachable!()
@@ -266,6 +268,19 @@ where
     }
 }
 
+/// Whether a line asks for nothing: it lets no tenant come, and names none that is present.
+fn asks_nothing(roster: &Roster, line: &[u8]) -> bool
+    ensures { OnTrue result (AsksNothing (present_in roster.now) line.now) }
+{
+    if let Some(name) = line.strip_prefix(b"report ".as_slice()) {
+        return roster.find(name).is_none();
+    }
+    if let Some(name) = line.strip_prefix(b"retire ".as_slice()) {
+        return roster.find(name).is_none();
+    }
+    line.strip_prefix(b"add ".as_slice()).is_none()
+}
+
 impl<'h, J, R> Director for Control<'h, J, R>
 where
     J: Naming,
@@ -276,8 +291,8 @@ where
     ghost use Rattle.trace_service.specs.Whole.{IsDirected};
 
     ghost directs = { λ old input so_far new written. IsDirected R.reads J.first (present_in old.roster)
-        (length old.context.hub.now) input old.context.caller old.beat.last so_far new.context.caller new.beat.last
-        written };
+        (length old.context.hub.now) input old.context.caller old.beat.last (so_far, 0) new.context.caller
+        new.beat.last written };
 
     fn direct<I: BufRead, O: Write, L: Observer>(
         &mut self,
@@ -285,7 +300,7 @@ where
         output: &mut O,
         observer: &mut L,
         threads: usize,
-    ) -> Result<(), ServiceFault> {
+    ) -> Result<u64, ServiceFault> {
         self.go_through(input, output, observer, threads)
     }
 }

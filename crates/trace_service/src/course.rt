@@ -5,7 +5,10 @@
 pub enum Stage<'n> {
     /// All threads are there, and connections are served.
     Serving,
-    /// The input has ended, or it or the output failed: tenants take no more spans and send what they hold.
+    /// A line of the input asks for nothing: it names no tenant that is present, or is no command. These are its first
+    /// bytes, as far as they are kept.
+    Skipped { line: &'n [u8] },
+    /// The input has ended, or failed: tenants take no more spans and send what they hold.
     Draining,
     /// It waits until the tenant of this name holds no span, and then for others that hold some.
     Sending { name: &'n str },

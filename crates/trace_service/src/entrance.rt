@@ -1,6 +1,7 @@
 //! Where clients come in.
 
 use crate::beat::Signals;
+use crate::visit::{Client, Patience};
 use std::io::ErrorKind;
 use std::net::{Net, TcpListener, TcpStream};
 use std::sync::{Mutex, Wait};
@@ -19,16 +20,16 @@ const LONGEST_WAKE: u64 = 100;
 pub(crate) struct Entrance<'h> {
     listener: &'h TcpListener,
     turn: Mutex<()>,
-    limit: Option<Duration>,
+    patience: Patience,
 }
 
 impl<'h> Entrance<'h> {
-    /// An entrance for clients whose connections may rest for so long.
-    pub fn new(listener: &'h TcpListener, limit: Option<Duration>) -> Entrance<'h> {
+    /// An entrance for clients for whom is waited so long.
+    pub fn new(listener: &'h TcpListener, patience: Patience) -> Entrance<'h> {
         Entrance {
             listener,
             turn: Mutex::new(()),
-            limit,
+            patience,
         }
     }
 
@@ -38,7 +39,7 @@ impl<'h> Entrance<'h> {
     }
 
     /// Waits for the next client. None where the end has come meanwhile, or where none can be taken now.
-    pub fn admit<R: Wait + Clock>(&self, rt: &R, signals: &Signals) -> Option<TcpStream> {
+    pub fn admit<R: Wait + Clock>(&self, rt: &R, signals: &Signals) -> Option<Client> {
         let _turn = self.turn.lock(rt);
         if signals.is_closing() {
             return None;
@@ -56,13 +57,14 @@ impl<'h> Entrance<'h> {
         }
     }
 
-    /// The stream, with the limit for its reads and writes. None where it doesn't take that.
-    fn limited(&self, stream: TcpStream) -> Option<TcpStream> {
-        if self.limit.is_some() {
-            stream.set_read_timeout(self.limit).ok()?;
-            stream.set_write_timeout(self.limit).ok()?;
+    /// The client of a stream, with the limit for its reads and writes. None where it doesn't take that.
+    fn limited(&self, stream: TcpStream) -> Option<Client> {
+        let patience = self.patience;
+        if patience.rest.is_some() {
+            stream.set_read_timeout(patience.rest).ok()?;
+            stream.set_write_timeout(patience.rest).ok()?;
         }
-        Some(stream)
+        Some(Client { stream, patience })
     }
 }
 

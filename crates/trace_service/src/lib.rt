@@ -28,14 +28,17 @@ mod input;
 mod lingering;
 mod naming;
 mod options;
+mod pace;
 mod post;
 mod receiving;
 mod reports;
+mod reserve;
 mod rest;
 mod roster;
 mod service;
 mod shared;
 mod teller;
+mod visit;
 mod workers;
 
 pub use crate::course::{Observer, Stage};

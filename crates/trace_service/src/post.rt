@@ -8,7 +8,7 @@ ghost use Rattle.tail_settings.specs.Section.{section_view};
 ghost use Rattle.trace_service.specs.Post.{IsPosted, IsStepped, MayTell, Tells, bad_request, no_memory};
 
 use bytes::Bytes;
-use http_edge::Reply;
+use http_edge::{MediaType, Reply};
 use otlp_front::RouteRefusal;
 use otlp_prepare::{Prepared, Refusal, prepare};
 use shared_hub::{Caller, HubFault, SharedHub};
@@ -76,6 +76,7 @@ fn http_reply(alloc: Global, outcome: Outcome) -> Reply
     match outcome {
         Outcome::Reply(_, reply) => Reply {
             status: reply.status,
+            media: MediaType::Protobuf,
             body: reply.body.into_vec(),
         },
         _ => refused(alloc, RouteRefusal::UnknownTenant),
@@ -107,6 +108,7 @@ fn bad_protobuf_reply(alloc: Global) -> Result<Reply, AllocError>
 {
     Ok(Reply {
         status: 400,
+        media: MediaType::Protobuf,
         body: Vec::from_slice(alloc, b"\x12\x0cbad protobuf")?,
     })
 }
@@ -117,6 +119,12 @@ pub(crate) fn without_memory(alloc: Global) -> Reply
 {
     Reply {
         status: 503,
+        media: MediaType::Protobuf,
         body: Vec::new(alloc),
     }
+}
+
+/// Whether it is that reply.
+pub(crate) fn is_without_memory(reply: &Reply) -> bool {
+    reply.status == 503 && reply.body.is_empty()
 }

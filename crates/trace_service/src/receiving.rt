@@ -35,8 +35,8 @@ pub(crate) trait Reception {
     fn next(&mut self, door: &Self::Door) -> Option<Self::Guest>
         ensures { takes self.old result self.new };
 
-    /// Serves the guest to its end.
-    fn serve<T: Threads + Sync>(&mut self, rt: &T, guest: Self::Guest)
+    /// Serves the guest to its end, by way of this buffer.
+    fn serve<T: Threads + Sync>(&mut self, rt: &T, guest: Self::Guest, buffer: &mut Vec<u8>)
         // As for `http_edge::Handler`: the bound doesn't say it of a trait's method.
         requires { IsSync T.row }
         ensures { serves self.old guest self.new };
@@ -46,8 +46,8 @@ pub(crate) trait Reception {
         ensures { rests self.old self.new };
 }
 
-/// Serves guests, one after another, until nobody is to be served any more.
-pub(crate) fn receive_all<D, R>(rt: &R, door: &D::Door, reception: &mut D)
+/// Serves guests, one after another, by way of one buffer, until nobody is to be served any more.
+pub(crate) fn receive_all<D, R>(rt: &R, door: &D::Door, reception: &mut D, buffer: &mut Vec<u8>)
 where
     D: Reception,
     R: Threads + Wait + Sync,
@@ -57,27 +57,37 @@ where
         if reception.is_closing() {
             return;
         }
-        receive_next(rt, door, reception);
+        receive_next(rt, door, reception, buffer);
     }
     unreachable!()
 }
 
 /// Serves the next guest, unless the end has come meanwhile. Pauses where none comes.
-fn receive_next<D: Reception, T: Threads + Sync>(rt: &T, door: &D::Door, reception: &mut D)
+fn receive_next<D: Reception, T: Threads + Sync>(
+    rt: &T,
+    door: &D::Door,
+    reception: &mut D,
+    buffer: &mut Vec<u8>,
+)
     ensures { IsRound D.looks D.takes D.serves D.rests reception.old reception.new }
 {
     match reception.next(door) {
-        Some(guest) => serve_in_time(rt, reception, guest),
+        Some(guest) => serve_in_time(rt, reception, guest, buffer),
         None => reception.pause(),
     }
 }
 
 /// Serves the guest, unless the end has come.
-fn serve_in_time<D: Reception, T: Threads + Sync>(rt: &T, reception: &mut D, guest: D::Guest)
+fn serve_in_time<D: Reception, T: Threads + Sync>(
+    rt: &T,
+    reception: &mut D,
+    guest: D::Guest,
+    buffer: &mut Vec<u8>,
+)
     ensures { Served D.looks D.serves reception.old guest reception.new }
 {
     if reception.is_closing() {
         return;
     }
-    reception.serve(rt, guest);
+    reception.serve(rt, guest, buffer);
 }

@@ -1,17 +1,20 @@
 //! What the service prints.
 
-ghost use Rattle.std.specs.Prelude.{◌≡◌, ◌++◌, IfOk, OnOk};
-ghost use Rattle.std.specs.Io.KnownBytes.{Appends};
+ghost use Rattle.std.specs.Prelude.{◌≡◌, ◌++◌, List, ℕ, IfOk, OnOk, OnErr};
+ghost use Rattle.std.specs.Io.KnownBytes.{Appends, Keeps};
 ghost use Rattle.trace_service.specs.Audit.{audit_line, audit_text, IsFollowed};
 ghost use Rattle.trace_service.specs.Commands.{outcome_line};
+ghost use Rattle.trace_service.specs.Output.{IsPut};
 ghost use Rattle.trace_service.specs.Told.{told_text};
 
 use replay_script::{put_added, put_refused, put_report};
 use shared_hub::ShardLog;
 use std::alloc::{AllocError, Global};
-use std::io;
-use std::io::Write;
+use std::io::{ErrorKind, Write};
 use tenant_shard::Outcome;
+
+/// So often a write is tried, of which each takes some bytes or is interrupted.
+const MOST_WRITES: u64 = 1 << 62;
 
 /// What a line of the input is answered.
 #[derive(Clone, Copy)]
@@ -54,12 +57,49 @@ fn put_outcome(
     }
 }
 
-/// Writes a text at once.
-pub(crate) fn write_text<W: Write>(output: &mut W, text: &[u8]) -> io::Result<()>
-    ensures { OnOk result (Appends (W.contents output.old) (W.contents output.new) text.now) }
+/// The output failed, and what it was to take is lost, but for a front of it.
+#[derive(Clone, Copy, Debug)]
+struct TextLost;
+
+/// Writes a text at once. Where the output fails it is lost, which is counted, up to `u64::MAX`.
+pub(crate) fn write_text<W: Write>(output: &mut W, text: &[u8], lost: &mut u64)
+    ensures { IsPut (W.contents output.old, lost.old) (W.contents output.new, lost.new) text.now }
 {
-    output.write_all(text)?;
-    output.flush()
+    if let Err(TextLost) = try_write(output, text) {
+        *lost = lost.saturating_add(1);
+    }
+}
+
+/// Writes a text at once, or a front of it. A call that is only interrupted is tried again.
+fn try_write<W: Write>(output: &mut W, text: &[u8]) -> Result<(), TextLost>
+    ensures whole { OnOk result (Appends (W.contents output.old) (W.contents output.new) text.now) }
+    ensures cut { OnErr result ((front rest : List ℕ) × (text.now ≡ front ++ rest)
+        × Appends (W.contents output.old) (W.contents output.new) front) }
+{
+    let mut rest = text;
+    'tries: for _ in 0..MOST_WRITES {
+        if rest.is_empty() {
+            return flushed(output);
+        }
+        match output.write(rest) {
+            Ok(0) => return Err(TextLost),
+            Ok(count) => rest = &rest[count..],
+            Err(error) => if error.kind() != ErrorKind::Interrupted {
+                return Err(TextLost);
+            },
+        }
+    }
+    Err(TextLost)
+}
+
+/// Has the output pass on what was written.
+fn flushed<W: Write>(output: &mut W) -> Result<(), TextLost>
+    ensures { Keeps (W.contents output.old) (W.contents output.new) }
+{
+    match output.flush() {
+        Ok(()) => Ok(()),
+        Err(_) => Err(TextLost),
+    }
 }
 
 /// Writes how many entries each shard's log has, where an audit is asked for.
@@ -68,22 +108,17 @@ pub(crate) fn write_audit<W: Write>(
     output: &mut W,
     shards: &[ShardLog],
     audit: bool,
-) -> io::Result<()>
-    ensures { OnOk result (IsFollowed audit (audit_text shards.now) (W.contents output.old) (W.contents output.new)) }
+    lost: &mut u64,
+) -> Result<(), AllocError>
+    ensures { OnOk result (IsFollowed audit (audit_text shards.now) (W.contents output.old, lost.old)
+        (W.contents output.new, lost.new)) }
 {
-    if !audit {
-        return Ok(());
+    if audit {
+        let mut text = Vec::new(alloc);
+        put_audit(alloc, &mut text, shards)?;
+        write_text(output, text.as_slice(), lost);
     }
-    write_audit_lines(alloc, output, shards)
-}
-
-/// Writes how many entries each shard's log has, a line for each.
-fn write_audit_lines<W: Write>(alloc: Global, output: &mut W, shards: &[ShardLog]) -> io::Result<()>
-    ensures { OnOk result (Appends (W.contents output.old) (W.contents output.new) (audit_text shards.now)) }
-{
-    let mut text = Vec::new(alloc);
-    put_audit(alloc, &mut text, shards)?;
-    write_text(output, text.as_slice())
+    Ok(())
 }
 
 /// Appends a line for each shard's log.

@@ -14,6 +14,9 @@ const NAP: u64 = 1;
 /// look some sixty times a second, so that a ring that nobody heard costs little.
 const LOOK: u64 = 16;
 
+/// Who waits for the start looks so often, in milliseconds, whether more have come.
+const START_LOOK: u64 = 1_000;
+
 /// For how long, in milliseconds, nothing may happen to a tenant before something of it is due by the time alone: a
 /// decision, a batch's timeout or a retry. A back end may put a retry off for longer.
 pub(crate) fn longest_wait(section: &Section) -> u64 {
@@ -35,6 +38,8 @@ pub(crate) struct Bells {
     // A shard's, to which its turner listens.
     shards: Vec<Condvar>,
     lane: Condvar,
+    // That of the start, to which all listen who are there before it.
+    start: Condvar,
     // How many listen to the lane's.
     senders: u32,
     // For how long nothing may happen in a shard before something is due there by the time alone, in milliseconds.
@@ -56,6 +61,7 @@ impl Bells {
         Ok(Bells {
             shards: list,
             lane: Condvar::new(),
+            start: Condvar::new(),
             senders,
             longest_wait: AtomicU64::new(longest_wait),
         })
@@ -83,12 +89,18 @@ impl Bells {
         self.lane.notify_one();
     }
 
+    /// All are there.
+    pub fn ring_start(&self) {
+        self.start.notify_all();
+    }
+
     /// Nobody is to rest any more.
     pub fn ring_all(&self) {
         for bell in self.shards.as_slice() {
             bell.notify_all();
         }
         self.lane.notify_all();
+        self.start.notify_all();
     }
 }
 
@@ -98,6 +110,7 @@ enum Place<'b> {
     Nowhere,
     Shard { bell: &'b Condvar, bells: &'b Bells },
     Lane(&'b Bells),
+    Start(&'b Bells),
 }
 
 /// How a thread rests.
@@ -116,6 +129,11 @@ impl<'b> Rest<'b> {
     /// That of who listens to nothing, and makes short pauses alone.
     pub fn short() -> Rest<'b> {
         Rest::at(Place::Nowhere)
+    }
+
+    /// That of who waits for the start.
+    pub fn of_arrival(bells: &'b Bells) -> Rest<'b> {
+        Rest::at(Place::Start(bells))
     }
 
     /// That of a shard's turner.
@@ -147,6 +165,7 @@ impl<'b> Rest<'b> {
             Place::Nowhere => return,
             Place::Shard { bell, bells: _ } => bell.notifications(),
             Place::Lane(bells) => bells.lane.notifications(),
+            Place::Start(bells) => bells.start.notifications(),
         };
         if rings != self.heard {
             self.heard = rings;
@@ -171,6 +190,9 @@ impl<'b> Rest<'b> {
                 let senders = u64::from(bells.senders);
                 bells.lane.sleep(rt, self.heard, share_of(senders));
             }
+            Place::Start(bells) => bells
+                .start
+                .sleep(rt, self.heard, Duration::from_millis(START_LOOK)),
             _ => {
                 self.naps = self.naps.saturating_add(1);
                 thread::sleep(rt, Duration::from_millis(NAP));

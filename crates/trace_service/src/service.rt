@@ -1,6 +1,6 @@
 //! The service, from its start to its end.
 
-ghost use Rattle.std.specs.Prelude.{◌≡◌, ◌<◌, ◌+◌, length, All, IfOk, OnOk, replicate, vec_len};
+ghost use Rattle.std.specs.Prelude.{◌≡◌, ◌<◌, ◌+◌, length, All, IfOk, replicate, vec_len};
 ghost use Rattle.std.specs.IoError.{error_kind};
 ghost use Rattle.std.specs.Thread.{IsSync};
 ghost use Rattle.job_lane.specs.Lane.{new_seat};
@@ -46,7 +46,7 @@ use thiserror::Error;
 /// Why a service ended early, or what it met on its way.
 #[derive(Clone, Copy, Debug, Drop, PartialEq, Eq, Error)]
 pub enum ServiceFault {
-    /// The clock, the listener, the input or the output failed.
+    /// The clock, the listener or the input failed.
     #[error("input or output fault")]
     Line,
     /// There was no memory.
@@ -65,7 +65,7 @@ impl From<AllocError> for ServiceFault {
     }
 }
 
-/// Of the input and the output only the want of memory is told apart.
+/// Of the input only the want of memory is told apart.
 impl From<io::Error> for ServiceFault {
     ghost from_gives = { λ error given. IsOfLine (error_kind error) given };
 
@@ -94,8 +94,9 @@ impl From<HubFault> for ServiceFault {
 /// say, or else the settings, a turner for each shard, and one lane. A line `report NAME` of the input prints that
 /// tenant's counters, `add PATH` lets a tenant come whose document is in a file, and `retire NAME` lets one go once it
 /// has sent what it held. All reports are printed at the end; with an audit also how many entries each shard's log has.
-/// After a fault of the input or the output the service ends as it does at the input's end, and then says so. The
-/// observer is told of its course.
+/// What can't be written to the output is lost, and the service goes on: it says at its end how many answers were.
+/// After a fault of the input it ends as it does at the input's end, and then says so. The observer is told of its
+/// course, and of lines that ask for nothing.
 pub fn run_service<R, I, O, L>(
     rt: &R,
     alloc: Global,
@@ -105,13 +106,13 @@ pub fn run_service<R, I, O, L>(
     output: &mut O,
     observer: &mut L,
     options: ServiceOptions,
-) -> Result<(), ServiceFault>
+) -> Result<u64, ServiceFault>
 where
     R: Net<Listener = TcpListener, Stream = TcpStream> + Threads + Wait + Clock + Documents + Sync,
     I: BufRead,
     O: Write,
     L: Observer,
-    ensures { OnOk result (IsServed R.reads (settings_view settings) options.audit (I.remaining input.old)
+    ensures { IfOk result (IsServed R.reads (settings_view settings) options.audit (I.remaining input.old)
         (O.contents output.old) (O.contents output.new)) }
 {
     let global = &settings.global;
@@ -157,7 +158,7 @@ fn run_named<J, R, I, O, L>(
     output: &mut O,
     observer: &mut L,
     audit: bool,
-) -> Result<(), ServiceFault>
+) -> Result<u64, ServiceFault>
 where
     J: Naming + Send + Sync,
     R: Net<Listener = TcpListener, Stream = TcpStream> + Threads + Wait + Clock + Documents + Sync,
@@ -181,7 +182,7 @@ where
     requires new { All (λ c. c ≡ J.fresh) callers.items }
     requires shards { length J.slots ≡ settings.global.shards }
     requires enough { vec_len callers ≡ 1 + vec_len seats }
-    ensures { OnOk result (IsServed R.reads (settings_view settings) audit (I.remaining input.old)
+    ensures { IfOk result (IsServed R.reads (settings_view settings) audit (I.remaining input.old)
         (O.contents output.old) (O.contents output.new)) }
 {
     let roster = Roster::of(alloc, &settings)?;
@@ -193,9 +194,10 @@ where
     observer.observe(Stage::Ended);
     let _totals = lane.close(rt, lane_keeper, seats);
     let shards = end_hub(rt, hub, keeper, callers);
-    write_audit(alloc, output, shards.as_slice(), audit)?;
+    let mut lost = ended.unwrap_or(0);
+    write_audit(alloc, output, shards.as_slice(), audit, &mut lost)?;
     ended?;
-    Ok(())
+    Ok(lost)
 }
 
 /// Ends the hub, whose callers are all back.
@@ -220,7 +222,7 @@ fn end_hub<R: Wait>(
     shards
 }
 
-/// All threads' work, to its end: the callers, the seats, and how the input and the output fared.
+/// All threads' work, to its end: the callers, the seats, and how many answers were lost, or how the input failed.
 fn at_work<J, R, I, O, L>(
     rt: &R,
     alloc: Global,
@@ -235,7 +237,7 @@ fn at_work<J, R, I, O, L>(
     input: &mut I,
     output: &mut O,
     observer: &mut L,
-) -> Result<(Vec<Caller>, Vec<LaneSeat>, Result<(), ServiceFault>), ServiceFault>
+) -> Result<(Vec<Caller>, Vec<LaneSeat>, Result<u64, ServiceFault>), ServiceFault>
 where
     J: Naming + Send + Sync,
     R: Net<Listener = TcpListener, Stream = TcpStream> + Threads + Wait + Clock + Documents + Sync,
@@ -254,8 +256,9 @@ where
     ensures same_lane { IfOk result (λ r. All (λ s. s.lane ≡ J.lane) r.1.items) }
     ensures all_seats { IfOk result (λ r. vec_len r.1 ≡ vec_len seats) }
     ensures threads { IfOk result (λ r. AreThreads (length J.slots) J.fresh r.0.items r.1.items) }
-    ensures course { IfOk result (λ r. OnOk r.2 (IsCourse R.reads J.first (present_in roster) (length J.slots)
-        (I.remaining input.old) J.fresh (O.contents output.old) r.0.items (O.contents output.new))) }
+    ensures course { IfOk result (λ r. IfOk r.2 (λ lost. IsCourse R.reads J.first (present_in roster)
+        (length J.slots) (I.remaining input.old) J.fresh (O.contents output.old, 0) r.0.items
+        (O.contents output.new, lost))) }
 {
     let longest_wait = settings.lock(rt).longest_wait();
     let signals = Signals::new(alloc, hub.shards(), staff.senders, longest_wait)?;
@@ -281,7 +284,7 @@ fn sharing<'h, J, R, I, O, L>(
     input: &mut I,
     output: &mut O,
     observer: &mut L,
-) -> Result<(Vec<Caller>, Vec<LaneSeat>, Result<(), ServiceFault>), ServiceFault>
+) -> Result<(Vec<Caller>, Vec<LaneSeat>, Result<u64, ServiceFault>), ServiceFault>
 where
     J: Naming + Send + Sync,
     R: Net<Listener = TcpListener, Stream = TcpStream> + Threads + Wait + Clock + Documents + Sync,
@@ -300,8 +303,9 @@ where
     ensures same_lane { IfOk result (λ r. All (λ s. s.lane ≡ J.lane) r.1.items) }
     ensures all_seats { IfOk result (λ r. vec_len r.1 ≡ vec_len seats) }
     ensures threads { IfOk result (λ r. AreThreads (length J.slots) J.fresh r.0.items r.1.items) }
-    ensures course { IfOk result (λ r. OnOk r.2 (IsCourse R.reads J.first (present_in roster) (length J.slots)
-        (I.remaining input.old) J.fresh (O.contents output.old) r.0.items (O.contents output.new))) }
+    ensures course { IfOk result (λ r. IfOk r.2 (λ lost. IsCourse R.reads J.first (present_in roster)
+        (length J.slots) (I.remaining input.old) J.fresh (O.contents output.old, 0) r.0.items
+        (O.contents output.new, lost))) }
 {
     let start = Instant::now(rt)?;
     let shared = Shared {
@@ -311,7 +315,7 @@ where
         staff,
         hub,
         lane,
-        entrance: Entrance::new(listener, staff.client_timeout),
+        entrance: Entrance::new(listener, staff.patience),
         beat: ServiceBeat::new(rt, signals, start),
         threads: callers.len(),
     };
@@ -327,7 +331,7 @@ fn work_on<'h, J, R, I, O, L>(
     input: &mut I,
     output: &mut O,
     observer: &mut L,
-) -> Result<(Vec<Caller>, Vec<LaneSeat>, Result<(), ServiceFault>), ServiceFault>
+) -> Result<(Vec<Caller>, Vec<LaneSeat>, Result<u64, ServiceFault>), ServiceFault>
 where
     J: Naming + Send + Sync,
     R: Net<Listener = TcpListener, Stream = TcpStream> + Threads + Wait + Clock + Documents + Sync,
@@ -346,8 +350,9 @@ where
     ensures same_lane { IfOk result (λ r. All (λ s. s.lane ≡ J.lane) r.1.items) }
     ensures all_seats { IfOk result (λ r. vec_len r.1 ≡ vec_len seats) }
     ensures threads { IfOk result (λ r. AreThreads (length J.slots) J.fresh r.0.items r.1.items) }
-    ensures course { IfOk result (λ r. OnOk r.2 (IsCourse R.reads J.first (present_in roster) (length J.slots)
-        (I.remaining input.old) J.fresh (O.contents output.old) r.0.items (O.contents output.new))) }
+    ensures course { IfOk result (λ r. IfOk r.2 (λ lost. IsCourse R.reads J.first (present_in roster)
+        (length J.slots) (I.remaining input.old) J.fresh (O.contents output.old, 0) r.0.items
+        (O.contents output.new, lost))) }
 {
     let shards = shared.hub.shards();
     prove!(0 < shards);
@@ -361,7 +366,7 @@ where
         roster,
         listener: shared.entrance.listener(),
         context: shared.context(own, 0),
-        beat: shared.beat.again(),
+        beat: shared.beat.of_chores(),
     };
     let mut workers = assign_threads::<J, R>(shared, callers, seats)?;
     let ended = all_work(
@@ -377,7 +382,7 @@ where
     Ok((callers, seats, ended))
 }
 
-/// The workers' work, with that of who reads the input beside it: how the input and the output fared.
+/// The workers' work, with that of who reads the input beside it: how many answers were lost, or how the input failed.
 fn all_work<'h, J, R, I, O, L>(
     shared: &Shared<'h, J, R>,
     workers: &mut [Worker<'h, J, R>],
@@ -385,7 +390,7 @@ fn all_work<'h, J, R, I, O, L>(
     input: &mut I,
     output: &mut O,
     observer: &mut L,
-) -> Result<(), ServiceFault>
+) -> Result<u64, ServiceFault>
 where
     J: Naming + Send + Sync,
     R: Net<Listener = TcpListener, Stream = TcpStream> + Threads + Wait + Clock + Documents + Sync,
@@ -395,9 +400,9 @@ where
     requires lane { shared.now.lane.now.name ≡ J.lane }
     requires idle { All (λ w. (w.context.caller ≡ J.fresh) × (w.seat ≡ new_seat J.lane)) workers.old }
     ensures did { All (λ w. IsThread (length J.slots) J.fresh w.context.caller w.seat) workers.new }
-    ensures directed { OnOk result (IsDirected R.reads J.first (present_in control.old.roster)
+    ensures directed { IfOk result (λ lost. IsDirected R.reads J.first (present_in control.old.roster)
         (length control.old.context.hub.now) (I.remaining input.old) control.old.context.caller control.old.beat.last
-        (O.contents output.old) control.new.context.caller control.new.beat.last (O.contents output.new)) }
+        (O.contents output.old, 0) control.new.context.caller control.new.beat.last (O.contents output.new, lost)) }
 {
     work_beside(
         shared.rt,

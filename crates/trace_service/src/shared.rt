@@ -9,6 +9,7 @@ use crate::entrance::Entrance;
 use crate::in_force::InForce;
 use crate::naming::Naming;
 use crate::options::ServiceOptions;
+use crate::visit::Patience;
 use job_lane::Lane;
 use shared_hub::{Caller, SharedHub};
 use std::alloc::Global;
@@ -22,7 +23,7 @@ pub(crate) struct Staff {
     pub senders: u32,
     pub receivers: u32,
     /// For a client, by a receiver.
-    pub client_timeout: Option<Duration>,
+    pub patience: Patience,
     /// For a back end, by a sender.
     pub back_end_timeout: Option<Duration>,
     /// For the notes of one body, the one that it came to among them.
@@ -36,13 +37,17 @@ impl Staff {
         ensures senders { result.senders ≡ unwrap_or options.now.senders global.now.senders }
         ensures receivers { result.receivers ≡ unwrap_or options.now.connections global.now.receivers }
         ensures parts { result.parts ≡ global.now.parts }
-        ensures client { result.client_timeout ≡ options.now.client_timeout }
+        ensures rest { result.patience.rest ≡ options.now.client_timeout }
+        ensures request { result.patience.request ≡ options.now.request_timeout }
         ensures back_end { result.back_end_timeout ≡ options.now.back_end_timeout }
     {
         Staff {
             senders: options.senders.unwrap_or(global.senders),
             receivers: options.connections.unwrap_or(global.receivers),
-            client_timeout: options.client_timeout,
+            patience: Patience {
+                rest: options.client_timeout,
+                request: options.request_timeout,
+            },
             back_end_timeout: options.back_end_timeout,
             parts: global.parts,
         }

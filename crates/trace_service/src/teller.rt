@@ -1,25 +1,43 @@
-//! What a turner tells the others of its turns.
+//! What a thread tells the others of its calls at the shards.
 
 use crate::beat::Signals;
 use export_edge::TurnResult;
+use std::sync::Wait;
 
-/// Tells the others of one turner's turns: who may go on by them.
+/// Tells the others of one thread's calls: who may go on by them, and that memory is wanted.
 #[derive(Drop)]
-pub(crate) struct Teller<'h> {
+pub(crate) struct Teller<'h, R> {
+    rt: &'h R,
     signals: &'h Signals,
-    shard: usize,
-    // Whether the last turn gave a job.
+    // Whether its last turn gave a job.
     gave: bool,
+    // Whether it was refused memory, and tries again.
+    wants: bool,
 }
 
-impl<'h> Teller<'h> {
-    /// That of this shard's turner. Nothing is to be told yet.
-    pub fn new(signals: &'h Signals, shard: usize) -> Teller<'h> {
+impl<'h, R: Wait> Teller<'h, R> {
+    /// Nothing is to be told yet.
+    pub fn new(rt: &'h R, signals: &'h Signals) -> Teller<'h, R> {
         Teller {
+            rt,
             signals,
-            shard,
             gave: false,
+            wants: false,
         }
+    }
+
+    /// A call was made at this shard, after which another turn of it may be worth while.
+    pub fn made(&mut self, shard: usize) {
+        self.sate();
+        self.signals.bells().ring_shard(shard);
+    }
+
+    /// An answer was taken at this shard.
+    pub fn answered(&mut self, shard: usize) {
+        if let Some(pace) = self.signals.paces().shard(shard) {
+            pace.end_job();
+        }
+        self.made(shard);
     }
 
     /// Another turn begins, so the job of the one before is in the lane, if it gave one.
@@ -30,20 +48,50 @@ impl<'h> Teller<'h> {
         }
     }
 
-    /// A turn came to this. Where it did something, another may be worth while.
-    pub fn end_turn(&mut self, turned: &TurnResult) {
+    /// A turn of this shard came to this. Where it did something, another may be worth while.
+    pub fn end_turn(&mut self, shard: usize, turned: &TurnResult) {
+        self.note(shard, false);
         match turned {
             TurnResult::Job(_) => {
                 self.gave = true;
-                self.turn_again();
+                if let Some(pace) = self.signals.paces().shard(shard) {
+                    pace.begin_job();
+                }
+                self.made(shard);
             }
-            TurnResult::Worked => self.turn_again(),
-            TurnResult::Idle => {}
+            TurnResult::Worked => self.made(shard),
+            TurnResult::Idle => self.sate(),
         }
     }
 
-    /// Another turn is to be made soon.
-    pub fn turn_again(&self) {
-        self.signals.bells().ring_shard(self.shard);
+    /// A turn of this shard was refused memory. Its turner doesn't rest long before the next.
+    pub fn refuse_turn(&mut self, shard: usize) {
+        self.note(shard, true);
+        self.want();
+        self.signals.bells().ring_shard(shard);
+    }
+
+    /// Tells the turner of this shard whether its turn was refused memory.
+    fn note(&self, shard: usize, is_refused: bool) {
+        if let Some(pace) = self.signals.paces().shard(shard) {
+            pace.note_turn(is_refused);
+        }
+    }
+
+    /// It was refused memory for what lets memory go, and is to try again: the reserve is given up for it.
+    pub fn want(&mut self) {
+        if !self.wants {
+            self.wants = true;
+            self.signals.reserve().want(self.rt);
+            self.signals.paces().slow_down();
+        }
+    }
+
+    /// It is refused memory no longer.
+    pub fn sate(&mut self) {
+        if self.wants {
+            self.wants = false;
+            self.signals.reserve().sate();
+        }
     }
 }

@@ -1,6 +1,6 @@
 //! The threads' work.
 
-ghost use Rattle.std.specs.Prelude.{◌≡◌, length, All};
+ghost use Rattle.std.specs.Prelude.{◌≡◌, ◌<◌, length, All, IfSome};
 ghost use Rattle.std.specs.Thread.{IsSync};
 ghost use Rattle.job_lane.specs.Lane.{new_seat};
 ghost use Rattle.trace_service.specs.Jobs.{IsThread};
@@ -13,8 +13,9 @@ use crate::lingering::linger;
 use crate::naming::Naming;
 use crate::receiving::{Reception, receive_all};
 use crate::shared::Shared;
+use crate::visit::{Client, Visit};
 use export_edge::{Beat, TcpBackEnd, run_sender, run_turner};
-use http_edge::{Handler, serve};
+use http_edge::{EdgeFault, Handler, serve};
 use http_line::StreamLine;
 use job_lane::LaneSeat;
 use shared_hub::Caller;
@@ -23,8 +24,8 @@ use std::sync::Wait;
 use std::thread::{Threads, for_each_mut};
 use std::time::Clock;
 
-/// So often a thread looks whether all others have been started.
-const MOST_LOOKS: u32 = 10_000;
+/// So often a thread looks in vain whether another one came.
+const MOST_LOOKS: u32 = 10;
 
 /// What a thread does.
 #[derive(Clone, Copy, PartialEq, Eq, Debug)]
@@ -43,6 +44,8 @@ pub(crate) struct Worker<'h, J: Naming, R> {
     role: Role,
     context: WorkerContext<'h, J, R>,
     seat: LaneSeat,
+    /// What a receiver's connections are read into.
+    buffer: Vec<u8>,
     ghost seated: { seat.lane ≡ J.lane },
 }
 
@@ -52,7 +55,12 @@ impl<'h, J: Naming, R: Wait + Clock> Worker<'h, J, R> {
     ghost use Rattle.machine_hub.specs.Hub.{slots_of};
 
     /// A thread's things, before its work.
-    pub fn new(role: Role, context: WorkerContext<'h, J, R>, seat: LaneSeat) -> Worker<'h, J, R>
+    pub fn new(
+        role: Role,
+        context: WorkerContext<'h, J, R>,
+        seat: LaneSeat,
+        buffer: Vec<u8>,
+    ) -> Worker<'h, J, R>
         requires { seat ≡ new_seat J.lane }
         ensures role { result.role ≡ role }
         ensures shard { result.context.shard ≡ context.entry.shard }
@@ -63,6 +71,7 @@ impl<'h, J: Naming, R: Wait + Clock> Worker<'h, J, R> {
             role,
             context,
             seat,
+            buffer,
         }
     }
 
@@ -112,8 +121,7 @@ where
     requires new { worker.old.seat ≡ new_seat J.lane }
     ensures { IsThread (length J.slots) J.fresh worker.new.context.caller worker.new.seat }
 {
-    let mut beat = worker.context.beat();
-    if !all_arrive(&mut beat, shared.threads) {
+    if !all_arrive(&worker.context.beat(), shared.threads) {
         return;
     }
     match worker.role {
@@ -145,31 +153,52 @@ where
                 &mut beat,
             );
         }
-        Role::Receiver => receive_all(shared.rt, &shared.entrance, &mut worker.context),
+        Role::Receiver => receive_all(
+            shared.rt,
+            &shared.entrance,
+            &mut worker.context,
+            &mut worker.buffer,
+        ),
     }
 }
 
-/// Says that this thread is there, and waits for the others. False where they don't come, or the work is over.
-pub(crate) fn all_arrive<C: Wait + Clock>(beat: &mut ServiceBeat<'_, C>, threads: usize) -> bool
-    ensures { beat.new.last ≡ beat.old.last }
-{
+/// Says that this thread is there, and waits for the others. False where ten seconds pass in which none comes, or the
+/// work is over.
+pub(crate) fn all_arrive<C: Wait + Clock>(beat: &ServiceBeat<'_, C>, threads: usize) -> bool {
     let signals = beat.signals();
-    signals.arrive();
-    for _ in 0..MOST_LOOKS {
-        if signals.is_over() {
-            return false;
+    let mut waiting = beat.of_arrival();
+    let mut here = signals.arrive(threads);
+    while here < threads {
+        match more_arrive(&mut waiting, here) {
+            Some(more) => here = more,
+            None => {
+                signals.end();
+                return false;
+            }
         }
-        if signals.here() >= threads {
-            return true;
-        }
-        beat.pause();
     }
-    signals.end();
-    false
+    !signals.is_over()
+}
+
+/// Waits until more threads are there than so many: how many then. None where they don't come, or the work is over.
+fn more_arrive<C: Wait + Clock>(waiting: &mut ServiceBeat<'_, C>, here: usize) -> Option<usize>
+    ensures { IfSome result (λ more. here < more) }
+{
+    for _ in 0..MOST_LOOKS {
+        if waiting.is_over() {
+            return None;
+        }
+        let more = waiting.signals().here();
+        if here < more {
+            return Some(more);
+        }
+        waiting.pause();
+    }
+    None
 }
 
 impl<'h, J: Naming, R: Wait + Clock> Reception for WorkerContext<'h, J, R> {
-    type Guest = TcpStream;
+    type Guest = Client;
 
     type Door = Entrance<'h>;
 
@@ -189,16 +218,17 @@ impl<'h, J: Naming, R: Wait + Clock> Reception for WorkerContext<'h, J, R> {
         self.signals().is_closing()
     }
 
-    fn next(&mut self, door: &Entrance<'h>) -> Option<TcpStream> {
+    fn next(&mut self, door: &Entrance<'h>) -> Option<Client> {
         door.admit(self.rt(), self.signals())
     }
 
     /// Its faults are nobody's but its own: a connection that failed is given up, and what was posted over it stands.
-    fn serve<T: Threads + Sync>(&mut self, rt: &T, guest: TcpStream) {
+    fn serve<T: Threads + Sync>(&mut self, rt: &T, guest: Client, buffer: &mut Vec<u8>) {
         let mut beat = self.beat();
-        let mut line = StreamLine::new(&guest);
-        if serve(rt, self.alloc(), &mut line, self).is_ok() {
-            linger(&guest, &mut beat);
+        let mut line = StreamLine::new(Visit::new(self.rt(), &guest));
+        match serve(rt, self.alloc(), &mut line, self, buffer) {
+            Ok(()) | Err(EdgeFault::OutOfMemory) => linger(&guest.stream, &mut beat),
+            Err(_) => {}
         }
     }
 

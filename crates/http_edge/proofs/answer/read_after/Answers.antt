@@ -3,8 +3,6 @@ use Rattle.std.proofs.lemmas.Bool.{lt-ltb}
 use Rattle.http_edge.specs.Post.{bad_framing}
 use Rattle.http_line.proofs.Moved.{stays}
 use Rattle.http_edge.proofs.Answered.{told_after, final_read}
-use Rattle.std.proofs.lemmas.Result.{err_from_is_err_and}
-use Rattle.http_line.specs.Line.{no_call}
 use Rattle.http_edge.proofs.answer.read_after.Goals as goal
 
 pub returns-in-None-clause-on_success : goal.returns-in-None-clause-on_success
@@ -13,7 +11,7 @@ returns-in-None-clause-on_success g c = λ h is.
 
 pub returns-in-None-2-clause-on_success : goal.returns-in-None-2-clause-on_success
 returns-in-None-2-clause-on_success g c = λ h is.
-    let b = rw (c.in-None-2.is, c.in_ok-drop_front-in-Some.ensures) at c.in_ok-read_answer_body-in-Some.ensures.on_success in (
+    let b = rw (c.in-None-2.is, c.drop_front.ensures) at c.in_ok-read_answer_body-in-Some.ensures.on_success in (
       b.0,
       b.1,
       λ before final. told_after b.0 _ c.args.head c.in-Some.framing (λ e. lt-ltb _ _ e) is c.in-Some.is final
@@ -22,14 +20,9 @@ returns-in-None-2-clause-on_success g c = λ h is.
 
 pub returns-in-Some-2-clause-on_success : goal.returns-in-Some-2-clause-on_success
 returns-in-Some-2-clause-on_success g c = λ h is.
-    let b = rw (c.in-Some-2.is, c.in_ok-drop_front-in-Some.ensures) at c.in_ok-read_answer_body-in-Some.ensures.on_success in (
+    let b = rw (c.in-Some-2.is, c.drop_front.ensures) at c.in_ok-read_answer_body-in-Some.ensures.on_success in (
       b.0,
       b.1,
       λ before final. told_after b.0 _ c.args.head c.in-Some.framing (λ e. lt-ltb _ _ e) is c.in-Some.is final
           (Some c.in-Some-2.body.items) b.2,
     )
-
-pub returns-in_err-drop_front-in-Some-clause-on_error : goal.returns-in_err-drop_front-in-Some-clause-on_error
-returns-in_err-drop_front-in-Some-clause-on_error g c =
-    let p = err_from_is_err_and c.from_residual.result c.from_residual.ensures.1 in
-    rw p.1 ([], no_call)

@@ -85,14 +85,6 @@ drop_front-requires g c =
     let begin : IsAnswerHeadProgress c.read_answer_head.new.buffer.items (Whole c.in-Whole.head) = rw c.in-Whole.is at e.3 in
     answer_within begin.1
 
-pub returns-in_err-drop_front-in-Whole-clause-on_error : goal.returns-in_err-drop_front-in-Whole-clause-on_error
-returns-in_err-drop_front-in-Whole-clause-on_error g c =
-    let inv = c.heads.invariant in
-    let e = c.in_ok-read_answer_head.ensures.on_success in
-    let p = err_from_is_err_and c.from_residual-in_err-drop_front-in-Whole.result
-    c.from_residual-in_err-drop_front-in-Whole.ensures.1 in
-    rw p.1 (inv.read ++ e.0, then inv.so_far.0 e.1)
-
 pub heads-preserved : goal.heads-preserved
 heads-preserved g c =
     let inv = c.heads.invariant in
@@ -105,7 +97,7 @@ heads-preserved g c =
     let more = skips_next c.heads.interims begin.0 (inv.read ++ e.0) buffer after skips begin.1.has interim in
     record {
       read = inv.read ++ e.0;
-      so_far = (then inv.so_far.0 e.1, rw c.in_ok-drop_front-in-Whole.ensures more);
+      so_far = (then inv.so_far.0 e.1, rw c.drop_front.ensures more);
       few = omega (arith, inv.few);
       kept = c.in_ok-read_answer_head.ensures.kept ∙ inv.kept;
       ends = omega (arith, c.in_ok-read_answer_head.ensures.ends, inv.ends);

@@ -33,7 +33,7 @@ reads-preserved g c =
         then inv.so_far.0 e.1,
         rw (
           e.2,
-          c.in_ok-drop_front.ensures,
+          c.drop_front.ensures,
           ← append_assoc c.args.buffer.now.items
               inv.read e.0,
         ) (at_more _ _ _ _ e.0 q.1),

@@ -17,7 +17,7 @@ returns-in-End-clause-on_success g c =
       (
         q.0,
         c.drop_front.new.buffer.items,
-        rw c.in_ok-drop_front.ensures q.1,
+        rw c.drop_front.ensures q.1,
         λ e.
             absurd (q.3 e),
         q.2.bytes,
@@ -106,7 +106,7 @@ reads-preserved g c =
         then inv.so_far.0 e.1,
         rw (
           e.2,
-          c.in_ok-drop_front.ensures,
+          c.drop_front.ensures,
           ← append_assoc c.args.buffer.now.items
               inv.read e.0,
         ) (come_read e.0 q.1),

@@ -24,7 +24,7 @@ reads-preserved g c =
         then inv.so_far.0 e.1,
         rw (
           e.2,
-          c.in_ok-drop_front.ensures,
+          c.drop_front.ensures,
           ← append_assoc c.args.buffer.now.items
               inv.read e.0,
         ) (at_more _ _ _ _ e.0 q.0),
@@ -34,7 +34,7 @@ reads-preserved g c =
         arith,
         c.in_ok-more.ensures.work,
         inv.work,
-        ap length c.in_ok-drop_front.ensures,
+        ap length c.drop_front.ensures,
         length-drop c.in_ok-taken.taken c.reads.buffer.items,
       );
       kept = c.in_ok-more.ensures.kept ∙ inv.kept;

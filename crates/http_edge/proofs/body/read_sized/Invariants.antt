@@ -1,4 +1,4 @@
-use Rattle.std.proofs.Common.{◌≡◌, ◌≤◌, List, ℕ, [], ◌++◌}
+use Rattle.std.proofs.Common.{◌≡◌, ◌+◌, ◌<◌, ◌≤◌, List, ℕ, [], ◌++◌, length, drop}
 use Rattle.http_line.specs.Line.{Moves}
 use Rattle.http_edge.specs.Steps.{work}
 use Rattle.http_edge.proofs.body.read_sized.Given as goal
@@ -13,10 +13,12 @@ pub record Reads (P : List ℕ → Type 0) (Q R S : Type 0) : Type 0 where
 abbrev pub invariant-reads : goal.invariant-reads
 invariant-reads g l = Reads
     (λ read. Moves g.L.Line.gives g.L.Line.takes l.fn.line l.line read []
-    × (l.buffer.items ≡ l.fn.buffer.items ++ read))
-    (work (g.L.Line.reads_left l.line) l.buffer.items ≤ work (g.L.Line.reads_left l.fn.line) l.fn.buffer.items)
+    × (l.body.items ++ l.buffer.items ≡ drop l.from l.fn.buffer.items ++ read)
+    × (length l.body.items ≤ l.len)
+    × (length l.body.items < l.len → l.buffer.items ≡ []))
+    (work (g.L.Line.reads_left l.line) l.buffer.items + l.from ≤ work (g.L.Line.reads_left l.fn.line) l.fn.buffer.items)
     (g.L.Line.failed l.line ≡ g.L.Line.failed l.fn.line)
     (g.L.Line.ends l.fn.line ≤ g.L.Line.ends l.line)
 
 abbrev pub decreases-reads : goal.decreases-reads
-decreases-reads g l = work (g.L.Line.reads_left l.line) l.buffer.items
+decreases-reads g l = g.L.Line.reads_left l.line

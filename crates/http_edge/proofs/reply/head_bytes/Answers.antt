@@ -7,7 +7,8 @@ use Rattle.http_edge.proofs.reply.head_bytes.Goals as goal
 pub returns : goal.returns
 unfolding head_text_of
 returns c =
-    joined_ten (codes "HTTP/1.1 ") (decimal c.args.status) (codes " ") (phrase_of c.args.status) type_line
+    joined_ten (codes "HTTP/1.1 ") (decimal c.args.status) (codes " ") (phrase_of c.args.status)
+    (type_line c.args.media)
     (advice_of c.args.status)
     (close_line c.args.close) (codes "Content-Length: ") (decimal c.args.len) (crlf_bytes ++ crlf_bytes) _ _ _ _ _ _ _
     _ _ _
@@ -15,7 +16,7 @@ returns c =
     (rw (c.deref.ensures.value, c.in_ok-status_digits.ensures) at c.in_ok-extend_from_slice.ensures.items)
     c.in_ok-extend_from_slice-2.ensures.items
     (rw c.phrase.ensures at c.in_ok-extend_from_slice-3.ensures.items)
-    c.in_ok-extend_from_slice-4.ensures.items
+    (rw c.type_line.ensures at c.in_ok-extend_from_slice-4.ensures.items)
     (rw c.advice.ensures at c.in_ok-extend_from_slice-5.ensures.items)
     (rw c.closing_line.ensures at c.in_ok-extend_from_slice-6.ensures.items)
     c.in_ok-extend_from_slice-7.ensures.items

@@ -1,6 +1,6 @@
 use Rattle.std.proofs.Common.{Ok, [], refl, ap, append-nil, true, false, arith}
 use Rattle.std.proofs.lemmas.Result.{err_from_is_err_and}
-use Rattle.http_edge.specs.Talk.{RefusesHead, at_head, many_lines, nothing, refusing, waits, refuses, in_head}
+use Rattle.http_edge.specs.Talk.{RefusesHead, at_head, many_lines, nothing, refusing, waits, refuses, in_head, at_front}
 use Rattle.http_edge.specs.Reply.{refusal_text}
 use Rattle.http_edge.specs.Stages.{IsHeadProgress}
 use Rattle.http_edge.specs.declared.head.HeadProgress.TheVariants.{More, TooMany}
@@ -12,7 +12,10 @@ pub returns-in_err-read_head-clause-on_error : goal.returns-in_err-read_head-cla
 returns-in_err-read_head-clause-on_error g c =
     let e = c.in_err-read_head.ensures.on_error in
     let p = err_from_is_err_and c.from_residual.result c.from_residual.ensures.1 in
-    rw p.1 (record { read = e.0; written = []; moves = e.1; missing = []; due = nothing refl })
+    rw p.1 (record {
+      broken = λ _. record { read = e.0; written = []; moves = e.1; missing = []; due = nothing refl };
+      short = λ _. record { read = e.0; written = []; moves = e.1; lacks = at_front refl };
+    })
 
 pub returns-in_err-refuse-in-Refuse-clause-on_error : goal.returns-in_err-refuse-in-Refuse-clause-on_error
 returns-in_err-refuse-in-Refuse-clause-on_error g c =
@@ -22,12 +25,21 @@ returns-in_err-refuse-in-Refuse-clause-on_error g c =
     let f = c.in_err-refuse-in-Refuse.ensures.on_error in
     let p = err_from_is_err_and c.from_residual-in_err-refuse-in-Refuse.result
     c.from_residual-in_err-refuse-in-Refuse.ensures.1 in
+    let same = p.2 in
     rw p.1 (record {
-      read = e.0;
-      written = f.0;
-      moves = then_to e.1 f.3 (append-nil _) refl;
-      missing = f.1;
-      due = rw (← e.2, ← f.2) (refusing _ (at_head _ begin) refl);
+      broken = λ _. record {
+        read = e.0;
+        written = f.0;
+        moves = then_to e.1 f.3 (append-nil _) refl;
+        missing = f.1;
+        due = rw (← e.2, ← f.2) (refusing _ (at_head _ begin) refl);
+      };
+      short = λ lack. record {
+        read = e.0;
+        written = [];
+        moves = then_to e.1 (c.in_err-refuse-in-Refuse.ensures.quiet (cc)) (append-nil _) refl;
+        lacks = at_front refl;
+      };
     })
 
 pub returns-in_err-refuse-in-TooMany-clause-on_error : goal.returns-in_err-refuse-in-TooMany-clause-on_error
@@ -37,12 +49,21 @@ returns-in_err-refuse-in-TooMany-clause-on_error g c =
     let f = c.in_err-refuse-in-TooMany.ensures.on_error in
     let p = err_from_is_err_and c.from_residual-in_err-refuse-in-TooMany.result
     c.from_residual-in_err-refuse-in-TooMany.ensures.1 in
+    let same = p.2 in
     rw p.1 (record {
-      read = e.0;
-      written = f.0;
-      moves = then_to e.1 f.3 (append-nil _) refl;
-      missing = f.1;
-      due = rw (← e.2, ← f.2) (refusing _ (many_lines begin.0 begin.1 begin.2) refl);
+      broken = λ _. record {
+        read = e.0;
+        written = f.0;
+        moves = then_to e.1 f.3 (append-nil _) refl;
+        missing = f.1;
+        due = rw (← e.2, ← f.2) (refusing _ (many_lines begin.0 begin.1 begin.2) refl);
+      };
+      short = λ lack. record {
+        read = e.0;
+        written = [];
+        moves = then_to e.1 (c.in_err-refuse-in-TooMany.ensures.quiet (cc)) (append-nil _) refl;
+        lacks = at_front refl;
+      };
     })
 
 pub returns-in_ok-refuse-in-TooMany-clause-closes : goal.returns-in_ok-refuse-in-TooMany-clause-closes

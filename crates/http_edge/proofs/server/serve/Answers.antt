@@ -1,81 +1,47 @@
-use Rattle.std.proofs.Common.{◌++◌, [], ◌∷◌, Ok, refl, sym, ap, ◌∙◌, append_assoc, arith, rules}
+use Rattle.std.proofs.Common.{Err, [], ap, refl, sym, ◌∙◌, append-nil}
 use Rattle.std.proofs.lemmas.Result.{err_from_is_err_and}
-use Rattle.http_edge.specs.Talk.{told}
-use Rattle.http_line.proofs.Moved.{then, then_to}
-use Rattle.http_edge.proofs.Served.{runs_more, told_more, asks_more, asks_read, cut_by}
-use Rattle.http_line.specs.Line.{no_call}
+use Rattle.http_line.proofs.Moved.{then_to}
+use Rattle.http_edge.proofs.Served.{tells, breaks}
 use Rattle.http_edge.proofs.server.serve.Goals as goal
 
-pub messages-preserved : goal.messages-preserved
-messages-preserved g c =
-    let inv = c.messages.invariant in
-    let on = c.in_ok-exchange.ensures.stays_open (ap Ok c.if-branch.true) in
-    record {
-      read = inv.read ++ on.read;
-      exchanges = inv.exchanges ++ on.exchange ∷ [];
-      so_far = (
-        then_to inv.so_far.0 on.moves refl (sym (told_more inv.exchanges on.exchange)),
-        runs_more g.H.Handler.answers c.args.handler.now c.messages.handler c.exchange.new.handler inv.exchanges
-            on.exchange inv.so_far.1 on.answered,
-        asks_more inv.exchanges on.exchange (inv.read ++ on.read) (c.messages.buffer.items
-            ++ on.read) c.exchange.new.buffer.items (asks_read inv.exchanges inv.read c.messages.buffer.items on.read
-            inv.so_far.2) on.has on.stays,
-      );
-      kept = c.in_ok-exchange.ensures.kept ∙ inv.kept;
-      ends = omega (arith, c.in_ok-exchange.ensures.ends, inv.ends);
-    }
+pub returns-in-Err-ReadFailed-clause-fault : goal.returns-in-Err-ReadFailed-clause-fault
+returns-in-Err-ReadFailed-clause-fault g c =
+    let t = (rw (c.in-Err-ReadFailed.is ∙ ap Err c.in-Err-ReadFailed.field-0-is) at c.converse.ensures.broken) (λ is. cc) in
+    (t.0, t.1, t.2, breaks t.1 t.3 (λ is. cc) t.4)
 
-pub returns-clause-talk : goal.returns-clause-talk
-returns-clause-talk g c =
-    let inv = c.messages.invariant in
-    let over = c.in_ok-exchange.ensures.closes (ap Ok c.if-branch.false) in (
-      inv.read ++ over.read,
-      told inv.exchanges ++ over.text,
-      over.over,
-      then inv.so_far.0 over.moves,
-      record {
-        exchanges = inv.exchanges;
-        rest = c.messages.buffer.items ++ over.read;
-        reads = asks_read inv.exchanges inv.read c.messages.buffer.items over.read inv.so_far.2;
-        mid = c.messages.handler;
-        runs = inv.so_far.1;
-        last = over.text;
-        due = over.ends;
-        writes = refl;
-      },
-      λ f. let w = over.end f in omega (arith, w, inv.ends),
-    )
+pub returns-in-Err-WriteFailed-clause-fault : goal.returns-in-Err-WriteFailed-clause-fault
+returns-in-Err-WriteFailed-clause-fault g c =
+    let t = (rw (c.in-Err-WriteFailed.is ∙ ap Err c.in-Err-WriteFailed.field-0-is) at c.converse.ensures.broken) (λ is. cc) in
+    (t.0, t.1, t.2, breaks t.1 t.3 (λ is. cc) t.4)
 
-pub returns-in_err-exchange-clause-fault : goal.returns-in_err-exchange-clause-fault
-returns-in_err-exchange-clause-fault g c =
-    let inv = c.messages.invariant in
+pub returns-in_err-send-in-Err-OutOfMemory-clause-fault : goal.returns-in_err-send-in-Err-OutOfMemory-clause-fault
+returns-in_err-send-in-Err-OutOfMemory-clause-fault g c =
+    let t = c.converse.ensures.short (c.in-Err-OutOfMemory.is ∙ ap Err c.in-Err-OutOfMemory.field-0-is) in
+    let e = c.in_err-send-in-Err-OutOfMemory.ensures.on_error in
     let p = err_from_is_err_and c.from_residual.result c.from_residual.ensures.1 in
     let same = p.2 in
-    let cut = cut_by {other = p.0} c.in_err-exchange.ensures.on_error (cc) in
     rw p.1 (
-      inv.read ++ cut.read,
-      told inv.exchanges ++ cut.written,
-      then inv.so_far.0 cut.moves,
-      (
-        cut.missing,
-        record {
-          exchanges = inv.exchanges;
-          rest = c.messages.buffer.items ++ cut.read;
-          reads = asks_read inv.exchanges inv.read c.messages.buffer.items cut.read inv.so_far.2;
-          mid = c.messages.handler;
-          runs = inv.so_far.1;
-          last = cut.written ++ cut.missing;
-          due = cut.due;
-          writes = append_assoc (told inv.exchanges) cut.written cut.missing;
-        },
-      ),
+      t.0,
+      _,
+      then_to t.2 e.3 (append-nil t.0) refl,
+      tells e.0 e.1 (λ is. c.in_err-send-in-Err-OutOfMemory.ensures.no_read (cc)) (sym c.no_memory_bytes.ensures ∙ e.2)
+          (λ is. absurd (c.in_err-send-in-Err-OutOfMemory.ensures.no_memory (cc))) t.3,
     )
 
-pub messages-init : goal.messages-init
-messages-init g c = record {
-  read = [];
-  exchanges = [];
-  so_far = (no_call, refl, search rules);
-  kept = refl;
-  ends = search rules;
-}
+pub returns-in_ok-send-in-Err-OutOfMemory-clause-fault : goal.returns-in_ok-send-in-Err-OutOfMemory-clause-fault
+returns-in_ok-send-in-Err-OutOfMemory-clause-fault g c =
+    let t = c.converse.ensures.short (c.in-Err-OutOfMemory.is ∙ ap Err c.in-Err-OutOfMemory.field-0-is) in
+    let all = c.in_ok-send-in-Err-OutOfMemory.ensures.on_success in (
+      t.0,
+      _,
+      then_to t.2 all (append-nil t.0) refl,
+      tells _ [] (λ is. absurd (cc)) (sym c.no_memory_bytes.ensures ∙ sym (append-nil _)) (λ _. refl) t.3,
+    )
+
+pub returns-in_err-send-in-Err-OutOfMemory-clause-write : goal.returns-in_err-send-in-Err-OutOfMemory-clause-write
+returns-in_err-send-in-Err-OutOfMemory-clause-write g c = λ is.
+    let p = err_from_is_err_and c.from_residual.result c.from_residual.ensures.1 in
+    let told = p.1 in
+    let same = p.2 in
+    let before = c.converse.ensures.unfailed (c.in-Err-OutOfMemory.is ∙ ap Err c.in-Err-OutOfMemory.field-0-is) in
+    rw before at c.in_err-send-in-Err-OutOfMemory.ensures.failed (cc)

@@ -1,38 +1,30 @@
-use Rattle.std.proofs.Common.{◌≡◌, ◌++◌, Bool, cond, true, false, Ok, Some, subst, [], length, drop, refl, sym, ap, ◌∙◌, append-nil, length-drop, arith}
+use Rattle.std.proofs.Common.{◌≡◌, ◌++◌, Bool, cond, true, false, Ok, Some, subst, [], drop, refl, sym, ap, ◌∙◌, append-nil, arith}
 use Rattle.std.proofs.lemmas.Result.{err_from_is_err_and}
 use Rattle.http_edge.specs.Message.{chunked, closes, IsBroken, IsTooLong, LacksBody}
 use Rattle.http_edge.specs.Stages.{IsRead, frame_by, message_with}
 use Rattle.http_edge.specs.declared.body.BodyRead.TheVariants.{Whole}
-use Rattle.http_edge.specs.Talk.{Due, Ends, exchange_text, waits, refuses, refusing, closing, in_body, long_chunks, bad_chunks, interim_text}
+use Rattle.http_edge.specs.Talk.{Due, Ends, exchange_text, waits, refuses, refusing, closing, in_body, long_chunks, bad_chunks, interim_text, at_body}
 use Rattle.http_edge.specs.Reply.{continue_text, refusal_text}
-use Rattle.http_edge.proofs.Heads.{has_head_more, head_within, head_some}
-use Rattle.http_edge.proofs.Served.{cut_text, due_interim, due_reply, first_moves, all_moves, whole_message, reply_whole, not_is, not_is_not}
+use Rattle.http_line.proofs.Moved.{then_to}
+use Rattle.http_edge.proofs.Heads.{has_head_more, head_some}
+use Rattle.http_edge.proofs.Served.{cut_text, due_interim, due_reply, lacks_reply, may_interim, first_moves, all_moves, whole_message, reply_whole, not_is, not_is_not}
 use Rattle.http_edge.proofs.server.serve_message.Goals as goal
 
 pub returns-in_err-interim-clause-on_error : goal.returns-in_err-interim-clause-on_error
 returns-in_err-interim-clause-on_error g c =
     let e = c.in_err-interim.ensures.on_error in
     let p = err_from_is_err_and c.from_residual.result c.from_residual.ensures.1 in
+    let same = p.2 in
     rw p.1 (record {
-      read = [];
-      written = e.0;
-      moves = e.3;
-      missing = e.1;
-      due = due_interim g.H.Handler.answers
-          c.args.handler.now [] e.0 e.1 c.requires.1 e.2;
-    })
-
-pub returns-in_err-drop_front-clause-on_error : goal.returns-in_err-drop_front-clause-on_error
-returns-in_err-drop_front-clause-on_error g c =
-    let is = c.requires.1 in
-    let p = err_from_is_err_and c.from_residual-in_err-drop_front.result c.from_residual-in_err-drop_front.ensures.1 in
-    rw p.1 (record {
-      read = [];
-      written = cond c.args.head.expects continue_text [];
-      moves = c.in_ok-interim.ensures.on_success;
-      missing = [];
-      due = due_interim g.H.Handler.answers c.args.handler.now [] (cond c.args.head.expects continue_text []) [] is
-          (sym (append-nil _));
+      broken = λ _. record {
+        read = [];
+        written = e.0;
+        moves = e.3;
+        missing = e.1;
+        due = due_interim g.H.Handler.answers
+            c.args.handler.now [] e.0 e.1 c.requires.1 e.2;
+      };
+      short = λ lack. absurd (c.in_err-interim.ensures.no_memory (cc));
     })
 
 pub returns-in_err-read_body-clause-on_error : goal.returns-in_err-read_body-clause-on_error
@@ -40,13 +32,22 @@ returns-in_err-read_body-clause-on_error g c =
     let is = c.requires.1 in
     let e = c.in_err-read_body.ensures.on_error in
     let p = err_from_is_err_and c.from_residual-in_err-read_body.result c.from_residual-in_err-read_body.ensures.1 in
+    let moves = first_moves c.args.head.expects c.requires.0 is.says.expects c.in_ok-interim.ensures.on_success e.1 in
     rw p.1 (record {
-      read = e.0;
-      written = interim_text c.requires.0;
-      moves = first_moves c.args.head.expects c.requires.0 is.says.expects c.in_ok-interim.ensures.on_success e.1;
-      missing = [];
-      due = due_interim g.H.Handler.answers c.args.handler.now e.0 (interim_text c.requires.0) [] is (ap (λ (b : Bool).
-          cond b continue_text []) is.says.expects ∙ sym (append-nil _));
+      broken = λ _. record {
+        read = e.0;
+        written = interim_text c.requires.0;
+        moves = moves;
+        missing = [];
+        due = due_interim g.H.Handler.answers c.args.handler.now e.0 (interim_text c.requires.0) [] is (ap (λ (b : Bool).
+            cond b continue_text []) is.says.expects ∙ sym (append-nil _));
+      };
+      short = λ _. record {
+        read = e.0;
+        written = interim_text c.requires.0;
+        moves = moves;
+        lacks = at_body c.requires.0 (may_interim e.0 is) refl;
+      };
     })
 
 pub returns-in_err-refuse-in-TooLong-clause-on_error : goal.returns-in_err-refuse-in-TooLong-clause-on_error
@@ -54,19 +55,29 @@ returns-in_err-refuse-in-TooLong-clause-on_error g c =
     let is = c.requires.1 in
     let e = c.in_ok-read_body.ensures.on_success in
     let r : (frame_by c.args.head.kind ≡ chunked) × IsTooLong chunked (drop c.args.head.len c.args.buffer.now.items
-    ++ e.0) = rw (c.in-TooLong.is, c.in_ok-drop_front.ensures) at e.2 in
+    ++ e.0) = rw c.in-TooLong.is at e.2 in
     let bad = long_chunks c.requires.0 _ (has_head_more e.0 is.has) (is.framing ∙ ap Some r.0) r.1 in
     let f = c.in_err-refuse-in-TooLong.ensures.on_error in
     let p = err_from_is_err_and c.from_residual-in_err-refuse-in-TooLong.result
     c.from_residual-in_err-refuse-in-TooLong.ensures.1 in
+    let same = p.2 in
     rw p.1 (record {
-      read = e.0;
-      written = interim_text c.requires.0 ++ f.0;
-      moves = all_moves c.args.head.expects c.requires.0 is.says.expects c.in_ok-interim.ensures.on_success e.1 f.3;
-      missing = f.1;
-      due = subst (Due _ g.H.Handler.answers c.args.handler.now (c.args.buffer.now.items ++ e.0) c.args.handler.now)
-          (cut_text (interim_text c.requires.0) f.0 f.1 (ap (λ (b : Bool). refusal_text b 413) (sym is.says.bodiless)
-          ∙ f.2)) (refusing _ bad refl);
+      broken = λ _. record {
+        read = e.0;
+        written = interim_text c.requires.0 ++ f.0;
+        moves = all_moves c.args.head.expects c.requires.0 is.says.expects c.in_ok-interim.ensures.on_success e.1 f.3;
+        missing = f.1;
+        due = subst (Due g.H.Handler.answers c.args.handler.now (c.args.buffer.now.items ++ e.0) c.args.handler.now)
+            (cut_text (interim_text c.requires.0) f.0 f.1 (ap (λ (b : Bool). refusal_text b 413) (sym is.says.bodiless)
+            ∙ f.2)) (refusing _ bad refl);
+      };
+      short = λ lack. record {
+        read = e.0;
+        written = interim_text c.requires.0;
+        moves = then_to (first_moves c.args.head.expects c.requires.0 is.says.expects c.in_ok-interim.ensures.on_success
+            e.1) (c.in_err-refuse-in-TooLong.ensures.quiet (cc)) (append-nil _) (append-nil _);
+        lacks = at_body c.requires.0 (may_interim e.0 is) refl;
+      };
     })
 
 pub returns-in_err-refuse-in-Bad-clause-on_error : goal.returns-in_err-refuse-in-Bad-clause-on_error
@@ -74,19 +85,29 @@ returns-in_err-refuse-in-Bad-clause-on_error g c =
     let is = c.requires.1 in
     let e = c.in_ok-read_body.ensures.on_success in
     let r : (frame_by c.args.head.kind ≡ chunked) × IsBroken (drop c.args.head.len c.args.buffer.now.items
-    ++ e.0) = rw (c.in-Bad.is, c.in_ok-drop_front.ensures) at e.2 in
+    ++ e.0) = rw c.in-Bad.is at e.2 in
     let bad = bad_chunks c.requires.0 _ (has_head_more e.0 is.has) (is.framing ∙ ap Some r.0) r.1 in
     let f = c.in_err-refuse-in-Bad.ensures.on_error in
     let p = err_from_is_err_and c.from_residual-in_err-refuse-in-Bad.result
     c.from_residual-in_err-refuse-in-Bad.ensures.1 in
+    let same = p.2 in
     rw p.1 (record {
-      read = e.0;
-      written = interim_text c.requires.0 ++ f.0;
-      moves = all_moves c.args.head.expects c.requires.0 is.says.expects c.in_ok-interim.ensures.on_success e.1 f.3;
-      missing = f.1;
-      due = subst (Due _ g.H.Handler.answers c.args.handler.now (c.args.buffer.now.items ++ e.0) c.args.handler.now)
-          (cut_text (interim_text c.requires.0) f.0 f.1 (ap (λ (b : Bool). refusal_text b 400) (sym is.says.bodiless)
-          ∙ f.2)) (refusing _ bad refl);
+      broken = λ _. record {
+        read = e.0;
+        written = interim_text c.requires.0 ++ f.0;
+        moves = all_moves c.args.head.expects c.requires.0 is.says.expects c.in_ok-interim.ensures.on_success e.1 f.3;
+        missing = f.1;
+        due = subst (Due g.H.Handler.answers c.args.handler.now (c.args.buffer.now.items ++ e.0) c.args.handler.now)
+            (cut_text (interim_text c.requires.0) f.0 f.1 (ap (λ (b : Bool). refusal_text b 400) (sym is.says.bodiless)
+            ∙ f.2)) (refusing _ bad refl);
+      };
+      short = λ lack. record {
+        read = e.0;
+        written = interim_text c.requires.0;
+        moves = then_to (first_moves c.args.head.expects c.requires.0 is.says.expects c.in_ok-interim.ensures.on_success
+            e.1) (c.in_err-refuse-in-Bad.ensures.quiet (cc)) (append-nil _) (append-nil _);
+        lacks = at_body c.requires.0 (may_interim e.0 is) refl;
+      };
     })
 
 pub returns-in_err-goes-in-Whole-clause-on_error : goal.returns-in_err-goes-in-Whole-clause-on_error
@@ -95,19 +116,31 @@ returns-in_err-goes-in-Whole-clause-on_error g c =
     let is = c.requires.1 in
     let e = c.in_ok-read_body.ensures.on_success in
     let r : IsRead (frame_by c.args.head.kind) (drop c.args.head.len c.args.buffer.now.items
-    ++ e.0) c.read_body.new.buffer.items (Whole c.in-Whole.body) = rw (c.in-Whole.is, c.in_ok-drop_front.ensures)
+    ++ e.0) c.read_body.new.buffer.items (Whole c.in-Whole.body) = rw c.in-Whole.is
     at e.2 in
+    let has = whole_message e.0 c.in-Whole.body.items c.read_body.new.buffer.items is r.0 r.1 in
     let a = c.in_err-goes-in-Whole.ensures.on_error h is.says in
     let p = err_from_is_err_and c.from_residual-in_err-goes-in-Whole.result
     c.from_residual-in_err-goes-in-Whole.ensures.1 in
     let same = p.2 in
     rw p.1 (record {
-      read = e.0;
-      written = interim_text h ++ a.0;
-      moves = all_moves c.args.head.expects h is.says.expects c.in_ok-interim.ensures.on_success e.1 a.1;
-      missing = a.2;
-      due = due_reply g.H.Handler.answers (c.args.buffer.now.items ++ e.0) c.read_body.new.buffer.items (whole_message
-          e.0 c.in-Whole.body.items c.read_body.new.buffer.items is r.0 r.1) a.3 (λ no. a.4 (cc));
+      broken = λ _. record {
+        read = e.0;
+        written = interim_text h ++ a.0;
+        moves = all_moves c.args.head.expects h is.says.expects c.in_ok-interim.ensures.on_success e.1 a.1;
+        missing = a.2;
+        due = due_reply g.H.Handler.answers (c.args.buffer.now.items ++ e.0) c.read_body.new.buffer.items has a.3;
+      };
+      short = λ lack.
+          let s = c.in_err-goes-in-Whole.ensures.short (cc) h is.says in
+          record {
+            read = e.0;
+            written = interim_text h;
+            moves = then_to (first_moves c.args.head.expects h is.says.expects c.in_ok-interim.ensures.on_success e.1)
+                s.0 (append-nil _) (append-nil _);
+            lacks = lacks_reply g.H.Handler.answers (c.args.buffer.now.items ++ e.0) c.read_body.new.buffer.items has
+                s.2 s.3;
+          };
     })
 
 pub returns-in-Ended-clause-closes : goal.returns-in-Ended-clause-closes
@@ -115,7 +148,7 @@ returns-in-Ended-clause-closes g c =
     let is = c.requires.1 in
     let e = c.in_ok-read_body.ensures.on_success in
     let r : LacksBody (frame_by c.args.head.kind) (drop c.args.head.len c.args.buffer.now.items
-    ++ e.0) = rw (c.in-Ended.is, c.in_ok-drop_front.ensures) at e.2 in
+    ++ e.0) = rw c.in-Ended.is at e.2 in
     λ _. record {
       read = e.0;
       text = interim_text c.requires.0;
@@ -135,7 +168,7 @@ returns-in_ok-refuse-in-TooLong-clause-closes g c =
     let is = c.requires.1 in
     let e = c.in_ok-read_body.ensures.on_success in
     let r : (frame_by c.args.head.kind ≡ chunked) × IsTooLong chunked (drop c.args.head.len c.args.buffer.now.items
-    ++ e.0) = rw (c.in-TooLong.is, c.in_ok-drop_front.ensures) at e.2 in
+    ++ e.0) = rw c.in-TooLong.is at e.2 in
     let bad = long_chunks h _ (has_head_more e.0 is.has) (is.framing ∙ ap Some r.0) r.1 in
     λ _. record {
       read = e.0;
@@ -155,7 +188,7 @@ returns-in_ok-refuse-in-Bad-clause-closes g c =
     let is = c.requires.1 in
     let e = c.in_ok-read_body.ensures.on_success in
     let r : (frame_by c.args.head.kind ≡ chunked) × IsBroken (drop c.args.head.len c.args.buffer.now.items
-    ++ e.0) = rw (c.in-Bad.is, c.in_ok-drop_front.ensures) at e.2 in
+    ++ e.0) = rw c.in-Bad.is at e.2 in
     let bad = bad_chunks h _ (has_head_more e.0 is.has) (is.framing ∙ ap Some r.0) r.1 in
     λ _. record {
       read = e.0;
@@ -175,7 +208,7 @@ returns-in_ok-goes-in-Whole-clause-stays_open g c = λ eq.
     let is = c.requires.1 in
     let e = c.in_ok-read_body.ensures.on_success in
     let r : IsRead (frame_by c.args.head.kind) (drop c.args.head.len c.args.buffer.now.items
-    ++ e.0) c.read_body.new.buffer.items (Whole c.in-Whole.body) = rw (c.in-Whole.is, c.in_ok-drop_front.ensures)
+    ++ e.0) c.read_body.new.buffer.items (Whole c.in-Whole.body) = rw c.in-Whole.is
     at e.2 in
     let a = c.in_ok-goes-in-Whole.ensures.on_success h is.says in
     let went : c.in_ok-goes-in-Whole.goes ≡ true = cc in
@@ -198,7 +231,7 @@ returns-in_ok-goes-in-Whole-clause-closes g c = λ eq.
     let is = c.requires.1 in
     let e = c.in_ok-read_body.ensures.on_success in
     let r : IsRead (frame_by c.args.head.kind) (drop c.args.head.len c.args.buffer.now.items
-    ++ e.0) c.read_body.new.buffer.items (Whole c.in-Whole.body) = rw (c.in-Whole.is, c.in_ok-drop_front.ensures)
+    ++ e.0) c.read_body.new.buffer.items (Whole c.in-Whole.body) = rw c.in-Whole.is
     at e.2 in
     let a = c.in_ok-goes-in-Whole.ensures.on_success h is.says in
     let went : c.in_ok-goes-in-Whole.goes ≡ false = cc in
@@ -222,10 +255,7 @@ returns-in_ok-goes-in-Whole-clause-work g c = λ eq.
     omega (
       arith,
       c.in_ok-goes-in-Whole.ensures.reads,
-      ap length c.in_ok-drop_front.ensures,
-      length-drop c.args.head.len c.args.buffer.now.items,
       head_some c.requires.1,
-      head_within c.requires.1,
       c.in_ok-read_body.ensures.work,
       c.in_ok-interim.ensures.reads,
     )

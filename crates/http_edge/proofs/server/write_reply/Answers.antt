@@ -7,3 +7,6 @@ pub returns-in_err-bytes-clause-on_error : goal.returns-in_err-bytes-clause-on_e
 returns-in_err-bytes-clause-on_error g c =
     let p = err_from_is_err_and c.from_residual.result c.from_residual.ensures.1 in
     rw p.1 ([], _, refl, no_call)
+
+pub returns-in_err-bytes-clause-quiet : goal.returns-in_err-bytes-clause-quiet
+returns-in_err-bytes-clause-quiet g c = λ _. no_call

@@ -1,6 +1,5 @@
 use Rattle.std.proofs.Common.{refl}
 use Rattle.shard_machine.proofs.Comings.{does_told, refused_told, goes_told, members_told, if_refused}
-use Rattle.shard_machine.proofs.Going.{IsPlain}
 use Rattle.shard_machine.proofs.shard.step_with_words.Goals as goal
 
 pub returns-in_default-clause-does : goal.returns-in_default-clause-does

@@ -1,9 +1,7 @@
-use Rattle.std.proofs.Common.{◌≡◌, ◌∙◌, sym, subst, ℕ, List, refl, true, false, inl, inr}
+use Rattle.std.proofs.Common.{◌∙◌, sym, refl, true, false, inl, inr}
 use Rattle.std.specs.Result.{is_ok}
 use Rattle.tail_settings.specs.Section.{section_view}
-use Rattle.tenant_shard.specs.Members.{views, all_views}
-use Rattle.tenant_shard.specs.Steps.{IsAdditionOf}
-use Rattle.tenant_shard.specs.View.{was_of}
+use Rattle.tenant_shard.specs.Members.{views}
 use Rattle.tenant_shard.proofs.Places.{on_err}
 use Rattle.tenant_shard.proofs.Frame.{kept_gap, was_placed, was_none}
 use Rattle.tenant_shard.proofs.Gones.{was_front, was_end, was_neither, addition_behind, finds, found_ok, found_err}

@@ -1,4 +1,4 @@
-use Rattle.std.proofs.Common.{◌≡◌, ◌∙◌, sym, refl, ℕ, List, [], ◌∷◌, ◌++◌}
+use Rattle.std.proofs.Common.{◌∙◌, sym, refl, ℕ, List, [], ◌∷◌, ◌++◌}
 use Rattle.tail_settings.specs.Section.{section_view}
 use Rattle.tail_settings.specs.Settings.{settings_view}
 use Rattle.tenant_shard.specs.Members.{views, all_views}
@@ -6,7 +6,7 @@ use Rattle.tenant_shard.specs.Lives.{ShardStands}
 use Rattle.tenant_shard.specs.Steps.{IsAdditionOf}
 use Rattle.tenant_shard.specs.Table.{opened}
 use Rattle.tenant_shard.proofs.Places.{on_ok}
-use Rattle.tenant_shard.proofs.Frame.{kept_gap, kept_there}
+use Rattle.tenant_shard.proofs.Frame.{kept_there}
 use Rattle.tenant_shard.proofs.Gones.{kept_behind, addition_behind}
 use Rattle.tenant_shard.proofs.Tables.{opened_more, opened_none, opened_again}
 use Rattle.tenant_shard.proofs.comings.open_member.Goals as goal

@@ -1,4 +1,4 @@
-use Rattle.std.proofs.Common.{◌≡◌, ◌≢◌, ◌∙◌, sym, ap, subst, ℕ, Some, None, refl, arith, true, false}
+use Rattle.std.proofs.Common.{◌≡◌, ◌∙◌, sym, subst, Some, arith, true, false}
 use Rattle.tenant_shard.specs.Outcomes.{OwnStep, asked_in, named, Answered}
 use Rattle.tenant_shard.specs.Refusal.{Reaches}
 use Rattle.tenant_shard.specs.Members.{views, all_views}

@@ -1,4 +1,4 @@
-use Rattle.std.proofs.Common.{◌≡◌, ◌∙◌, ap, sym, subst, ℕ, List, [], ◌∷◌, length, set, Option, true}
+use Rattle.std.proofs.Common.{◌≡◌, ◌∙◌, ap, sym, subst, ℕ, set, Option, true}
 use Rattle.std.proofs.lemmas.List.{length-set}
 use Rattle.shard_agenda.specs.Agenda.{ready_of, with_ready}
 use Rattle.tail_settings.specs.Section.{section_view}

@@ -1,4 +1,4 @@
-use Rattle.std.proofs.Common.{◌≡◌, ◌∙◌, sym, Some, None}
+use Rattle.std.proofs.Common.{◌∙◌, sym, Some, None}
 use Rattle.shard_agenda.specs.Agenda.{ready_of}
 use Rattle.tenant_rules.specs.Own as own
 use Rattle.tenant_shard.specs.View.{kept_of}

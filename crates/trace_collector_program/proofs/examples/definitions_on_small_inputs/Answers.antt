@@ -48,6 +48,7 @@ returns-clause-arguments c = record {
   too_many = refl;
   too_many_senders = refl;
   too_long = refl;
+  too_long_request = refl;
   too_long_back_end = refl;
   signed = refl;
   no_digits = refl;

@@ -6,6 +6,10 @@ use Rattle.shared_hub.specs.Logs.{CallerState}
 use Rattle.trace_service.proofs.Places.{one_more}
 use Rattle.trace_service.proofs.assignment.assign_threads.Goals as goal
 
+pub new-requires : goal.new-requires
+new-requires g c =
+    (All-pop (λ (s : SeatLists). s ≡ new_seat g.J.Naming.lane) c.loop-caller.seats.items c.pop-in-Some.new.self.items (Some c.in-Some-pop.seat) c.in-Some-pop.ensures.items c.loop-caller.invariant.seats).1
+
 pub loop-caller-preserved : goal.loop-caller-preserved
 loop-caller-preserved g c =
     let fresh = g.J.Naming.fresh in

@@ -1,6 +1,6 @@
 use Rattle.std.proofs.Common.{◌≡◌, ◌==◌, false, arith}
 use Rattle.std.proofs.lemmas.Bool.Decides.{nat_tests}
-use Rattle.trace_service.proofs.Lines.{reading_none, reading_more, reading_same, line_taken, last_taken}
+use Rattle.trace_service.proofs.Lines.{reading_none, reading_more}
 use Rattle.trace_service.proofs.input.next_line.Goals as goal
 
 pub bytes-init : goal.bytes-init

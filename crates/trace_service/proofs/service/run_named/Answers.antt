@@ -1,7 +1,9 @@
-use Rattle.std.proofs.Common.{◌≡◌, ◌∙◌, sym, subst, length, All, arith}
+use Rattle.std.proofs.Common.{◌≡◌, ◌∙◌, ℕ, sym, subst, length, All, arith}
 use Rattle.job_lane.specs.Lane.{LaneName, SeatLists}
 use Rattle.machine_hub.specs.Hub.{new_caller}
 use Rattle.otlp_front.specs.Route.{names_in}
+use Rattle.trace_service.specs.Audit.{audit_text, IsFollowed}
+use Rattle.trace_service.specs.Output.{Output}
 use Rattle.trace_service.specs.Roster.{present_in}
 use Rattle.trace_service.proofs.Audited.{are_numbered}
 use Rattle.trace_service.proofs.Coursed.{course_told, kept_if}
@@ -22,15 +24,19 @@ returns g c =
     let callers = c.in_ok-callers.callers.items in
     let shards = c.end_hub-shards.result.items in
     let runs = c.end_hub-shards.ensures.calls in
-    let text = g.O.Write.contents c.at_work.new.output in
+    let written = g.O.Write.contents c.at_work.new.output in
+    let before = c.in_ok-ended.field-0 in
+    let text : ℕ → Output = λ lost. (written, lost) in
+    let ended : Output = (g.O.Write.contents c.write_audit.new.output, c.write_audit.new.lost) in
+    let found : c.unwrap_or-lost.result ≡ before = rw c.in_ok-ended.was at c.unwrap_or-lost.ensures in
     record {
       slots = slots;
       homes = homes;
       opened = c.requires.opened;
       callers = callers;
-      text = text;
-      course = course_told g.R.Documents.reads c.in_ok-callers.ended _ g.J.Naming.first table (present_in c.in_ok-roster.roster) (names_in table).tenants (length slots) table.global.shards
-          (g.I.Read.remaining c.args.input.now) (g.O.Write.contents c.args.output.now) text g.J.Naming.fresh (new_caller slots homes) callers
+      text = text before;
+      course = course_told g.R.Documents.reads c.in_ok-callers.ended before g.J.Naming.first table (present_in c.in_ok-roster.roster) (names_in table).tenants (length slots) table.global.shards
+          (g.I.Read.remaining c.args.input.now) (g.O.Write.contents c.args.output.now) written g.J.Naming.fresh (new_caller slots homes) callers
           c.in_ok-ended.was (sym c.requires.first) c.in_ok-roster.ensures c.requires.shards c.requires.fresh c.in_ok-callers.ensures.course;
       shards = shards;
       calls = runs;
@@ -47,5 +53,6 @@ returns g c =
       count = runs.count ∙ c.requires.opened.count;
       numbered = are_numbered table homes callers shards runs c.requires.opened;
       kept = kept_if table homes callers shards runs table.global.shards c.args.audit c.requires.keeps;
-      lines = rw c.as_slice.ensures.value at c.in_ok-write_audit.ensures;
+      lines = subst (λ lost. IsFollowed c.args.audit (audit_text shards) (text lost) ended) found
+          (rw c.as_slice.ensures.value at c.in_ok-write_audit.ensures);
     }

@@ -1,5 +1,5 @@
-use Rattle.std.proofs.Common.{◌≡◌}
+use Rattle.std.proofs.Common.{◌-◌}
 use Rattle.trace_service.proofs.workers.all_arrive.Given as goal
 
-abbrev pub invariant-loop : goal.invariant-loop
-invariant-loop g l = record { last : l.beat.last ≡ l.fn.beat.last }
+abbrev pub decreases-loop-here : goal.decreases-loop-here
+decreases-loop-here g l = l.threads - l.here

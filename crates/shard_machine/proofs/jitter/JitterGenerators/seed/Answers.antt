@@ -1,7 +1,7 @@
 use Rattle.std.proofs.Common.{◌≡◌, None, sym, ◌∙◌, subst}
 use Rattle.std.specs.Ordering.{nat_cmp}
 use Rattle.std.specs.BTreeMap as tree
-use Rattle.shard_machine.specs.Jitter.{without, IsSeeded}
+use Rattle.shard_machine.specs.Jitter.{IsSeeded}
 use Rattle.shard_machine.proofs.Draws.{at_tenant, seeded, undone, none_of}
 use Rattle.shard_machine.proofs.jitter.JitterGenerators.seed.Goals as goal
 

@@ -23,7 +23,7 @@ use Rattle.tenant_pipeline.specs.declared.journal.Journal.{Journal}
 use Rattle.tenant_pipeline.specs.StateIn.{counts_in}
 use Rattle.tenant_pipeline.specs.Outbox.{AreThere, Groups}
 use Rattle.tenant_pipeline.specs.Posts.{arrival_at, Came, IsWritten}
-use Rattle.tenant_pipeline.specs.Undo.{TakesBack, hits_undone}
+use Rattle.tenant_pipeline.specs.Undo.{hits_undone}
 use Rattle.tenant_pipeline.proofs.Hits.{back_over}
 use Rattle.tenant_pipeline.proofs.Late.{late_came, late_pending, late_there}
 use Rattle.tenant_pipeline.proofs.Placing.{IsKeyed, IsReady, given_back, ready_now, takes_back, trail_more}
@@ -119,11 +119,10 @@ returns-in-Ok-clause-came c =
     let groups = subst (λ (l : LedgerData). let o : Pipeline = record own { ledger = l } in OnOk r (Groups m (key ∷ []) q o new)) c.take.ensures
     (subst (λ (ks : List ℕ). OnOk r (Groups m ks q taken_own new)) c.as_slice.ensures c.group.ensures.on_success) in
     let all = subst (λ (ks : List ℕ). OnOk r ((j : ℕ) → count j c.group.new.undo.gone.items + count j new.batcher.spans ≡ count j journal.undo.gone.items + (count j own.batcher.spans + count j ks))) c.as_slice.ensures c.group.ensures.gone in
-    let back = subst (λ (l : LedgerData). let o : Pipeline = record own { ledger = l } in (start : Pipeline) → TakesBack journal.undo start o → TakesBack c.group.new.undo start new) c.take.ensures c.group.ensures.back in
     both_ok r groups all (λ (g : Groups m (key ∷ []) q counted_own new) (a : (j : ℕ) → count j c.group.new.undo.gone.items + count j new.batcher.spans ≡ count j journal.undo.gone.items + (count j own.batcher.spans + count j (key ∷ []))).
     let tenant : new.tenant ≡ t = ap (λ (o : Pipeline). o.tenant) g.same in
     subst (λ (u : ℕ). Came (λ (s : State). grouped Undecided m (arrival_at p c.args.keys text ∷ []) (counted_in s)) m journal journal' own new p (part u S2)) (sym tenant)
-    (late_came own p mid q m journal c.args.keys text coming.0 coming.1.posting k ready key change sound shows c.requires.fits c.requires.budget new journal' g a back))
+    (late_came own p mid q m journal c.args.keys text coming.0 coming.1.posting k ready key change sound shows c.requires.fits c.requires.budget new journal' g a c.group.ensures.offers))
 
 pub returns-in-Ok-clause-written : goal.returns-in-Ok-clause-written
 returns-in-Ok-clause-written c = λ start first written.

@@ -1,5 +1,6 @@
 use Rattle.std.proofs.Common.{arith, ◌≡◌, ℕ, sym, ap, ◌∙◌, true, false, Option}
 use Rattle.span_batcher.specs.Timers.{is_due}
+use Rattle.tenant_rules.specs.Ready.{lesser}
 use Rattle.tenant_rules.specs.Timers.{next_timer}
 use Rattle.tenant_rules.proofs.Fronts.{to_run, one_run_less, IsFront-push}
 use Rattle.tenant_pipeline.specs.StateIn.{part_in, state_in}
@@ -7,39 +8,40 @@ use Rattle.tenant_pipeline.proofs.Timing.{all_ran}
 use Rattle.tenant_pipeline.proofs.Holding.{held_later}
 use Rattle.tenant_pipeline.proofs.pipeline.Pipeline.run_due.Goals as goal
 
-pub loop-self-preserved : goal.loop-self-preserved
-loop-self-preserved c =
-    let s = state_in c.loop-self.self c.loop-self.stores in
-    let due : is_due (next_timer s) c.args.moment ≡ true = sym (c.is_due.ensures ∙ ap (λ (t : Option ℕ). is_due t c.args.moment) c.next_timer.ensures) ∙ c.loop-self-test.true in
+pub loop-decision-preserved : goal.loop-decision-preserved
+loop-decision-preserved c =
+    let s = state_in c.loop-decision.self c.loop-decision.stores in
+    let due : is_due (next_timer s) c.args.moment ≡ true = sym (c.is_due.ensures ∙ ap (λ (t : Option ℕ). is_due t c.args.moment) (c.lesser.ensures ∙ (λ i. lesser (c.next_due.ensures i) (c.loop-decision.invariant.decision i)))) ∙ c.loop-decision-test.true in
     record {
-      front = IsFront-push c.args.moment (state_in c.args.self.now c.args.stores.now) s (state_in c.run_one.new.self c.run_one.new.stores) c.loop-self.invariant.front due c.in_ok-run_one.ensures.on_success;
+      decision = c.first_due-decision-in-loop-decision.ensures;
+      front = IsFront-push c.args.moment (state_in c.args.self.now c.args.stores.now) s (state_in c.run_one.new.self c.run_one.new.stores) c.loop-decision.invariant.front due c.in_ok-run_one.ensures.on_success;
       held = c.in_ok-run_one.ensures.invariant;
-      clock = c.in_ok-run_one.ensures.clock c.loop-self.invariant.clock;
-      others = λ other ne. c.in_ok-run_one.ensures.others_unchanged other (λ e. ne (e ∙ c.loop-self.invariant.tenant)) ∙ c.loop-self.invariant.others other ne;
-      tenant = c.in_ok-run_one.ensures.tenant ∙ c.loop-self.invariant.tenant;
-      section = c.in_ok-run_one.ensures.section ∙ c.loop-self.invariant.section;
-      swept = λ is. c.in_ok-run_one.ensures.swept (c.loop-self.invariant.swept is);
+      clock = c.in_ok-run_one.ensures.clock c.loop-decision.invariant.clock;
+      others = λ other ne. c.in_ok-run_one.ensures.others_unchanged other (λ e. ne (e ∙ c.loop-decision.invariant.tenant)) ∙ c.loop-decision.invariant.others other ne;
+      tenant = c.in_ok-run_one.ensures.tenant ∙ c.loop-decision.invariant.tenant;
+      section = c.in_ok-run_one.ensures.section ∙ c.loop-decision.invariant.section;
+      swept = λ is. c.in_ok-run_one.ensures.swept (c.loop-decision.invariant.swept is);
     }
 
-pub loop-self-smaller : goal.loop-self-smaller
-loop-self-smaller c =
-    let s = state_in c.loop-self.self c.loop-self.stores in
-    let due : is_due (next_timer s) c.args.moment ≡ true = sym (c.is_due.ensures ∙ ap (λ (t : Option ℕ). is_due t c.args.moment) c.next_timer.ensures) ∙ c.loop-self-test.true in
+pub loop-decision-smaller : goal.loop-decision-smaller
+loop-decision-smaller c =
+    let s = state_in c.loop-decision.self c.loop-decision.stores in
+    let due : is_due (next_timer s) c.args.moment ≡ true = sym (c.is_due.ensures ∙ ap (λ (t : Option ℕ). is_due t c.args.moment) (c.lesser.ensures ∙ (λ i. lesser (c.next_due.ensures i) (c.loop-decision.invariant.decision i)))) ∙ c.loop-decision-test.true in
     let less = one_run_less s c.args.moment due in
     let same = ap to_run c.in_ok-run_one.ensures.on_success in
     omega (arith, less, same)
 
 pub returns-in_err-run_one-clause-others_unchanged : goal.returns-in_err-run_one-clause-others_unchanged
-returns-in_err-run_one-clause-others_unchanged c = λ other ne. c.in_err-run_one.ensures.others_unchanged other (λ e. ne (e ∙ c.loop-self.invariant.tenant)) ∙ c.loop-self.invariant.others other ne
+returns-in_err-run_one-clause-others_unchanged c = λ other ne. c.in_err-run_one.ensures.others_unchanged other (λ e. ne (e ∙ c.loop-decision.invariant.tenant)) ∙ c.loop-decision.invariant.others other ne
 
 pub returns-clause-on_success : goal.returns-clause-on_success
 returns-clause-on_success c =
-    let s = state_in c.loop-self.self c.loop-self.stores in
-    let quiet : is_due (next_timer s) c.args.moment ≡ false = sym (c.is_due.ensures ∙ ap (λ (t : Option ℕ). is_due t c.args.moment) c.next_timer.ensures) ∙ c.loop-self-test.false in
-    all_ran c.args.moment c.loop-self.invariant.front.0 (state_in c.args.self.now c.args.stores.now) s c.loop-self.invariant.front.1 quiet
+    let s = state_in c.loop-decision.self c.loop-decision.stores in
+    let quiet : is_due (next_timer s) c.args.moment ≡ false = sym (c.is_due.ensures ∙ ap (λ (t : Option ℕ). is_due t c.args.moment) (c.lesser.ensures ∙ (λ i. lesser (c.next_due.ensures i) (c.loop-decision.invariant.decision i)))) ∙ c.loop-decision-test.false in
+    all_ran c.args.moment c.loop-decision.invariant.front.0 (state_in c.args.self.now c.args.stores.now) s c.loop-decision.invariant.front.1 quiet
 
 pub returns-clause-reached : goal.returns-clause-reached
 returns-clause-reached c =
-    let s = state_in c.loop-self.self c.loop-self.stores in
-    let quiet : is_due (next_timer s) c.args.moment ≡ false = sym (c.is_due.ensures ∙ ap (λ (t : Option ℕ). is_due t c.args.moment) c.next_timer.ensures) ∙ c.loop-self-test.false in
-    held_later c.loop-self.self (part_in c.loop-self.self c.loop-self.stores) c.args.moment c.loop-self.invariant.held c.loop-self.invariant.clock c.requires.fits quiet
+    let s = state_in c.loop-decision.self c.loop-decision.stores in
+    let quiet : is_due (next_timer s) c.args.moment ≡ false = sym (c.is_due.ensures ∙ ap (λ (t : Option ℕ). is_due t c.args.moment) (c.lesser.ensures ∙ (λ i. lesser (c.next_due.ensures i) (c.loop-decision.invariant.decision i)))) ∙ c.loop-decision-test.false in
+    held_later c.loop-decision.self (part_in c.loop-decision.self c.loop-decision.stores) c.args.moment c.loop-decision.invariant.held c.loop-decision.invariant.clock c.requires.fits quiet

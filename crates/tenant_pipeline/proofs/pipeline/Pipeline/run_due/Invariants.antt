@@ -1,14 +1,15 @@
 use Rattle.std.proofs.Common.{◌≡◌, ◌≢◌, ◌≤◌, ℕ}
 use Rattle.tenant_stores.specs.Part.{part}
-use Rattle.tenant_rules.specs.Timers.{IsFront}
+use Rattle.tenant_rules.specs.Timers.{IsFront, first_due}
 use Rattle.tenant_rules.proofs.Fronts.{to_run}
 use Rattle.tenant_pipeline.specs.StateIn.{state_in}
 use Rattle.tenant_pipeline.specs.Invariant.{PipelineInvariant, IsSwept}
 use Rattle.tenant_pipeline.proofs.pipeline.Pipeline.run_due.Given as goal
 
 -- some first due timers have run
-abbrev pub invariant-loop-self : goal.invariant-loop-self
-invariant-loop-self l = record {
+abbrev pub invariant-loop-decision : goal.invariant-loop-decision
+invariant-loop-decision l = record {
+  decision : l.decision ≡ first_due (state_in l.self l.stores).waiting;
   front : IsFront l.moment (state_in l.fn.self l.fn.stores) (state_in l.self l.stores);
   held : PipelineInvariant l.self l.stores;
   clock : l.self.clock ≤ l.moment;
@@ -18,5 +19,5 @@ invariant-loop-self l = record {
   swept : IsSwept l.fn.self → IsSwept l.self;
 }
 
-abbrev pub decreases-loop-self : goal.decreases-loop-self
-decreases-loop-self l = to_run (state_in l.self l.stores)
+abbrev pub decreases-loop-decision : goal.decreases-loop-decision
+decreases-loop-decision l = to_run (state_in l.self l.stores)

@@ -14,7 +14,7 @@ use Rattle.tenant_pipeline.proofs.pipeline.Pipeline.run_one.Goals as goal
 pub flush-requires-clause-first : goal.flush-requires-clause-first
 flush-requires-clause-first c =
     let s = state_in c.args.self.now c.args.stores.now in
-    sym (c.is_batch.ensures ∙ (ap (λ (o : Option ℕ). is_batch o c.first_due.result) c.next_due.ensures ∙ ap (λ (o : Option ℕ). is_batch (next_due s.pending) o) c.first_due.ensures)) ∙ c.if-is_batch.true
+    sym (c.is_batch.ensures ∙ (ap (λ (o : Option ℕ). is_batch o c.args.decision) c.next_due.ensures ∙ ap (λ (o : Option ℕ). is_batch (next_due s.pending) o) c.requires.decision)) ∙ c.if-is_batch.true
 
 pub flush-requires-clause-fits : goal.flush-requires-clause-fits
 flush-requires-clause-fits c = λ due is.
@@ -27,7 +27,7 @@ flush-requires-clause-fits c = λ due is.
 pub decide-requires-clause-first : goal.decide-requires-clause-first
 decide-requires-clause-first c =
     let s = state_in c.args.self.now c.args.stores.now in
-    sym (c.is_batch.ensures ∙ (ap (λ (o : Option ℕ). is_batch o c.first_due.result) c.next_due.ensures ∙ ap (λ (o : Option ℕ). is_batch (next_due s.pending) o) c.first_due.ensures)) ∙ c.if-is_batch.false
+    sym (c.is_batch.ensures ∙ (ap (λ (o : Option ℕ). is_batch o c.args.decision) c.next_due.ensures ∙ ap (λ (o : Option ℕ). is_batch (next_due s.pending) o) c.requires.decision)) ∙ c.if-is_batch.false
 
 pub decide-requires-clause-row_undecided : goal.decide-requires-clause-row_undecided
 decide-requires-clause-row_undecided c =
@@ -57,7 +57,7 @@ returns-else-is_batch-clause-on_success c =
     let own = c.args.self.now in
     let s = state_in own c.args.stores.now in
     let same = shown_is own (part_in own c.args.stores.now) c.commit.new.self c.commit.ensures.shown in
-    let first = sym (c.is_batch.ensures ∙ (ap (λ (o : Option ℕ). is_batch o c.first_due.result) c.next_due.ensures ∙ ap (λ (o : Option ℕ). is_batch (next_due s.pending) o) c.first_due.ensures)) ∙ c.if-is_batch.false in
+    let first = sym (c.is_batch.ensures ∙ (ap (λ (o : Option ℕ). is_batch o c.args.decision) c.next_due.ensures ∙ ap (λ (o : Option ℕ). is_batch (next_due s.pending) o) c.requires.decision)) ∙ c.if-is_batch.false in
     let run : one_run s ≡ decide s.waiting s = ap (λ (b : Bool). if b then flushed (next_due s.pending) s else decide s.waiting s) first in
     let new = state_in c.decide.new.self c.decide.new.stores in
     let old = state_of (record own { caches = c.commit.new.self }) (part_in own c.args.stores.now) in
@@ -73,13 +73,13 @@ returns-else-is_batch-clause-on_refusal c =
 pub returns-then-is_batch-clause-clock : goal.returns-then-is_batch-clause-clock
 returns-then-is_batch-clause-clock c = λ le.
     let s = state_in c.args.self.now c.args.stores.now in
-    let first = sym (c.is_batch.ensures ∙ (ap (λ (o : Option ℕ). is_batch o c.first_due.result) c.next_due.ensures ∙ ap (λ (o : Option ℕ). is_batch (next_due s.pending) o) c.first_due.ensures)) ∙ c.if-is_batch.true in
+    let first = sym (c.is_batch.ensures ∙ (ap (λ (o : Option ℕ). is_batch o c.args.decision) c.next_due.ensures ∙ ap (λ (o : Option ℕ). is_batch (next_due s.pending) o) c.requires.decision)) ∙ c.if-is_batch.true in
     c.flush.ensures.clock c.args.moment le (λ due is. timer_by (next_due s.pending) (first_due s.waiting) c.args.moment due is first c.requires.due)
 
 pub returns-else-is_batch-clause-clock : goal.returns-else-is_batch-clause-clock
 returns-else-is_batch-clause-clock c = λ le.
     let s = state_in c.args.self.now c.args.stores.now in
-    let first = sym (c.is_batch.ensures ∙ (ap (λ (o : Option ℕ). is_batch o c.first_due.result) c.next_due.ensures ∙ ap (λ (o : Option ℕ). is_batch (next_due s.pending) o) c.first_due.ensures)) ∙ c.if-is_batch.false in
+    let first = sym (c.is_batch.ensures ∙ (ap (λ (o : Option ℕ). is_batch o c.args.decision) c.next_due.ensures ∙ ap (λ (o : Option ℕ). is_batch (next_due s.pending) o) c.requires.decision)) ∙ c.if-is_batch.false in
     c.decide.ensures.clock c.args.moment le (λ due is. decision_by (next_due s.pending) (first_due s.waiting) c.args.moment due is first c.requires.due)
 
 pub returns-else-is_batch-clause-swept : goal.returns-else-is_batch-clause-swept

@@ -11,7 +11,7 @@ use Rattle.tenant_pipeline.specs.StateIn.{part_in, policies_of, waiting_of}
 use Rattle.tenant_pipeline.specs.Drains.{SendsRow, SendsRest, keys_if, sampled_keys}
 use Rattle.tenant_pipeline.specs.Invariant.{IsNoted}
 use Rattle.tenant_pipeline.specs.Outbox.{AreThere}
-use Rattle.tenant_pipeline.proofs.Draining.{none_sent, one_sent, row_found, row_of, all_left, some_start}
+use Rattle.tenant_pipeline.proofs.Draining.{none_sent, one_sent, row_found, row_of, all_left}
 use Rattle.tenant_pipeline.proofs.Verdicts.{keys_next, keys_end}
 use Rattle.tenant_pipeline.proofs.pipeline.Pipeline.send_all.Goals as goal
 
@@ -24,6 +24,7 @@ loop-number-init c =
       sent = none_sent own p c.args.moment c.requires.holds c.requires.quiet;
       gone = λ key. omega arith;
       back = λ start back. back;
+      offers = c.requires.offers;
     }
 
 pub send_row-requires-clause-there : goal.send_row-requires-clause-there
@@ -46,9 +47,7 @@ send_row-requires-clause-there c =
     (sym tenant) (row, found.1, known.noted, known.undecided, known.there)
 
 pub send_row-requires-clause-offers : goal.send_row-requires-clause-offers
-send_row-requires-clause-offers c =
-    let own = c.args.self.now in
-    (c.loop-number.invariant.back _ (some_start c.args.undo.now own c.requires.offers)).offers
+send_row-requires-clause-offers c = c.loop-number.invariant.offers
 
 pub loop-number-preserved : goal.loop-number-preserved
 loop-number-preserved c =
@@ -82,15 +81,14 @@ loop-number-preserved c =
           let both = count-append key (keys_if pol (p.rows number)) (sampled_keys pol p.rows (range number (o - number))) in
           omega (arith, was, now, keys, next, both);
       back = λ start back. c.send_row.ensures.back start (inv.back start back);
+      offers = c.send_row.ensures.offers;
     }
 
 pub returns-in_err-send_row-clause-back : goal.returns-in_err-send_row-clause-back
 returns-in_err-send_row-clause-back c = λ start back. c.send_row.ensures.back start (c.loop-number.invariant.back start back)
 
 pub send_rest-requires-clause-offers : goal.send_rest-requires-clause-offers
-send_rest-requires-clause-offers c =
-    let own = c.args.self.now in
-    (c.loop-number.invariant.back _ (some_start c.args.undo.now own c.requires.offers)).offers
+send_rest-requires-clause-offers c = c.loop-number.invariant.offers
 
 pub send_rest-requires-clause-there : goal.send_rest-requires-clause-there
 send_rest-requires-clause-there c =

@@ -1,4 +1,4 @@
-use Rattle.std.proofs.Common.{◌≡◌, ◌≤◌, ◌+◌, ◌-◌, ℕ}
+use Rattle.std.proofs.Common.{◌≡◌, ◌≤◌, ◌+◌, ◌-◌, ℕ, length}
 use Rattle.tenant_stores.specs.Counts.{count, range, waiting_numbers}
 use Rattle.tenant_pipeline.specs.declared.pipeline.Pipeline.{Pipeline}
 use Rattle.tenant_pipeline.specs.StateIn.{counts_in, part_in, policies_of}
@@ -17,6 +17,7 @@ invariant-loop-number l = record {
       ≡ count key l.fn.undo.gone.items + (count key l.fn.self.batcher.spans
       + count key (sampled_keys (policies_of l.fn.self) (part_in l.fn.self l.stores).rows (waiting_numbers (counts_in l.fn.self))));
   back : (start : Pipeline) → TakesBack l.fn.undo start l.fn.self → TakesBack l.undo start l.self;
+  offers : l.undo.offers ≤ length l.self.sender.queue;
 }
 
 abbrev pub decreases-loop-number : goal.decreases-loop-number

@@ -41,4 +41,4 @@ returns-in-Ok-clause-gone c = λ key.
 
 pub returns-in-Ok-clause-back : goal.returns-in-Ok-clause-back
 returns-in-Ok-clause-back c = λ start back.
-    rest_undo c.args.undo.now _ c.args.self.now c.offer.new.self c.in-Ok.offers (queued (batch_view c.in_ok-batch.batch)) c.in-Ok.ensures.on_success c.in-Ok.ensures.took refl refl refl refl start back
+    rest_undo c.args.undo.now _ c.args.self.now c.offer.new.self c.in-Ok.offers (queued (batch_view c.in_ok-batch.batch)) c.in-Ok.ensures.on_success c.in-Ok.ensures.took refl refl refl refl refl start back

@@ -1,5 +1,5 @@
-use Rattle.std.proofs.Common.{length, refl}
-use Rattle.http_edge.specs.Seen.{response_of, seen}
+use Rattle.std.proofs.Common.{refl}
+use Rattle.http_edge.specs.Seen.{seen}
 use Rattle.otlp_front.specs.Route.{names_in, route_of}
 use Rattle.trace_service.specs.Post.{handled, not_copied}
 use Rattle.trace_service.proofs.Handled.{sent_to, sent_nowhere}
@@ -8,13 +8,13 @@ use Rattle.trace_service.proofs.context.WorkerContextHandler.handle.Goals as goa
 pub returns-in-Ok-To : goal.returns-in-Ok-To
 returns-in-Ok-To g c =
     let found = c.in-Ok-To.ensures in
-    let message = seen c.args.message.now in
-    handled found.0 found.1 (sent_to _ _ _ _ _ message.body _ (route_of (names_in found.0) message) found.0 c.in-Ok-To.tenant c.in-Ok-To.section (rw c.in-Ok-To.field-0-is at found.2) (rw c.deref.ensures.value at c.post.ensures))
+    let message = seen c.args.message in
+    handled found.0 found.1 (sent_to _ _ _ _ _ message.body _ (route_of (names_in found.0) message) found.0 c.in-Ok-To.tenant c.in-Ok-To.section (rw c.in-Ok-To.field-0-is at found.2) c.post.ensures)
 
 pub returns-in-Ok-Nowhere : goal.returns-in-Ok-Nowhere
 returns-in-Ok-Nowhere g c =
     let found = c.in-Ok-Nowhere.ensures in
-    let message = seen c.args.message.now in
+    let message = seen c.args.message in
     handled found.0 found.1 (sent_nowhere _ _ _ _ _ message.body _ (route_of (names_in found.0) message) found.0 c.in-Ok-Nowhere.refusal (rw c.in-Ok-Nowhere.field-0-is at found.2) refl c.refused.ensures)
 
 pub returns-in-Err : goal.returns-in-Err

@@ -1,4 +1,4 @@
-use Rattle.std.proofs.Common.{length, map, refl, subst, ◌∙◌}
+use Rattle.std.proofs.Common.{length, map, subst, ◌∙◌}
 use Rattle.std.proofs.lemmas.List.{take_all}
 use Rattle.trace_service.specs.Commands.{AreEmptyOn}
 use Rattle.trace_service.proofs.Present.{number, empty_more}

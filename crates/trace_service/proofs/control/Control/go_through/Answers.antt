@@ -9,10 +9,11 @@ returns g c =
     let drained = c.drain_all.ensures in
     let waited = c.await_empty.ensures in
     let hub = drained.hub ∙ heard.hub in
-    directed g.R.Documents.reads c.read_commands-heard.result c.print_reports-told.result _ _ g.J.Naming.first (length c.args.self.now.context.hub.now) (present_in c.args.self.now.roster)
-    c.read_commands-heard.new.roster.tenants.items _ _ (g.O.Write.contents c.read_commands-heard.new.output) _
+    directed g.R.Documents.reads c.read_commands-heard.result _ g.J.Naming.first (length c.args.self.now.context.hub.now) (present_in c.args.self.now.roster)
+    c.read_commands-heard.new.roster.tenants.items _ _
+    (g.O.Write.contents c.read_commands-heard.new.output, c.read_commands-heard.new.lost) _
     _ c.read_commands-heard.new.self.context.caller c.drain_all.new.self.context.caller _
     _ c.read_commands-heard.new.self.beat.last c.drain_all.new.self.beat.last _
-    c.in_ok-heard.was c.in_ok-told.was (rw (c.replace-roster.ensures.value, c.all_arrive.ensures) at heard.commands_read)
+    c.in_ok-heard.was (rw c.replace-roster.ensures.value at heard.commands_read)
     (rw (heard.hub, c.tenants.ensures) at drained.drained) (rw (hub, c.tenants-2.ensures) at waited.empty)
-    (rw (waited.hub ∙ hub, waited.caller, waited.last, c.tenants-3.ensures) at c.print_reports-told.ensures.reported)
+    (rw (waited.hub ∙ hub, waited.caller, waited.last, c.tenants-3.ensures) at c.print_reports.ensures.reported)

@@ -1,4 +1,4 @@
-use Rattle.std.proofs.Common.{◌%◌, ℕ, [], ◌∷◌, ◌++◌, length, refl, ◌∙◌}
+use Rattle.std.proofs.Common.{◌%◌, ℕ, [], ◌∷◌, ◌++◌, length, refl, sym, ◌∙◌}
 use Rattle.export_edge.proofs.Throughs.{through_more}
 use Rattle.machine_hub.specs.Hub.{IsRefusedOn}
 use Rattle.shared_hub.specs.Logs.{CallerState}
@@ -15,11 +15,11 @@ attempts-preserved g c =
     let tried = before.tried in
     let more = rises_more _ _ c.now-now.result _ tried.0 tried.2 c.now-now.ensures in
     record {
-      hub = c.step.ensures.hub ∙ before.hub;
+      hub = c.want.ensures.hub ∙ c.step.ensures.hub ∙ before.hub;
       tried = (
         tried.0 ++ c.now-now.result ∷ [],
         through_more (λ (s : CallerState) (now : ℕ) (t : CallerState). IsRefusedOn s t (c.args.tenant % n)) _ _ _ tried.0 c.now-now.result tried.1
-            (rw before.hub at c.in-Err.ensures.on_refusal),
+            (rw (before.hub, sym c.want.ensures.caller) at c.in-Err.ensures.on_refusal),
         rises_same _ _ _ (tried.0 ++ c.now-now.result ∷ []) more c.pause.ensures,
       );
     }

@@ -1,5 +1,3 @@
-use Rattle.std.proofs.Common.{ap, ◌∙◌}
-use Rattle.trace_service.specs.Commands.{outcome_line}
 use Rattle.trace_service.proofs.control.Control.print_report.Goals as goal
 
 pub returns-clause-reported : goal.returns-clause-reported
@@ -8,5 +6,5 @@ returns-clause-reported g c =
     record {
       outcome = c.make-outcome.result;
       made = rw (told.last, told.caller) c.make-outcome.ensures.made;
-      line = rw (c.as_slice.ensures.value, told.line, c.as_str.ensures.value) at c.in_ok-write_text.ensures;
+      line = rw (c.as_slice.ensures.value, told.line, c.as_str.ensures.value) at c.write_text.ensures;
     }

@@ -11,7 +11,7 @@ loop-tenant-init g c = record { hub = refl; told = no_report }
 pub loop-tenant-preserved : goal.loop-tenant-preserved
 loop-tenant-preserved g c =
     let before = c.loop-tenant.invariant in
-    let told = c.in_ok-print_report.ensures in
+    let told = c.print_report.ensures in
     record {
       hub = told.hub ∙ before.hub;
       told = reported_more _ _ _ _ c.args.tenants.now c.loop-tenant.tenant-index c.tenant-item.result _ _ _ _ _ _ c.loop-tenant-test.true
@@ -22,7 +22,7 @@ pub returns : goal.returns
 returns g c =
     record {
       reported = subst (λ ts. AreReported (length c.args.self.now.context.hub.now) c.args.self.now.context.caller c.args.self.now.beat.last
-          (g.O.Write.contents c.args.output.now) (map entry_of ts) c.loop-tenant.self.context.caller c.loop-tenant.self.beat.last
-          (g.O.Write.contents c.loop-tenant.output))
+          (g.O.Write.contents c.args.output.now, c.args.lost.now) (map entry_of ts) c.loop-tenant.self.context.caller c.loop-tenant.self.beat.last
+          (g.O.Write.contents c.loop-tenant.output, c.loop-tenant.lost))
           (take_all c.loop-tenant.tenant-index c.args.tenants.now c.loop-tenant-test.false) c.loop-tenant.invariant.told;
     }

@@ -8,12 +8,12 @@ lines-init g c = record { hub = refl; heard = heard_none _ _ _ _ _ _ _ _ }
 pub lines-preserved : goal.lines-preserved
 lines-preserved g c =
     let before = c.lines.invariant in
-    let answered = c.in_ok-run_command.ensures in
+    let answered = c.run_command.ensures in
     record {
       hub = answered.hub ∙ before.hub;
       heard = heard_more _ _ _ _ _ _ _ _ _ _ _ _ _ _ _ _ _ _ c.next_line.new.line.items before.heard
           (rw c.if-not-branch.false at c.in_ok-next_line.ensures)
-          (rw (before.hub, c.as_slice.ensures.value) at answered.answered);
+          (rw (before.hub, c.as_slice-in-lines.ensures.value) at answered.answered);
     }
 
 pub returns-then-not-branch-clause-commands_read : goal.returns-then-not-branch-clause-commands_read

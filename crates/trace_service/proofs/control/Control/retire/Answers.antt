@@ -15,5 +15,5 @@ returns-clause-retired g c =
       outcome = c.make-outcome.result;
       made = rw (told.last, told.caller) (rw (seen.hub ∙ drained.hub, seen.caller, seen.last) at c.make-outcome.ensures.made);
       left_are = c.let_go.ensures;
-      line = rw (c.as_slice.ensures.value, told.line, c.as_str.ensures.value, c.in-Some.ensures.name) at c.in_ok-write_text.ensures;
+      line = rw (c.as_slice.ensures.value, told.line, c.as_str.ensures.value, c.in-Some.ensures.name) at c.write_text.ensures;
     })

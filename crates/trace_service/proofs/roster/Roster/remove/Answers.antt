@@ -1,4 +1,4 @@
-use Rattle.std.proofs.Common.{◌≡◌, ◌==◌, not, filter, map, ap, ◌∙◌, rules}
+use Rattle.std.proofs.Common.{◌==◌, not, map, ap, ◌∙◌, rules}
 use Rattle.std.proofs.lemmas.Fn.{filter_same}
 use Rattle.trace_service.specs.declared.roster.Present.{Present}
 use Rattle.trace_service.specs.Roster.{entry_of}

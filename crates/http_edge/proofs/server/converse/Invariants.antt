@@ -2,7 +2,7 @@ use Rattle.std.proofs.Common.{◌≡◌, ◌≤◌, List, ℕ}
 use Rattle.http_line.specs.Line.{Moves}
 use Rattle.http_edge.specs.Steps.{work}
 use Rattle.http_edge.specs.Talk.{Exchange, Asks, told, Runs}
-use Rattle.http_edge.proofs.server.serve.Given as goal
+use Rattle.http_edge.proofs.server.converse.Given as goal
 
 pub record Served (P : List ℕ → List Exchange → Type 0) (Q R : Type 0) : Type 0 where
   pub read : List ℕ

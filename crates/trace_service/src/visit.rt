@@ -1,0 +1,91 @@
+//! A client's connection, and how long it may take.
+
+use std::io;
+use std::io::{ErrorKind, Read, Write};
+use std::net::TcpStream;
+use std::time::{Clock, Duration, Instant};
+
+/// How long is waited for a client. None is for ever; no limit is 0.
+#[derive(Clone, Copy, Debug)]
+pub(crate) struct Patience {
+    /// For more of what it sends, or until it takes more of a reply.
+    pub rest: Option<Duration>,
+    /// For a whole request, from its first byte on.
+    pub request: Option<Duration>,
+}
+
+/// Who came in.
+#[derive(Drop)]
+pub(crate) struct Client {
+    pub stream: TcpStream,
+    pub patience: Patience,
+}
+
+/// A client's connection as it is served. What is read from a reply on, or from the start, is a request until the next
+/// reply is begun: a read of it that would end later than it may fails.
+#[derive(Drop)]
+pub(crate) struct Visit<'v, R> {
+    rt: &'v R,
+    stream: &'v TcpStream,
+    patience: Patience,
+    // When the request began of which some was read.
+    began: Option<Instant>,
+    // Whether the last read had what was left to a request as its limit.
+    is_cut: bool,
+}
+
+impl<'v, R: Clock> Visit<'v, R> {
+    /// That of a client of whom nothing was read.
+    pub fn new(rt: &'v R, client: &'v Client) -> Visit<'v, R> {
+        Visit {
+            rt,
+            stream: &client.stream,
+            patience: client.patience,
+            began: None,
+            is_cut: false,
+        }
+    }
+
+    /// Bounds the next read, where requests are bounded.
+    fn limit_read(&mut self) -> io::Result<()> {
+        let Some(whole) = self.patience.request else {
+            return Ok(());
+        };
+        let Some(began) = self.began else {
+            if self.is_cut {
+                self.is_cut = false;
+                self.stream.set_read_timeout(self.patience.rest)?;
+            }
+            return Ok(());
+        };
+        let left = whole.saturating_sub(began.elapsed(self.rt)?);
+        if left.is_zero() {
+            return Err(io::Error::from(ErrorKind::TimedOut));
+        }
+        self.is_cut = true;
+        let rest = self.patience.rest.unwrap_or(left);
+        self.stream.set_read_timeout(Some(rest.min(left)))
+    }
+}
+
+impl<R: Clock> Read for Visit<'_, R> {
+    fn read(&mut self, buf: &mut [u8]) -> io::Result<usize> {
+        self.limit_read()?;
+        let count = self.stream.read(buf)?;
+        if self.began.is_none() && self.patience.request.is_some() {
+            self.began = Instant::now(self.rt).ok();
+        }
+        Ok(count)
+    }
+}
+
+impl<R: Clock> Write for Visit<'_, R> {
+    fn write(&mut self, buf: &[u8]) -> io::Result<usize> {
+        self.began = None;
+        self.stream.write(buf)
+    }
+
+    fn flush(&mut self) -> io::Result<()> {
+        self.stream.flush()
+    }
+}

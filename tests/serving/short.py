@@ -1,0 +1,135 @@
+"""What comes of a service whose memory was short, once the load is over."""
+
+import re
+import tempfile
+import threading
+import time
+from collections import Counter
+from pathlib import Path
+
+from replay.make_script import piece
+from serving.talk import BackEnd, Service, body, check, in_threads, request, tenant
+
+# so many MB of addresses more than it needs at rest
+ROOM = (0, 16, 32, 64, 128, 256, 512, 1024)
+AT_A_TIME = 4
+CLIENTS = 4
+SPANS = 2_000
+FIRST = b"\1FIRST\1\1"
+MARK = b"a key that each span has"
+# until a span is decided on: by then there is little memory left
+WAIT = 1_500
+# for so many seconds there is load, and within so many all leaves behind it
+LOAD = 2.5
+SOON = 10
+HELD = ("undecided", "pending", "queued", "active")
+HOW = {"shards": 2, "receivers": CLIENTS, "senders": 2, "parts": 1}
+# what is free in the memory of one thread is there for all others
+ONE = ("env", "MALLOC_ARENA_MAX=1")
+
+
+def large():
+    """A body of traces of ten spans each, of some 460 bytes, whose ids begin with FIRST."""
+    more = piece(9, piece(1, MARK) + piece(2, piece(1, b"x" * 380)))
+    return request(*((FIRST + (number // 10 + 1).to_bytes(8, "big"), (number + 1).to_bytes(8, "big"), more)
+                     for number in range(SPANS)))
+
+
+def sections(back_end):
+    return [tenant(name, back_end, wait=WAIT, timeout=100, consumers=2, most=40_000_000)
+            for name in "ab"]
+
+
+def needed(folder, back_end):
+    """How many bytes of addresses it needs at rest."""
+    with Service(folder, sections(back_end), under=ONE, **HOW) as service:
+        check("a post", service.post("a", body(1, 1))[0], 200)
+        status = Path(f"/proc/{service.run.pid}/status").read_text()
+        return 1024 * int(re.search(r"VmPeak:\s*(\d+)", status)[1])
+
+
+class Client:
+    """Posts for a while, also when memory is refused, and counts what it is told; 0 where the connection broke."""
+
+    def __init__(self, service, number, text):
+        self.service = service
+        self.number = number
+        self.text = text
+        self.told = Counter()
+
+    def run(self):
+        end = time.monotonic() + LOAD
+        count = self.number << 32
+        while time.monotonic() < end:
+            count += 1
+            self.told[self.post(self.text.replace(FIRST, count.to_bytes(8, "big")))] += 1
+
+    def post(self, text):
+        try:
+            return self.service.post("ab"[self.number % 2], text)[0]
+        except OSError:
+            return 0
+
+
+def counts_of(service, name):
+    return Counter({name: int(count) for name, count in re.findall(r"(\w+)=(\d+)", service.report(name))})
+
+
+def left(service, name, end):
+    """The counters of a tenant once nothing is held of it, or at the end."""
+    counts = counts_of(service, name)
+    while counts and any(counts[place] for place in HELD) and time.monotonic() < end:
+        time.sleep(0.1)
+        counts = counts_of(service, name)
+    return counts
+
+
+def leaves(what, service, back_end, clients):
+    """All that was accepted leaves in time, reports come, a post is taken again, and the end of the input ends it."""
+    end = time.monotonic() + SOON
+    all_told = Counter()
+    for name, own in zip("ab", (clients[::2], clients[1::2])):
+        told = sum((client.told for client in own), Counter())
+        all_told += told
+        counts = left(service, name, end)
+        if not counts:
+            check(f"{what}: a report", "none", "one")
+            return
+        accepted = counts["accepted"]
+        check(f"{what}: {name} was told", sorted(set(told) - {200, 503, 0}), [])
+        check(f"{what}: {name} is accepted", told[200] * SPANS <= accepted <= (told[200] + told[0]) * SPANS, True)
+        check(f"{what}: {name} has left", {place: counts[place] for place in (*HELD, "exported")},
+              dict.fromkeys(HELD, 0) | {"exported": accepted})
+    print(what, dict(all_told), f"{time.monotonic() - end + SOON:.1f} s", flush=True)
+    check(f"{what}: a post", service.post("a", body(1, 1))[0], 200)
+    begun = time.monotonic()
+    check(f"{what}: status", service.end()[0], 0)
+    check(f"{what}: it ends", time.monotonic() - begun < SOON, True)
+
+
+def under(most, what, text):
+    """One service under a limit of so many bytes of addresses."""
+    with tempfile.TemporaryDirectory() as folder, BackEnd() as back_end:
+        with Service(folder, sections(back_end), under=(*ONE, "prlimit", f"--as={most}"), **HOW) as service:
+            clients = [Client(service, number, text) for number in range(CLIENTS)]
+            in_threads(*(client.run for client in clients))
+            # Whoever waits for what it prints waits no longer.
+            watch = threading.Timer(2 * SOON, service.run.kill)
+            watch.daemon = True
+            watch.start()
+            leaves(what, service, back_end, clients)
+            watch.cancel()
+
+
+def leaves_by_itself(folder):
+    """Under each of eight limits, from what it needs at rest to ample, a service whose threads share their memory and that
+    was posted more than it had memory for sends all that it took once the load is over, tells reports meanwhile, takes posts again, and ends."""
+    with BackEnd() as back_end:
+        least = needed(folder, back_end)
+    text = large()
+    for at in range(0, len(ROOM), AT_A_TIME):
+        in_threads(*(lambda room=room: under(least + (room << 20), f"{room} MB more", text)
+                     for room in ROOM[at:at + AT_A_TIME]))
+
+
+TESTS = (leaves_by_itself,)
