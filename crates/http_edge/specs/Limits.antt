@@ -13,7 +13,7 @@ max_head = 65536
 abbrev pub max_part : ℕ
 max_part = 65536
 
--- so many bytes of one read
+-- so many bytes of one read at most
 abbrev pub max_read : ℕ
 max_read = 65536
 

@@ -86,7 +86,7 @@ fn converse<T: Threads + Sync, L: Line, H: Handler>(
     ensures read { result ≡ Err EdgeFault.ReadFailed → HasFailed (L.failed line.old) (L.failed line.new) }
     ensures write { result ≡ Err EdgeFault.WriteFailed → HasFailed (L.failed line.old) (L.failed line.new) }
 {
-    let mut room: Room = [0u8; 65_536];
+    let mut room: Room = [0u8; 8192];
     'messages: while exchange(rt, alloc, line, handler, &mut room, buffer)? {}
     Ok(())
 }

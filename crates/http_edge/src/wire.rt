@@ -46,8 +46,8 @@ impl From<AllocError> for EdgeFault {
     }
 }
 
-/// What a connection reads through.
-pub(crate) type Room = [u8; 65_536];
+/// What a connection reads through. It is small, since each one that is open has its own.
+pub(crate) type Room = [u8; 8192];
 
 /// A head, a chunk and an answer are read in so many bytes at most, so that little is behind what is looked at.
 pub(crate) const PART_ROOM: usize = 4096;
