@@ -1,4 +1,4 @@
-.PHONY: test replay serve
+.PHONY: test replay serve install deb
 
 PROGRAM = crates/trace_collector_program
 
@@ -14,6 +14,7 @@ test: checks
 	@said=$$(python3 tests/random_scripts.py $(PROGRAM)/out/trace_collector_program) || { echo "$$said"; exit 1; }
 	@said=$$(python3 tests/random_settings.py $(PROGRAM)/out/trace_collector_program) || { echo "$$said"; exit 1; }
 	@said=$$(python3 tests/service.py $(PROGRAM)/out/trace_collector_program) || { echo "$$said"; exit 1; }
+	@said=$$(python3 tests/package.py $(PROGRAM)/out/trace_collector_program) || { echo "$$said"; exit 1; }
 	@said=$$(python3 tests/replay/steady.py $(PROGRAM)/out/trace_collector_program 100000) || { echo "$$said"; exit 1; }
 	@said=$$(python3 tests/replay/lives.py $(PROGRAM)/out/trace_collector_program 2000) || { echo "$$said"; exit 1; }
 
@@ -63,3 +64,27 @@ STORY = examples/story
 .PHONY: trace_collector
 trace_collector:
 	@python3 tests/build.py $(notdir $(PROGRAM)) ./trace_collector
+
+# What `make trace_collector` built, where it goes, and where settings are.
+BUILT = trace_collector
+PREFIX = /usr/local
+ETC = /etc
+BIN = $(PREFIX)/bin
+MAN = $(PREFIX)/share/man/man1
+UNITS = $(PREFIX)/lib/systemd/system
+EXAMPLES = $(PREFIX)/share/doc/nimchaes/examples
+
+# Puts the program that is built, its manual page, its unit for systemd and settings to start from below DESTDIR. It
+# proves and builds nothing, so that root needs no toolchain.
+install:
+	@test -x $(BUILT) || { echo 'make: $(BUILT) is not there yet: make trace_collector builds it' >&2; exit 1; }
+	install -d $(DESTDIR)$(BIN) $(DESTDIR)$(MAN) $(DESTDIR)$(UNITS) $(DESTDIR)$(EXAMPLES)
+	install -m 755 $(BUILT) $(DESTDIR)$(BIN)/trace_collector
+	python3 packaging/manual.py $(abspath $(BUILT)) > $(DESTDIR)$(MAN)/trace_collector.1
+	sed -e 's|@BIN@|$(BIN)|g' -e 's|@ETC@|$(ETC)|g' packaging/nimchaes.service.in > $(DESTDIR)$(UNITS)/nimchaes.service
+	chmod 644 $(DESTDIR)$(MAN)/trace_collector.1 $(DESTDIR)$(UNITS)/nimchaes.service
+	install -m 644 examples/start.toml $(DESTDIR)$(EXAMPLES)/settings.toml
+
+# A package for Debian of all that, in out/.
+deb: trace_collector
+	@python3 packaging/deb.py $(BUILT) out

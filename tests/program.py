@@ -225,12 +225,50 @@ IN_EXAMPLES = {
                          "tail_sampling": {"decision_wait_ms": 30000, "num_traces": 50000, "decision_cache": NO_CACHE,
                                            "policy": POLICIES}}],
 }
+ALL = [{"type": "always_sample"}]
+AT_ONCE = {"decision_wait_ms": 1, "num_traces": 50000, "decision_cache": NO_CACHE, "policy": ALL}
+RETRIES = {"initial_interval_ms": 5000, "max_interval_ms": 30000, "max_elapsed_time_ms": 300000, "multiplier": 1500,
+           "randomization_factor": 500}
+LARGE = {"send_batch_size": 4096, "timeout_ms": 2000, "send_batch_max_size": 0}
+# what became of three configurations of the Collector: the keys of `global`, and of the tenants
+FROM_THE_COLLECTOR = {
+    "gateway.toml": ({"listen": "0.0.0.0:4318"}, [
+        {"name": "shop", "endpoint": "tempo.monitoring.svc:4318", "max_spans": 1_000_000, "tail_sampling": {
+            "decision_wait_ms": 10000, "num_traces": 100_000, "decision_cache": {**NO_CACHE, "sampled_cache_size": 200_000},
+            "policy": [
+                {"type": "status_code", "status_codes": ["ERROR"]},
+                {"type": "latency", "threshold_ms": 2000},
+                {"type": "string_attribute", "key": "http.route", "values": ["/checkout", "/pay"]},
+                {"type": "numeric_attribute", "key": "http.response.status_code", "min_value": 500, "max_value": 599},
+                {"type": "and", "and_sub_policy": [
+                    {"type": "string_attribute", "key": "payment.state", "values": ["declined"]},
+                    {"type": "numeric_attribute", "key": "payment.amount", "min_value": 1000, "max_value": 2**63 - 1}]},
+                {"type": "string_attribute", "key": "sampling.keep", "values": ["yes"]}]}}]),
+    "relay.toml": ({"listen": "localhost:4318", "senders": 8}, [
+        {"name": "production", "endpoint": "127.0.0.1:4401", "tail_sampling": AT_ONCE,
+         "batch": {"send_batch_size": 1024, "timeout_ms": 1500, "send_batch_max_size": 2048},
+         "sending_queue": {"queue_size": 1953, "num_consumers": 8},
+         "retry_on_failure": {"initial_interval_ms": 500, "max_interval_ms": 90000, "max_elapsed_time_ms": 0,
+                              "multiplier": 1750, "randomization_factor": 200}}]),
+    "teams.toml": ({"listen": "[::]:4318", "tenant_header": "x-team", "senders": 34, "shards": 3}, [
+        {"name": "payments", "endpoint": "10.1.0.5:4318", "tail_sampling": {**AT_ONCE, "decision_wait_ms": 60000},
+         "batch": {"send_batch_size": 256, "timeout_ms": 0, "send_batch_max_size": 0},
+         "sending_queue": {"queue_size": 5000, "num_consumers": 20},
+         "retry_on_failure": {**RETRIES, "max_elapsed_time_ms": 1_800_000}},
+        {"name": "search", "endpoint": "traces.search.internal:4318", "tail_sampling": {
+            "decision_wait_ms": 5000, "num_traces": 200_000, "decision_cache": NO_CACHE,
+            "policy": [{"type": "status_code", "status_codes": ["ERROR"]}, {"type": "latency", "threshold_ms": 800}]},
+         "batch": LARGE, "sending_queue": {"queue_size": 200, "num_consumers": 4},
+         "retry_on_failure": {**RETRIES, "max_elapsed_time_ms": 1}},
+        {"name": "others", "endpoint": "10.1.0.9:4318", "tail_sampling": AT_ONCE, "batch": LARGE}]),
+}
 
 
-def in_force(*tenants):
-    """All settings, where those of the tenants differ in these keys from those of the smallest document."""
+def in_force(*tenants, **globals_of):
+    """All settings, where those of the tenants, and of `global`, differ in these keys from those of the smallest document."""
     smallest = tomllib.loads(IN_FORCE)
-    return {**smallest, "tenant": [{**smallest["tenant"][0], **tenant} for tenant in tenants]}
+    return {**smallest, "global": {**smallest["global"], **globals_of},
+            "tenant": [{**smallest["tenant"][0], **tenant} for tenant in tenants]}
 
 
 def checks():
@@ -268,7 +306,15 @@ def checks():
         missing = str(Path(folder, "missing"))
         told = f"input or output fault\n{missing}: No such file or directory (os error 2)\n".encode()
         check("no file to check", ended(["check", missing]), (1, b"", told))
-        for example in sorted((HERE / "examples").glob("*.toml")):
+        for example, (globals_of, tenants) in FROM_THE_COLLECTOR.items():
+            status, out = said((HERE / "examples/from-the-collector" / example).read_text(), "")
+            check(f"what {example} says", (status, tomllib.loads(out)), (0, in_force(*tenants, **{"senders": 10, **globals_of})))
+        blocks = re.findall("^```toml\n(.*?)^```$", (HERE / "docs/SETTINGS.md").read_text(), re.M | re.S)
+        check("documents of docs/SETTINGS.md", len(blocks) > 10, True)
+        for example in blocks:
+            status, out = said(example)
+            check(f"{example!r} of docs/SETTINGS.md", (status, out.partition("\n")[0]), (0, "# the settings in force"))
+        for example in sorted((HERE / "examples").rglob("*.toml")):
             status, out = said(example.read_text())
             check(f"{example.name} is good", (status, "# warning" in out), (0, False))
             check(f"{example.name} twice", said(out), (0, out))

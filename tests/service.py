@@ -1,7 +1,7 @@
 #!/usr/bin/env python3
 """Checks what the built program does as a service, from outside: `make trace_collector && python3 tests/service.py`.
 
-    python3 tests/service.py [PROGRAM] [NAME..]       # all tests, or those of these names; `leaves_by_itself` by its name alone
+    python3 tests/service.py [PROGRAM] [NAME..]       # all tests, or those of these names
     python3 tests/service.py PROGRAM SECONDS          # `agreement` alone, for so long
     python3 tests/service.py PROGRAM comings TENANTS  # how much memory so many leave behind that come and go
 
@@ -18,7 +18,7 @@ import time
 import traceback
 from pathlib import Path
 
-from serving import agreement, back_ends, clients, comings, ending, limits, loopback, memory, rest, short, talk
+from serving import admin, agreement, back_ends, clients, comings, ending, limits, loopback, memory, rest, short, talk
 
 HERE = Path(__file__).resolve().parent.parent
 SHORT = 3
@@ -33,9 +33,7 @@ def agree(folder):
 
 TESTS = {test.__name__: test
          for test in (*loopback.TESTS, *clients.TESTS, *back_ends.TESTS, *comings.TESTS, *limits.TESTS, *rest.TESTS,
-                      *ending.TESTS, *memory.TESTS, agree)}
-# What isn't so in each run: asked for by its name alone.
-MEASURED = {test.__name__: test for test in short.TESTS}
+                      *ending.TESTS, *memory.TESTS, *admin.TESTS, *short.TESTS, agree)}
 
 
 def run(name, test):
@@ -54,14 +52,14 @@ def run(name, test):
 
 def main():
     words = sys.argv[1:]
-    talk.program = os.path.abspath(words.pop(0) if words and words[0] not in (*TESTS, *MEASURED, "comings") else HERE / "trace_collector")
+    talk.program = os.path.abspath(words.pop(0) if words and words[0] not in (*TESTS, "comings") else HERE / "trace_collector")
     if len(words) == 1 and words[0].isdigit():
         run("agreement", lambda folder: print(agreement.agrees(folder, int(words[0])), "spans", flush=True))
     elif len(words) == 2 and words[0] == "comings":
         run("comings", lambda folder: comings.memory_of_many(folder, int(words[1])))
     elif words:
         for name in words:
-            print(f"{name}: {run(name, (TESTS | MEASURED)[name]):.1f} s", flush=True)
+            print(f"{name}: {run(name, TESTS[name]):.1f} s", flush=True)
     else:
         with subprocess.Popen([sys.executable, __file__, talk.program, BESIDE], stdout=subprocess.PIPE) as beside:
             for name in (name for name in TESTS if name != BESIDE):

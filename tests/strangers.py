@@ -3,12 +3,15 @@
 
     python3 tests/strangers.py [PROGRAM] [NAME..]     # all, or those of these names
 
-Takes the program's path, `./trace_collector` if there is none. `curl`, `ab`, `wrk` and the Python library h11, a strict
-reader and writer of HTTP/1.1, are used where they are installed; it says which aren't. h11 posts some thousands of
-messages that are made by chance, and is a back end that answers by chance. What has to come is what docs/HTTP.md says. It
-prints what is wrong, and ends with 1 where something is.
+Takes the program's path, `./trace_collector` if there is none. `curl`, `ab`, `wrk`, `h2load`, `nghttp`, `nginx`, `haproxy`,
+`promtool`, `prometheus` and the Python library h11, a strict reader and writer of HTTP/1.1, are used where they are
+installed; it says which aren't. h11 posts ten thousand messages that are made by chance, and is a back end that answers as
+many by chance. What has to come is what docs/HTTP.md says, and docs/OPERATING.md of metrics. It prints what is wrong, and
+ends with 1 where something is.
 """
 
+import http.client
+import json
 import os
 import random
 import re
@@ -22,10 +25,12 @@ import time
 import traceback
 from collections import Counter
 from pathlib import Path
+from urllib.parse import quote
 
 from serving import talk
+from serving.admin import GAUGES, METRICS, LookedAfter, free_port
 from serving.agreement import SPAN
-from serving.talk import MOST, BackEnd, Service, body, check, line_of, request, tenant
+from serving.talk import MOST, NAMES, BackEnd, Service, body, check, line_of, request, tenant, wait_for
 
 try:
     import h11
@@ -34,7 +39,7 @@ except ImportError:
 
 HERE = Path(__file__).resolve().parent.parent
 SEED = 20251126
-MESSAGES, JOBS = 4000, 1500
+MESSAGES, JOBS, POSTS = 10_000, 10_000, 200
 TYPE, FIELD = "Content-Type: application/x-protobuf", "X-Scope-OrgID: a"
 URL = "http://127.0.0.1:{}/v1/traces"
 
@@ -129,6 +134,131 @@ def by_wrk(folder):
         accepted = int(re.search(r"accepted=(\d+)", out)[1])
         check("the end", (status, err, out), (0, b"", line_of("a", accepted=accepted, not_sampled=accepted)))
         check(f"{count} are answered, {accepted} taken", 0 < count <= accepted <= count + 50, True)
+
+
+def by_h2load(folder):
+    """Two thousand posts over twenty connections that are kept, one after another and up to ten at once, and HTTP/2, which is
+    refused."""
+    file = Path(folder, "body")
+    file.write_bytes(body(1, 1))
+    with BackEnd() as back_end, Service(folder, [tenant("a", back_end, policies=talk.ERRORS)], receivers=20) as service:
+        for words, good in ((["--h1"], 2000), (["--h1", "-m", "10"], 2000), ([], 0)):
+            command = ["h2load", *words, "-n", "2000", "-c", "20", "-d", str(file), "-H", TYPE, "-H", FIELD,
+                       URL.format(service.port)]
+            said = subprocess.run(command, capture_output=True, text=True, timeout=MOST, check=False).stdout
+            check(f"h2load {words}", (f" {good} succeeded, {2000 - good} failed" in said, f" {good} 2xx" in said), (True, True))
+        check("the end", service.end(), (0, line_of("a", accepted=4000, not_sampled=4000), b""))
+
+
+def by_nghttp(folder):
+    """HTTP/2 is refused, with an offer of it and without, and nothing is taken."""
+    file = Path(folder, "body")
+    file.write_bytes(body(1, 1))
+    with BackEnd() as back_end, Service(folder, [tenant("a", back_end)]) as service:
+        for words, told in (([], b"HTTP/2"), (["-d", str(file)], b"HTTP/2"), (["-u"], b" 405 Method Not Allowed\r\n")):
+            done = subprocess.run(["nghttp", "-v", *words, "-H", TYPE, "-H", FIELD, URL.format(service.port)],
+                                  capture_output=True, timeout=MOST, check=False)
+            check(f"nghttp {words}", (b"processed=0" in done.stdout + done.stderr, told in done.stdout + done.stderr),
+                  (True, True))
+        check("the end", service.end(), (0, line_of("a"), b""))
+
+
+NGINX = """daemon off; master_process off; pid {folder}/pid; error_log stderr; events {{ worker_connections 256; }}
+http {{
+    access_log off; client_max_body_size 30m; client_body_temp_path {folder}/body; proxy_temp_path {folder}/proxy;
+    fastcgi_temp_path {folder}/f; uwsgi_temp_path {folder}/u; scgi_temp_path {folder}/s;
+    upstream collector {{ server 127.0.0.1:{to}; keepalive 8; }}
+    server {{
+        listen 127.0.0.1:{port};
+        location / {{
+            proxy_pass http://collector; proxy_http_version 1.1; proxy_set_header Connection "";
+            proxy_request_buffering off;
+        }}
+    }}
+}}
+"""
+HAPROXY = """defaults
+    mode http
+    timeout connect 5s
+    timeout client 60s
+    timeout server 60s
+    http-reuse always
+listen collector
+    bind 127.0.0.1:{port}
+    server one 127.0.0.1:{to} maxconn 8
+"""
+
+
+class Proxy:
+    """A proxy in front of a service, with these settings."""
+
+    def __init__(self, folder, settings, to, *words):
+        self.port = free_port()
+        file = Path(folder, "proxy.conf")
+        file.write_text(settings.format(folder=folder, port=self.port, to=to))
+        self.run = subprocess.Popen([*words, str(file)], stdout=subprocess.DEVNULL, stderr=subprocess.DEVNULL)
+
+    def __enter__(self):
+        def is_up():
+            try:
+                socket.create_connection(("127.0.0.1", self.port), timeout=MOST).close()
+                return True
+            except ConnectionRefusedError:
+                return self.run.poll() is not None
+
+        wait_for(is_up, "the proxy listens")
+        return self
+
+    def __exit__(self, *_):
+        self.run.kill()
+        self.run.wait()
+
+
+def behind(folder, settings, *words):
+    """Eight clients post through a proxy that keeps its connections, with lengths and in chunks, small bodies and large
+    ones: each is told what it has to be, what was taken came, and few connections were made for it."""
+    with BackEnd() as back_end, Service(
+            folder, [tenant("a", back_end, batch=100, timeout=100)], receivers=8) as service, \
+            Proxy(folder, settings, service.port, *words) as proxy:
+        spans = Counter()
+
+        def post(client):
+            chance = random.Random(SEED + client)
+            line = http.client.HTTPConnection("127.0.0.1", proxy.port, timeout=MOST)
+            for number in range(POSTS):
+                ids = (f"{client:08x}{number:08x}".encode(), f"{number:08x}".encode())
+                size = chance.choice((1, 100, 3_000, 40_000, 9 if number % 50 else 1_000_000))
+                name, coding, status = chance.choice((("a", "identity", 200),) * 8 + (("b", "identity", 403), ("a", "gzip", 415)))
+                fields = {"Content-Type": "application/x-protobuf", "X-Scope-OrgID": name, "Content-Encoding": coding}
+                text = request((*ids, talk.piece(5, b"n" * size)))
+                cut = chance.randrange(1, len(text))
+                chunked = chance.random() < 0.5
+                line.request("POST", "/v1/traces", iter((text[:cut], text[cut:])) if chunked else text, fields)
+                reply = line.getresponse()
+                reply.read()
+                check(f"post {number} of client {client}", reply.status, status)
+                spans[ids] += status == 200
+            line.close()
+
+        talk.in_threads(*(lambda c=client: post(c) for client in range(1, 9)))
+        made = sum(line.split()[1].endswith(f":{service.port:04X}") for line in
+                   Path("/proc/net/tcp").read_text().splitlines()[1:])
+        check(f"few connections, {made}, for {8 * POSTS} posts", 0 < made < POSTS, True)
+        proxy.run.kill()
+        taken = spans.total()
+        check("the end", service.end(), (0, line_of("a", accepted=taken, exported=taken), b""))
+        came = Counter(span for text in back_end.bodies() for span in SPAN.findall(text))
+        check("what came", (len(came), came.total()), (taken, taken))
+
+
+def behind_nginx(folder):
+    """nginx, which passes on what it reads as it reads it."""
+    behind(folder, NGINX, "nginx", "-c")
+
+
+def behind_haproxy(folder):
+    """HAProxy, which shares the connections that it keeps."""
+    behind(folder, HAPROXY, "haproxy", "-db", "-f")
 
 
 class Message:
@@ -352,7 +482,7 @@ def to_h11(folder):
     """Jobs to h11, which answers by chance: each post is read, an answer that says so is posted again, and each span is
     counted as it was answered last."""
     with Answering() as end:
-        sections = [tenant(name, end, consumers=4) for name in "abcd"]
+        sections = [tenant(name, end, consumers=4, queue=JOBS) for name in "abcd"]
         with Service(folder, sections, senders=8) as service:
             with service.connect() as peer:
                 for number in range(JOBS):
@@ -371,7 +501,83 @@ def to_h11(folder):
         check("status and standard error", (status, err), (0, b""))
 
 
-TESTS = {test.__name__: test for test in (by_curl, by_ab, by_wrk, by_h11, to_h11)}
+def by_promtool(folder):
+    """What Prometheus' own tool finds wrong with the form of metrics: nothing, with spans and without, and with a
+    thousand tenants."""
+    with BackEnd() as back_end:
+        sections = [tenant(f"t-{number}.{number}_X", back_end) for number in range(999)] + [tenant("a", back_end)]
+        for count in (1, len(sections)):
+            with LookedAfter(folder, sections[-count:]) as service:
+                for posts in (0, 3):
+                    for number in range(posts):
+                        check("a post", service.post("a", body(1, 1 + number)), (200, b""))
+                    text = service.ask("/metrics")[2]
+                    done = subprocess.run(["promtool", "check", "metrics"], input=text, capture_output=True,
+                                          timeout=MOST, check=False)
+                    check("promtool", (done.returncode, done.stdout, done.stderr), (0, b"", b""))
+                service.drained()
+
+
+class Prometheus:
+    """Prometheus itself, which scrapes a port each second."""
+
+    def __init__(self, folder, port):
+        file = Path(folder, "prometheus.yml")
+        file.write_text("global: {scrape_interval: 1s, scrape_timeout: 1s}\nscrape_configs:\n"
+                        f"- {{job_name: tried, static_configs: [{{targets: ['127.0.0.1:{port}']}}]}}\n")
+        self.port = free_port()
+        self.run = subprocess.Popen(
+            ["prometheus", f"--config.file={file}", f"--storage.tsdb.path={folder}/data", "--log.level=error",
+             f"--web.listen-address=127.0.0.1:{self.port}"], stdout=subprocess.DEVNULL, stderr=subprocess.DEVNULL)
+
+    def __enter__(self):
+        return self
+
+    def __exit__(self, *_):
+        self.run.kill()
+        self.run.wait()
+
+    def asked(self, query):
+        """What it has of a query by now, by the labels that tell samples apart; nothing while it isn't up."""
+        line = http.client.HTTPConnection("127.0.0.1", self.port, timeout=MOST)
+        try:
+            line.request("GET", "/api/v1/query?query=" + quote(query))
+            reply = line.getresponse()
+            found = json.loads(reply.read())["data"]["result"] if reply.status == 200 else []
+        except OSError:
+            return {}
+        finally:
+            line.close()
+        return {sample["metric"].get("tenant", ""): float(sample["value"][1]) for sample in found}
+
+
+def by_prometheus(folder):
+    """Prometheus scrapes it, and has of each counter what reports say, also while it drains."""
+    with BackEnd() as back_end, BackEnd(None) as held, \
+            LookedAfter(folder, [tenant("a", back_end), tenant("held", held)]) as service:
+        with Prometheus(folder, service.admin) as found:
+            for span in range(1, 8):
+                check("a post", service.post("a", body(span, span)), (200, b""))
+            check("a post", service.post("held", body(9, 9)), (200, b""))
+            wanted = {"a": {"accepted": 7.0, "exported": 7.0}, "held": {"accepted": 1.0, "active": 1.0}}
+            wait_for(lambda: found.asked(METRICS["exported"]).get("a") == 7 and found.asked("up") == {"": 1.0},
+                     "it has the last one")
+            for word in NAMES:
+                metric = METRICS.get(word, f"nimchaes_{word}_spans" + ("" if word in GAUGES else "_total"))
+                check(metric, found.asked(metric), {name: counts.get(word, 0.0) for name, counts in wanted.items()})
+            check("tenants", found.asked("nimchaes_tenants"), {"": 2.0})
+            check("a drain", service.told("/drain", "POST")[0], 200)
+            wait_for(lambda: found.asked("nimchaes_draining") == {"": 1.0}, "it sees the drain")
+            check("still", found.asked("nimchaes_active_spans"), {"a": 0.0, "held": 1.0})
+            held.release()
+            out = service.run.stdout.read().decode()
+            check("the end", (service.run.wait(), out),
+                  (0, line_of("a", accepted=7, exported=7) + line_of("held", accepted=1, exported=1)))
+            wait_for(lambda: found.asked("up") == {"": 0.0}, "it sees the end")
+
+
+TESTS = {test.__name__: test for test in (by_curl, by_ab, by_wrk, by_h2load, by_nghttp, behind_nginx, behind_haproxy,
+                                             by_h11, to_h11, by_promtool, by_prometheus)}
 
 
 def is_there(name):

@@ -5,13 +5,15 @@ import resource
 from pathlib import Path
 
 from replay.make_script import piece
-from serving.talk import ERRORS, BackEnd, Service, body, check, tenant, wait_for
+from serving.talk import ERRORS, BackEnd, Service, body, check, in_threads, tenant, wait_for
 
 # Each of these spans has a resource of its own, so that a body takes many times its bytes while it is made ready.
 SPANS = 150_000
 ROOMS = [int(8_000_000 * 1.4 ** step) for step in range(16)]
 
 BODY = 1_000_000
+# So many of these are more than are made ready at a time.
+LARGE, MANY, AT_A_TIME = 10_000_000, 12, 41_943_040
 IDS = piece(1, b"\1" * 16) + piece(2, b"\2" * 8)
 SPAN = piece(2, IDS)
 EMPTY = piece(1, b"")
@@ -38,12 +40,12 @@ SHAPES = {
     "empty scope spans": (piece(2, b""), in_resource, 4),
     "resource spans of an empty span": (piece(1, piece(2, piece(2, b""))), alone, 4),
     "empty spans": (piece(2, b""), in_scope, 4),
-    "resource spans of a span": (piece(1, piece(2, SPAN)), alone, 24),
-    "the same, with a resource and a scope": (piece(1, EMPTY + piece(2, EMPTY + SPAN)), alone, 24),
-    "the same, with schemas too": (piece(1, EMPTY + piece(2, EMPTY + SPAN + URL) + URL), alone, 24),
-    "scope spans of a span": (piece(2, SPAN), in_resource, 24),
-    "the same, with a scope and a schema": (piece(2, EMPTY + SPAN + URL), in_resource, 24),
-    "spans": (SPAN, in_scope, 10),
+    "resource spans of a span": (piece(1, piece(2, SPAN)), alone, 16),
+    "the same, with a resource and a scope": (piece(1, EMPTY + piece(2, EMPTY + SPAN)), alone, 16),
+    "the same, with schemas too": (piece(1, EMPTY + piece(2, EMPTY + SPAN + URL) + URL), alone, 19),
+    "scope spans of a span": (piece(2, SPAN), in_resource, 13),
+    "the same, with a scope and a schema": (piece(2, EMPTY + SPAN + URL), in_resource, 16),
+    "spans": (SPAN, in_scope, 9),
     "spans that are written anew": (piece(2, IDS + piece(3, b"")), in_scope, 13),
 }
 
@@ -119,4 +121,23 @@ def most_while_made_ready(folder):
             check(f"{shape}: answered", status in (200, 429), True)
 
 
-TESTS = (refused_while_made_ready, most_while_made_ready)
+def many_large_bodies(folder):
+    """Twelve bodies at once, each of which takes more than twenty times its bytes while it is made ready, take no more
+    than as many bytes as are made ready at a time do, beside their own. A small one is answered too. Threads share
+    their memory, so that what one gave back isn't kept for it alone."""
+    again, round_it, most = SHAPES["resource spans of a span"]
+    text = round_it(again * (LARGE // len(again)))
+    told = []
+    with BackEnd() as back_end, Service(folder, [tenant("a", back_end, policies=ERRORS, most=1)], shards=1,
+                                        receivers=MANY + 1, senders=1, parts=1,
+                                        under=("env", "MALLOC_ARENA_MAX=1")) as service:
+        service.post("a", body(1, 1))
+        before = bytes_of(service.run.pid, "VmHWM")
+        in_threads(*(lambda text=text: told.append(service.post("a", text)[0])
+                     for text in (*[text] * MANY, body(2, 2))))
+        more = bytes_of(service.run.pid, "VmHWM") - before
+    check("how many are answered", len([status for status in told if status in (200, 429)]), MANY + 1)
+    check(f"{more} bytes more at most", more <= MANY * len(text) + AT_A_TIME * most, True)
+
+
+TESTS = (refused_while_made_ready, most_while_made_ready, many_large_bodies)

@@ -18,14 +18,14 @@ SPANS = 2_000
 FIRST = b"\1FIRST\1\1"
 MARK = b"a key that each span has"
 # until a span is decided on: by then there is little memory left
-WAIT = 1_500
+WAIT = 3_000
 # for so many seconds there is load, and within so many all leaves behind it
-LOAD = 2.5
+LOAD = 4
 SOON = 10
 HELD = ("undecided", "pending", "queued", "active")
 HOW = {"shards": 2, "receivers": CLIENTS, "senders": 2, "parts": 1}
-# what is free in the memory of one thread is there for all others
-ONE = ("env", "MALLOC_ARENA_MAX=1")
+# the C library gives each thread memory of its own, or what is free in that of one is there for all others
+HEAPS = {"heaps of their own": (), "one heap": ("env", "MALLOC_ARENA_MAX=1")}
 
 
 def large():
@@ -40,9 +40,9 @@ def sections(back_end):
             for name in "ab"]
 
 
-def needed(folder, back_end):
+def needed(folder, back_end, heaps):
     """How many bytes of addresses it needs at rest."""
-    with Service(folder, sections(back_end), under=ONE, **HOW) as service:
+    with Service(folder, sections(back_end), under=heaps, **HOW) as service:
         check("a post", service.post("a", body(1, 1))[0], 200)
         status = Path(f"/proc/{service.run.pid}/status").read_text()
         return 1024 * int(re.search(r"VmPeak:\s*(\d+)", status)[1])
@@ -101,16 +101,25 @@ def leaves(what, service, back_end, clients):
         check(f"{what}: {name} has left", {place: counts[place] for place in (*HELD, "exported")},
               dict.fromkeys(HELD, 0) | {"exported": accepted})
     print(what, dict(all_told), f"{time.monotonic() - end + SOON:.1f} s", flush=True)
-    check(f"{what}: a post", service.post("a", body(1, 1))[0], 200)
+    check(f"{what}: a post", taken_again(service, end), 200)
     begun = time.monotonic()
     check(f"{what}: status", service.end()[0], 0)
     check(f"{what}: it ends", time.monotonic() - begun < SOON, True)
 
 
-def under(most, what, text):
+def taken_again(service, end):
+    """The status of a post, of the first that is taken or of the last one before the end."""
+    status, _ = service.post("a", body(1, 1))
+    while status == 503 and time.monotonic() < end:
+        time.sleep(0.1)
+        status, _ = service.post("a", body(1, 1))
+    return status
+
+
+def under(heaps, most, what, text):
     """One service under a limit of so many bytes of addresses."""
     with tempfile.TemporaryDirectory() as folder, BackEnd() as back_end:
-        with Service(folder, sections(back_end), under=(*ONE, "prlimit", f"--as={most}"), **HOW) as service:
+        with Service(folder, sections(back_end), under=(*heaps, "prlimit", f"--as={most}"), **HOW) as service:
             clients = [Client(service, number, text) for number in range(CLIENTS)]
             in_threads(*(client.run for client in clients))
             # Whoever waits for what it prints waits no longer.
@@ -122,14 +131,18 @@ def under(most, what, text):
 
 
 def leaves_by_itself(folder):
-    """Under each of eight limits, from what it needs at rest to ample, a service whose threads share their memory and that
-    was posted more than it had memory for sends all that it took once the load is over, tells reports meanwhile, takes posts again, and ends."""
-    with BackEnd() as back_end:
-        least = needed(folder, back_end)
+    """Under each of eight limits, from what it needs at rest to ample, a service that was posted more than it had
+    memory for sends all that it took once the load is over, tells reports meanwhile, takes posts again, and ends:
+    whether its threads share their memory or not."""
     text = large()
-    for at in range(0, len(ROOM), AT_A_TIME):
-        in_threads(*(lambda room=room: under(least + (room << 20), f"{room} MB more", text)
-                     for room in ROOM[at:at + AT_A_TIME]))
+    works = []
+    for name, heaps in HEAPS.items():
+        with BackEnd() as back_end:
+            least = needed(folder, back_end, heaps)
+        works += [lambda heaps=heaps, most=least + (room << 20), what=f"{name}, {room} MB more":
+                  under(heaps, most, what, text) for room in ROOM]
+    for at in range(0, len(works), AT_A_TIME):
+        in_threads(*works[at:at + AT_A_TIME])
 
 
 TESTS = (leaves_by_itself,)

@@ -151,12 +151,13 @@ class BackEnd:
         return [text.partition(b"\r\n\r\n")[2] for text, _, _ in self.posts]
 
 
-def tenant(name, back_end, wait=1, timeout=0, consumers=1, retry=20, policies=ALL, batch=8192, most=100_000):
+def tenant(name, back_end, wait=1, timeout=0, consumers=1, retry=20, policies=ALL, batch=8192, most=100_000,
+           queue=1000):
     """A tenant's section."""
     return (f'[[tenant]]\nname = "{name}"\nendpoint = "127.0.0.1:{back_end.port}"\nmax_spans = {most}\n'
             f"[tenant.tail_sampling]\ndecision_wait_ms = {wait}\n{policies}"
             f"[tenant.batch]\ntimeout_ms = {timeout}\nsend_batch_size = {batch}\n"
-            f"[tenant.sending_queue]\nnum_consumers = {consumers}\n[tenant.retry_on_failure]\n"
+            f"[tenant.sending_queue]\nnum_consumers = {consumers}\nqueue_size = {queue}\n[tenant.retry_on_failure]\n"
             f"initial_interval_ms = {retry}\nmax_interval_ms = {retry}\nrandomization_factor = 0\n")
 
 

@@ -2,7 +2,7 @@
 ghost use Rattle.std.specs.Prelude.{ℕ};
 
 use crate::fault::BenchFault;
-use http_edge::{Handler, HttpMessage, MediaType, Reply, connection_buffer, serve};
+use http_edge::{Allow, Handler, HttpMessage, MediaType, Reply, connection_buffer, serve};
 use http_line::MemoryLine;
 use otlp_front::{Route, route};
 use std::alloc::{AllocError, Global};
@@ -56,6 +56,7 @@ fn empty(alloc: Global, status: u16) -> Reply {
     Reply {
         status,
         media: MediaType::Protobuf,
+        allow: Allow::Post,
         body: Vec::new(alloc),
     }
 }

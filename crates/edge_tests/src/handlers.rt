@@ -1,7 +1,7 @@
 //! Who answers in talks.
 ghost use Rattle.std.specs.Prelude.{ℕ};
 
-use http_edge::{Handler, HttpMessage, MediaType, Reply};
+use http_edge::{Allow, Handler, HttpMessage, MediaType, Reply};
 use otlp_front::{Route, route};
 use std::alloc::{AllocError, Global};
 use std::str;
@@ -20,6 +20,7 @@ impl Handler for Echo {
         Reply {
             status: status_of(&target),
             media: MediaType::Protobuf,
+            allow: Allow::Post,
             body,
         }
     }
@@ -59,6 +60,7 @@ fn routed(alloc: Global, settings: &Settings, message: &HttpMessage) -> Result<R
         Route::Post { .. } => Ok(Reply {
             status: 200,
             media: MediaType::Protobuf,
+            allow: Allow::Post,
             body: Vec::new(alloc),
         }),
         Route::Refuse(refusal) => refusal.reply(alloc),
@@ -86,6 +88,7 @@ fn no_memory(alloc: Global) -> Reply {
     Reply {
         status: 503,
         media: MediaType::Protobuf,
+        allow: Allow::Post,
         body: Vec::new(alloc),
     }
 }

@@ -6,7 +6,7 @@ use crate::names::NAMES;
 use crate::notation::names_of;
 use crate::talks::{LONG_TALKS, TALKS};
 use crate::ways::{Way, walk};
-use http_edge::{EdgeFault, MediaType, Reply, connection_buffer, reply_bytes, serve};
+use http_edge::{Allow, EdgeFault, MediaType, Reply, connection_buffer, reply_bytes, serve};
 use http_line::{Line, MemoryLine};
 use std::alloc::{AllocError, Global};
 use std::test::Fail;
@@ -132,6 +132,7 @@ fn is_written(
     let reply = Reply {
         status,
         media,
+        allow: Allow::Post,
         body,
     };
     let want = format!(in alloc;

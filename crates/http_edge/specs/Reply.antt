@@ -2,6 +2,8 @@
 use Rattle.std.specs.Prelude.{ℕ, Bool, true, false, ◌==◌, ◌&&◌, List, [], ◌∷◌, ◌++◌, length, if◌then◌else◌, codes, decimal}
 use Rattle.httparse.specs.Ascii.{crlf_bytes}
 use Rattle.http_edge.specs.Message.{Response}
+use Rattle.http_edge.specs.declared.message.Allow.{Allow}
+use Rattle.http_edge.specs.declared.message.Allow.TheVariants as allow
 use Rattle.http_edge.specs.declared.message.MediaType.{MediaType}
 use Rattle.http_edge.specs.declared.message.MediaType.TheVariants.{Protobuf, Metrics, Json, Html}
 
@@ -10,6 +12,7 @@ abbrev pub phrase_of : ℕ → List ℕ
 phrase_of status =
     if status == 200 then codes "OK"
     else (if status == 201 then codes "Created"
+    else (if status == 202 then codes "Accepted"
     else (if status == 400 then codes "Bad Request"
     else (if status == 401 then codes "Unauthorized"
     else (if status == 403 then codes "Forbidden"
@@ -21,14 +24,25 @@ phrase_of status =
     else (if status == 422 then codes "Unprocessable Content"
     else (if status == 429 then codes "Too Many Requests"
     else (if status == 431 then codes "Request Header Fields Too Large"
-    else (if status == 503 then codes "Service Unavailable" else [])))))))))))))
+    else (if status == 503 then codes "Service Unavailable" else []))))))))))))))
+
+-- the methods that a target takes (RFC 9110, section 10.2.1)
+abbrev pub methods_of : Allow → List ℕ
+methods_of allow.Post = codes "POST"
+methods_of allow.Get = codes "GET, HEAD"
+methods_of allow.GetPost = codes "GET, HEAD, POST"
+methods_of allow.GetDelete = codes "GET, HEAD, DELETE"
+
+-- the field that says so
+abbrev pub allow_line : Allow → List ℕ
+allow_line methods = codes "Allow: " ++ methods_of methods ++ crlf_bytes
 
 -- what a 401 (RFC 9110, section 15.5.2, and RFC 6750, section 3), a 405 (RFC 9110, section 15.5.6) and a 429 (RFC 6585,
 -- section 4) tell the client beside
-abbrev pub advice_of : ℕ → List ℕ
-advice_of status =
+abbrev pub advice_of : ℕ → Allow → List ℕ
+advice_of status methods =
     if status == 401 then codes "WWW-Authenticate: Bearer" ++ crlf_bytes
-    else (if status == 405 then codes "Allow: POST" ++ crlf_bytes
+    else (if status == 405 then allow_line methods
     else (if status == 429 then codes "Retry-After: 1" ++ crlf_bytes else []))
 
 -- the field that says that the connection ends after this reply (RFC 9112, section 9.6)
@@ -46,16 +60,17 @@ type_of Html = codes "text/html; charset=utf-8"
 abbrev pub type_line : MediaType → List ℕ
 type_line media = crlf_bytes ++ codes "Content-Type: " ++ type_of media ++ crlf_bytes
 
--- the head of a reply with so long a body
-unfoldable pub head_text_of : Bool → MediaType → ℕ → ℕ → List ℕ
-head_text_of close media status len =
-    codes "HTTP/1.1 " ++ (decimal status ++ (codes " " ++ (phrase_of status ++ (type_line media ++ (advice_of status
-    ++ (close_line close ++ (codes "Content-Length: " ++ (decimal len ++ (crlf_bytes ++ crlf_bytes)))))))))
+-- the head of a reply
+unfoldable pub head_text_of : Bool → Response → List ℕ
+head_text_of close reply =
+    codes "HTTP/1.1 " ++ (decimal reply.status ++ (codes " " ++ (phrase_of reply.status ++ (type_line reply.media
+    ++ (advice_of reply.status reply.allow ++ (close_line close ++ (codes "Content-Length: "
+    ++ (decimal (length reply.body) ++ (crlf_bytes ++ crlf_bytes)))))))))
 
 -- the bytes of a reply as it stands; the answer to HEAD has no body (RFC 9110, section 9.3.2)
 abbrev pub plain_text : Bool → Bool → Response → List ℕ
 plain_text bodiless close reply =
-    head_text_of close reply.media reply.status (length reply.body) ++ (if bodiless then [] else reply.body)
+    head_text_of close reply ++ (if bodiless then [] else reply.body)
 
 -- a `google.rpc.Status` with a message of less than 128 bytes alone (field 2), as OTLP/HTTP has it for refusals
 abbrev pub status_body : List ℕ → List ℕ
@@ -63,7 +78,7 @@ status_body message = 18 ∷ length message ∷ message
 
 -- the reply where there was no memory for another
 abbrev pub out_of_memory : Response
-out_of_memory = record { status = 503; media = Protobuf; body = status_body (codes "out of memory") }
+out_of_memory = record { status = 503; media = Protobuf; allow = allow.Post; body = status_body (codes "out of memory") }
 
 -- its bytes where the connection closes after it, as they are written where the request is not known
 abbrev pub no_memory_text : List ℕ
@@ -86,7 +101,12 @@ refusal_message status =
 
 -- the reply to a bad message
 abbrev pub refusal : ℕ → Response
-refusal status = record { status = status; media = Protobuf; body = status_body (refusal_message status) }
+refusal status = record {
+  status = status;
+  media = Protobuf;
+  allow = allow.Post;
+  body = status_body (refusal_message status);
+}
 
 -- its bytes: the connection closes after it
 abbrev pub refusal_text : Bool → ℕ → List ℕ

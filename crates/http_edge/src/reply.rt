@@ -1,9 +1,9 @@
 //! Replies as bytes.
 ghost use Rattle.std.specs.Prelude.{◌≡◌, IfOk, false, decimal, if◌then◌else◌};
 ghost use Rattle.http_edge.specs.Seen.{response_of};
-ghost use Rattle.http_edge.specs.Reply.{phrase_of, advice_of, close_line, type_line, head_text_of, plain_text, reply_text, out_of_memory, is_for_no_memory, status_body, refusal_message};
+ghost use Rattle.http_edge.specs.Reply.{phrase_of, advice_of, allow_line, close_line, type_line, head_text_of, plain_text, reply_text, out_of_memory, is_for_no_memory, status_body, refusal_message};
 
-use crate::message::{MediaType, Reply};
+use crate::message::{Allow, MediaType, Reply};
 use std::alloc::{AllocError, Global};
 
 /// The bytes of a reply, after which the connection closes or not. A 503 without a body gets the body that says that
@@ -56,31 +56,26 @@ pub(crate) fn plain_bytes(
 ) -> Result<Vec<u8>, AllocError>
     ensures { IfOk result (λ v. v.items ≡ plain_text bodiless close (response_of reply.now)) }
 {
-    let mut text = head_bytes(alloc, reply.media, reply.status, reply.body.len(), close)?;
+    let mut text = head_bytes(alloc, reply, close)?;
     if !bodiless {
         text.extend_from_slice(&reply.body)?;
     }
     Ok(text)
 }
 
-fn head_bytes(
-    alloc: Global,
-    media: MediaType,
-    status: u16,
-    len: usize,
-    close: bool,
-) -> Result<Vec<u8>, AllocError>
-    ensures { IfOk result (λ v. v.items ≡ head_text_of close media status len) }
+/// The bytes before a reply's body.
+fn head_bytes(alloc: Global, reply: &Reply, close: bool) -> Result<Vec<u8>, AllocError>
+    ensures { IfOk result (λ v. v.items ≡ head_text_of close (response_of reply.now)) }
 {
     let mut text = Vec::from_slice(alloc, b"HTTP/1.1 ")?;
-    text.extend_from_slice(&status_digits(alloc, status)?)?;
+    text.extend_from_slice(&status_digits(alloc, reply.status)?)?;
     text.extend_from_slice(b" ")?;
-    text.extend_from_slice(phrase(status))?;
-    text.extend_from_slice(type_line(media))?;
-    text.extend_from_slice(advice(status))?;
+    text.extend_from_slice(phrase(reply.status))?;
+    text.extend_from_slice(type_line(reply.media))?;
+    text.extend_from_slice(advice(reply.status, reply.allow))?;
     text.extend_from_slice(closing_line(close))?;
     text.extend_from_slice(b"Content-Length: ")?;
-    text.extend_from_slice(&decimal(alloc, len)?)?;
+    text.extend_from_slice(&decimal(alloc, reply.body.len())?)?;
     text.extend_from_slice(b"\r\n\r\n")?;
     Ok(text)
 }
@@ -108,6 +103,7 @@ fn phrase(status: u16) -> &'static [u8]
     match status {
         200 => b"OK",
         201 => b"Created",
+        202 => b"Accepted",
         400 => b"Bad Request",
         401 => b"Unauthorized",
         403 => b"Forbidden",
@@ -137,14 +133,26 @@ fn type_line(media: MediaType) -> &'static [u8]
 }
 
 /// The line that some statuses have beside.
-fn advice(status: u16) -> &'static [u8]
-    ensures { result.now ≡ advice_of status }
+fn advice(status: u16, allow: Allow) -> &'static [u8]
+    ensures { result.now ≡ advice_of status allow }
 {
     match status {
         401 => b"WWW-Authenticate: Bearer\r\n",
-        405 => b"Allow: POST\r\n",
+        405 => allow_line(allow),
         429 => b"Retry-After: 1\r\n",
         _ => b"",
+    }
+}
+
+/// The line that says which methods a target takes.
+fn allow_line(allow: Allow) -> &'static [u8]
+    ensures { result.now ≡ allow_line allow }
+{
+    match allow {
+        Allow::Post => b"Allow: POST\r\n",
+        Allow::Get => b"Allow: GET, HEAD\r\n",
+        Allow::GetPost => b"Allow: GET, HEAD, POST\r\n",
+        Allow::GetDelete => b"Allow: GET, HEAD, DELETE\r\n",
     }
 }
 

@@ -12,7 +12,7 @@ ghost use Rattle.http_edge.specs.declared.wire.EdgeFault.TheVariants.{OutOfMemor
 
 use crate::body::{BodyRead, read_body};
 use crate::head::{Head, HeadProgress, head_at};
-use crate::message::{Handler, HttpMessage, MediaType, Reply};
+use crate::message::{Allow, Handler, HttpMessage, MediaType, Reply};
 use crate::reply::{is_for_no_memory, no_memory_bytes, plain_bytes, refusal_body};
 use crate::wire::{EdgeFault, PART_ROOM, Room, Watch, fill, send};
 use http_line::Line;
@@ -227,6 +227,7 @@ fn refuse<L: Line>(
     let reply = Reply {
         status,
         media: MediaType::Protobuf,
+        allow: Allow::Post,
         body: Vec::from_slice(alloc, refusal_body(status))?,
     };
     write_reply(alloc, line, &reply, true, bodiless)

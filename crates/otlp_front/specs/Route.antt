@@ -6,6 +6,7 @@ use Rattle.std.specs.Prelude.{ℕ, Bool, not, List, map, find, Option, Some, Non
 use Rattle.http1.specs.Fields.{Header}
 use Rattle.http_edge.specs.Message.{Request, Response}
 use Rattle.http_edge.specs.Reply.{status_body}
+use Rattle.http_edge.specs.declared.message.Allow.TheVariants as methods
 use Rattle.http_edge.specs.declared.message.MediaType.TheVariants.{Protobuf}
 use Rattle.http_edge.specs.Fields.{field, only}
 use Rattle.tail_settings.specs.Settings.{SettingsData}
@@ -29,7 +30,7 @@ pub data Route : Type 0 where
 
 -- a refusal: OTLP/HTTP has a `google.rpc.Status` in each
 abbrev pub refused : ℕ → List ℕ → Response
-refused status message = record { status = status; media = Protobuf; body = status_body message }
+refused status message = record { status = status; media = Protobuf; allow = methods.Post; body = status_body message }
 
 -- the path is none to which anything is posted (404, RFC 9110, section 15.5.5)
 abbrev pub no_such_path : Response

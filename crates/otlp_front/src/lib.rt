@@ -19,6 +19,7 @@ mod target;
 pub use crate::destination::{Route, equal_routes};
 pub use crate::refusal::RouteRefusal;
 pub use crate::rules::route;
+pub use crate::target::path;
 
 /// A message is posted to a tenant exactly where it passes every rule: a law over the definitions.
 pub fn posts_pass()

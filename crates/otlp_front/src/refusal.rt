@@ -4,7 +4,7 @@ ghost use Rattle.std.specs.Prelude.{◌≡◌, IfOk};
 ghost use Rattle.http_edge.specs.Seen.{response_of};
 ghost use Rattle.otlp_front.specs.Seen.{response_for};
 
-use http_edge::{MediaType, Reply};
+use http_edge::{Allow, MediaType, Reply};
 use std::alloc::{AllocError, Global};
 use thiserror::Error;
 
@@ -61,6 +61,7 @@ impl RouteRefusal {
         Ok(Reply {
             status: self.status(),
             media: MediaType::Protobuf,
+            allow: Allow::Post,
             body: Vec::from_slice(alloc, self.body())?,
         })
     }

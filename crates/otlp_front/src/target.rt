@@ -15,7 +15,7 @@ pub(crate) fn is_for_traces(target: &[u8]) -> bool
 
 /// The path of a target: up to its query, and after the host of a whole URI.
 #[tactic(auto, unfolding(crate::specs::Target::path_of))]
-fn path(target: &[u8]) -> &[u8]
+pub fn path(target: &[u8]) -> &[u8]
     ensures { result.now ≡ path_of target.now }
 {
     path_in(before(target, b'?'))

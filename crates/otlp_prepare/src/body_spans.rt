@@ -10,6 +10,7 @@ ghost use Rattle.otlp_prepare.specs.Arrivals.{arrival_with, origin_view};
 ghost use Rattle.otlp_prepare.specs.BodySpans.{IsValidRead, IsScopeRead, IsResourceRead, IsGroupRead, AreRead, IsAround, part_with, AreFound, Adds, part_arrivals, bits_in, arrivals_in_resource, arrivals_in_body};
 
 use crate::noted::SpanOrigin;
+use crate::origin_text::OriginText;
 use crate::unnoted::UnnotedSpan;
 use bytes::Bytes;
 use otlp_parts::{BodyParts, ResourceParts, ScopeParts};
@@ -30,40 +31,30 @@ pub struct BodySpans {
 /// What stands round the spans of a resource, but for their scope.
 #[derive(Drop)]
 struct ResourceOrigin {
-    resource: Option<SharedBytes>,
-    schema_url: Option<SharedBytes>,
+    resource: OriginText,
+    schema_url: OriginText,
     // What the resource tells the policies.
     bits: ResourceBits,
 }
 
 /// The same bytes, where there are any, with their digest.
-fn text_of(bytes: Option<Bytes>) -> Option<SharedBytes>
-    ensures { result ≡ bytes }
+fn text_of(alloc: Global, bytes: Option<Bytes>) -> Result<OriginText, AllocError>
+    ensures { IfOk result (λ text. text ≡ bytes) }
 {
     match bytes {
-        Some(bytes) => Some(SharedBytes::of(bytes)),
-        None => None,
+        Some(bytes) => OriginText::of(alloc, Some(SharedBytes::of(bytes))),
+        None => OriginText::of(alloc, None),
     }
 }
 
 /// A URL with its digest, and none where it is empty.
-fn url_of(url: Bytes) -> Option<SharedBytes>
-    ensures { bytes_of result ≡ url }
+fn url_of(alloc: Global, url: Bytes) -> Result<OriginText, AllocError>
+    ensures { IfOk result (λ text. bytes_of text ≡ url) }
 {
     if url.is_empty() {
-        None
+        OriginText::of(alloc, None)
     } else {
-        Some(SharedBytes::of(url))
-    }
-}
-
-/// The same text, or none. It copies no byte, which no contract says.
-fn shared(text: &Option<SharedBytes>) -> Result<Option<SharedBytes>, AllocError>
-    ensures { IfOk result (λ shared. shared ≡ text.now) }
-{
-    match text {
-        Some(text) => Ok(Some(text.shared()?)),
-        None => Ok(None),
+        OriginText::of(alloc, Some(SharedBytes::of(url)))
     }
 }
 
@@ -93,6 +84,7 @@ fn resource_told(
 
 /// What stands round the spans of a scope of this resource.
 fn origin_of(
+    alloc: Global,
     outer: &ResourceOrigin,
     scope: Option<Bytes>,
     schema_url: Bytes,
@@ -106,10 +98,10 @@ fn origin_of(
         }) }
 {
     Ok(SpanOrigin {
-        resource: shared(&outer.resource)?,
-        resource_schema_url: shared(&outer.schema_url)?,
-        scope: text_of(scope),
-        scope_schema_url: url_of(schema_url),
+        resource: outer.resource.shared()?,
+        resource_schema_url: outer.schema_url.shared()?,
+        scope: text_of(alloc, scope)?,
+        scope_schema_url: url_of(alloc, schema_url)?,
     })
 }
 
@@ -124,6 +116,7 @@ fn add_spans(
     ensures parts { OnOk result (parts.new.items ≡ parts.old.items ++ map (part_with bits origin) texts.items) }
     ensures short { OnOk result (AllByRecursion IsShort texts.items) }
 {
+    parts.reserve(texts.len())?;
     for text in texts {
         parts.push(UnnotedSpan::of(text, origin, bits))?;
     }
@@ -132,6 +125,7 @@ fn add_spans(
 
 /// Appends the spans of one scope of this resource, and what stands round them if there are any.
 fn add_scope(
+    alloc: Global,
     found: &mut BodySpans,
     outer: &ResourceOrigin,
     scope: ScopeParts,
@@ -151,7 +145,7 @@ fn add_scope(
         return Ok(());
     }
     read_spans_are_viewed();
-    let origin = origin_of(outer, scope.scope, scope.schema_url)?;
+    let origin = origin_of(alloc, outer, scope.scope, scope.schema_url)?;
     let index = found.origins.len();
     found.origins.push(origin)?;
     add_spans(&mut found.parts, index, outer.bits, scope.spans)?;
@@ -160,6 +154,7 @@ fn add_scope(
 
 /// Appends the spans of one resource, which is looked through once.
 fn add_resource(
+    alloc: Global,
     policies: &TenantPolicies<'_>,
     found: &mut BodySpans,
     group: ResourceParts,
@@ -171,12 +166,12 @@ fn add_resource(
 {
     let bits = resource_told(policies, &group.resource)?;
     let outer = ResourceOrigin {
-        resource: text_of(group.resource),
-        schema_url: url_of(group.schema_url),
+        resource: text_of(alloc, group.resource)?,
+        schema_url: url_of(alloc, group.schema_url)?,
         bits,
     };
     for scope in group.scopes {
-        add_scope(found, &outer, scope)?;
+        add_scope(alloc, found, &outer, scope)?;
     }
     Ok(())
 }
@@ -197,7 +192,7 @@ pub fn found_in(
         parts: Vec::new(alloc),
     };
     for group in body.resources {
-        add_resource(policies, &mut found, group)?;
+        add_resource(alloc, policies, &mut found, group)?;
     }
     Ok(found)
 }

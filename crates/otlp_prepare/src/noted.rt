@@ -3,21 +3,21 @@
 ghost use Rattle.std.specs.Prelude.{◌≡◌};
 ghost use Rattle.span_pool.specs.Stored.{bytes_of, same_bytes, same_text};
 
+use crate::origin_text::OriginText;
 use bytes::Bytes;
 use tail_policy::TraceNote;
-use text_pool::SharedBytes;
 
 /// The texts that the spans of one scope of one resource share: canonical, each with its digest.
 #[derive(Debug, Drop)]
 pub struct SpanOrigin {
     /// The resource's.
-    pub resource: Option<SharedBytes>,
+    pub resource: OriginText,
     /// The URL of the resource's schema, where that isn't empty.
-    pub resource_schema_url: Option<SharedBytes>,
+    pub resource_schema_url: OriginText,
     /// The scope's.
-    pub scope: Option<SharedBytes>,
+    pub scope: OriginText,
     /// The URL of the scope's schema, where that isn't empty.
-    pub scope_schema_url: Option<SharedBytes>,
+    pub scope_schema_url: OriginText,
 }
 
 /// A valid span with what the tenant's policies keep of it.
@@ -34,10 +34,10 @@ pub struct NotedSpan {
 }
 
 /// Whether both are the same text, or missing. Digests are looked at first.
-fn is_same_text(one: &Option<SharedBytes>, other: &Option<SharedBytes>) -> bool
+fn is_same_text(one: &OriginText, other: &OriginText) -> bool
     ensures { result ≡ same_text one.now other.now }
 {
-    match (one, other) {
+    match (one.as_ref(), other.as_ref()) {
         (Some(one), Some(other)) => one.is_same(other),
         (None, None) => true,
         _ => false,
@@ -45,10 +45,10 @@ fn is_same_text(one: &Option<SharedBytes>, other: &Option<SharedBytes>) -> bool
 }
 
 /// Whether both are the same URL, which is empty where it is missing.
-fn is_same_url(one: &Option<SharedBytes>, other: &Option<SharedBytes>) -> bool
+fn is_same_url(one: &OriginText, other: &OriginText) -> bool
     ensures { result ≡ same_bytes (bytes_of one.now) (bytes_of other.now) }
 {
-    match (one, other) {
+    match (one.as_ref(), other.as_ref()) {
         (Some(one), Some(other)) => one.is_same(other),
         (Some(url), None) | (None, Some(url)) => url.bytes().is_empty(),
         (None, None) => true,

@@ -16,7 +16,6 @@ use tail_policy::{ResourceBits, TraceNote, views_of_parts};
 /// A valid span by its canonical text, with what its resource tells the policies.
 #[derive(Drop)]
 pub struct UnnotedSpan {
-    trace: [u8; 16],
     text: Bytes,
     // Which of the body's origins is its.
     origin: usize,
@@ -24,16 +23,21 @@ pub struct UnnotedSpan {
 }
 
 impl Model for UnnotedSpan {
-    ghost use Rattle.std.specs.Prelude.{[]};
+    ghost use Rattle.std.specs.Prelude.{◌≡◌, [], length};
     ghost use Rattle.span_view.specs.Facts.{AreText};
     ghost use Rattle.span_view.specs.Reading.{facts_of};
     ghost use Rattle.otlp_prepare.specs.BodySpans.{UnnotedSpanData};
 
     ghost Value = { UnnotedSpanData };
 
-    ghost view = { λ p. record { trace = p.trace; text = p.text; origin = p.origin; bits = p.bits } };
+    ghost view = { λ p. record {
+      trace = (facts_of p.text []).trace_id;
+      text = p.text;
+      origin = p.origin;
+      bits = p.bits;
+    } };
 
-    ghost invariant = { λ p. AreText (facts_of p.text []).attributes };
+    ghost invariant = { λ p. AreText (facts_of p.text []).attributes × (length (facts_of p.text []).trace_id ≡ 16) };
 }
 
 /// The trace id in a span's text.
@@ -56,13 +60,7 @@ impl UnnotedSpan {
     {
         read_spans_are_viewed();
         let _size = text.len();
-        let trace = trace_in(text.as_slice());
-        UnnotedSpan {
-            trace,
-            text,
-            origin,
-            bits,
-        }
+        UnnotedSpan { text, origin, bits }
     }
 
     /// What the span tells by itself.
@@ -76,7 +74,7 @@ impl UnnotedSpan {
     pub fn with_note(self, own: TraceNote) -> NotedSpan
         ensures { result ≡ with_note self own }
     {
-        let trace = self.trace;
+        let trace = trace_in(self.text.as_slice());
         NotedSpan {
             trace,
             text: self.text,

@@ -3,12 +3,11 @@
 ghost use Rattle.std.specs.Prelude.{◌<◌, ◌≤◌};
 
 use bytes::Bytes;
-use otlp_prepare::{NotedSpan, Prepared, Refusal, SpanOrigin, prepare};
+use otlp_prepare::{NotedSpan, OriginText, Prepared, Refusal, SpanOrigin, prepare};
 use std::alloc::Global;
 use std::test::Fail;
 use std::thread::Threads;
 use tail_settings::Section;
-use text_pool::SharedBytes;
 
 /// The tenant's number.
 pub const TENANT: u32 = 7;
@@ -29,8 +28,8 @@ fn put_some(alloc: Global, out: &mut String, what: &str, bytes: Option<&[u8]>) -
     }
 }
 
-fn text_bytes(text: &Option<SharedBytes>) -> Option<&[u8]> {
-    match text {
+fn text_bytes(text: &OriginText) -> Option<&[u8]> {
+    match text.as_ref() {
         Some(text) => Some(text.bytes().as_slice()),
         None => None,
     }

@@ -13,7 +13,7 @@ use std::test::Fail;
 use std::thread::Threads;
 use tail_settings::{Settings, load};
 use tenant_shard::{Outcome, Step};
-use trace_service::post_body;
+use trace_service::{Gates, post_body};
 
 /// The tests' own trace ids are no one's choice.
 const KEYS: HashKeys = HashKeys {
@@ -65,7 +65,8 @@ fn told<R: Threads + Wait + Sync>(
         return Ok(None);
     };
     let body = Bytes::copy_from_slice(alloc, body)?;
-    Ok(Some(post_body(rt, rt, alloc, hub, me, 0, tenant, section, body, 2)))
+    let gates = Gates::new(alloc)?;
+    Ok(Some(post_body(rt, rt, alloc, hub, me, 0, tenant, section, body, 2, &gates)))
 }
 
 /// Whether such a body is told this.

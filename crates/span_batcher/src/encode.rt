@@ -254,7 +254,38 @@ pub fn encode_batch(
 ) -> Result<Bytes, AllocError>
     ensures { IfOk result (λ payload. payload ≡ export_text (spans_in texts.now spans.now)) }
 {
-    let mut text = Vec::new(alloc);
+    let mut text = Vec::with_capacity(alloc, room_for(texts, spans))?;
     put_runs::<ResourceLevel>(&mut text, texts, spans)?;
     Ok(Bytes::from_vec(text)?)
+}
+
+/// The most bytes of a field's tag and length.
+const FRAME: usize = 6;
+
+/// The bytes round the spans of one scope of one resource.
+fn room_around(texts: &TextPool, span: &StoredSpan) -> usize {
+    let resource = resource_of(texts, span).map_or(0, |text| text.len());
+    let scope = scope_of(texts, span).map_or(0, |text| text.len());
+    let urls = resource_url_of(texts, span)
+        .len()
+        .saturating_add(scope_url_of(texts, span).len());
+    resource
+        .saturating_add(scope)
+        .saturating_add(urls)
+        .saturating_add(6 * FRAME)
+}
+
+/// Room for a batch's text, so that it needn't grow: the largest batch must find memory in one piece, not in two.
+fn room_for(texts: &TextPool, spans: &[&StoredSpan]) -> usize {
+    let mut room = 0usize;
+    let mut last = None;
+    for span in spans {
+        let keys = span.keys();
+        if last != Some(keys) {
+            room = room.saturating_add(room_around(texts, span));
+            last = Some(keys);
+        }
+        room = room.saturating_add(span.text().len()).saturating_add(FRAME);
+    }
+    room
 }

@@ -4,6 +4,7 @@
 use Rattle.std.specs.Prelude.{codes, ℕ, ◌+◌, ◌*◌, ◌-◌, min, List, [], ◌∷◌, length, take, drop, ◌==◌, nat_le, Option, Some, None, if◌then◌else◌}
 use Rattle.std.specs.Char.{is_ascii_digit}
 use Rattle.std.specs.Str.{bytes_eq}
+use Rattle.trace_collector_program.specs.declared.descriptors.Crew.{Crew}
 
 -- behind this stands the limit
 abbrev pub title : List ℕ
@@ -49,16 +50,22 @@ limit_in (Some behind) = number_of (skip_spaces behind)
 abbrev pub open_files : List ℕ → Option ℕ
 open_files limits = limit_in (behind_title limits)
 
--- a descriptor for each connection of a receiver or a sender; three standard ones, the listener, and one of who reads
--- the input, for a file that a line names or a connection that wakes a receiver
-abbrev pub needed : ℕ → ℕ → ℕ
-needed receivers senders = receivers + senders + 5
+-- what a port for operators with so many threads has open: its listener, the file of what the system tells of the
+-- process, and a connection of each
+abbrev pub port_needs : Option ℕ → ℕ
+port_needs None = 0
+port_needs (Some admins) = admins + 2
+
+-- a descriptor for each connection of a receiver or a sender, and those of a port for operators; three standard ones,
+-- the listener, and one of who reads the input, for a file that a line names or a connection that wakes a receiver
+abbrev pub needed : Crew → ℕ
+needed crew = crew.receivers + crew.senders + port_needs crew.admins + 5
 
 -- a limit that is lower than what is needed
 abbrev pub lower_than : ℕ → Option ℕ → Option ℕ
 lower_than needed None = None
 lower_than needed (Some limit) = if nat_le needed limit then None else Some limit
 
--- the limit of open files, where so many receivers and senders need more
-abbrev pub too_low : List ℕ → ℕ → ℕ → Option ℕ
-too_low limits receivers senders = lower_than (needed receivers senders) (open_files limits)
+-- the limit of open files, where these threads need more
+abbrev pub too_low : List ℕ → Crew → Option ℕ
+too_low limits crew = lower_than (needed crew) (open_files limits)

@@ -8,8 +8,7 @@ use Rattle.trace_collector.specs.Replay.{IsReplay}
 use Rattle.trace_collector_program.specs.Fault.{IsOfFile, IsOfArguments, IsOfText}
 use Rattle.trace_collector_program.specs.Run.{IsRun}
 use Rattle.trace_collector_program.specs.Status.{status_of, end_status}
-use Rattle.trace_collector_program.specs.Task.{TaskData, replay, serve, check, help, version, none_given, task_of}
-use Rattle.trace_collector_program.specs.declared.task.ServeOptions.{ServeOptions}
+use Rattle.trace_collector_program.specs.Task.{OptionsData, TaskData, replay, serve, check, help, version, none_given, task_of}
 use Rattle.trace_collector_program.specs.declared.check.End.TheVariants.{Good, Faulty}
 use Rattle.trace_collector_program.specs.declared.ProgramFault.{ProgramFault}
 use Rattle.trace_collector_program.specs.declared.ProgramFault.TheVariants.{Usage, Replay}
@@ -26,7 +25,7 @@ path = codes "settings.toml"
 abbrev pub served_with : List (List ℕ) → Option TaskData
 served_with options = task_of (codes "serve" ∷ path ∷ options)
 
-abbrev pub audited_and_verbose : ServeOptions
+abbrev pub audited_and_verbose : OptionsData
 audited_and_verbose = record none_given { audit = true; verbose = true }
 
 -- the options that have a number
@@ -66,7 +65,8 @@ pub record Arguments : Type 0 where
   pub both_and_more : served_with (codes "--audit" ∷ codes "--verbose" ∷ path ∷ []) ≡ None
   pub all : served_with (codes "--back-end-timeout" ∷ codes "4294967295" ∷ codes "--audit" ∷ codes "--senders" ∷ codes "4096"
       ∷ codes "--client-timeout" ∷ codes "1" ∷ codes "--verbose" ∷ codes "--request-timeout" ∷ codes "20"
-      ∷ codes "--connections" ∷ codes "065536" ∷ [])
+      ∷ codes "--connections" ∷ codes "065536" ∷ codes "--admin-token-file" ∷ codes "token"
+      ∷ codes "--admin" ∷ codes "[::1]:9464" ∷ [])
       ≡ Some (serve path (record {
         audit = true;
         verbose = true;
@@ -75,6 +75,8 @@ pub record Arguments : Type 0 where
         client_timeout = Some 1;
         request_timeout = Some 20;
         back_end_timeout = Some 4294967295;
+        admin = Some (codes "[::1]:9464");
+        admin_token_file = Some (codes "token");
       }))
   pub no_value : served_with (codes "--connections" ∷ []) ≡ None
   pub option_as_value : served_with (codes "--connections" ∷ codes "--audit" ∷ []) ≡ None

@@ -3,14 +3,14 @@ use Rattle.std.specs.Prelude.{◌≡◌, ℕ, ◌*◌, Option, option_map}
 use Rattle.std.specs.Duration.{as_nanos}
 use Rattle.decision_cache.specs.declared.keyed.HashKeys.{HashKeys}
 use Rattle.trace_service.specs.declared.options.ServiceOptions.{ServiceOptions}
-use Rattle.trace_collector_program.specs.declared.task.ServeOptions.{ServeOptions}
+use Rattle.trace_collector_program.specs.Task.{OptionsData}
 
 -- so many milliseconds, in nanoseconds
 abbrev pub nanos_of : Option ℕ → Option ℕ
 nanos_of millis = option_map (λ n. n * 1000000) millis
 
 -- the service is run as the options say, with these keys
-pub record IsAsked (given : ServeOptions) (keys : HashKeys) (asked : ServiceOptions) : Type 0 where
+pub record IsAsked (given : OptionsData) (keys : HashKeys) (asked : ServiceOptions) : Type 0 where
   pub audit : asked.audit ≡ given.audit
   pub keyed : asked.keys ≡ keys
   pub connections : asked.connections ≡ given.connections

@@ -1,17 +1,43 @@
 -- What the program's arguments ask for. This project's own rule (docs/OPERATING.md).
-use Rattle.std.specs.Prelude.{ℕ, List, [], ◌∷◌, codes, Bool, true, false, ◌&&◌, ◌||◌, not, ◌==◌, nat_le, nat_lt, length, Option, Some, None, option_map, option_and_then, if◌then◌else◌}
+use Rattle.std.specs.Prelude.{ℕ, List, [], ◌∷◌, codes, Bool, true, false, ◌&&◌, ◌||◌, not, ◌==◌, nat_le, nat_lt, length, Option, Some, None, option_map, option_and_then, is_none, if◌then◌else◌}
 use Rattle.std.specs.Str.{bytes_eq}
 use Rattle.replay_script.specs.Word.{number_of, tested}
 use Rattle.trace_collector_program.specs.declared.task.ServeOptions.{ServeOptions}
 use Rattle.trace_collector_program.specs.declared.task.Task.{Task}
 use Rattle.trace_collector_program.specs.declared.task.Task.TheVariants.{Replay, Serve, Check, Help, Version}
 
+-- the options of `serve`, as docs/OPERATING.md has them
+pub record OptionsData : Type 0 where
+  pub audit : Bool
+  pub verbose : Bool
+  pub connections : Option ℕ
+  pub senders : Option ℕ
+  pub client_timeout : Option ℕ
+  pub request_timeout : Option ℕ
+  pub back_end_timeout : Option ℕ
+  pub admin : Option (List ℕ)
+  pub admin_token_file : Option (List ℕ)
+
+-- those that a value of the code stands for
+abbrev pub options_view : ServeOptions → OptionsData
+options_view o = record {
+  audit = o.audit;
+  verbose = o.verbose;
+  connections = o.connections;
+  senders = o.senders;
+  client_timeout = o.client_timeout;
+  request_timeout = o.request_timeout;
+  back_end_timeout = o.back_end_timeout;
+  admin = option_map (λ text. text.now) o.admin;
+  admin_token_file = option_map (λ text. text.now) o.admin_token_file;
+}
+
 -- what the program is to do
 pub data TaskData : Type 0 where
   -- the script on standard input is replayed under the settings in the file of this path
   replay : List ℕ → TaskData
   -- the collector serves under the settings in the file of this path, and so
-  serve : List ℕ → ServeOptions → TaskData
+  serve : List ℕ → OptionsData → TaskData
   -- the settings in the file of this path are checked
   check : List ℕ → TaskData
   -- the help is printed
@@ -22,7 +48,7 @@ pub data TaskData : Type 0 where
 -- the task that a value of the code stands for
 abbrev pub task_view : Task → TaskData
 task_view (Replay settings) = replay settings.now
-task_view (Serve settings options) = serve settings.now options
+task_view (Serve settings options) = serve settings.now (options_view options)
 task_view (Check settings) = check settings.now
 task_view Help = help
 task_view Version = version
@@ -35,7 +61,7 @@ option_of word =
     else None
 
 -- no option of `serve`
-abbrev pub none_given : ServeOptions
+abbrev pub none_given : OptionsData
 none_given = record {
   audit = false;
   verbose = false;
@@ -44,6 +70,8 @@ none_given = record {
   client_timeout = None;
   request_timeout = None;
   back_end_timeout = None;
+  admin = None;
+  admin_token_file = None;
 }
 
 -- the number from 1 to `most` that a word writes in decimal digits
@@ -60,7 +88,7 @@ abbrev pub is_flag : List ℕ → Bool
 is_flag word = bytes_eq word (codes "--audit") || bytes_eq word (codes "--verbose")
 
 -- what is given with such an option more, which may stand once
-abbrev pub with_flag : ServeOptions → List ℕ → Option ServeOptions
+abbrev pub with_flag : OptionsData → List ℕ → Option OptionsData
 with_flag given word =
     if bytes_eq word (codes "--audit") && not given.audit then Some (record given { audit = true })
     else if bytes_eq word (codes "--verbose") && not given.verbose then Some (record given { verbose = true })
@@ -70,8 +98,16 @@ with_flag given word =
 abbrev pub most_millis : ℕ
 most_millis = 4294967295
 
+-- what is given with another option more whose value is any text, which may stand once
+abbrev pub with_text : OptionsData → List ℕ → List ℕ → Option OptionsData
+with_text given name value =
+    if bytes_eq name (codes "--admin") && is_none given.admin then Some (record given { admin = Some value })
+    else if bytes_eq name (codes "--admin-token-file") && is_none given.admin_token_file then
+    Some (record given { admin_token_file = Some value })
+    else None
+
 -- what is given with another option more and its value: so many connections and senders, and milliseconds
-abbrev pub with_value : ServeOptions → List ℕ → List ℕ → Option ServeOptions
+abbrev pub with_value : OptionsData → List ℕ → List ℕ → Option OptionsData
 with_value given name value =
     if bytes_eq name (codes "--connections") then
     option_map (λ n. record given { connections = Some n }) (once given.connections (up_to 65536 value))
@@ -84,11 +120,11 @@ with_value given name value =
     else if bytes_eq name (codes "--back-end-timeout") then
     option_map (λ n. record given { back_end_timeout = Some n })
     (once given.back_end_timeout (up_to most_millis value))
-    else None
+    else with_text given name value
 
 -- What is given with all options that these words spell, in any order: first of all the value of the option of this
 -- name, where one is awaited.
-unfoldable pub options_from : ServeOptions → Option (List ℕ) → List (List ℕ) → Option ServeOptions
+unfoldable pub options_from : OptionsData → Option (List ℕ) → List (List ℕ) → Option OptionsData
 options_from given None [] = Some given
 options_from given (Some name) [] = None
 options_from given (Some name) (word ∷ words) =

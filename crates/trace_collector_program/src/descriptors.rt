@@ -81,19 +81,34 @@ fn open_files(limits: &[u8]) -> Option<u32>
     }
 }
 
-/// How many descriptors a service of so many receivers and senders has open at a time, at most.
-pub fn needed(receivers: u32, senders: u32) -> u64
-    ensures { result ≡ needed receivers senders }
-{
-    u64::from(receivers) + u64::from(senders) + OTHERS
+/// So many threads hold a connection each.
+#[derive(Clone, Copy, Debug, PartialEq, Eq)]
+pub struct Crew {
+    pub receivers: u32,
+    pub senders: u32,
+    /// Those of the port for operators, if there is one.
+    pub admins: Option<u32>,
 }
 
-/// How many files the process may have open, where a service of so many receivers and senders needs more.
-pub fn too_low(limits: &[u8], receivers: u32, senders: u32) -> Option<u32>
-    ensures { result ≡ too_low limits.now receivers senders }
+impl Crew {
+    /// How many descriptors a service with these threads has open at a time, at most.
+    pub fn needed(&self) -> u64
+        ensures { result ≡ needed self.now }
+    {
+        let admins = match self.admins {
+            Some(admins) => u64::from(admins) + 2,
+            None => 0,
+        };
+        u64::from(self.receivers) + u64::from(self.senders) + admins + OTHERS
+    }
+}
+
+/// How many files the process may have open, where a service with these threads needs more.
+pub fn too_low(limits: &[u8], crew: Crew) -> Option<u32>
+    ensures { result ≡ too_low limits.now crew }
 {
     match open_files(limits) {
-        Some(limit) if u64::from(limit) < needed(receivers, senders) => Some(limit),
+        Some(limit) if u64::from(limit) < crew.needed() => Some(limit),
         _ => None,
     }
 }

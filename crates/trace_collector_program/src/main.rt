@@ -11,6 +11,7 @@
 //! too, and on `trace_service`.
 #![tactic(auto)]
 
+mod admin;
 mod check;
 mod descriptors;
 mod examples;
@@ -36,6 +37,7 @@ use reason::Reason;
 use serve::serve_file;
 use standard::stand_in;
 use std::alloc::{AllocError, AllocFailed, Global};
+use std::fs::File;
 use std::io::{BufRead, BufReader, ErrorKind, Write};
 use std::net::{Net, TcpListener, TcpStream};
 use std::process::ExitCode;
@@ -144,7 +146,16 @@ fn ended(rt: &impl Eprint, end: Result<End, ProgramFault>, reason: &Reason) -> E
 
 fn run<R>(rt: &R, reason: &mut Reason) -> Result<End, ProgramFault>
 where
-    R: Env + Files + Input + Print + Eprint + AllocGlobal + Clock + Threads + Wait + Sync,
+    R: Env
+        + Files<File = File>
+        + Input
+        + Print
+        + Eprint
+        + AllocGlobal
+        + Clock
+        + Threads
+        + Wait
+        + Sync,
     R: RandomSource + Net<Listener = TcpListener, Stream = TcpStream> + Documents,
 {
     let args = match env::args(rt) {

@@ -4,24 +4,32 @@ ghost use Rattle.std.specs.Prelude.{◌≡◌, ◌↔◌, Ok, IfErr, option_map}
 ghost use Rattle.std.specs.Duration.{as_nanos};
 ghost use Rattle.trace_collector_program.specs.Fault.{of_service, IsOutside};
 ghost use Rattle.trace_collector_program.specs.Serve.{IsAsked, nanos_of};
+ghost use Rattle.trace_collector_program.specs.Task.{options_view};
 
+use crate::admin::{AdminDoor, admin_door};
+use crate::descriptors::Crew;
 use crate::reason::Reason;
 use crate::start::{has_descriptors, listen_at, settings_of_file};
-use crate::task::ServeOptions;
+use crate::task::{RELEASE, ServeOptions};
 use crate::watched::Watched;
 use crate::{ProgramFault, READ_SIZE};
 use decision_cache::HashKeys;
+use std::fs::File;
 use std::io;
-use std::io::{BufReader, ErrorKind};
+use std::io::{BufRead, BufReader, ErrorKind, Write};
 use std::net::{Net, TcpListener, TcpStream};
 use std::random::RandomSource;
 use std::rt::Files;
 use std::sync::Wait;
 use std::thread::Threads;
 use std::time::{Clock, Duration};
+use tail_settings::{GlobalSettings, Settings};
 use thiserror::Error;
 use trace_collector::ReplayFault;
-use trace_service::{Documents, Observer, ServiceFault, ServiceOptions, Stage, run_service};
+use trace_service::{
+    ADMINS, AdminDesk, AdminPort, DeskDocuments, DeskInput, DeskOutput, Documents, Observer,
+    Outside, ServiceFault, ServiceOptions, Stage, run_service,
+};
 
 impl From<ServiceFault> for ProgramFault {
     ghost from_gives = { λ fault given. given ≡ of_service fault };
@@ -50,6 +58,7 @@ struct Loss {
 struct Course<'r, R> {
     rt: &'r R,
     listener: &'r TcpListener,
+    door: &'r Option<AdminDoor>,
     is_verbose: bool,
 }
 
@@ -66,7 +75,12 @@ impl<R: Eprint> Course<'_, R> {
         match stage {
             Stage::Serving => {
                 let address = self.listener.local_addr()?;
-                eprintln!(self.rt; "serving at {address}")
+                eprintln!(self.rt; "serving at {address}")?;
+                if let Some(door) = self.door {
+                    let address = door.listener.local_addr()?;
+                    eprintln!(self.rt; "looked after at {address}")?;
+                }
+                Ok(())
             }
             Stage::Skipped { line } => {
                 let line = line.escape_ascii();
@@ -92,43 +106,186 @@ impl<R: Eprint> Course<'_, R> {
 pub fn serve_file<R>(
     rt: &R,
     path: &str,
-    options: &ServeOptions,
+    options: &ServeOptions<'_>,
     reason: &mut Reason,
 ) -> Result<(), ProgramFault>
 where
-    R: Files + Input + Print + Eprint + AllocGlobal + Clock + Threads + Wait + Sync,
+    R: Files<File = File> + Input + Print + Eprint + AllocGlobal + Clock + Threads + Wait + Sync,
     R: RandomSource + Net<Listener = TcpListener, Stream = TcpStream> + Documents,
 {
     if options.verbose {
         reason.tell();
     }
-    let alloc = rt.alloc();
     let settings = settings_of_file(rt, path, reason)?;
     let global = &settings.global;
-    let connections = options.connections.unwrap_or(global.receivers);
-    let senders = options.senders.unwrap_or(global.senders);
-    has_descriptors(rt, connections, senders, reason)?;
+    has_descriptors(rt, crew(global, options), reason)?;
     let listener = listen_at(rt, global.listen.as_str(), reason)?;
+    let door = admin_door(rt, options, reason)?;
     let keys = HashKeys::draw(rt)?;
-    let mut input = BufReader::with_capacity(alloc, READ_SIZE, Watched::new(rt.reader()))?;
-    let mut output = Watched::new(io::writer(rt));
+    let asked = service_options(options, keys);
+    let output = Watched::new(io::writer(rt));
     let mut course = Course {
         rt,
         listener: &listener,
+        door: &door,
         is_verbose: options.verbose,
+    };
+    let served = match &door {
+        Some(door) => serve_at_desk(
+            rt,
+            settings,
+            &listener,
+            door,
+            reason,
+            output,
+            &mut course,
+            asked,
+        ),
+        None => serve_input(rt, settings, &listener, reason, output, &mut course, asked),
+    };
+    whole(served?)
+}
+
+/// The threads that hold a connection each, by settings and options.
+fn crew(global: &GlobalSettings, options: &ServeOptions<'_>) -> Crew {
+    Crew {
+        receivers: options.connections.unwrap_or(global.receivers),
+        senders: options.senders.unwrap_or(global.senders),
+        admins: match options.admin {
+            Some(_) => Some(ADMINS),
+            None => None,
+        },
+    }
+}
+
+/// Serves until standard input ends.
+fn serve_input<'x, R, W, L>(
+    rt: &'x R,
+    settings: Settings,
+    listener: &'x TcpListener,
+    reason: &mut Reason,
+    mut output: Watched<W>,
+    course: &mut L,
+    options: ServiceOptions,
+) -> Result<u64, ServiceFault>
+where
+    R: Input + AllocGlobal + Clock + Threads + Wait + Sync + Documents,
+    R: Net<Listener = TcpListener, Stream = TcpStream>,
+    W: Write + Drop,
+    L: Observer,
+{
+    let alloc = rt.alloc();
+    let mut input = BufReader::with_capacity(alloc, READ_SIZE, Watched::new(rt.reader()))?;
+    let outside = Outside {
+        listener,
+        documents: rt,
+        admin: None,
     };
     let served = run_service(
         rt,
         alloc,
         settings,
-        &listener,
+        &outside,
         &mut input,
         &mut output,
-        &mut course,
-        service_options(options, keys),
+        course,
+        options,
     );
-    put_streams(reason, input.get_ref(), &output);
-    whole(served?)
+    put_input(reason, input.get_ref());
+    put_output(reason, &output);
+    served
+}
+
+/// Serves until whoever looks after it ends it.
+fn serve_at_desk<R, W, L>(
+    rt: &R,
+    settings: Settings,
+    listener: &TcpListener,
+    door: &AdminDoor,
+    reason: &mut Reason,
+    output: Watched<W>,
+    course: &mut L,
+    options: ServiceOptions,
+) -> Result<u64, ServiceFault>
+where
+    R: AllocGlobal + Clock + Threads + Wait + Sync,
+    R: Net<Listener = TcpListener, Stream = TcpStream>,
+    W: Write + Drop,
+    L: Observer,
+{
+    let alloc = rt.alloc();
+    let desk = AdminDesk::new(alloc);
+    let documents = DeskDocuments { rt, desk: &desk };
+    let lines = DeskInput { rt, desk: &desk };
+    let mut input = BufReader::with_capacity(alloc, READ_SIZE, lines)?;
+    let mut heard = DeskOutput {
+        rt,
+        desk: &desk,
+        output,
+    };
+    let served = serve_lines(
+        rt, settings, listener, door, &desk, &documents, &mut input, &mut heard, course, options,
+    );
+    put_output(reason, &heard.output);
+    served
+}
+
+/// The same, with the lines that are asked for at this desk. What it holds together has one lifetime.
+fn serve_lines<'x, R, D, I, O, L>(
+    rt: &'x R,
+    settings: Settings,
+    listener: &'x TcpListener,
+    door: &'x AdminDoor,
+    desk: &'x AdminDesk,
+    documents: &'x D,
+    input: &mut I,
+    output: &mut O,
+    course: &mut L,
+    options: ServiceOptions,
+) -> Result<u64, ServiceFault>
+where
+    R: AllocGlobal + Clock + Threads + Wait + Sync,
+    R: Net<Listener = TcpListener, Stream = TcpStream>,
+    D: Documents,
+    I: BufRead,
+    O: Write,
+    L: Observer,
+{
+    let admin = Some(port_at(door, desk));
+    let outside = Outside {
+        listener,
+        documents,
+        admin,
+    };
+    run_service(
+        rt,
+        rt.alloc(),
+        settings,
+        &outside,
+        input,
+        output,
+        course,
+        options,
+    )
+}
+
+/// Where the service is looked after, at this door and this desk.
+fn port_at<'x>(door: &'x AdminDoor, desk: &'x AdminDesk) -> AdminPort<'x> {
+    let token = match &door.token {
+        Some(token) => Some(token.as_slice()),
+        None => None,
+    };
+    let status = match &door.status {
+        Some(status) => Some(status),
+        None => None,
+    };
+    AdminPort {
+        listener: &door.listener,
+        desk,
+        token,
+        status,
+        version: RELEASE,
+    }
 }
 
 /// The fault of a service of whose answers so many were lost.
@@ -144,8 +301,8 @@ fn whole(lost: u64) -> Result<(), ProgramFault>
 }
 
 /// How the service is run that these options ask for.
-fn service_options(options: &ServeOptions, keys: HashKeys) -> ServiceOptions
-    ensures { IsAsked options.now keys result }
+fn service_options(options: &ServeOptions<'_>, keys: HashKeys) -> ServiceOptions
+    ensures { IsAsked (options_view options.now) keys result }
 {
     ServiceOptions {
         audit: options.audit,
@@ -168,11 +325,15 @@ fn duration(millis: Option<u32>) -> Option<Duration>
     }
 }
 
-/// The reasons for which the input and the output failed, where they did.
-fn put_streams<I, O>(reason: &mut Reason, input: &Watched<I>, output: &Watched<O>) {
+/// The reason for which the input failed, where it did.
+fn put_input<I>(reason: &mut Reason, input: &Watched<I>) {
     if let Some(kind) = input.fault() {
         reason.put("standard input", &kind);
     }
+}
+
+/// The reason for which the output failed, where it did.
+fn put_output<O>(reason: &mut Reason, output: &Watched<O>) {
     if let Some(kind) = output.fault() {
         let lost = output.failed();
         reason.put("standard output", &Loss { kind, lost });

@@ -4,7 +4,7 @@ ghost use Rattle.std.specs.Prelude.{◌≡◌, IfOk, IfErr, Ok};
 ghost use Rattle.tail_settings.specs.Settings.{settings_of, settings_view};
 ghost use Rattle.trace_collector_program.specs.Fault.{IsOfSettings, IsOutside};
 
-use crate::descriptors::{needed, too_low};
+use crate::descriptors::{Crew, too_low};
 use crate::reason::Reason;
 use crate::{ProgramFault, read_file, settings_text};
 use std::alloc::Global;
@@ -69,12 +69,11 @@ pub fn listen_at<N: Net<Listener = TcpListener, Stream = TcpStream>>(
     }
 }
 
-/// Fails where the process may not have as many files open as so many receivers and senders need. Where the system
+/// Fails where the process may not have as many files open as a service with these threads needs. Where the system
 /// doesn't say how many it may have, it doesn't fail.
 pub fn has_descriptors(
     rt: &(impl Files + AllocGlobal),
-    receivers: u32,
-    senders: u32,
+    crew: Crew,
     reason: &mut Reason,
 ) -> Result<(), ProgramFault>
     ensures { IfErr result IsOutside }
@@ -82,21 +81,21 @@ pub fn has_descriptors(
     let Ok(limits) = fs::read(rt, LIMITS) else {
         return Ok(());
     };
-    match too_low(limits.as_slice(), receivers, senders) {
-        Some(limit) => Err(short_of(limit, receivers, senders, reason)),
+    match too_low(limits.as_slice(), crew) {
+        Some(limit) => Err(short_of(limit, crew, reason)),
         None => Ok(()),
     }
 }
 
 /// The fault of a limit of open files that is too low. It is told also to who isn't told of other faults.
-fn short_of(limit: u32, receivers: u32, senders: u32, reason: &mut Reason) -> ProgramFault
+fn short_of(limit: u32, crew: Crew, reason: &mut Reason) -> ProgramFault
     ensures { IsOutside result }
 {
     let shortage = Shortage {
         limit,
-        receivers,
-        senders,
-        needed: needed(receivers, senders),
+        receivers: crew.receivers,
+        senders: crew.senders,
+        needed: crew.needed(),
     };
     reason.put("open files", &shortage);
     reason.tell();

@@ -4,7 +4,7 @@ ghost use Rattle.std.specs.Prelude.{◌≡◌, map, option_map, string_bytes, No
 ghost use Rattle.std.specs.Char.{is_ascii_digit};
 ghost use Rattle.std.specs.List.{list_all};
 ghost use Rattle.replay_script.specs.Word.{number_of};
-ghost use Rattle.trace_collector_program.specs.Task.{is_flag, is_option, none_given, on_file, once, option_of, options_from, task_of, task_view, up_to, with_flag, with_value};
+ghost use Rattle.trace_collector_program.specs.Task.{is_flag, is_option, none_given, on_file, once, option_of, options_from, options_view, task_of, task_view, up_to, with_flag, with_text, with_value};
 
 /// What `--help` prints.
 pub const HELP: &str =
@@ -42,6 +42,13 @@ Behind `serve SETTINGS`, in any order and each once at most:
   --back-end-timeout MS  a back end that doesn't take a connection within MS milliseconds, 1 to
                          4294967295, or rests for so long, has failed, and the batch is tried again;
                          else it is waited for
+  --admin HOST:PORT      answers there whoever looks after it: GET /, /metrics, /healthz, /readyz,
+                         /tenants and /tenants/NAME, POST /tenants and /drain, DELETE /tenants/NAME;
+                         then standard input isn't read, and POST /drain is its end
+  --admin-token-file FILE
+                         asks for the token in that file, of 16 bytes or more, as
+                         `Authorization: Bearer TOKEN`, but at / and /healthz; without it HOST has
+                         to be this machine's own loopback
 
 The lines of a script:
   post NAME MOMENT HEX   a request body in protobuf arrives for that tenant, at a moment in milliseconds;
@@ -67,6 +74,9 @@ Exit statuses: 0 done; 1 a fault of the settings, the script, the input or the o
 /// What `--version` prints.
 pub const VERSION: &str = "trace_collector 0.1.0";
 
+/// What of it metrics tell.
+pub const RELEASE: &str = "0.1.0";
+
 /// So many connections can be asked for.
 const MOST_CONNECTIONS: u32 = 65_536;
 
@@ -77,7 +87,7 @@ const MOST_SENDERS: u32 = 4_096;
 const MAX_DIGITS: usize = 19;
 
 /// No option of `serve`.
-const NONE_GIVEN: ServeOptions = ServeOptions {
+const NONE_GIVEN: ServeOptions<'static> = ServeOptions {
     audit: false,
     verbose: false,
     connections: None,
@@ -85,11 +95,13 @@ const NONE_GIVEN: ServeOptions = ServeOptions {
     client_timeout: None,
     request_timeout: None,
     back_end_timeout: None,
+    admin: None,
+    admin_token_file: None,
 };
 
 /// How the collector serves, beside its settings.
 #[derive(Clone, Copy, Debug, PartialEq, Eq)]
-pub struct ServeOptions {
+pub struct ServeOptions<'a> {
     /// Its logs keep all.
     pub audit: bool,
     /// It tells of its course.
@@ -104,6 +116,10 @@ pub struct ServeOptions {
     pub request_timeout: Option<u32>,
     /// So many milliseconds, from 1, a back end's connection may take to come about, and then rest.
     pub back_end_timeout: Option<u32>,
+    /// It is looked after at this address.
+    pub admin: Option<&'a str>,
+    /// Whoever looks after it has to have the token in this file.
+    pub admin_token_file: Option<&'a str>,
 }
 
 /// What the program is to do.
@@ -116,7 +132,7 @@ pub enum Task<'a> {
     /// The collector serves under the settings in this file.
     Serve {
         settings: &'a str,
-        options: ServeOptions,
+        options: ServeOptions<'a>,
     },
     /// The settings in this file are checked.
     Check {
@@ -140,7 +156,7 @@ pub fn asked_task(args: &[String]) -> Option<Task<'_>>
 }
 
 /// What a command asks for of the file of this path, with these words behind it.
-fn on_file<'a>(command: &str, path: &'a str, words: &[String]) -> Option<Task<'a>>
+fn on_file<'a>(command: &str, path: &'a str, words: &'a [String]) -> Option<Task<'a>>
     ensures { option_map task_view result ≡ on_file command.now path.now (map string_bytes words.now) }
 {
     if command == "serve" {
@@ -186,8 +202,8 @@ fn option(word: &str) -> Option<Task<'_>>
 }
 
 /// What is given with all options that these words spell, in any order.
-fn serve_options(words: &[String]) -> Option<ServeOptions>
-    ensures { result ≡ options_from none_given None (map string_bytes words.now) }
+fn serve_options<'a>(words: &'a [String]) -> Option<ServeOptions<'a>>
+    ensures { option_map options_view result ≡ options_from none_given None (map string_bytes words.entry.now) }
 {
     let mut given = NONE_GIVEN;
     let mut left = words;
@@ -214,8 +230,8 @@ fn is_flag(word: &str) -> bool
 }
 
 /// What is given with such an option more, which may stand once.
-fn with_flag(given: ServeOptions, word: &str) -> Option<ServeOptions>
-    ensures { result ≡ with_flag given word.now }
+fn with_flag<'a>(given: ServeOptions<'a>, word: &str) -> Option<ServeOptions<'a>>
+    ensures { option_map options_view result ≡ with_flag (options_view given.entry) word.now }
 {
     if word == "--audit" && !given.audit {
         Some(ServeOptions {
@@ -233,8 +249,8 @@ fn with_flag(given: ServeOptions, word: &str) -> Option<ServeOptions>
 }
 
 /// What is given with another option more and its value, which may stand once too.
-fn with_value(given: ServeOptions, name: &str, value: &str) -> Option<ServeOptions>
-    ensures { result ≡ with_value given name.now value.now }
+fn with_value<'a>(given: ServeOptions<'a>, name: &str, value: &'a str) -> Option<ServeOptions<'a>>
+    ensures { option_map options_view result ≡ with_value (options_view given.entry) name.now value.entry.now }
 {
     if name == "--connections" {
         let connections = Some(once(given.connections, up_to(MOST_CONNECTIONS, value))?);
@@ -261,6 +277,25 @@ fn with_value(given: ServeOptions, name: &str, value: &str) -> Option<ServeOptio
         let back_end_timeout = Some(once(given.back_end_timeout, up_to(u32::MAX, value))?);
         Some(ServeOptions {
             back_end_timeout,
+            ..given
+        })
+    } else {
+        with_text(given, name, value)
+    }
+}
+
+/// What is given with another option more whose value is any text, which may stand once too.
+fn with_text<'a>(given: ServeOptions<'a>, name: &str, value: &'a str) -> Option<ServeOptions<'a>>
+    ensures { option_map options_view result ≡ with_text (options_view given.entry) name.now value.entry.now }
+{
+    if name == "--admin" && given.admin.is_none() {
+        Some(ServeOptions {
+            admin: Some(value),
+            ..given
+        })
+    } else if name == "--admin-token-file" && given.admin_token_file.is_none() {
+        Some(ServeOptions {
+            admin_token_file: Some(value),
             ..given
         })
     } else {

@@ -13,5 +13,6 @@ pub mod Put
 pub mod Asked
 pub mod Joined
 pub mod Talked
+pub mod Shown
 pub mod Jobs
 pub mod Given

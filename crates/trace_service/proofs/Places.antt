@@ -4,7 +4,7 @@ use Rattle.std.proofs.lemmas.List.{map-append}
 use Rattle.trace_service.specs.declared.workers.Role.{Role}
 use Rattle.trace_service.specs.Assignment.{place_of, places}
 
-pub one_more : {X : Type 0} (f : X → Role × ℕ) (shards senders n m number : ℕ) (xs ys : List X) (x : X) (place : Role × ℕ) → map f xs ≡ places shards senders n → ys ≡ xs ++ x ∷ [] → m ≡ n + 1 → number ≡ n → place ≡ place_of shards senders number → f x ≡ place → map f ys ≡ places shards senders m
-one_more f shards senders n m number xs ys x place is more next last at it =
-    let placed = it ∙ at ∙ ap (λ k. place_of shards senders k) last in
-    rw (more, next, add-one) (map-append f xs (x ∷ []) ∙ ap (λ e. e ++ f x ∷ []) is ∙ ap (λ p. places shards senders n ++ p ∷ []) placed)
+pub one_more : {X : Type 0} (f : X → Role × ℕ) (shards senders admins n m number : ℕ) (xs ys : List X) (x : X) (place : Role × ℕ) → map f xs ≡ places shards senders admins n → ys ≡ xs ++ x ∷ [] → m ≡ n + 1 → number ≡ n → place ≡ place_of shards senders admins number → f x ≡ place → map f ys ≡ places shards senders admins m
+one_more f shards senders admins n m number xs ys x place is more next last at it =
+    let placed = it ∙ at ∙ ap (λ k. place_of shards senders admins k) last in
+    rw (more, next, add-one) (map-append f xs (x ∷ []) ∙ ap (λ e. e ++ f x ∷ []) is ∙ ap (λ p. places shards senders admins n ++ p ∷ []) placed)

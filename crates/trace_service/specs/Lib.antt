@@ -13,4 +13,6 @@ pub mod Roster
 pub mod Audit
 pub mod Fault
 pub mod Receiving
+pub mod Notice
+pub mod Shown
 pub mod Whole

@@ -1,6 +1,7 @@
 -- What becomes of a body that is posted, and what its sender is told (OTLP/HTTP).
 use Rattle.std.specs.Prelude.{◌≡◌, ℕ, ◌%◌, List, [], ◌⊎◌, codes, ◌∷◌, Option, Some, None}
 use Rattle.http_edge.specs.Message.{Request, Response}
+use Rattle.http_edge.specs.declared.message.Allow.TheVariants as methods
 use Rattle.http_edge.specs.declared.message.MediaType.TheVariants.{Protobuf}
 use Rattle.machine_hub.specs.declared.receipt.Receipt.{Receipt}
 use Rattle.machine_hub.specs.Hub.{IsRefusedOn}
@@ -19,7 +20,7 @@ use Rattle.trace_service.specs.Moments.{Rises}
 
 -- an answer of this status and content
 abbrev pub answer : ℕ → List ℕ → Response
-answer status body = record { status = status; media = Protobuf; body = body }
+answer status body = record { status = status; media = Protobuf; allow = methods.Post; body = body }
 
 -- the body has no value: a `google.rpc.Status` with this message alone
 abbrev pub bad_request : Response

@@ -17,7 +17,8 @@ use std::alloc::{AllocError, Global};
 use std::sync::Wait;
 use std::time::Clock;
 
-/// A worker for each caller: turners first, one for each shard, then senders, then receivers.
+/// A worker for each caller: turners first, one for each shard, then senders, then those for whoever looks after the
+/// service, then receivers.
 pub(crate) fn assign_threads<'h, J: Naming, R: Wait + Clock>(
     shared: &Shared<'h, J, R>,
     mut callers: Vec<Caller>,
@@ -29,19 +30,20 @@ pub(crate) fn assign_threads<'h, J: Naming, R: Wait + Clock>(
     requires new { All (λ c. c ≡ J.fresh) callers.items }
     requires enough { vec_len callers ≤ vec_len seats }
     ensures places { IfOk result (λ workers. map (λ w. (w.role, w.context.shard)) workers.items
-        ≡ places (length shared.now.hub.now) shared.now.staff.senders (vec_len callers)) }
+        ≡ places (length shared.now.hub.now) shared.now.staff.senders shared.now.staff.admins (vec_len callers)) }
     ensures count { IfOk result (λ workers. vec_len workers ≡ vec_len callers) }
     ensures idle { IfOk result (λ workers.
         All (λ w. (w.context.caller ≡ J.fresh) × (w.seat ≡ new_seat J.lane)) workers.items) }
 {
     let shards = shared.hub.shards();
     let senders = shared.staff.senders as usize;
+    let admins = shared.staff.admins as usize;
     let mut workers = Vec::new(shared.alloc);
     while let Some(caller) = callers.pop() {
         let Some(seat) = seats.pop() else {
             unreachable!()
         };
-        let (role, shard) = role_of(workers.len(), shards, senders);
+        let (role, shard) = role_of(workers.len(), shards, senders, admins);
         let buffer = buffer_of(shared.alloc, role)?;
         workers.push(Worker::new(role, shared.context(caller, shard), seat, buffer))?;
     }
@@ -49,24 +51,26 @@ pub(crate) fn assign_threads<'h, J: Naming, R: Wait + Clock>(
 }
 
 /// What the worker of this number does, and at which shard's context.
-fn role_of(number: usize, shards: usize, senders: usize) -> (Role, usize)
+fn role_of(number: usize, shards: usize, senders: usize, admins: usize) -> (Role, usize)
     requires { 0 < shards }
-    ensures place { result ≡ place_of shards senders number }
+    ensures place { result ≡ place_of shards senders admins number }
     ensures shard { result.1 < shards }
 {
     if number < shards {
         (Role::Turner, number)
     } else if number - shards < senders {
         (Role::Sender, 0)
+    } else if number - shards - senders < admins {
+        (Role::Admin, 0)
     } else {
         (Role::Receiver, 0)
     }
 }
 
-/// What a worker reads into, which a receiver has from the start.
+/// What a worker reads into, which whoever serves connections has from the start.
 fn buffer_of(alloc: Global, role: Role) -> Result<Vec<u8>, AllocError> {
     match role {
-        Role::Receiver => connection_buffer(alloc),
+        Role::Receiver | Role::Admin => connection_buffer(alloc),
         Role::Turner | Role::Sender => Ok(Vec::new(alloc)),
     }
 }

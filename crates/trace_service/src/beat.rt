@@ -1,8 +1,11 @@
 //! The moment, pauses, and what threads tell one another of the service's course.
 
+use crate::gates::Gates;
+use crate::large_bodies::LargeBodies;
 use crate::pace::{Pace, Paces, Pause};
 use crate::reserve::Reserve;
 use crate::rest::{Bells, Rest};
+use crate::tally::Tally;
 use export_edge::Beat;
 use std::alloc::{AllocError, Global};
 use std::sync::Wait;
@@ -19,6 +22,9 @@ pub(crate) struct Signals {
     bells: Bells,
     paces: Paces,
     reserve: Reserve,
+    gates: Gates,
+    large_bodies: LargeBodies,
+    tally: Tally,
 }
 
 impl Signals {
@@ -35,7 +41,10 @@ impl Signals {
             over: AtomicBool::new(false),
             bells: Bells::new(alloc, shards, senders, longest_wait)?,
             paces: Paces::new(alloc, shards)?,
-            reserve: Reserve::new(alloc)?,
+            reserve: Reserve::new(alloc),
+            gates: Gates::new(alloc)?,
+            large_bodies: LargeBodies::new(),
+            tally: Tally::new(),
         })
     }
 
@@ -52,6 +61,21 @@ impl Signals {
     /// What is kept back for those who let memory go.
     pub fn reserve(&self) -> &Reserve {
         &self.reserve
+    }
+
+    /// The gates before the shards' locks.
+    pub fn gates(&self) -> &Gates {
+        &self.gates
+    }
+
+    /// Room for large bodies.
+    pub fn large_bodies(&self) -> &LargeBodies {
+        &self.large_bodies
+    }
+
+    /// What threads count of what they do.
+    pub fn tally(&self) -> &Tally {
+        &self.tally
     }
 
     /// One thread more is at its work: how many are now. The last of so many wakes the others.
@@ -98,6 +122,8 @@ pub(crate) struct ServiceBeat<'b, C> {
     signals: &'b Signals,
     start: Instant,
     last: u64,
+    // When it was last asked for the moment, or paused, in milliseconds.
+    begun: u64,
     rest: Rest<'b>,
     pace: Pace<'b>,
 }
@@ -110,6 +136,7 @@ impl<'b, C: Clock> ServiceBeat<'b, C> {
             signals,
             start,
             last: 0,
+            begun: 0,
             rest: Rest::short(),
             pace: Pace::of_clock(),
         }
@@ -140,7 +167,7 @@ impl<'b, C: Clock> ServiceBeat<'b, C> {
 
     /// A beat like this, for who makes chores.
     pub fn of_chores(&self) -> ServiceBeat<'b, C> {
-        self.with(Rest::short(), self.behind_turners())
+        self.with(Rest::of_attempts(), self.behind_turners())
     }
 
     /// A beat like this, for a sender.
@@ -159,8 +186,17 @@ impl<'b, C: Clock> ServiceBeat<'b, C> {
             signals: self.signals,
             start: self.start,
             last: self.last,
+            begun: self.elapsed(),
             rest,
             pace,
+        }
+    }
+
+    /// Milliseconds from the start on. Where the clock fails those of the last moment.
+    fn elapsed(&self) -> u64 {
+        match self.start.elapsed(self.clock) {
+            Ok(elapsed) => u64::try_from(elapsed.as_millis()).unwrap_or(u64::MAX),
+            Err(_) => self.last,
         }
     }
 }
@@ -180,20 +216,19 @@ impl<C: Wait + Clock> Beat for ServiceBeat<'_, C> {
 
     fn now(&mut self) -> u64 {
         self.rest.time();
-        let mut now = self.last;
-        if let Ok(elapsed) = self.start.elapsed(self.clock) {
-            let millis = u64::try_from(elapsed.as_millis()).unwrap_or(u64::MAX);
-            now = now.max(millis);
-        }
+        self.begun = self.elapsed();
+        let now = self.last.max(self.begun);
         self.last = self.last.max(self.pace.moment(self.last, now));
         self.last
     }
 
     fn pause(&mut self) {
+        let took = self.elapsed().saturating_sub(self.begun);
         match self.pace.pause(self.clock, self.signals.reserve()) {
             Pause::None => {}
-            Pause::Short => Rest::short().pause(self.clock),
-            Pause::Usual => self.rest.pause(self.clock),
+            Pause::Short => Rest::of_attempts().pause(self.clock, took),
+            Pause::Usual => self.rest.pause(self.clock, took),
         }
+        self.begun = self.elapsed();
     }
 }

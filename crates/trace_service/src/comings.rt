@@ -79,10 +79,11 @@ impl From<SettingsFault> for NotAdded {
     }
 }
 
-impl<'h, J, R> Control<'h, J, R>
+impl<'h, J, R, D> Control<'h, J, R, D>
 where
     J: Naming,
-    R: Net<Listener = TcpListener, Stream = TcpStream> + Wait + Clock + Documents,
+    R: Net<Listener = TcpListener, Stream = TcpStream> + Wait + Clock,
+    D: Documents,
 {
     /// Lets the tenant come whose document is in the file at this path, and prints what came of it.
     pub fn add<O: Write>(
@@ -92,7 +93,7 @@ where
         lost: &mut u64,
         path: &[u8],
     )
-        ensures added { (line : List ℕ) × IsAdded R.reads J.first (length self.old.context.hub.now)
+        ensures added { (line : List ℕ) × IsAdded D.reads J.first (length self.old.context.hub.now)
             path.now (present_in roster.old) self.old.context.caller (present_in roster.new) self.new.context.caller
             line × IsPut (O.contents output.old, lost.old) (O.contents output.new, lost.new) line }
         ensures last { self.new.beat.last ≡ self.old.beat.last }
@@ -112,10 +113,10 @@ where
 
     /// The line of the tenant that came whose document is in the file at this path.
     fn let_in(&mut self, roster: &mut Roster, path: &[u8]) -> Result<Vec<u8>, NotAdded>
-        ensures added { IfOk result (λ line. IsAdded R.reads J.first (length self.old.context.hub.now) path.now
+        ensures added { IfOk result (λ line. IsAdded D.reads J.first (length self.old.context.hub.now) path.now
             (present_in roster.old) self.old.context.caller (present_in roster.new) self.new.context.caller
             line.items) }
-        ensures not_added { IfErr result (λ why. IsAdded R.reads J.first (length self.old.context.hub.now) path.now
+        ensures not_added { IfErr result (λ why. IsAdded D.reads J.first (length self.old.context.hub.now) path.now
             (present_in roster.old) self.old.context.caller (present_in roster.new) self.new.context.caller
             (not_added_text why)) }
         ensures last { self.new.beat.last ≡ self.old.beat.last }
@@ -129,13 +130,13 @@ where
 
     /// The text of the file at this path.
     fn document(&self, path: &[u8]) -> Result<String, NotAdded>
-        ensures text { IfOk result (λ text. R.reads path.now (Ok (string_bytes text))) }
-        ensures unread { IfErr result (λ why. IsUnread R.reads path.now why) }
+        ensures text { IfOk result (λ text. D.reads path.now (Ok (string_bytes text))) }
+        ensures unread { IfErr result (λ why. IsUnread D.reads path.now why) }
     {
         let Ok(path) = str::from_utf8(path) else {
             return Err(NotAdded::Refused(NOT_READ));
         };
-        let bytes = self.rt.read_document(self.alloc, path)?;
+        let bytes = self.documents.read_document(self.alloc, path)?;
         match String::from_utf8(bytes) {
             Ok(text) => Ok(text),
             Err(_) => Err(NotAdded::Refused(NOT_READ)),

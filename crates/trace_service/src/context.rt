@@ -8,6 +8,7 @@ use crate::beat::{ServiceBeat, Signals};
 use crate::in_force::{Destination, InForce};
 use crate::naming::Naming;
 use crate::post::{is_without_memory, post_body, refused, without_memory};
+use crate::roster::Present;
 use crate::teller::Teller;
 use bytes::Bytes;
 use export_edge::{AnswerRefused, AnswerSink, Beat, JobSource, TurnResult};
@@ -45,8 +46,14 @@ pub(crate) struct WorkerContext<'h, J: Naming, R> {
 }
 
 impl<'h, J: Naming, R: Wait + Clock> WorkerContext<'h, J, R> {
-    ghost use Rattle.std.specs.Prelude.{◌≡◌, ◌<◌, ◌≤◌, ◌%◌, length, Option, IfOk, IfErr, OnErr};
+    ghost use Rattle.std.specs.Prelude.{◌≡◌, ◌<◌, ◌≤◌, ◌%◌, ℕ, length, map, Option, option_map, IfOk, IfErr, OnErr};
     ghost use Rattle.machine_hub.specs.declared.receipt.Receipt.{Receipt};
+    ghost use Rattle.otlp_front.specs.Route.{names_in};
+    ghost use Rattle.tail_settings.specs.Section.{section_view};
+    ghost use Rattle.tail_settings.specs.Settings.{SettingsData, number_of, section_at};
+    ghost use Rattle.tenant_shard.specs.declared.step.Step.TheVariants as steps;
+    ghost use Rattle.trace_service.specs.InForce.{CameOf};
+    ghost use Rattle.trace_service.specs.Roster.{entry_of};
     ghost use Rattle.machine_hub.specs.Hub.{IsRefusedOn};
     ghost use Rattle.shared_hub.specs.Logs.{IsStepOn, IsEmptyOn};
     ghost use Rattle.shared_hub.specs.declared.fault.HubFault.TheVariants as faults;
@@ -138,6 +145,57 @@ impl<'h, J: Naming, R: Wait + Clock> WorkerContext<'h, J, R> {
             .step(self.rt, self.alloc, &mut self.caller, shard, step)?;
         self.teller.made(shard);
         Ok(outcome)
+    }
+
+    /// Asks for this tenant's counters. No turner is told: what is due after it is due by the time, and its shard's
+    /// turner looks for that by itself.
+    pub fn look(&mut self, tenant: u32) -> Result<Outcome, HubFault>
+        ensures call { IfOk result (λ outcome. (now : ℕ) × (receipt : Option Receipt)
+            × IsStepOn self.old.caller self.new.caller (tenant % length self.old.hub.now) (steps.Report tenant now)
+            outcome receipt) }
+        ensures on_refusal { OnErr result (IsRefusedOn self.old.caller self.new.caller
+            (tenant % length self.old.hub.now)) }
+        ensures fault { IfErr result (λ fault. fault ≡ faults.OutOfMemory) }
+        ensures hub { self.new.hub ≡ self.old.hub }
+    {
+        let now = self.beat.now();
+        let shard = tenant as usize % self.hub.shards();
+        let step = Step::Report { tenant, now };
+        let (outcome, _receipt) = self
+            .hub
+            .step(self.rt, self.alloc, &mut self.caller, shard, step)?;
+        Ok(outcome)
+    }
+
+    /// The tenants that are present by the settings in force. Meanwhile they are locked.
+    pub fn tenants(&self) -> Result<Vec<Present>, AllocError>
+        ensures { IfOk result (λ tenants. (now : SettingsData) × CameOf J.first now
+            × (map entry_of tenants.items ≡ (names_in now).tenants)) }
+    {
+        self.settings.lock(self.rt).tenants(self.alloc)
+    }
+
+    /// The number of the tenant of this name by the settings in force. Meanwhile they are locked.
+    pub fn number(&self, name: &str) -> Option<u32>
+        ensures { (now : SettingsData) × CameOf J.first now × (result ≡ number_of now name.now) }
+    {
+        self.settings.lock(self.rt).number(name)
+    }
+
+    /// The section of the tenant of this number by the settings in force. Meanwhile they are locked.
+    pub fn section(&self, tenant: u32) -> Result<Option<Section>, AllocError>
+        ensures { IfOk result (λ section. (now : SettingsData) × CameOf J.first now
+            × (option_map section_view section ≡ section_at now tenant)) }
+    {
+        self.settings.lock(self.rt).section(tenant)
+    }
+
+    /// How many milliseconds ago the service was started.
+    pub fn uptime(&mut self) -> u64
+        ensures caller { self.new.caller ≡ self.old.caller }
+        ensures hub { self.new.hub ≡ self.old.hub }
+    {
+        self.beat.now()
     }
 
     /// It was refused memory for what lets memory go, and tries again.
@@ -234,6 +292,7 @@ impl<'h, J: Naming, R: Wait + Clock> AnswerSink for WorkerContext<'h, J, R> {
         ) {
             Ok(_) => {
                 self.teller.answered(tenant as usize % self.hub.shards());
+                self.signals().tally().end_job(answer);
                 Ok(())
             }
             Err(_) => {
@@ -292,6 +351,25 @@ impl<'h, J: Naming, R: Wait + Clock> WorkerContext<'h, J, R> {
         ensures { IsSent (Some (section_view section.now)) self.old.beat.last self.new.beat.last self.old.caller
             self.new.caller (length self.old.hub.now) tenant body.items (response_of result) }
     {
+        let bytes = body.len();
+        let large_bodies = self.signals().large_bodies();
+        large_bodies.enter(self.rt, bytes);
+        let reply = self.post_now(rt, tenant, section, body);
+        large_bodies.leave(self.rt, bytes);
+        reply
+    }
+
+    /// The same, without waiting for room.
+    fn post_now<T: Threads + Sync>(
+        &mut self,
+        rt: &T,
+        tenant: u32,
+        section: &Section,
+        body: Vec<u8>,
+    ) -> Reply
+        ensures { IsSent (Some (section_view section.now)) self.old.beat.last self.new.beat.last self.old.caller
+            self.new.caller (length self.old.hub.now) tenant body.items (response_of result) }
+    {
         let now = self.beat.now();
         if !self.signals().reserve().is_there() {
             return without_memory(self.alloc);
@@ -309,8 +387,10 @@ impl<'h, J: Naming, R: Wait + Clock> WorkerContext<'h, J, R> {
                     section,
                     body,
                     self.parts,
+                    self.beat.signals().gates(),
                 );
                 if is_without_memory(&reply) {
+                    self.signals().tally().refuse();
                     self.signals().paces().slow_down();
                 }
                 let shard = tenant as usize % self.hub.shards();

@@ -33,20 +33,24 @@ use tenant_shard::Outcome;
 
 /// Who reads the input: the tenants that it knows, its context, and how it reaches the listener.
 #[derive(Drop)]
-pub(crate) struct Control<'h, J: Naming, R> {
+pub(crate) struct Control<'h, J: Naming, R, D> {
     pub rt: &'h R,
     pub alloc: Global,
     pub settings: &'h Mutex<InForce<J>>,
     pub roster: Roster,
+    pub documents: &'h D,
     pub listener: &'h TcpListener,
+    /// Where whoever looks after the service comes in.
+    pub office: Option<&'h TcpListener>,
     pub context: WorkerContext<'h, J, R>,
     pub beat: ServiceBeat<'h, R>,
 }
 
-impl<'h, J, R> Control<'h, J, R>
+impl<'h, J, R, D> Control<'h, J, R, D>
 where
     J: Naming,
-    R: Net<Listener = TcpListener, Stream = TcpStream> + Wait + Clock + Documents,
+    R: Net<Listener = TcpListener, Stream = TcpStream> + Wait + Clock,
+    D: Documents,
 {
     /// Once all threads are there reads the input to its end, has every tenant send what it holds, and prints the
     /// reports: how many of all answers were lost. Whatever comes of it, the other threads are told that the work is
@@ -58,7 +62,7 @@ where
         observer: &mut L,
         threads: usize,
     ) -> Result<u64, ServiceFault>
-        ensures { IfOk result (λ lost. IsDirected R.reads J.first (present_in self.old.roster)
+        ensures { IfOk result (λ lost. IsDirected D.reads J.first (present_in self.old.roster)
             (length self.old.context.hub.now) (I.remaining input.old) self.old.context.caller self.old.beat.last
             (O.contents output.old, 0) self.new.context.caller self.new.beat.last (O.contents output.new, lost)) }
     {
@@ -78,8 +82,16 @@ where
         observer.observe(Stage::Closing);
         self.beat.signals().end();
         wake_at_last(self.rt, self.listener, is_woken);
+        self.wake_office();
         heard?;
         Ok(lost)
+    }
+
+    /// Wakes who waits for whoever looks after the service.
+    fn wake_office(&self) {
+        if let Some(office) = self.office {
+            wake_at_last(self.rt, office, false);
+        }
     }
 
     /// Answers the lines of the input, to its end.
@@ -91,7 +103,7 @@ where
         lost: &mut u64,
         observer: &mut L,
     ) -> Result<(), ServiceFault>
-        ensures commands_read { OnOk result (AreCommandsRead R.reads J.first (length self.old.context.hub.now)
+        ensures commands_read { OnOk result (AreCommandsRead D.reads J.first (length self.old.context.hub.now)
             (I.remaining input.old) (present_in roster.old) self.old.context.caller self.old.beat.last
             (O.contents output.old, lost.old) (present_in roster.new) self.new.context.caller self.new.beat.last
             (O.contents output.new, lost.new)) }
@@ -119,7 +131,7 @@ where
         lost: &mut u64,
         line: &[u8],
     )
-        ensures answered { IsAnswered R.reads J.first (length self.old.context.hub.now)
+        ensures answered { IsAnswered D.reads J.first (length self.old.context.hub.now)
             line.now (present_in roster.old) self.old.context.caller self.old.beat.last
             (O.contents output.old, lost.old) (present_in roster.new)
             self.new.context.caller self.new.beat.last (O.contents output.new, lost.new) }
@@ -281,16 +293,17 @@ fn asks_nothing(roster: &Roster, line: &[u8]) -> bool
     line.strip_prefix(b"add ".as_slice()).is_none()
 }
 
-impl<'h, J, R> Director for Control<'h, J, R>
+impl<'h, J, R, D> Director for Control<'h, J, R, D>
 where
     J: Naming,
-    R: Net<Listener = TcpListener, Stream = TcpStream> + Wait + Clock + Documents,
+    R: Net<Listener = TcpListener, Stream = TcpStream> + Wait + Clock,
+    D: Documents,
 {
     ghost use Rattle.std.specs.Prelude.{length};
     ghost use Rattle.trace_service.specs.Roster.{present_in};
     ghost use Rattle.trace_service.specs.Whole.{IsDirected};
 
-    ghost directs = { λ old input so_far new written. IsDirected R.reads J.first (present_in old.roster)
+    ghost directs = { λ old input so_far new written. IsDirected D.reads J.first (present_in old.roster)
         (length old.context.hub.now) input old.context.caller old.beat.last (so_far, 0) new.context.caller
         new.beat.last written };
 

@@ -4,9 +4,11 @@ ghost use Rattle.std.specs.Prelude.{ℕ, List, Result, Ok, Err, IfOk, IfErr};
 ghost use Rattle.std.specs.IoError.{error_kind};
 ghost use Rattle.std.specs.declared.io.ErrorKind.{ErrorKind};
 
+use crate::desk::AdminDesk;
 use std::alloc::Global;
-use std::io::Read;
+use std::io::{ErrorKind, Read};
 use std::rt::Files;
+use std::sync::Wait;
 use std::{fs, io};
 
 /// Reads the documents of those who come.
@@ -31,5 +33,25 @@ impl<R: Files> Documents for R {
         let mut bytes = Vec::new(alloc);
         file.read_to_end(&mut bytes)?;
         Ok(bytes)
+    }
+}
+
+/// The documents that come over a desk, each with its line.
+#[derive(Drop)]
+pub struct DeskDocuments<'d, R> {
+    pub rt: &'d R,
+    pub desk: &'d AdminDesk,
+}
+
+impl<R: Wait> Documents for DeskDocuments<'_, R> {
+    // Nobody knows what is handed in.
+    ghost reads = { λ _ _. Unit {0} };
+
+    /// Not found where none came, or it was read before.
+    fn read_document(&self, _alloc: Global, _path: &str) -> io::Result<Vec<u8>> {
+        match self.desk.document(self.rt) {
+            Some(document) => Ok(document),
+            None => Err(io::Error::from(ErrorKind::NotFound)),
+        }
     }
 }

@@ -21,6 +21,8 @@ pub(crate) struct Entrance<'h> {
     listener: &'h TcpListener,
     turn: Mutex<()>,
     patience: Patience,
+    // Whether clients come in until the work is over, and not only until no more spans are taken.
+    is_open_late: bool,
 }
 
 impl<'h> Entrance<'h> {
@@ -30,6 +32,24 @@ impl<'h> Entrance<'h> {
             listener,
             turn: Mutex::new(()),
             patience,
+            is_open_late: false,
+        }
+    }
+
+    /// The same, for clients who come in until the work is over.
+    pub fn to_the_end(listener: &'h TcpListener, patience: Patience) -> Entrance<'h> {
+        Entrance {
+            is_open_late: true,
+            ..Entrance::new(listener, patience)
+        }
+    }
+
+    /// Whether no client is to come in any more.
+    pub fn is_shut(&self, signals: &Signals) -> bool {
+        if self.is_open_late {
+            signals.is_over()
+        } else {
+            signals.is_closing()
         }
     }
 
@@ -41,7 +61,7 @@ impl<'h> Entrance<'h> {
     /// Waits for the next client. None where the end has come meanwhile, or where none can be taken now.
     pub fn admit<R: Wait + Clock>(&self, rt: &R, signals: &Signals) -> Option<Client> {
         let _turn = self.turn.lock(rt);
-        if signals.is_closing() {
+        if self.is_shut(signals) {
             return None;
         }
         match self.listener.accept() {

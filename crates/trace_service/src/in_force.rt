@@ -1,16 +1,19 @@
 //! The settings in force, which all threads share under a lock.
 
-ghost use Rattle.std.specs.Prelude.{◌≡◌, Ok, IfOk, OnOk, IfErr, IsSome, option_map, string_bytes};
+ghost use Rattle.std.specs.Prelude.{◌≡◌, Ok, IfOk, OnOk, IfErr, IsSome, map, option_map, string_bytes};
 ghost use Rattle.http_edge.specs.Seen.{seen};
 ghost use Rattle.otlp_front.specs.Route.{names_in, route_of};
 ghost use Rattle.tail_settings.specs.Change.{admitted, struck};
 ghost use Rattle.tail_settings.specs.Fault.{fault_view};
 ghost use Rattle.tail_settings.specs.Section.{section_view};
-ghost use Rattle.tail_settings.specs.Settings.{settings_view, tenant_at, section_at};
+ghost use Rattle.tail_settings.specs.Settings.{number_of, settings_view, tenant_at, section_at};
 ghost use Rattle.trace_service.specs.InForce.{CameOf, IsNewcomer, IsTenant, IsTurnedAway, IsWhere};
+ghost use Rattle.trace_service.specs.Roster.{entry_of};
 
 use crate::naming::Naming;
 use crate::rest::longest_wait;
+use crate::roster::{Present, tenants_of};
+use crate::tally::Tally;
 use arrayvec::ArrayString;
 use export_edge::{Address, Addresses};
 use http_edge::HttpMessage;
@@ -64,6 +67,32 @@ impl<J: Naming> InForce<J> {
             longest = longest.max(longest_wait(&tenant.section));
         }
         longest
+    }
+
+    /// The tenants, in the order of their numbers.
+    pub fn tenants(&self, alloc: Global) -> Result<Vec<Present>, AllocError>
+        ensures { IfOk result (λ tenants. map entry_of tenants.items
+            ≡ (names_in (settings_view self.now.settings)).tenants) }
+    {
+        tenants_of(alloc, &self.settings)
+    }
+
+    /// The number of the tenant of this name.
+    pub fn number(&self, name: &str) -> Option<u32>
+        ensures { result ≡ number_of (settings_view self.now.settings) name.now }
+    {
+        self.settings.number(name)
+    }
+
+    /// A copy of the section of the tenant of this number, which shares the policies.
+    pub fn section(&self, tenant: u32) -> Result<Option<Section>, AllocError>
+        ensures { IfOk result (λ section. option_map section_view section
+            ≡ section_at (settings_view self.now.settings) tenant) }
+    {
+        match self.settings.section(tenant) {
+            Some(section) => Ok(Some(section.copy()?)),
+            None => Ok(None),
+        }
     }
 
     /// Where a message goes, with a copy of its tenant's section, which shares the policies.
@@ -161,11 +190,12 @@ fn address_of(section: &Section) -> Address
     }
 }
 
-/// Tells where tenants' back ends are, by the settings in force.
+/// Tells senders where tenants' back ends are, by the settings in force.
 #[derive(Drop)]
 pub(crate) struct BackEnds<'h, J: Naming, R> {
     pub rt: &'h R,
     pub settings: &'h Mutex<InForce<J>>,
+    pub tally: &'h Tally,
 }
 
 impl<'h, J: Naming, R: Wait> Addresses for BackEnds<'h, J, R> {
@@ -173,7 +203,9 @@ impl<'h, J: Naming, R: Wait> Addresses for BackEnds<'h, J, R> {
 
     ghost tells = { λ _ tenant address. HasBackEnd J.first tenant address };
 
+    /// A sender asks once for each job, before it sends it.
     fn address(&self, tenant: u32) -> Option<Address> {
+        self.tally.take_job();
         self.settings.lock(self.rt).address(tenant)
     }
 }

@@ -17,7 +17,7 @@ pub(crate) struct ShardPace {
     is_refused: AtomicBool,
     // How many jobs there are that weren't answered yet.
     jobs: AtomicUsize,
-    // The moment of the last turn.
+    // The moment before that of the last turn, in which all is done that is due.
     reached: AtomicU64,
 }
 
@@ -104,9 +104,10 @@ enum Place<'b> {
 #[derive(Clone, Copy)]
 pub(crate) struct Pace<'b> {
     place: Place<'b>,
-    // Of a turner: whether it was told a moment since its last pause, whether that was behind the clock's, whether the
-    // next one is later, and for how many pauses it has waited for answers.
+    // Of a turner: whether it was told a moment since its last pause, what the clock's was then, whether it was behind
+    // that, whether the next one is later, and for how many pauses it has waited for answers.
     is_told: bool,
+    clock: u64,
     is_behind: bool,
     goes_on: bool,
     waits: u32,
@@ -137,7 +138,8 @@ impl<'b> Pace<'b> {
         }
     }
 
-    /// That of who doesn't go before the turners of slow shards.
+    /// That of who stays behind the turners of slow shards: they do what is due, and nobody else is refused memory for
+    /// that.
     pub fn of_follower(paces: &'b Paces) -> Pace<'b> {
         Pace::at(Place::Follower(paces))
     }
@@ -146,6 +148,7 @@ impl<'b> Pace<'b> {
         Pace {
             place,
             is_told: false,
+            clock: 0,
             is_behind: false,
             goes_on: false,
             waits: 0,
@@ -160,8 +163,11 @@ impl<'b> Pace<'b> {
             Place::Turner(shard) => {
                 let next = last.saturating_add(u64::from(self.goes_on));
                 let moment = if shard.is_slow() { now.min(next) } else { now };
-                shard.reached.store(moment, Ordering::SeqCst);
+                shard
+                    .reached
+                    .store(moment.saturating_sub(1), Ordering::SeqCst);
                 self.is_told = true;
+                self.clock = now;
                 self.is_behind = moment < now;
                 self.goes_on = false;
                 moment
@@ -175,7 +181,7 @@ impl<'b> Pace<'b> {
         match self.place {
             Place::Turner(shard) if self.is_told => {
                 self.is_told = false;
-                let is_enough = reserve.is_restored(rt);
+                let is_enough = reserve.is_restored(rt, self.clock);
                 if shard.is_slow() {
                     self.turner_pause(shard, is_enough)
                 } else {

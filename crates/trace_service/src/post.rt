@@ -7,8 +7,9 @@ ghost use Rattle.otlp_front.specs.Seen.{response_for};
 ghost use Rattle.tail_settings.specs.Section.{section_view};
 ghost use Rattle.trace_service.specs.Post.{IsPosted, IsStepped, MayTell, Tells, bad_request, no_memory};
 
+use crate::gates::Gates;
 use bytes::Bytes;
-use http_edge::{MediaType, Reply};
+use http_edge::{Allow, MediaType, Reply};
 use otlp_front::RouteRefusal;
 use otlp_prepare::{Prepared, Refusal, prepare};
 use shared_hub::{Caller, HubFault, SharedHub};
@@ -20,8 +21,8 @@ use tenant_shard::{Outcome, Step};
 
 /// Posts a body that came at the moment `now`, in milliseconds, to the shard of the tenant with this number and
 /// section: a body without a value is no step, and any other is one. Its notes are made before, in at most `parts`
-/// threads, this one among them, which `threads` starts. A 503 without a body says that memory was refused; whether the
-/// step was made then is for the caller to know.
+/// threads, this one among them, which `threads` starts; then one of the tenant's gates is passed, for the step alone.
+/// A 503 without a body says that memory was refused; whether the step was made then is for the caller to know.
 pub fn post_body<T: Threads + Sync, R: Wait>(
     threads: &T,
     rt: &R,
@@ -33,6 +34,7 @@ pub fn post_body<T: Threads + Sync, R: Wait>(
     section: &Section,
     body: Bytes,
     parts: u32,
+    gates: &Gates,
 ) -> Reply
     requires parts { (0 < parts) × (parts ≤ 16) }
     requires same_hub { slots_of me.old ≡ hub.now }
@@ -41,7 +43,7 @@ pub fn post_body<T: Threads + Sync, R: Wait>(
         (response_of result) }
 {
     match prepare(threads, alloc, tenant, section, body, parts) {
-        Ok(prepared) => post_prepared(rt, alloc, hub, me, now, tenant, prepared),
+        Ok(prepared) => post_prepared(rt, alloc, hub, me, now, tenant, prepared, gates),
         Err(Refusal::Bad(_)) => bad_protobuf(alloc),
         Err(Refusal::OutOfMemory) => without_memory(alloc),
     }
@@ -56,12 +58,14 @@ fn post_prepared<R: Wait>(
     now: u64,
     tenant: u32,
     prepared: Prepared,
+    gates: &Gates,
 ) -> Reply
     requires same_hub { slots_of me.old ≡ hub.now }
     ensures same_hub { slots_of me.new ≡ hub.now }
     ensures stepped { IsStepped me.old me.new (tenant % length hub.now) now prepared (response_of result) }
 {
     let shard = tenant as usize % hub.shards();
+    let _gate = gates.pass(rt, tenant);
     match hub.step(rt, alloc, me, shard, Step::Post { now, prepared }) {
         Ok((outcome, _receipt)) => http_reply(alloc, outcome),
         Err(HubFault::OutOfMemory) => without_memory(alloc),
@@ -77,6 +81,7 @@ fn http_reply(alloc: Global, outcome: Outcome) -> Reply
         Outcome::Reply(_, reply) => Reply {
             status: reply.status,
             media: MediaType::Protobuf,
+            allow: Allow::Post,
             body: reply.body.into_vec(),
         },
         _ => refused(alloc, RouteRefusal::UnknownTenant),
@@ -109,6 +114,7 @@ fn bad_protobuf_reply(alloc: Global) -> Result<Reply, AllocError>
     Ok(Reply {
         status: 400,
         media: MediaType::Protobuf,
+        allow: Allow::Post,
         body: Vec::from_slice(alloc, b"\x12\x0cbad protobuf")?,
     })
 }
@@ -120,6 +126,7 @@ pub(crate) fn without_memory(alloc: Global) -> Reply
     Reply {
         status: 503,
         media: MediaType::Protobuf,
+        allow: Allow::Post,
         body: Vec::new(alloc),
     }
 }

@@ -9,7 +9,11 @@ use std::sync::{Mutex, Wait};
 /// what the library takes at once for a thread alone. They are never written, so they take addresses alone.
 const KEPT: usize = 50_331_648;
 
-/// So often that is halved at most where there is no room for it in one piece: what threads had may have left none.
+/// For so many milliseconds it is made again as a whole alone. Then half of it is enough where there is no room for
+/// more in one piece, which what threads had may not leave; after twice as long a quarter, and so on.
+const CALM: u64 = 1_024;
+
+/// So often it is halved at most.
 const HALVINGS: u32 = 4;
 
 /// Memory that is kept back for turns, answers, reports and drains: what tenants hold goes only by them. Whoever is
@@ -17,22 +21,34 @@ const HALVINGS: u32 = 4;
 #[derive(Drop)]
 pub(crate) struct Reserve {
     alloc: Global,
-    // None while it is given up.
-    block: Mutex<Option<Vec<u8>>>,
+    kept: Mutex<Kept>,
     is_there: AtomicBool,
     // How many threads were refused memory, and try again.
     wanting: AtomicUsize,
 }
 
+/// What is kept back.
+#[derive(Drop)]
+struct Kept {
+    // None while it is given up.
+    block: Option<Vec<u8>>,
+    // Since when it was tried in vain to make it again and nobody was refused memory, in milliseconds.
+    calm_since: Option<u64>,
+}
+
 impl Reserve {
-    /// As much as there is room for now.
-    pub fn new(alloc: Global) -> Result<Reserve, AllocError> {
-        Ok(Reserve {
+    /// All of it is there, if there is room.
+    pub fn new(alloc: Global) -> Reserve {
+        let block = Vec::with_capacity(alloc, KEPT).ok();
+        Reserve {
             alloc,
-            block: Mutex::new(Some(block(alloc)?)),
-            is_there: AtomicBool::new(true),
+            is_there: AtomicBool::new(block.is_some()),
+            kept: Mutex::new(Kept {
+                block,
+                calm_since: None,
+            }),
             wanting: AtomicUsize::new(0),
-        })
+        }
     }
 
     /// Whether nobody has needed it since it was last made.
@@ -40,20 +56,22 @@ impl Reserve {
         self.is_there.load(Ordering::SeqCst)
     }
 
-    /// Whether it is there, once it was made again if that may be: where nobody is refused memory, and there is some.
-    /// For turners, so that it is of memory that they can get.
-    pub fn is_restored<R: Wait>(&self, rt: &R) -> bool {
-        self.is_there() || self.restore(rt)
+    /// Whether it is there at this moment, in milliseconds, once it was made again if that may be: where nobody is
+    /// refused memory, and there is some. For turners, so that it is of memory that they can get.
+    pub fn is_restored<R: Wait>(&self, rt: &R, now: u64) -> bool {
+        self.is_there() || self.restore(rt, now)
     }
 
-    fn restore<R: Wait>(&self, rt: &R) -> bool {
-        let mut kept = self.block.lock(rt);
+    fn restore<R: Wait>(&self, rt: &R, now: u64) -> bool {
+        let mut kept = self.kept.lock(rt);
         if self.wanting.load(Ordering::SeqCst) != 0 {
             return false;
         }
-        if kept.is_none() {
-            match block(self.alloc) {
-                Ok(made) => *kept = Some(made),
+        if kept.block.is_none() {
+            let since = kept.calm_since.unwrap_or(now);
+            kept.calm_since = Some(since);
+            match Vec::with_capacity(self.alloc, enough_after(now.saturating_sub(since))) {
+                Ok(made) => kept.block = Some(made),
                 Err(AllocError) => return false,
             }
         }
@@ -63,10 +81,11 @@ impl Reserve {
 
     /// One thread more is refused memory: the reserve is given up.
     pub fn want<R: Wait>(&self, rt: &R) {
-        let mut kept = self.block.lock(rt);
+        let mut kept = self.kept.lock(rt);
         let _before = self.wanting.fetch_add(1, Ordering::SeqCst);
         self.is_there.store(false, Ordering::SeqCst);
-        *kept = None;
+        kept.block = None;
+        kept.calm_since = None;
     }
 
     /// One of these threads is refused memory no longer.
@@ -75,14 +94,8 @@ impl Reserve {
     }
 }
 
-/// A block of as many bytes as there is room for.
-fn block(alloc: Global) -> Result<Vec<u8>, AllocError> {
-    let mut size = KEPT;
-    for _ in 0..HALVINGS {
-        if let Ok(block) = Vec::with_capacity(alloc, size) {
-            return Ok(block);
-        }
-        size /= 2;
-    }
-    Vec::with_capacity(alloc, size)
+/// How many bytes are enough once nobody was refused memory for so many milliseconds.
+fn enough_after(calm: u64) -> usize {
+    let doublings = u64::BITS - (calm / CALM).leading_zeros();
+    KEPT >> doublings.min(HALVINGS)
 }

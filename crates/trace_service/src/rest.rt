@@ -108,6 +108,7 @@ impl Bells {
 #[derive(Clone, Copy)]
 enum Place<'b> {
     Nowhere,
+    Attempts,
     Shard { bell: &'b Condvar, bells: &'b Bells },
     Lane(&'b Bells),
     Start(&'b Bells),
@@ -129,6 +130,12 @@ impl<'b> Rest<'b> {
     /// That of who listens to nothing, and makes short pauses alone.
     pub fn short() -> Rest<'b> {
         Rest::at(Place::Nowhere)
+    }
+
+    /// That of who tries again where memory is refused: as long as what it tried took, so that much work that comes to
+    /// nothing doesn't keep others from the shard for most of the time.
+    pub fn of_attempts() -> Rest<'b> {
+        Rest::at(Place::Attempts)
     }
 
     /// That of who waits for the start.
@@ -162,7 +169,7 @@ impl<'b> Rest<'b> {
     pub fn look(&mut self) {
         self.is_timed = false;
         let rings = match self.place {
-            Place::Nowhere => return,
+            Place::Nowhere | Place::Attempts => return,
             Place::Shard { bell, bells: _ } => bell.notifications(),
             Place::Lane(bells) => bells.lane.notifications(),
             Place::Start(bells) => bells.start.notifications(),
@@ -180,8 +187,8 @@ impl<'b> Rest<'b> {
 
     /// Pauses: for long only where it found no work, nothing was rung since it looked, and, for a turner, nothing has
     /// happened for so long that nothing can be due. Short pauses no ring cuts off, so that many rings don't make many
-    /// turns.
-    pub fn pause<R: Wait + Clock>(&mut self, rt: &R) {
+    /// turns. What was tried since the moment was asked for, or since the last pause, took so many milliseconds.
+    pub fn pause<R: Wait + Clock>(&mut self, rt: &R, took: u64) {
         match self.place {
             Place::Shard { bell, bells } if self.is_timed && self.naps >= bells.longest_wait() => {
                 bell.sleep(rt, self.heard, share_of(bells.shards.len() as u64));
@@ -193,6 +200,7 @@ impl<'b> Rest<'b> {
             Place::Start(bells) => bells
                 .start
                 .sleep(rt, self.heard, Duration::from_millis(START_LOOK)),
+            Place::Attempts => thread::sleep(rt, Duration::from_millis(NAP.max(took))),
             _ => {
                 self.naps = self.naps.saturating_add(1);
                 thread::sleep(rt, Duration::from_millis(NAP));

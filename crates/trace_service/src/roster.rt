@@ -1,9 +1,9 @@
 //! Which tenants are present, as who reads the input knows it.
 
-ghost use Rattle.std.specs.Prelude.{◌≡◌, ◌<◌, ◌++◌, ◌∷◌, [], ◌==◌, not, filter, vec_len, vec_capacity, IfOk, IfSome, OnOk, option_map, string_bytes};
+ghost use Rattle.std.specs.Prelude.{◌≡◌, ◌<◌, ◌++◌, ◌∷◌, [], ◌==◌, not, filter, vec_len, vec_capacity, IfOk, IfSome, OnOk, map, option_map, string_bytes};
 ghost use Rattle.otlp_front.specs.Route.{names_in, number_of};
 ghost use Rattle.tail_settings.specs.Settings.{settings_view};
-ghost use Rattle.trace_service.specs.Roster.{present_in};
+ghost use Rattle.trace_service.specs.Roster.{entry_of, present_in};
 
 use std::alloc::{AllocError, Global};
 use tail_settings::Settings;
@@ -13,6 +13,20 @@ use tail_settings::Settings;
 pub(crate) struct Present {
     pub number: u32,
     pub name: String,
+}
+
+/// The tenants of settings, in the order of their numbers.
+pub(crate) fn tenants_of(alloc: Global, settings: &Settings) -> Result<Vec<Present>, AllocError>
+    ensures { IfOk result (λ tenants. map entry_of tenants.items ≡ (names_in (settings_view settings.now)).tenants) }
+{
+    let mut tenants = Vec::new(alloc);
+    'tenants: for (name, tenant) in settings.tenants.iter() {
+        tenants.push(Present {
+            number: tenant.number,
+            name: name.clone()?,
+        })?;
+    }
+    Ok(tenants)
 }
 
 /// The tenants that are present, in the order of their numbers.
@@ -35,14 +49,9 @@ impl Roster {
     pub fn of(alloc: Global, settings: &Settings) -> Result<Roster, AllocError>
         ensures { IfOk result (λ roster. present_in roster ≡ (names_in (settings_view settings.now)).tenants) }
     {
-        let mut tenants = Vec::new(alloc);
-        'tenants: for (name, tenant) in settings.tenants.iter() {
-            tenants.push(Present {
-                number: tenant.number,
-                name: name.clone()?,
-            })?;
-        }
-        Ok(Roster { tenants })
+        Ok(Roster {
+            tenants: tenants_of(alloc, settings)?,
+        })
     }
 
     /// The tenants, one after the other.

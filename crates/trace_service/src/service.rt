@@ -25,7 +25,8 @@ use crate::documents::Documents;
 use crate::entrance::Entrance;
 use crate::in_force::InForce;
 use crate::naming::Naming;
-use crate::options::ServiceOptions;
+use crate::office::office_of;
+use crate::options::{Outside, ServiceOptions};
 use crate::reports::write_audit;
 use crate::roster::Roster;
 use crate::shared::{Shared, Staff};
@@ -91,43 +92,47 @@ impl From<HubFault> for ServiceFault {
 }
 
 /// Serves until the input ends and all tenants have sent what they held: as many receivers and senders as the options
-/// say, or else the settings, a turner for each shard, and one lane. A line `report NAME` of the input prints that
-/// tenant's counters, `add PATH` lets a tenant come whose document is in a file, and `retire NAME` lets one go once it
-/// has sent what it held. All reports are printed at the end; with an audit also how many entries each shard's log has.
-/// What can't be written to the output is lost, and the service goes on: it says at its end how many answers were.
-/// After a fault of the input it ends as it does at the input's end, and then says so. The observer is told of its
-/// course, and of lines that ask for nothing.
-pub fn run_service<R, I, O, L>(
+/// say, or else the settings, a turner for each shard, and one lane. Where it is looked after, eight more threads
+/// answer whoever does. A line `report NAME` of the input prints that tenant's counters, `add PATH` lets a tenant come
+/// whose document is in a file, and `retire NAME` lets one go once it has sent what it held. All reports are printed at
+/// the end; with an audit also how many entries each shard's log has. What can't be written to the output is lost, and
+/// the service goes on: it says at its end how many answers were. After a fault of the input it ends as it does at the
+/// input's end, and then says so. The observer is told of its course, and of lines that ask for nothing.
+pub fn run_service<R, D, I, O, L>(
     rt: &R,
     alloc: Global,
     settings: Settings,
-    listener: &TcpListener,
+    outside: &Outside<'_, D>,
     input: &mut I,
     output: &mut O,
     observer: &mut L,
     options: ServiceOptions,
 ) -> Result<u64, ServiceFault>
 where
-    R: Net<Listener = TcpListener, Stream = TcpStream> + Threads + Wait + Clock + Documents + Sync,
+    R: Net<Listener = TcpListener, Stream = TcpStream> + Threads + Wait + Clock + Sync,
+    D: Documents,
     I: BufRead,
     O: Write,
     L: Observer,
-    ensures { IfOk result (IsServed R.reads (settings_view settings) options.audit (I.remaining input.old)
+    ensures { IfOk result (IsServed D.reads (settings_view settings) options.audit (I.remaining input.old)
         (O.contents output.old) (O.contents output.new)) }
 {
     let global = &settings.global;
-    let staff = Staff::of(global, &options);
-    let workers = global.shards as usize + staff.senders as usize + staff.receivers as usize;
+    let staff = Staff::of(global, &options, outside.admin.is_some());
+    let workers = global.shards as usize
+        + staff.senders as usize
+        + staff.receivers as usize
+        + staff.admins as usize;
     let ServiceOptions { audit, keys, .. } = options;
     // Who reads the input has a caller too, and no seat.
     let (hub, keeper, callers) = SharedHub::open(rt, alloc, &settings, workers + 1, audit, keys)?;
     let (lane, lane_keeper, seats) = Lane::open(alloc, global.lane_size as usize, workers)?;
-    run_named::<Brand, R, I, O, L>(
+    run_named::<Brand, R, D, I, O, L>(
         rt,
         alloc,
         settings,
         staff,
-        listener,
+        outside,
         hub,
         keeper,
         callers,
@@ -142,12 +147,12 @@ where
 }
 
 /// The same, with a hub, a lane and settings that have a name.
-fn run_named<J, R, I, O, L>(
+fn run_named<J, R, D, I, O, L>(
     rt: &R,
     alloc: Global,
     settings: Settings,
     staff: Staff,
-    listener: &TcpListener,
+    outside: &Outside<'_, D>,
     hub: SharedHub,
     keeper: HubKeeper,
     callers: Vec<Caller>,
@@ -161,7 +166,8 @@ fn run_named<J, R, I, O, L>(
 ) -> Result<u64, ServiceFault>
 where
     J: Naming + Send + Sync,
-    R: Net<Listener = TcpListener, Stream = TcpStream> + Threads + Wait + Clock + Documents + Sync,
+    R: Net<Listener = TcpListener, Stream = TcpStream> + Threads + Wait + Clock + Sync,
+    D: Documents,
     I: BufRead,
     O: Write,
     L: Observer,
@@ -182,13 +188,13 @@ where
     requires new { All (λ c. c ≡ J.fresh) callers.items }
     requires shards { length J.slots ≡ settings.global.shards }
     requires enough { vec_len callers ≡ 1 + vec_len seats }
-    ensures { IfOk result (IsServed R.reads (settings_view settings) audit (I.remaining input.old)
+    ensures { IfOk result (IsServed D.reads (settings_view settings) audit (I.remaining input.old)
         (O.contents output.old) (O.contents output.new)) }
 {
     let roster = Roster::of(alloc, &settings)?;
     let in_force = Mutex::new(InForce::<J>::new(settings));
-    let (callers, seats, ended) = at_work::<J, R, I, O, L>(
-        rt, alloc, &in_force, roster, staff, listener, &hub, callers, &lane, seats, input, output,
+    let (callers, seats, ended) = at_work::<J, R, D, I, O, L>(
+        rt, alloc, &in_force, roster, staff, outside, &hub, callers, &lane, seats, input, output,
         observer,
     )?;
     observer.observe(Stage::Ended);
@@ -223,13 +229,13 @@ fn end_hub<R: Wait>(
 }
 
 /// All threads' work, to its end: the callers, the seats, and how many answers were lost, or how the input failed.
-fn at_work<J, R, I, O, L>(
+fn at_work<J, R, D, I, O, L>(
     rt: &R,
     alloc: Global,
     settings: &Mutex<InForce<J>>,
     roster: Roster,
     staff: Staff,
-    listener: &TcpListener,
+    outside: &Outside<'_, D>,
     hub: &SharedHub,
     callers: Vec<Caller>,
     lane: &Lane,
@@ -240,7 +246,8 @@ fn at_work<J, R, I, O, L>(
 ) -> Result<(Vec<Caller>, Vec<LaneSeat>, Result<u64, ServiceFault>), ServiceFault>
 where
     J: Naming + Send + Sync,
-    R: Net<Listener = TcpListener, Stream = TcpStream> + Threads + Wait + Clock + Documents + Sync,
+    R: Net<Listener = TcpListener, Stream = TcpStream> + Threads + Wait + Clock + Sync,
+    D: Documents,
     I: BufRead,
     O: Write,
     L: Observer,
@@ -256,26 +263,26 @@ where
     ensures same_lane { IfOk result (λ r. All (λ s. s.lane ≡ J.lane) r.1.items) }
     ensures all_seats { IfOk result (λ r. vec_len r.1 ≡ vec_len seats) }
     ensures threads { IfOk result (λ r. AreThreads (length J.slots) J.fresh r.0.items r.1.items) }
-    ensures course { IfOk result (λ r. IfOk r.2 (λ lost. IsCourse R.reads J.first (present_in roster)
+    ensures course { IfOk result (λ r. IfOk r.2 (λ lost. IsCourse D.reads J.first (present_in roster)
         (length J.slots) (I.remaining input.old) J.fresh (O.contents output.old, 0) r.0.items
         (O.contents output.new, lost))) }
 {
     let longest_wait = settings.lock(rt).longest_wait();
     let signals = Signals::new(alloc, hub.shards(), staff.senders, longest_wait)?;
-    sharing::<J, R, I, O, L>(
-        rt, alloc, settings, roster, staff, listener, hub, lane, &signals, callers, seats, input,
+    sharing::<J, R, D, I, O, L>(
+        rt, alloc, settings, roster, staff, outside, hub, lane, &signals, callers, seats, input,
         output, observer,
     )
 }
 
 /// The same, with all that is shared lent for one time.
-fn sharing<'h, J, R, I, O, L>(
+fn sharing<'h, J, R, D, I, O, L>(
     rt: &'h R,
     alloc: Global,
     settings: &'h Mutex<InForce<J>>,
     roster: Roster,
     staff: Staff,
-    listener: &'h TcpListener,
+    outside: &'h Outside<'h, D>,
     hub: &'h SharedHub,
     lane: &'h Lane,
     signals: &'h Signals,
@@ -287,7 +294,8 @@ fn sharing<'h, J, R, I, O, L>(
 ) -> Result<(Vec<Caller>, Vec<LaneSeat>, Result<u64, ServiceFault>), ServiceFault>
 where
     J: Naming + Send + Sync,
-    R: Net<Listener = TcpListener, Stream = TcpStream> + Threads + Wait + Clock + Documents + Sync,
+    R: Net<Listener = TcpListener, Stream = TcpStream> + Threads + Wait + Clock + Sync,
+    D: Documents,
     I: BufRead,
     O: Write,
     L: Observer,
@@ -303,7 +311,7 @@ where
     ensures same_lane { IfOk result (λ r. All (λ s. s.lane ≡ J.lane) r.1.items) }
     ensures all_seats { IfOk result (λ r. vec_len r.1 ≡ vec_len seats) }
     ensures threads { IfOk result (λ r. AreThreads (length J.slots) J.fresh r.0.items r.1.items) }
-    ensures course { IfOk result (λ r. IfOk r.2 (λ lost. IsCourse R.reads J.first (present_in roster)
+    ensures course { IfOk result (λ r. IfOk r.2 (λ lost. IsCourse D.reads J.first (present_in roster)
         (length J.slots) (I.remaining input.old) J.fresh (O.contents output.old, 0) r.0.items
         (O.contents output.new, lost))) }
 {
@@ -315,16 +323,27 @@ where
         staff,
         hub,
         lane,
-        entrance: Entrance::new(listener, staff.patience),
+        entrance: Entrance::new(outside.listener, staff.patience),
+        office: office_of(outside.admin),
         beat: ServiceBeat::new(rt, signals, start),
         threads: callers.len(),
     };
-    work_on(&shared, roster, callers, seats, input, output, observer)
+    work_on(
+        &shared,
+        outside.documents,
+        roster,
+        callers,
+        seats,
+        input,
+        output,
+        observer,
+    )
 }
 
 /// The same, with what is shared.
-fn work_on<'h, J, R, I, O, L>(
+fn work_on<'h, J, R, D, I, O, L>(
     shared: &Shared<'h, J, R>,
+    documents: &'h D,
     roster: Roster,
     mut callers: Vec<Caller>,
     seats: Vec<LaneSeat>,
@@ -334,7 +353,8 @@ fn work_on<'h, J, R, I, O, L>(
 ) -> Result<(Vec<Caller>, Vec<LaneSeat>, Result<u64, ServiceFault>), ServiceFault>
 where
     J: Naming + Send + Sync,
-    R: Net<Listener = TcpListener, Stream = TcpStream> + Threads + Wait + Clock + Documents + Sync,
+    R: Net<Listener = TcpListener, Stream = TcpStream> + Threads + Wait + Clock + Sync,
+    D: Documents,
     I: BufRead,
     O: Write,
     L: Observer,
@@ -350,7 +370,7 @@ where
     ensures same_lane { IfOk result (λ r. All (λ s. s.lane ≡ J.lane) r.1.items) }
     ensures all_seats { IfOk result (λ r. vec_len r.1 ≡ vec_len seats) }
     ensures threads { IfOk result (λ r. AreThreads (length J.slots) J.fresh r.0.items r.1.items) }
-    ensures course { IfOk result (λ r. IfOk r.2 (λ lost. IsCourse R.reads J.first (present_in roster)
+    ensures course { IfOk result (λ r. IfOk r.2 (λ lost. IsCourse D.reads J.first (present_in roster)
         (length J.slots) (I.remaining input.old) J.fresh (O.contents output.old, 0) r.0.items
         (O.contents output.new, lost))) }
 {
@@ -364,7 +384,9 @@ where
         alloc: shared.alloc,
         settings: shared.settings,
         roster,
+        documents,
         listener: shared.entrance.listener(),
+        office: shared.office_listener(),
         context: shared.context(own, 0),
         beat: shared.beat.of_chores(),
     };
@@ -383,24 +405,25 @@ where
 }
 
 /// The workers' work, with that of who reads the input beside it: how many answers were lost, or how the input failed.
-fn all_work<'h, J, R, I, O, L>(
+fn all_work<'h, J, R, D, I, O, L>(
     shared: &Shared<'h, J, R>,
     workers: &mut [Worker<'h, J, R>],
-    control: &mut Control<'h, J, R>,
+    control: &mut Control<'h, J, R, D>,
     input: &mut I,
     output: &mut O,
     observer: &mut L,
 ) -> Result<u64, ServiceFault>
 where
     J: Naming + Send + Sync,
-    R: Net<Listener = TcpListener, Stream = TcpStream> + Threads + Wait + Clock + Documents + Sync,
+    R: Net<Listener = TcpListener, Stream = TcpStream> + Threads + Wait + Clock + Sync,
+    D: Documents,
     I: BufRead,
     O: Write,
     L: Observer,
     requires lane { shared.now.lane.now.name ≡ J.lane }
     requires idle { All (λ w. (w.context.caller ≡ J.fresh) × (w.seat ≡ new_seat J.lane)) workers.old }
     ensures did { All (λ w. IsThread (length J.slots) J.fresh w.context.caller w.seat) workers.new }
-    ensures directed { IfOk result (λ lost. IsDirected R.reads J.first (present_in control.old.roster)
+    ensures directed { IfOk result (λ lost. IsDirected D.reads J.first (present_in control.old.roster)
         (length control.old.context.hub.now) (I.remaining input.old) control.old.context.caller control.old.beat.last
         (O.contents output.old, 0) control.new.context.caller control.new.beat.last (O.contents output.new, lost)) }
 {

@@ -54,6 +54,7 @@ impl<'h, R: Wait> Teller<'h, R> {
         match turned {
             TurnResult::Job(_) => {
                 self.gave = true;
+                self.signals.tally().begin_job();
                 if let Some(pace) = self.signals.paces().shard(shard) {
                     pace.begin_job();
                 }
@@ -80,6 +81,7 @@ impl<'h, R: Wait> Teller<'h, R> {
 
     /// It was refused memory for what lets memory go, and is to try again: the reserve is given up for it.
     pub fn want(&mut self) {
+        self.signals.tally().refuse();
         if !self.wants {
             self.wants = true;
             self.signals.reserve().want(self.rt);

@@ -6,11 +6,14 @@ ghost use Rattle.job_lane.specs.Lane.{new_seat};
 ghost use Rattle.trace_service.specs.Jobs.{IsThread};
 
 use crate::beat::ServiceBeat;
+use crate::clerk::{Clerk, serve_all};
 use crate::context::WorkerContext;
+use crate::counted::Counted;
 use crate::entrance::Entrance;
 use crate::in_force::BackEnds;
 use crate::lingering::linger;
 use crate::naming::Naming;
+use crate::patient::PatientBackEnd;
 use crate::receiving::{Reception, receive_all};
 use crate::shared::Shared;
 use crate::visit::{Client, Visit};
@@ -34,6 +37,8 @@ pub(crate) enum Role {
     Turner,
     /// Sends jobs.
     Sender,
+    /// Serves connections of whoever looks after the service, one after another.
+    Admin,
     /// Serves connections, one after another.
     Receiver,
 }
@@ -44,7 +49,7 @@ pub(crate) struct Worker<'h, J: Naming, R> {
     role: Role,
     context: WorkerContext<'h, J, R>,
     seat: LaneSeat,
-    /// What a receiver's connections are read into.
+    /// What connections are read into.
     buffer: Vec<u8>,
     ghost seated: { seat.lane ≡ J.lane },
 }
@@ -141,9 +146,12 @@ where
             let back_ends = BackEnds {
                 rt: shared.rt,
                 settings: shared.settings,
+                tally: shared.beat.signals().tally(),
             };
             let limit = shared.staff.back_end_timeout;
-            let mut back_end = TcpBackEnd::new(shared.rt, shared.alloc, back_ends, limit);
+            let over_tcp = TcpBackEnd::new(shared.rt, shared.alloc, back_ends, limit);
+            let signals = worker.context.signals();
+            let mut back_end = PatientBackEnd::new(shared.rt, shared.alloc, signals, over_tcp);
             run_sender(
                 shared.rt,
                 shared.lane,
@@ -153,6 +161,7 @@ where
                 &mut beat,
             );
         }
+        Role::Admin => look_after(shared, worker),
         Role::Receiver => receive_all(
             shared.rt,
             &shared.entrance,
@@ -160,6 +169,26 @@ where
             &mut worker.buffer,
         ),
     }
+}
+
+/// Serves those that look after the service, where anybody may.
+fn look_after<'h, J, R>(shared: &Shared<'h, J, R>, worker: &mut Worker<'h, J, R>)
+where
+    J: Naming,
+    R: Net<Listener = TcpListener, Stream = TcpStream> + Threads + Wait + Clock + Sync,
+    ensures { worker.new.seat ≡ worker.old.seat }
+{
+    let Some(office) = &shared.office else {
+        return;
+    };
+    let mut clerk = Clerk {
+        context: &mut worker.context,
+        port: office.port,
+        staff: shared.staff,
+        lane_capacity: shared.lane.capacity(),
+    };
+    let buffer = &mut worker.buffer;
+    serve_all(shared.rt, &office.entrance, &mut clerk, buffer);
 }
 
 /// Says that this thread is there, and waits for the others. False where ten seconds pass in which none comes, or the
@@ -225,11 +254,14 @@ impl<'h, J: Naming, R: Wait + Clock> Reception for WorkerContext<'h, J, R> {
     /// Its faults are nobody's but its own: a connection that failed is given up, and what was posted over it stands.
     fn serve<T: Threads + Sync>(&mut self, rt: &T, guest: Client, buffer: &mut Vec<u8>) {
         let mut beat = self.beat();
-        let mut line = StreamLine::new(Visit::new(self.rt(), &guest));
+        let tally = self.signals().tally();
+        tally.begin_connection();
+        let mut line = StreamLine::new(Counted::new(Visit::new(self.rt(), &guest), tally));
         match serve(rt, self.alloc(), &mut line, self, buffer) {
             Ok(()) | Err(EdgeFault::OutOfMemory) => linger(&guest.stream, &mut beat),
             Err(_) => {}
         }
+        tally.end_connection();
     }
 
     fn pause(&mut self) {

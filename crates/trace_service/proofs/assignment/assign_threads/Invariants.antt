@@ -11,7 +11,7 @@ invariant-loop-caller g l = record {
   new : All (λ c. c ≡ g.J.Naming.fresh) l.callers.items;
   enough : vec_len l.callers ≤ vec_len l.seats;
   count : vec_len l.workers + vec_len l.callers ≡ vec_len l.fn.callers;
-  workers : map (λ w. (w.role, w.context.shard)) l.workers.items ≡ places l.shards l.senders (vec_len l.workers);
+  workers : map (λ w. (w.role, w.context.shard)) l.workers.items ≡ places l.shards l.senders l.admins (vec_len l.workers);
   idle : All (λ w. (w.context.caller ≡ g.J.Naming.fresh) × (w.seat ≡ new_seat g.J.Naming.lane)) l.workers.items;
 }
 

@@ -35,7 +35,7 @@ returns g c =
       opened = c.requires.opened;
       callers = callers;
       text = text before;
-      course = course_told g.R.Documents.reads c.in_ok-callers.ended before g.J.Naming.first table (present_in c.in_ok-roster.roster) (names_in table).tenants (length slots) table.global.shards
+      course = course_told g.D.Documents.reads c.in_ok-callers.ended before g.J.Naming.first table (present_in c.in_ok-roster.roster) (names_in table).tenants (length slots) table.global.shards
           (g.I.Read.remaining c.args.input.now) (g.O.Write.contents c.args.output.now) written g.J.Naming.fresh (new_caller slots homes) callers
           c.in_ok-ended.was (sym c.requires.first) c.in_ok-roster.ensures c.requires.shards c.requires.fresh c.in_ok-callers.ensures.course;
       shards = shards;

@@ -29,7 +29,7 @@ returns-clause-course g c =
     let P : CallerState → Type 0 = λ x. x ≡ g.J.Naming.fresh in
     let new : c.in-Some.own ≡ g.J.Naming.fresh =
     (All-pop P c.args.callers.items c.pop.new.self.items (Some c.in-Some.own) c.in-Some.ensures.items c.requires.new).1 in
-    course_from g.R.Documents.reads c.all_work-ended.result g.J.Naming.first (present_in c.args.roster) (length c.context.result.hub.now)
+    course_from g.D.Documents.reads c.all_work-ended.result g.J.Naming.first (present_in c.args.roster) (length c.context.result.hub.now)
     (length g.J.Naming.slots) (g.I.Read.remaining c.args.input.now) (g.O.Write.contents c.args.output.now)
     (g.O.Write.contents c.all_work-ended.new.output) c.context.result.caller g.J.Naming.fresh
     c.all_work-ended.new.control.context.caller _ _ _ (ap length (c.context.ensures.hub ∙ c.requires.hub))

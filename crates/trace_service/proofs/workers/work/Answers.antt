@@ -22,3 +22,6 @@ returns-in-Sender g c =
 
 pub returns-in-Receiver : goal.returns-in-Receiver
 returns-in-Receiver g c = nothing_done (length g.J.Naming.slots) g.J.Naming.lane g.J.Naming.fresh _ c.args.worker.now.seat _ c.requires.new refl
+
+pub returns-in-Admin : goal.returns-in-Admin
+returns-in-Admin g c = nothing_done (length g.J.Naming.slots) g.J.Naming.lane g.J.Naming.fresh _ c.args.worker.now.seat _ c.requires.new c.look_after.ensures

@@ -9,7 +9,7 @@ returns g c =
     let drained = c.drain_all.ensures in
     let waited = c.await_empty.ensures in
     let hub = drained.hub ∙ heard.hub in
-    directed g.R.Documents.reads c.read_commands-heard.result _ g.J.Naming.first (length c.args.self.now.context.hub.now) (present_in c.args.self.now.roster)
+    directed g.D.Documents.reads c.read_commands-heard.result _ g.J.Naming.first (length c.args.self.now.context.hub.now) (present_in c.args.self.now.roster)
     c.read_commands-heard.new.roster.tenants.items _ _
     (g.O.Write.contents c.read_commands-heard.new.output, c.read_commands-heard.new.lost) _
     _ c.read_commands-heard.new.self.context.caller c.drain_all.new.self.context.caller _

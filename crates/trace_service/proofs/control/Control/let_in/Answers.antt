@@ -7,20 +7,20 @@ use Rattle.trace_service.proofs.control.Control.let_in.Goals as goal
 pub returns-in_err-text-clause-not_added : goal.returns-in_err-text-clause-not_added
 returns-in_err-text-clause-not_added g c =
     let p = err_from_is_err_and c.from_residual.result c.from_residual.ensures.1 in
-    rw (p.1, p.2) (not_heard g.R.Documents.reads g.J.Naming.first (length c.args.self.now.context.hub.now) c.args.path.now
+    rw (p.1, p.2) (not_heard g.D.Documents.reads g.J.Naming.first (length c.args.self.now.context.hub.now) c.args.path.now
     (present_in c.args.roster.now) c.args.self.now.context.caller _ c.in_err-text.ensures.unread)
 
 pub returns-in_err-reserve-clause-not_added : goal.returns-in_err-reserve-clause-not_added
 returns-in_err-reserve-clause-not_added g c =
     let p = err_from_is_err_and c.from_residual-in_err-reserve.result c.from_residual-in_err-reserve.ensures.1 in
-    rw (p.1, c.reserve.ensures.same) (without_room g.R.Documents.reads g.J.Naming.first (length c.args.self.now.context.hub.now)
+    rw (p.1, c.reserve.ensures.same) (without_room g.D.Documents.reads g.J.Naming.first (length c.args.self.now.context.hub.now)
     c.args.path.now (present_in c.args.roster.now) c.args.self.now.context.caller (string_bytes c.in_ok-text.text) p.0
     c.in_ok-text.ensures.text p.2)
 
 pub returns-in_err-newcomer-clause-not_added : goal.returns-in_err-newcomer-clause-not_added
 returns-in_err-newcomer-clause-not_added g c =
     let p = err_from_is_err_and c.from_residual-in_err-newcomer.result c.from_residual-in_err-newcomer.ensures.1 in
-    rw (p.1, c.reserve.ensures.same) (not_let_in g.R.Documents.reads g.J.Naming.first (length c.args.self.now.context.hub.now)
+    rw (p.1, c.reserve.ensures.same) (not_let_in g.D.Documents.reads g.J.Naming.first (length c.args.self.now.context.hub.now)
     c.args.path.now (present_in c.args.roster.now) c.args.self.now.context.caller (string_bytes c.in_ok-text.text) _ p.0 p.2
     c.in_ok-text.ensures.text (rw c.as_str.ensures.value at c.in_err-newcomer.ensures.fault))
 
@@ -28,7 +28,7 @@ pub returns-clause-added : goal.returns-clause-added
 returns-clause-added g c =
     let came = rw c.as_str.ensures.value at c.in_ok-newcomer.ensures.on_success in
     IfOk-weaker c.join.result _ _
-    (λ line joined. joins g.R.Documents.reads g.J.Naming.first (length c.args.self.now.context.hub.now) c.args.path.now
+    (λ line joined. joins g.D.Documents.reads g.J.Naming.first (length c.args.self.now.context.hub.now) c.args.path.now
     (present_in c.args.roster.now) c.args.self.now.context.caller (string_bytes c.in_ok-text.text) came.0 c.in_ok-newcomer.newcomer
     (present_in c.join.new.roster) c.join.new.self.context.caller line.items c.in_ok-text.ensures.text came.1 came.2 joined)
     (rw c.reserve.ensures.same at c.join.ensures.joined)
@@ -37,7 +37,7 @@ pub returns-clause-not_added : goal.returns-clause-not_added
 returns-clause-not_added g c =
     let came = rw c.as_str.ensures.value at c.in_ok-newcomer.ensures.on_success in
     IfErr-weaker c.join.result _ _
-    (λ why out. joins_not g.R.Documents.reads g.J.Naming.first (length c.args.self.now.context.hub.now) c.args.path.now
+    (λ why out. joins_not g.D.Documents.reads g.J.Naming.first (length c.args.self.now.context.hub.now) c.args.path.now
     (present_in c.args.roster.now) c.args.self.now.context.caller (string_bytes c.in_ok-text.text) came.0 c.in_ok-newcomer.newcomer
     (present_in c.join.new.roster) c.join.new.self.context.caller why c.in_ok-text.ensures.text came.1 came.2 out.0 out.1)
     (rw c.reserve.ensures.same at c.join.ensures.not_joined)

@@ -3,6 +3,3 @@ use Rattle.trace_service.proofs.workers.WorkerContextReception.serve.Goals as go
 
 pub returns : goal.returns
 returns g c = talked _ _ _ _ _ c.serve.result c.serve.ensures.talk c.serve.ensures.fault
-
-pub returns-in-Ok : goal.returns-in-Ok
-returns-in-Ok g c = talked _ _ _ _ _ c.serve.result c.serve.ensures.talk c.serve.ensures.fault

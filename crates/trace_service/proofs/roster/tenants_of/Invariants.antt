@@ -2,7 +2,7 @@ use Rattle.std.proofs.Common.{◌≡◌, ◌++◌, map}
 use Rattle.otlp_front.specs.Route.{names_in}
 use Rattle.tail_settings.specs.Settings.{settings_view, tenant_view}
 use Rattle.trace_service.specs.Roster.{entry_of}
-use Rattle.trace_service.proofs.roster.Roster.of.Given as goal
+use Rattle.trace_service.proofs.roster.tenants_of.Given as goal
 
 abbrev pub invariant-tenants : goal.invariant-tenants
 invariant-tenants l = record {

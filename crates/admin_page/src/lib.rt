@@ -1,0 +1,6 @@
+//! The page by which one looks at a service.
+#![tactic(auto)]
+
+mod page;
+
+pub use crate::page::PAGE;

@@ -1,0 +1,5 @@
+pub mod Field
+pub mod Joined
+pub mod Numbers
+pub mod Pieces
+pub mod Read

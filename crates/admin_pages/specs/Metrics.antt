@@ -1,0 +1,70 @@
+-- Figures as a scraper reads them: Prometheus' text format 0.0.4.
+use Rattle.std.specs.Prelude.{ℕ, ◌==◌, List, [], ◌∷◌, ◌++◌, flat_map, if◌then◌else◌, codes, decimal}
+use Rattle.admin_pages.specs.Counter.{all_counters, value_of, metric_of, help_of, kind_of, kind_word}
+use Rattle.admin_pages.specs.Figures.{TenantData}
+use Rattle.admin_pages.specs.declared.counter.MetricKind.{MetricKind}
+use Rattle.admin_pages.specs.declared.counter.SpanCounter.{SpanCounter}
+use Rattle.admin_pages.specs.declared.metrics.Sample.{Sample}
+
+-- a byte of a label's value: the backslash, the double quote and the line feed stand behind a backslash
+abbrev pub label_byte : ℕ → List ℕ
+label_byte byte =
+    if byte == 92 then 92 ∷ 92 ∷ []
+    else if byte == 34 then 92 ∷ 34 ∷ []
+    else if byte == 10 then 92 ∷ 110 ∷ [] else byte ∷ []
+
+-- a label's value
+abbrev pub label_text : List ℕ → List ℕ
+label_text value = flat_map label_byte value
+
+-- the lines that say what the family of a name is: its help, and its type
+abbrev pub head_text : List ℕ → List ℕ → MetricKind → List ℕ
+head_text name help kind =
+    codes "# HELP " ++ name ++ codes " " ++ help ++ codes "\n# TYPE " ++ name ++ codes " " ++ kind_word kind ++ codes "\n"
+
+-- a sample of a family without labels
+abbrev pub sample_text : List ℕ → ℕ → List ℕ
+sample_text name value = name ++ codes " " ++ decimal value ++ codes "\n"
+
+-- a sample under one label
+abbrev pub labelled_text : List ℕ → List ℕ → List ℕ → ℕ → List ℕ
+labelled_text name label labelled value =
+    name ++ codes "{" ++ label ++ codes "=\"" ++ label_text labelled ++ codes "\"} " ++ decimal value ++ codes "\n"
+
+-- a family of one sample
+abbrev pub measure_text : List ℕ → List ℕ → MetricKind → ℕ → List ℕ
+measure_text name help kind value = head_text name help kind ++ sample_text name value
+
+-- a figure under one value of a label
+abbrev pub sample_of : Sample → List ℕ × ℕ
+sample_of sample = (sample.labelled.now, sample.value)
+
+-- samples under one label
+abbrev pub labels_text : List ℕ → List ℕ → List (List ℕ × ℕ) → List ℕ
+labels_text name label [] = []
+labels_text name label (sample ∷ samples) = labelled_text name label sample.0 sample.1 ++ labels_text name label samples
+
+-- a family of samples under one label
+abbrev pub measures_text : List ℕ → List ℕ → MetricKind → List ℕ → List (List ℕ × ℕ) → List ℕ
+measures_text name help kind label samples = head_text name help kind ++ labels_text name label samples
+
+-- one counter of these tenants, each under its name
+abbrev pub samples_text : SpanCounter → List TenantData → List ℕ
+samples_text counter [] = []
+samples_text counter (tenant ∷ tenants) =
+    labelled_text (metric_of counter) (codes "tenant") tenant.name (value_of counter tenant.ledger)
+    ++ samples_text counter tenants
+
+-- the family of one counter
+abbrev pub family_text : List TenantData → SpanCounter → List ℕ
+family_text tenants counter =
+    head_text (metric_of counter) (help_of counter) (kind_of counter) ++ samples_text counter tenants
+
+-- the families of these counters
+abbrev pub families_text : List TenantData → List SpanCounter → List ℕ
+families_text tenants [] = []
+families_text tenants (counter ∷ counters) = family_text tenants counter ++ families_text tenants counters
+
+-- all counters of all tenants
+abbrev pub tenants_text : List TenantData → List ℕ
+tenants_text tenants = families_text tenants all_counters

@@ -1,0 +1,106 @@
+-- Figures of a whole service for a scraper. Names and types are by the conventions of Prometheus and of OpenMetrics 1.0
+-- (a counter ends in `_total`, and a figure with a unit has it in its name), and the Collector's for its process where
+-- it measures the same.
+use Rattle.std.specs.Prelude.{ℕ, List, [], ◌∷◌, ◌++◌, Option, Some, None, if◌then◌else◌, codes}
+use Rattle.admin_pages.specs.Metrics.{measure_text, measures_text}
+use Rattle.admin_pages.specs.declared.counter.MetricKind.{MetricKind}
+use Rattle.admin_pages.specs.declared.counter.MetricKind.TheVariants.{Counter, Gauge}
+use Rattle.admin_pages.specs.declared.service.Measure.{Measure}
+use Rattle.admin_pages.specs.declared.service.ServiceFigures.{ServiceFigures}
+use Rattle.admin_pages.specs.declared.service.StatusCounts.{StatusCounts}
+
+-- a family of one sample: its name, its help, its kind, and its figure
+pub record MeasureData : Type 0 where
+  pub name : List ℕ
+  pub help : List ℕ
+  pub kind : MetricKind
+  pub value : ℕ
+
+-- the one that the code's value stands for
+abbrev pub measure_view : Measure → MeasureData
+measure_view m = record { name = m.name.now; help = m.help.now; kind = m.kind; value = m.value }
+
+-- a figure that goes up and down
+abbrev pub gauge : List ℕ → List ℕ → ℕ → MeasureData
+gauge name help value = record { name = name; help = help; kind = Gauge; value = value }
+
+-- a figure that only grows
+abbrev pub counter : List ℕ → List ℕ → ℕ → MeasureData
+counter name help value = record { name = name; help = help; kind = Counter; value = value }
+
+-- such families, one after the other
+abbrev pub families_of : List MeasureData → List ℕ
+families_of [] = []
+families_of (m ∷ ms) = measure_text m.name m.help m.kind m.value ++ families_of ms
+
+-- how the service stands
+abbrev pub standing_of : ServiceFigures → List MeasureData
+standing_of f =
+    counter (codes "otelcol_process_uptime_seconds_total") (codes "Seconds since the start") f.uptime
+    ∷ gauge (codes "nimchaes_tenants") (codes "Tenants that are present") f.tenants
+    ∷ gauge (codes "nimchaes_draining") (codes "Whether no more spans are taken") (if f.is_draining then 1 else 0)
+    ∷ counter (codes "nimchaes_memory_refusals_total")
+    (codes "Attempts of posts, turns, answers and lines of the input that were refused memory") f.counts.memory_refusals
+    ∷ []
+
+-- how batches leave it
+abbrev pub sending_of : ServiceFigures → List MeasureData
+sending_of f =
+    gauge (codes "nimchaes_lane_jobs") (codes "Batches that wait for a sender") f.counts.lane_jobs
+    ∷ gauge (codes "nimchaes_lane_capacity") (codes "Batches for which there is room before senders") f.lane_capacity
+    ∷ gauge (codes "nimchaes_senders") (codes "Senders that there are") f.senders
+    ∷ gauge (codes "nimchaes_senders_busy") (codes "Senders that have a batch") f.counts.senders_busy
+    ∷ counter (codes "nimchaes_retries_total")
+    (codes "Answers after which a batch is sent again unless it was tried for too long") f.counts.retries
+    ∷ []
+
+-- how bodies come to it
+abbrev pub receiving_of : ServiceFigures → List MeasureData
+receiving_of f =
+    gauge (codes "nimchaes_receivers") (codes "Receivers that there are") f.receivers
+    ∷ gauge (codes "nimchaes_connections_open") (codes "Connections that have a receiver") f.counts.connections_open
+    ∷ counter (codes "nimchaes_connections_total") (codes "Connections that have or had a receiver") f.counts.connections
+    ∷ counter (codes "nimchaes_received_bytes_total") (codes "Bytes that were read from clients") f.counts.received_bytes
+    ∷ counter (codes "nimchaes_sent_bytes_total") (codes "Bytes that were written to clients") f.counts.sent_bytes
+    ∷ []
+
+-- the memory that the process has, where that is known
+abbrev pub memory_text : Option ℕ → List ℕ
+memory_text (Some bytes) =
+    measure_text (codes "otelcol_process_memory_rss_bytes") (codes "Bytes of memory that the process has") Gauge bytes
+memory_text None = []
+
+-- a figure for each class of HTTP's statuses
+abbrev pub classes_of : StatusCounts → List (List ℕ × ℕ)
+classes_of counts =
+    (codes "2xx", counts.success) ∷ (codes "4xx", counts.client_error) ∷ (codes "5xx", counts.server_error)
+    ∷ (codes "other", counts.other) ∷ []
+
+-- the same for answers of back ends, behind a figure for batches to which no whole answer came
+abbrev pub answers_of : StatusCounts → ℕ → List (List ℕ × ℕ)
+answers_of counts failed = (codes "none", failed) ∷ classes_of counts
+
+-- what is told of the version that runs
+abbrev pub build_text : List ℕ → List ℕ
+build_text version =
+    measures_text (codes "nimchaes_build_info") (codes "The version that runs") Gauge (codes "version")
+    ((version, 1) ∷ [])
+
+-- the requests that were answered, by their statuses
+abbrev pub requests_text : StatusCounts → List ℕ
+requests_text counts =
+    measures_text (codes "nimchaes_requests_total") (codes "Requests that were answered by their status") Counter
+    (codes "class") (classes_of counts)
+
+-- the answers of back ends, by their statuses
+abbrev pub answers_text : StatusCounts → ℕ → List ℕ
+answers_text counts failed =
+    measures_text (codes "nimchaes_back_end_answers_total") (codes "Answers of back ends by their status") Counter
+    (codes "class") (answers_of counts failed)
+
+-- all figures
+unfoldable pub service_text : ServiceFigures → List ℕ
+service_text f =
+    build_text f.version.now ++ families_of (standing_of f) ++ memory_text f.resident_bytes
+    ++ families_of (receiving_of f) ++ requests_text f.counts.requests
+    ++ families_of (sending_of f) ++ answers_text f.counts.answers f.counts.failed_answers

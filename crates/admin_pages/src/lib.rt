@@ -1,0 +1,22 @@
+//! What an operator is shown of a service: pages over plain figures.
+#![tactic(auto)]
+
+mod counter;
+mod figures;
+mod json;
+mod metrics;
+mod report;
+mod route;
+mod service;
+mod settings;
+mod token;
+
+pub use crate::counter::{MetricKind, SpanCounter};
+pub use crate::figures::TenantFigures;
+pub use crate::json::{put_string, put_tenant, put_tenants};
+pub use crate::metrics::{Sample, put_measure, put_measures, put_tenant_metrics};
+pub use crate::report::read_report;
+pub use crate::route::{AdminRoute, admin_route};
+pub use crate::service::{ServiceCounts, ServiceFigures, StatusCounts, put_service};
+pub use crate::settings::put_settled_tenant;
+pub use crate::token::same_token;

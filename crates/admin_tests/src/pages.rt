@@ -1,0 +1,102 @@
+//! Figures as a scraper and a page read them.
+
+use crate::figures::{EACH, tenant};
+use admin_pages::{
+    MetricKind, put_measure, put_string, put_tenant, put_tenant_metrics, put_tenants,
+};
+use std::test::Fail;
+
+#[test]
+fn metrics_have_a_sample_for_each_tenant(rt: HostRuntime) -> Result<(), Fail> {
+    let tenants = [
+        tenant(rt.alloc(), "a", EACH)?,
+        tenant(rt.alloc(), "b\\c\"d\ne", [0; 14])?,
+    ];
+    let mut text = Vec::new(rt.alloc());
+    put_tenant_metrics(rt.alloc(), &mut text, &tenants)?;
+    let begins = b"# HELP otelcol_receiver_accepted_spans_total Spans that were taken\n\
+# TYPE otelcol_receiver_accepted_spans_total counter\n\
+otelcol_receiver_accepted_spans_total{tenant=\"a\"} 77\n\
+otelcol_receiver_accepted_spans_total{tenant=\"b\\\\c\\\"d\\ne\"} 0\n\
+# HELP nimchaes_undecided_spans Spans whose trace waits for its decision\n\
+# TYPE nimchaes_undecided_spans gauge\n\
+nimchaes_undecided_spans{tenant=\"a\"} 2\n"
+        .as_slice();
+    assert!(rt; text.starts_with(begins));
+    let ends = b"# TYPE nimchaes_over_budget_spans_total counter\n\
+nimchaes_over_budget_spans_total{tenant=\"a\"} 14\n\
+nimchaes_over_budget_spans_total{tenant=\"b\\\\c\\\"d\\ne\"} 0\n"
+        .as_slice();
+    assert!(rt; text.ends_with(ends));
+    assert_eq!(rt; text.iter().filter(|byte| **byte == b'\n').count(), 14 * 4);
+    Ok(())
+}
+
+#[test]
+fn a_measure_is_a_family_of_one_sample(rt: HostRuntime) -> Result<(), Fail> {
+    let mut text = Vec::new(rt.alloc());
+    let name = "nimchaes_lane_jobs";
+    put_measure(
+        rt.alloc(),
+        &mut text,
+        name,
+        "Jobs in the lane",
+        MetricKind::Gauge,
+        3,
+    )?;
+    let wanted = b"# HELP nimchaes_lane_jobs Jobs in the lane\n\
+# TYPE nimchaes_lane_jobs gauge\n\
+nimchaes_lane_jobs 3\n"
+        .as_slice();
+    assert!(rt; text.as_slice() == wanted);
+    Ok(())
+}
+
+/// What a tenant of EACH is, behind its name.
+const EACH_MEMBERS: &str =
+    ",\"accepted\":77,\"undecided\":2,\"pending\":3,\"queued\":4,\"active\":5,\"exported\":6,\
+\"not_sampled\":7,\"too_early\":8,\"queue_full\":9,\"retry_exhausted\":10,\"back_end_refused\":11,\
+\"back_end_rejected\":12,\"invalid\":13,\"over_budget\":14}";
+
+#[test]
+fn a_tenant_is_an_object(rt: HostRuntime) -> Result<(), Fail> {
+    let alloc = rt.alloc();
+    let mut text = Vec::new(alloc);
+    put_tenant(alloc, &mut text, &tenant(alloc, "shop", EACH)?)?;
+    let wanted = format!(in alloc; "{{\"tenant\":\"shop\"{EACH_MEMBERS}")?;
+    assert!(rt; text.as_slice() == wanted.as_bytes());
+    Ok(())
+}
+
+#[test]
+fn tenants_stand_in_an_array(rt: HostRuntime) -> Result<(), Fail> {
+    let alloc = rt.alloc();
+    let mut text = Vec::new(alloc);
+    put_tenants(alloc, &mut text, &[])?;
+    assert!(rt; text.as_slice() == b"{\"tenants\":[]}".as_slice());
+    let mut text = Vec::new(alloc);
+    let tenants = [tenant(alloc, "a", EACH)?, tenant(alloc, "b", EACH)?];
+    put_tenants(alloc, &mut text, &tenants)?;
+    let wanted = format!(in alloc;
+        "{{\"tenants\":[{{\"tenant\":\"a\"{EACH_MEMBERS},{{\"tenant\":\"b\"{EACH_MEMBERS}]}}"
+    )?;
+    assert!(rt; text.as_slice() == wanted.as_bytes());
+    Ok(())
+}
+
+/// Quotes, backslashes, control characters, and characters of one to four bytes (RFC 8259, section 7).
+#[test]
+fn strings_are_escaped(rt: HostRuntime) -> Result<(), Fail> {
+    for (given, wanted) in [
+        ("", "\"\""),
+        ("a\"b\\c", "\"a\\\"b\\\\c\""),
+        ("\u{0}\u{1f}\u{7f}", "\"\\u0000\\u001f\u{7f}\""),
+        ("\n\t\r", "\"\\u000a\\u0009\\u000d\""),
+        ("é€😀/", "\"é€😀/\""),
+    ] {
+        let mut text = Vec::new(rt.alloc());
+        put_string(&mut text, given)?;
+        assert!(rt; text.as_slice() == wanted.as_bytes());
+    }
+    Ok(())
+}

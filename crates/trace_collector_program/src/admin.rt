@@ -1,0 +1,109 @@
+//! Where the service is looked after.
+
+ghost use Rattle.std.specs.Prelude.{IfErr};
+ghost use Rattle.trace_collector_program.specs.Fault.{IsOutside};
+
+use crate::reason::Reason;
+use crate::start::listen_at;
+use crate::task::ServeOptions;
+use crate::{ProgramFault, read_file};
+use std::fs::File;
+use std::net::{Net, TcpListener, TcpStream};
+use std::rt::Files;
+use std::sync::Mutex;
+use trace_collector::ReplayFault;
+
+/// A shorter token is guessed sooner than it should be.
+const SHORTEST_TOKEN: usize = 16;
+
+/// Where Linux tells a process of itself.
+const STATUS: &str = "/proc/self/status";
+
+/// Where the service is looked after.
+#[derive(Drop)]
+pub struct AdminDoor {
+    pub listener: TcpListener,
+    /// Whoever asks has to have it, if there is one.
+    pub token: Option<Vec<u8>>,
+    /// What the system tells of this process, where it tells it.
+    pub status: Option<Mutex<File>>,
+}
+
+/// Where the options ask that the service is looked after, if they do. Without a token that is an address which this
+/// machine alone reaches.
+pub fn admin_door<R>(
+    rt: &R,
+    options: &ServeOptions<'_>,
+    reason: &mut Reason,
+) -> Result<Option<AdminDoor>, ProgramFault>
+where
+    R: Files<File = File> + AllocGlobal + Net<Listener = TcpListener, Stream = TcpStream>,
+{
+    let Some(address) = options.admin else {
+        return match options.admin_token_file {
+            Some(_) => Err(ProgramFault::Usage),
+            None => Ok(None),
+        };
+    };
+    let token = match options.admin_token_file {
+        Some(file) => Some(token_of_file(rt, file, reason)?),
+        None => None,
+    };
+    let listener = listen_at(rt, address, reason)?;
+    if token.is_none() && !is_loopback(&listener) {
+        return Err(told(
+            reason,
+            address,
+            "no loopback address, so --admin-token-file has to be given",
+        ));
+    }
+    let status = match File::open(rt, STATUS) {
+        Ok(file) => Some(Mutex::new(file)),
+        Err(_) => None,
+    };
+    Ok(Some(AdminDoor {
+        listener,
+        token,
+        status,
+    }))
+}
+
+/// Whether this machine alone reaches it.
+fn is_loopback(listener: &TcpListener) -> bool {
+    match listener.local_addr() {
+        Ok(address) => address.ip().is_loopback(),
+        Err(_) => false,
+    }
+}
+
+/// The token in a file, without the end of its line.
+fn token_of_file(
+    rt: &(impl Files + AllocGlobal),
+    path: &str,
+    reason: &mut Reason,
+) -> Result<Vec<u8>, ProgramFault>
+    ensures { IfErr result IsOutside }
+{
+    let mut token = read_file(rt, path, reason)?;
+    let len = without_end(token.as_slice()).len();
+    token.truncate(len);
+    if len < SHORTEST_TOKEN {
+        return Err(told(reason, path, "a token has at least 16 bytes"));
+    }
+    Ok(token)
+}
+
+/// A text without the end of its line.
+fn without_end(text: &[u8]) -> &[u8] {
+    let text = text.strip_suffix(b"\n".as_slice()).unwrap_or(text);
+    text.strip_suffix(b"\r".as_slice()).unwrap_or(text)
+}
+
+/// The fault of an option's value. It is told also to who isn't told of other faults.
+fn told(reason: &mut Reason, what: &str, why: &str) -> ProgramFault
+    ensures { IsOutside result }
+{
+    reason.put(what, &why);
+    reason.tell();
+    ProgramFault::Replay(ReplayFault::Line)
+}

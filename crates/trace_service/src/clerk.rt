@@ -1,0 +1,448 @@
+//! Who serves those that look after the service.
+
+ghost use Rattle.std.specs.Prelude.{◌≡◌, ◌%◌, ◌++◌, ℕ, List, Option, Some, length, map, option_map, string_bytes, IfOk, IfSome, OnOk, OnErr};
+ghost use Rattle.admin_pages.specs.Figures.{tenant_of};
+ghost use Rattle.admin_pages.specs.Route.{route_view};
+ghost use Rattle.drop_ledger.specs.Ledger.{LedgerData, ledger_of};
+ghost use Rattle.http_edge.specs.Seen.{response_of};
+ghost use Rattle.otlp_front.specs.Route.{names_in};
+ghost use Rattle.tail_settings.specs.Settings.{SettingsData, number_of};
+ghost use Rattle.trace_service.specs.InForce.{CameOf};
+ghost use Rattle.machine_hub.specs.Hub.{IsRefusedOn};
+ghost use Rattle.trace_service.specs.Receiving.{IsTalk};
+ghost use Rattle.trace_service.specs.Roster.{entry_of};
+ghost use Rattle.trace_service.specs.Shown.{AreLooked, IsLooked, IsShown, OnlyLooks, Tells, is_for_all, told_of};
+
+use crate::beat::Signals;
+use crate::changes::{added, retired};
+use crate::context::WorkerContext;
+use crate::entrance::Entrance;
+use crate::lingering::linger;
+use crate::memory::resident_bytes;
+use crate::naming::Naming;
+use crate::notice::{notice, other_method, shown};
+use crate::office::AdminPort;
+use crate::post::without_memory;
+use crate::roster::Present;
+use crate::shared::Staff;
+use crate::visit::{Client, Visit};
+use admin_page::PAGE;
+use admin_pages::{
+    AdminRoute, ServiceFigures, TenantFigures, admin_route, put_service, put_settled_tenant,
+    put_tenant_metrics, put_tenants, read_report, same_token,
+};
+use export_edge::Beat;
+use http_edge::{EdgeFault, Handler, Header, HttpMessage, MediaType, Reply, only_value, serve};
+use http_line::StreamLine;
+use otlp_front::path;
+use shared_hub::HubFault;
+use std::alloc::{AllocError, Global};
+use std::str;
+use std::sync::Wait;
+use std::thread::Threads;
+use std::time::{Clock, Duration};
+use tenant_shard::Outcome;
+
+/// For so many seconds is waited until a line of the input is answered.
+const LONGEST_ANSWER: u64 = 5;
+
+/// Who serves those that look after the service: by the steps of a thread's own caller, and by lines of the input.
+#[derive(Drop)]
+pub(crate) struct Clerk<'c, 'h, J: Naming, R> {
+    pub context: &'c mut WorkerContext<'h, J, R>,
+    pub port: AdminPort<'h>,
+    /// Whom else the service has.
+    pub staff: Staff,
+    pub lane_capacity: usize,
+}
+
+impl<'c, 'h, J: Naming, R: Wait + Clock> Handler for Clerk<'c, 'h, J, R> {
+    ghost use Rattle.std.specs.Prelude.{length};
+    ghost use Rattle.trace_service.specs.Shown.{IsShown};
+
+    ghost answers = { λ old _ told new. IsShown J.first (length old.context.now.hub.now) old.context.now.caller
+        new.context.now.caller told };
+
+    fn handle<T: Threads + Sync>(&mut self, _rt: &T, message: HttpMessage) -> Reply {
+        match self.answer(message) {
+            Ok(reply) => reply,
+            Err(AllocError) => without_memory(self.context.alloc()),
+        }
+    }
+}
+
+impl<'c, 'h, J: Naming, R: Wait + Clock> Clerk<'c, 'h, J, R> {
+    fn signals(&self) -> &'h Signals {
+        self.context.signals()
+    }
+
+    /// Serves the next who comes in at this door, unless the work is over. Pauses where none does.
+    fn serve_next<T: Threads + Sync>(&mut self, rt: &T, door: &Entrance<'h>, buffer: &mut Vec<u8>) {
+        match door.admit(self.context.rt(), self.signals()) {
+            Some(client) if !self.signals().is_over() => self.serve(rt, &client, buffer),
+            Some(_) => {}
+            None => self.context.beat().pause(),
+        }
+    }
+
+    /// Serves a client to its end.
+    fn serve<T: Threads + Sync>(&mut self, rt: &T, client: &Client, buffer: &mut Vec<u8>)
+        ensures { IsTalk ⟦<Clerk<'c, 'h, J, R> as Handler>⟧.answers self.old self.new }
+    {
+        let mut beat = self.context.beat();
+        let mut line = StreamLine::new(Visit::new(self.context.rt(), client));
+        match serve(rt, self.context.alloc(), &mut line, self, buffer) {
+            Ok(()) | Err(EdgeFault::OutOfMemory) => linger(&client.stream, &mut beat),
+            Err(_) => {}
+        }
+    }
+
+    /// The answer to a message.
+    fn answer(&mut self, message: HttpMessage) -> Result<Reply, AllocError>
+        ensures shown { IfOk result (λ reply. IsShown J.first (length self.old.context.now.hub.now)
+            self.old.context.now.caller self.new.context.now.caller (response_of reply)) }
+        ensures looks { OnErr result (OnlyLooks (length self.old.context.now.hub.now) self.old.context.now.caller
+            self.new.context.now.caller) }
+    {
+        let HttpMessage {
+            method,
+            target,
+            headers,
+            body,
+        } = message;
+        let asked = admin_route(method.as_str(), path(target.as_slice()));
+        if !is_for_all(&asked) && !self.is_let_in(headers.as_slice()) {
+            return notice(
+                self.context.alloc(),
+                401,
+                "error",
+                "the token is missing or another",
+            );
+        }
+        match asked {
+            AdminRoute::Add => self.add(body),
+            AdminRoute::Retire(name) => self.retire(name),
+            AdminRoute::Drain => self.drain(),
+            _ => self.show(asked),
+        }
+    }
+
+    /// Whether a message with these fields has the token that is wanted, if one is.
+    fn is_let_in(&self, headers: &[Header]) -> bool {
+        let Some(wanted) = self.port.token else {
+            return true;
+        };
+        match token_in(headers) {
+            Some(given) => same_token(wanted, given),
+            None => false,
+        }
+    }
+
+    /// What is asked to be seen.
+    fn show(&mut self, asked: AdminRoute<'_>) -> Result<Reply, AllocError>
+        ensures shown { IfOk result (λ reply. IsShown J.first (length self.old.context.now.hub.now)
+            self.old.context.now.caller self.new.context.now.caller (response_of reply)) }
+        ensures looks { OnErr result (OnlyLooks (length self.old.context.now.hub.now) self.old.context.now.caller
+            self.new.context.now.caller) }
+    {
+        let alloc = self.context.alloc();
+        match asked {
+            AdminRoute::Page => {
+                let page = Vec::from_slice(alloc, PAGE.as_bytes())?;
+                Ok(shown(200, MediaType::Html, page))
+            }
+            AdminRoute::Metrics => self.metrics(),
+            AdminRoute::Health => notice(alloc, 200, "state", "ok"),
+            AdminRoute::Readiness => self.readiness(),
+            AdminRoute::Tenants => self.tenants(),
+            AdminRoute::Tenant(name) => self.tenant(name),
+            AdminRoute::OtherMethod(methods) => other_method(alloc, methods),
+            _ => notice(alloc, 404, "error", "no such path"),
+        }
+    }
+
+    /// Whether spans are taken.
+    fn readiness(&self) -> Result<Reply, AllocError> {
+        let alloc = self.context.alloc();
+        if self.is_draining() {
+            notice(alloc, 503, "state", "draining")
+        } else {
+            notice(alloc, 200, "state", "ready")
+        }
+    }
+
+    fn is_draining(&self) -> bool {
+        self.port.desk.is_ended(self.context.rt()) || self.signals().is_closing()
+    }
+
+    /// All figures of the tenants that are present, in the order of their numbers. Of a tenant that goes meanwhile
+    /// there are none.
+    fn figures(&mut self) -> Result<Vec<TenantFigures>, AllocError>
+        ensures looked { IfOk result (λ figures. (now : SettingsData) × CameOf J.first now
+            × AreLooked (length self.old.context.now.hub.now) self.old.context.now.caller (names_in now).tenants
+            (map tenant_of figures.items) self.new.context.now.caller) }
+        ensures looks { OnErr result (OnlyLooks (length self.old.context.now.hub.now) self.old.context.now.caller
+            self.new.context.now.caller) }
+    {
+        let tenants = self.context.tenants()?;
+        self.figures_of(tenants.as_slice())
+    }
+
+    /// The figures of these tenants.
+    fn figures_of(&mut self, tenants: &[Present]) -> Result<Vec<TenantFigures>, AllocError>
+        ensures looked { IfOk result (λ figures. AreLooked (length self.old.context.now.hub.now)
+            self.old.context.now.caller (map entry_of tenants.now) (map tenant_of figures.items)
+            self.new.context.now.caller) }
+        ensures looks { OnErr result (OnlyLooks (length self.old.context.now.hub.now) self.old.context.now.caller
+            self.new.context.now.caller) }
+    {
+        let mut figures = Vec::new(self.context.alloc());
+        for tenant in tenants {
+            self.add_figures(tenant, &mut figures)?;
+        }
+        Ok(figures)
+    }
+
+    /// Appends the figures of a tenant, unless it has gone.
+    fn add_figures(
+        &mut self,
+        tenant: &Present,
+        figures: &mut Vec<TenantFigures>,
+    ) -> Result<(), AllocError>
+        ensures looked { OnOk result ((ledger : Option LedgerData) × IsLooked self.old.context.now.caller
+            self.new.context.now.caller (length self.old.context.now.hub.now) tenant.now.number ledger
+            × (map tenant_of figures.new.items
+            ≡ told_of (map tenant_of figures.old.items) (string_bytes tenant.now.name) ledger)) }
+        ensures looks { OnErr result (OnlyLooks (length self.old.context.now.hub.now) self.old.context.now.caller
+            self.new.context.now.caller) }
+        ensures hub { self.new.context.now.hub ≡ self.old.context.now.hub }
+    {
+        let counters = self.counters(tenant.number)?;
+        push_figures(figures, tenant, counters)
+    }
+
+    /// The counters of the tenant of this number. None where it has gone.
+    fn counters(&mut self, tenant: u32) -> Result<Option<[u64; 14]>, AllocError>
+        ensures looked { IfOk result (λ counters. IsLooked self.old.context.now.caller self.new.context.now.caller
+            (length self.old.context.now.hub.now) tenant (option_map ledger_of counters)) }
+        ensures refused { OnErr result (IsRefusedOn self.old.context.now.caller self.new.context.now.caller
+            (tenant % length self.old.context.now.hub.now)) }
+        ensures hub { self.new.context.now.hub ≡ self.old.context.now.hub }
+    {
+        match self.context.look(tenant) {
+            Ok(outcome) => Ok(told_counters(&outcome)),
+            Err(HubFault::OutOfMemory) => Err(AllocError),
+            Err(HubFault::Behind { .. } | HubFault::OtherEntry { .. }) => unreachable!(),
+        }
+    }
+
+    /// All figures, for a scraper.
+    fn metrics(&mut self) -> Result<Reply, AllocError>
+        ensures shown { IfOk result (λ reply. IsShown J.first (length self.old.context.now.hub.now)
+            self.old.context.now.caller self.new.context.now.caller (response_of reply)) }
+        ensures looks { OnErr result (OnlyLooks (length self.old.context.now.hub.now) self.old.context.now.caller
+            self.new.context.now.caller) }
+    {
+        let alloc = self.context.alloc();
+        let figures = self.figures()?;
+        let mut text = Vec::new(alloc);
+        put_tenant_metrics(alloc, &mut text, figures.as_slice())?;
+        self.put_service(&mut text, figures.len() as u64)?;
+        Ok(shown(200, MediaType::Metrics, text))
+    }
+
+    /// Appends the figures of the whole service.
+    fn put_service(&mut self, text: &mut Vec<u8>, tenants: u64) -> Result<(), AllocError>
+        ensures behind { OnOk result ((rest : List ℕ) × (text.new.items ≡ text.old.items ++ rest)) }
+        ensures caller { self.new.context.now.caller ≡ self.old.context.now.caller }
+    {
+        let figures = self.service_figures(tenants);
+        put_service(self.context.alloc(), text, &figures)
+    }
+
+    /// The figures of the whole service, where so many tenants are present.
+    fn service_figures(&mut self, tenants: u64) -> ServiceFigures
+        ensures { self.new.context.now.caller ≡ self.old.context.now.caller }
+    {
+        let uptime = self.context.uptime() / 1000;
+        let resident_bytes = match self.port.status {
+            Some(status) => resident_bytes(self.context.rt(), status),
+            None => None,
+        };
+        ServiceFigures {
+            version: self.port.version,
+            uptime,
+            tenants,
+            is_draining: self.is_draining(),
+            resident_bytes,
+            receivers: u64::from(self.staff.receivers),
+            senders: u64::from(self.staff.senders),
+            lane_capacity: self.lane_capacity as u64,
+            counts: self.signals().tally().counts(),
+        }
+    }
+
+    /// All tenants' figures.
+    fn tenants(&mut self) -> Result<Reply, AllocError>
+        ensures shown { IfOk result (λ reply. IsShown J.first (length self.old.context.now.hub.now)
+            self.old.context.now.caller self.new.context.now.caller (response_of reply)) }
+        ensures looks { OnErr result (OnlyLooks (length self.old.context.now.hub.now) self.old.context.now.caller
+            self.new.context.now.caller) }
+    {
+        let alloc = self.context.alloc();
+        let figures = self.figures()?;
+        let mut text = Vec::new(alloc);
+        put_tenants(alloc, &mut text, figures.as_slice())?;
+        Ok(shown(200, MediaType::Json, text))
+    }
+
+    /// The figures of the tenant of this name, and its settings.
+    fn tenant(&mut self, name: &[u8]) -> Result<Reply, AllocError>
+        ensures shown { IfOk result (λ reply. IsShown J.first (length self.old.context.now.hub.now)
+            self.old.context.now.caller self.new.context.now.caller (response_of reply)) }
+        ensures looks { OnErr result (OnlyLooks (length self.old.context.now.hub.now) self.old.context.now.caller
+            self.new.context.now.caller) }
+    {
+        let alloc = self.context.alloc();
+        let Some((name, number)) = self.find(name) else {
+            return unknown(alloc);
+        };
+        let Some(section) = self.context.section(number)? else {
+            return unknown(alloc);
+        };
+        let Some(counters) = self.counters(number)? else {
+            return unknown(alloc);
+        };
+        let figures = TenantFigures {
+            name: String::from_str(alloc, name)?,
+            counters,
+        };
+        let mut text = Vec::new(alloc);
+        put_settled_tenant(alloc, &mut text, &figures, &section)?;
+        Ok(shown(200, MediaType::Json, text))
+    }
+
+    /// The number of the tenant of this name, and its name as a text.
+    fn find<'n>(&self, name: &'n [u8]) -> Option<(&'n str, u32)>
+        ensures name { IfSome result (λ found. found.0.now ≡ name.entry.now) }
+        ensures known { IfSome result (λ found. (now : SettingsData) × CameOf J.first now
+            × (number_of now found.0.now ≡ Some found.1)) }
+    {
+        let name = str::from_utf8(name).ok()?;
+        let number = self.context.number(name)?;
+        Some((name, number))
+    }
+
+    /// Ends the input.
+    fn drain(&mut self) -> Result<Reply, AllocError>
+        ensures { self.new.context.now.caller ≡ self.old.context.now.caller }
+    {
+        self.port.desk.end(self.context.rt());
+        notice(self.context.alloc(), 200, "state", "draining")
+    }
+
+    /// Asks that the tenant of a document comes.
+    fn add(&mut self, document: Vec<u8>) -> Result<Reply, AllocError>
+        ensures { self.new.context.now.caller ≡ self.old.context.now.caller }
+    {
+        let alloc = self.context.alloc();
+        let line = Vec::from_slice(alloc, b"add posted\n")?;
+        let copy = Vec::from_slice(alloc, document.as_slice())?;
+        let asked = self.port.desk.ask(
+            self.context.rt(),
+            line,
+            copy,
+            Duration::from_secs(LONGEST_ANSWER),
+        );
+        added(alloc, asked, document.as_slice())
+    }
+
+    /// Asks that the tenant of this name goes.
+    fn retire(&mut self, name: &[u8]) -> Result<Reply, AllocError>
+        ensures { self.new.context.now.caller ≡ self.old.context.now.caller }
+    {
+        let alloc = self.context.alloc();
+        let Some((name, _)) = self.find(name) else {
+            return unknown(alloc);
+        };
+        let line = format!(in alloc; "retire {name}\n")?.into_bytes();
+        let nothing = Vec::new(alloc);
+        let asked = self.port.desk.ask(
+            self.context.rt(),
+            line,
+            nothing,
+            Duration::from_secs(LONGEST_ANSWER),
+        );
+        retired(alloc, asked, name)
+    }
+}
+
+/// Serves those who come, one after another, until the work is over.
+pub(crate) fn serve_all<'c, 'h, J, R>(
+    rt: &R,
+    door: &Entrance<'h>,
+    clerk: &mut Clerk<'c, 'h, J, R>,
+    buffer: &mut Vec<u8>,
+)
+where
+    J: Naming,
+    R: Threads + Wait + Clock + Sync,
+{
+    'clients: for _ in rt.forever() {
+        if clerk.signals().is_over() {
+            return;
+        }
+        clerk.serve_next(rt, door, buffer);
+    }
+    unreachable!()
+}
+
+/// The counters that an outcome tells. None where it tells none.
+fn told_counters(outcome: &Outcome) -> Option<[u64; 14]>
+    ensures { Tells outcome.now (option_map ledger_of result) }
+{
+    match outcome {
+        Outcome::Report(_, counters) => read_report(counters.as_slice()),
+        _ => None,
+    }
+}
+
+/// Appends the figures of a tenant, where there are any.
+fn push_figures(
+    figures: &mut Vec<TenantFigures>,
+    tenant: &Present,
+    counters: Option<[u64; 14]>,
+) -> Result<(), AllocError>
+    ensures { OnOk result (map tenant_of figures.new.items ≡ told_of (map tenant_of figures.old.items)
+        (string_bytes tenant.now.name) (option_map ledger_of counters)) }
+{
+    let Some(counters) = counters else {
+        return Ok(());
+    };
+    let name = tenant.name.clone()?;
+    figures.push(TenantFigures { name, counters })?;
+    Ok(())
+}
+
+/// Nobody has this name.
+fn unknown(alloc: Global) -> Result<Reply, AllocError> {
+    notice(alloc, 404, "error", "unknown tenant")
+}
+
+/// Whether it is shown to whoever reaches the address: it tells nothing of any tenant.
+fn is_for_all(asked: &AdminRoute<'_>) -> bool
+    ensures { result ≡ is_for_all (route_view asked.now) }
+{
+    matches!(asked, AdminRoute::Page | AdminRoute::Health)
+}
+
+/// The token of a message, if it has one (RFC 6750, section 2.1).
+fn token_in(headers: &[Header]) -> Option<&[u8]> {
+    let value = only_value(headers, b"authorization")?;
+    let (scheme, token) = value.split_at_checked(7)?;
+    if scheme.eq_ignore_ascii_case(b"bearer ") {
+        Some(token)
+    } else {
+        None
+    }
+}

@@ -1,0 +1,262 @@
+#!/usr/bin/env python3
+"""Looks at the page for operators in a headless Chromium: `make trace_collector && python3 tests/page.py`.
+
+    python3 tests/page.py [PROGRAM] [NAME..]           # all, or those of these names
+    python3 tests/page.py PROGRAM pictures FOLDER      # writes docs/pictures anew, or pictures into another folder
+
+Takes the program's path, `./trace_collector` if there is none. The gate doesn't run it. It says where no Chromium is
+installed, prints what is wrong, and ends with 1 where something is.
+"""
+
+import os
+import subprocess
+import sys
+import tempfile
+import threading
+import time
+import traceback
+from pathlib import Path
+
+from serving import browser, talk
+from serving.admin import LookedAfter
+from serving.browser import Browser
+from serving.talk import BUSY, ERROR, ERRORS, TAKEN, BackEnd, check, request, tenant, wait_for
+
+HERE = Path(__file__).resolve().parent.parent
+WIDTHS = ((1280, 900), (390, 844))
+PAGE = 100
+POSTS = {"shop": (5, 0.02, b""), "payments": (3, 0.02, ERROR), "search": (9, 0.02, b"")}
+TOKEN = "Zm9yIHRlc3RzIGFsb25l"
+ROWS = "document.getElementById('rows').children.length"
+NAMES = "[...document.querySelectorAll('.name')].map(it => it.textContent)"
+STATE = "document.getElementById('state').textContent"
+ACCEPTED = "[...document.querySelectorAll('details')].map(it => it.querySelector('dd').textContent)"
+ROW = "document.activeElement.querySelector('.name').textContent"
+FOCUSED = "document.activeElement.id || document.activeElement.tagName"
+# The contrast of two colours, by WCAG 2.1's definition, of each text that is seen and what lies behind it.
+CONTRAST = """
+(() => {
+  const light = (c) => { c /= 255; return c <= 0.04045 ? c / 12.92 : ((c + 0.055) / 1.055) ** 2.4; };
+  const rgb = (text) => text.match(/[\\d.]+/g).map(Number);
+  const sum = (c) => 0.2126 * light(c[0]) + 0.7152 * light(c[1]) + 0.0722 * light(c[2]);
+  const behind = (it) => {
+    for (; it; it = it.parentElement) {
+      const c = rgb(getComputedStyle(it).backgroundColor);
+      if (c.length < 4 || c[3] > 0) return c;
+    }
+    return [255, 255, 255];
+  };
+  const found = [];
+  const walk = document.createTreeWalker(document.body, NodeFilter.SHOW_TEXT);
+  while (walk.nextNode()) {
+    const it = walk.currentNode.parentElement;
+    if (!walk.currentNode.textContent.trim() || !it.checkVisibility()) continue;
+    if (['SCRIPT', 'OPTION'].includes(it.tagName)) continue;
+    const [a, b] = [sum(rgb(getComputedStyle(it).color)), sum(behind(it))];
+    const ratio = (Math.max(a, b) + 0.05) / (Math.min(a, b) + 0.05);
+    if (ratio < 4.5) found.push(walk.currentNode.textContent + ' ' + ratio.toFixed(2));
+  }
+  return found;
+})()
+"""
+
+
+class Load:
+    """Clients that post until the end of a `with`: of each tenant so many spans a trace, so many seconds apart,
+    and of each fourth trace's spans these fields more."""
+
+    def __init__(self, service, posts):
+        self.service, self.posts, self.goes_on = service, posts, True
+        self.threads = [threading.Thread(target=self.post, args=(name,), daemon=True) for name in posts]
+
+    def post(self, name):
+        number = 0
+        with self.service.connect() as peer:
+            while self.goes_on:
+                number += 1
+                spans, rest, more = self.posts[name]
+                ids = [(number.to_bytes(16, "big"), (at + 1).to_bytes(8, "big")) for at in range(spans)]
+                self.service.post(name, request(*((*them, b"" if number % 4 else more) for them in ids)), peer)
+                time.sleep(rest)
+
+    def __enter__(self):
+        for thread in self.threads:
+            thread.start()
+        return self
+
+    def __exit__(self, *_):
+        self.goes_on = False
+        for thread in self.threads:
+            thread.join()
+
+
+def is_asked(page):
+    """Waits until it has asked twice more, so that it has shown what it was told once."""
+    asked = "performance.getEntriesByType('resource').length"
+    before = page.value(asked)
+    wait_for(lambda: page.value(asked) > before + 1, "it has asked anew")
+
+
+def is_told(page):
+    """Waits until the page has figures, and then until it has others."""
+    wait_for(lambda: page.value(STATE).startswith("as of"), "figures are there")
+    is_asked(page)
+
+
+def is_sound(page, service):
+    """Nothing fails on the page, nothing comes from elsewhere, and nothing is wider than its window."""
+    check("what fails on it", page.happened("Runtime.exceptionThrown"), [])
+    check("what it has to say", page.happened("Runtime.consoleAPICalled"), [])
+    urls = {event["request"]["url"].partition("?")[0] for event in page.happened("Network.requestWillBeSent")}
+    home = f"http://127.0.0.1:{service.admin}/"
+    check("where it asks", [url for url in urls if not url.startswith(home) and not url.startswith("data:")], [])
+    check("nothing sticks out", page.value("document.documentElement.scrollWidth <= innerWidth"), True)
+    check("all can be read", page.value(CONTRAST), [])
+
+
+def three(back_end, slow):
+    return [tenant("shop", back_end, wait=1000, timeout=200, consumers=4),
+            tenant("payments", back_end, wait=3000, timeout=200, policies=ERRORS, consumers=4),
+            tenant("search", slow, wait=500, timeout=50, batch=20, queue=40)]
+
+
+def by_keyboard(folder):
+    """Three tenants under load, at both widths, light and dark: what is found, opened and ordered by keys stays so
+    while figures come anew."""
+    with BackEnd() as back_end, BackEnd(lambda n: TAKEN if n % 8 == 0 else BUSY) as slow, \
+            LookedAfter(folder, three(back_end, slow), senders=8) as service, \
+            Load(service, POSTS):
+        for (width, height), dark in ((size, dark) for size in WIDTHS for dark in (False, True)):
+            with Browser(width, height, dark) as page:
+                page.goes(f"http://127.0.0.1:{service.admin}/")
+                is_told(page)
+                check("its rows", sorted(page.value(NAMES)), ["payments", "search", "shop"])
+                page.press("Tab")
+                check("first comes the search", page.value(FOCUSED), "find")
+                page.press("Tab")
+                check("then the order", page.value(FOCUSED), "order")
+                page.press("ArrowDown", "ArrowDown", "ArrowDown")
+                check("an order by name", page.value("document.getElementById('order').value"), "name")
+                check("it is so", page.value(NAMES), ["payments", "search", "shop"])
+                page.press("Tab", "Tab")
+                check("then the rows", page.value(ROW), "search")
+                page.press("Enter")
+                opened = "[...document.querySelectorAll('details')].map(it => it.open)"
+                check("the second is open", page.value(opened), [False, True, False])
+                is_told(page)
+                check("and stays so", page.value(opened), [False, True, False])
+                check("and focused", page.value(ROW), "search")
+                page.press("/")
+                check("back to the search", page.value(FOCUSED), "find")
+                page.press(*"HO")
+                check("what is found", page.value(NAMES), ["shop"])
+                is_told(page)
+                check("and found anew", page.value(NAMES), ["shop"])
+                page.press("Escape")
+                check("all again", len(page.value(NAMES)), 3)
+                page.press(*"zz")
+                check("none", page.value(NAMES), [])
+                page.press("Escape")
+                figures = {row["tenant"]: row for row in service.told("/tenants")[1]["tenants"]}
+                told = [int(text.replace(",", "")) for text in page.value(ACCEPTED)]
+                check("what was accepted", [0 < here <= figures[name]["accepted"] for here, name in
+                                            zip(told, ("payments", "search", "shop"))], [True] * 3)
+                is_sound(page, service)
+
+
+def thousand(folder):
+    """A thousand tenants, at both widths: a hundred are shown, and more by a key; any is found."""
+    with BackEnd() as back_end:
+        teams = ("shop", "mail", "auth", "a-team.with.a-long_name")
+        names = [f"{team}-{number}" for number in range(250) for team in teams]
+        with LookedAfter(folder, [tenant(name, back_end) for name in names]) as service, \
+                Load(service, {name: (2, 0.2, b"") for name in names[500:504]}):
+            for width, height in WIDTHS:
+                with Browser(width, height) as page:
+                    page.goes(f"http://127.0.0.1:{service.admin}/")
+                    is_told(page)
+                    check("rows", page.value(ROWS), PAGE)
+                    more = "document.getElementById('more').textContent"
+                    check("more", page.value(more), "Show 100 more of 900")
+                    for count in (2, 3):
+                        page.value("document.getElementById('more').focus()")
+                        page.press("Enter")
+                        check("more rows", (page.value(ROWS), page.value(FOCUSED)), (count * PAGE, "more"))
+                    is_told(page)
+                    check("and still", page.value(ROWS), 3 * PAGE)
+                    page.press("/", *"auth-24")
+                    check("found", sorted(page.value(NAMES)), sorted(name for name in names if "auth-24" in name))
+                    check("none more", page.value("document.getElementById('more').hidden"), True)
+                    page.press("Escape")
+                    check("all again", page.value(ROWS), PAGE)
+                    took = page.value("(() => { const start = performance.now(); take(last.map(it => ({...it}))); "
+                                      "return performance.now() - start; })()")
+                    check(f"new figures took {took:.0f} ms", took < 500, True)
+                    is_sound(page, service)
+            service.drained()
+
+
+def with_token(folder):
+    """Where a token is wanted the page asks for it, says that another is wrong, and has figures with the right one."""
+    file = Path(folder, "token")
+    file.write_text(TOKEN + "\n")
+    with BackEnd() as back_end, \
+            LookedAfter(folder, [tenant("a", back_end)], "--admin-token-file", str(file)) as service, Browser() as page:
+        page.goes(f"http://127.0.0.1:{service.admin}/")
+        wait_for(lambda: page.value(STATE) == "it wants a token", "it asks for a token")
+        for typed, wanted in (("wrong", "it wants a token"), (TOKEN, "as of")):
+            page.press("Tab")
+            page.value("document.getElementById('token').focus()")
+            page.value("document.getElementById('token').select()")
+            page.press(*typed, "Enter")
+            is_asked(page)
+            check(f"with {typed}", page.value(STATE)[:len(wanted)], wanted)
+        check("its field is gone", page.value("document.getElementById('pass').hidden"), True)
+        check("a row", page.value(NAMES), ["a"])
+        page.goes(f"http://127.0.0.1:{service.admin}/")
+        is_told(page)
+        is_sound(page, service)
+
+
+def pictures(folder, to):
+    """What the README shows: three tenants under load, one of which loses spans."""
+    with BackEnd() as back_end, BackEnd(lambda n: TAKEN if n % 8 == 0 else BUSY) as slow, \
+            LookedAfter(folder, three(back_end, slow), senders=8) as service, \
+            Load(service, POSTS):
+        time.sleep(10)
+        for name, size, dark in (("light", (1000, 410), False), ("dark", (1000, 410), True),
+                                 ("narrow", (390, 760), False)):
+            with Browser(*size, dark) as page:
+                page.goes(f"http://127.0.0.1:{service.admin}/")
+                is_told(page)
+                page.picture(Path(to, f"admin-{name}.png"))
+
+
+TESTS = {test.__name__: test for test in (by_keyboard, thousand, with_token)}
+
+
+def main():
+    words = sys.argv[1:]
+    talk.program = os.path.abspath(words.pop(0) if words and words[0] not in TESTS else HERE / "trace_collector")
+    if browser.program() is None:
+        print(f"{', '.join(browser.NAMES)}: not installed")
+        return
+    if words[:1] == ["pictures"]:
+        with tempfile.TemporaryDirectory() as folder:
+            pictures(folder, words[1])
+        return
+    for name in words or TESTS:
+        before = len(talk.faults)
+        with tempfile.TemporaryDirectory() as folder:
+            try:
+                TESTS[name](folder)
+            except Exception:  # pylint: disable=broad-except
+                talk.faults.append(traceback.format_exc())
+        for fault in talk.faults[before:][:20]:
+            print(f"{name}: {fault}", flush=True)
+    print("it shows what it has to" if not talk.faults else f"{len(talk.faults)} wrong")
+    sys.exit(min(len(talk.faults), 1))
+
+
+if __name__ == "__main__":
+    main()

@@ -1,0 +1,456 @@
+"""What the port for operators does."""
+
+import json
+import os
+import socket
+import subprocess
+import threading
+import time
+from pathlib import Path
+
+from serving import talk
+from serving.exposition import families
+from serving.talk import (BUSY, MOST, NAMES, BackEnd, Service, body, check, head_of, in_threads, line_of, read_message,
+                          tenant, wait_for)
+
+TOKEN = "Zm9yIHRlc3RzIGFsb25l"
+GAUGES = ("undecided", "pending", "queued", "active")
+OF_SERVICE = {"gauge": ("nimchaes_build_info", "nimchaes_tenants", "nimchaes_draining", "nimchaes_receivers",
+                        "nimchaes_connections_open", "nimchaes_lane_jobs", "nimchaes_lane_capacity",
+                        "nimchaes_senders", "nimchaes_senders_busy", "otelcol_process_memory_rss_bytes"),
+              "counter": ("otelcol_process_uptime_seconds_total", "nimchaes_memory_refusals_total",
+                          "nimchaes_connections_total", "nimchaes_received_bytes_total", "nimchaes_sent_bytes_total",
+                          "nimchaes_requests_total", "nimchaes_retries_total", "nimchaes_back_end_answers_total")}
+METRICS = {"accepted": "otelcol_receiver_accepted_spans_total", "exported": "otelcol_exporter_sent_spans_total",
+           "queue_full": "otelcol_exporter_enqueue_failed_spans_total"}
+JSON = "application/json"
+
+
+def free_port():
+    with socket.socket() as probe:
+        probe.bind(("127.0.0.1", 0))
+        return probe.getsockname()[1]
+
+
+class LookedAfter(Service):
+    """The service with a port for operators."""
+
+    def __init__(self, folder, tenants, *options, **how):
+        self.admin = free_port()
+        # Connections that were made to see whether clients are served yet.
+        self.knocks = 0
+        super().__init__(folder, tenants, "--admin", f"127.0.0.1:{self.admin}", *options, port=free_port(), **how)
+        self.main = int(Path(folder, "settings.toml").read_text().split("127.0.0.1:")[1].split('"')[0])
+
+    def is_up(self):
+        if self.run.poll() is not None:
+            raise RuntimeError(f"the service ended with {self.run.returncode}: {self.run.stderr.read()}")
+        self.port = self.main
+        for port in (self.main, self.admin):
+            try:
+                socket.create_connection(("127.0.0.1", port), timeout=MOST).close()
+            except ConnectionRefusedError:
+                return False
+            self.knocks += port == self.main
+        return True
+
+    def to_admin(self):
+        return socket.create_connection(("127.0.0.1", self.admin), timeout=MOST)
+
+    def ask(self, target, method="GET", text=b"", more="", peer=None):
+        """The status of the reply, its fields in lower case, and its content."""
+        line = peer or self.to_admin()
+        head = f"{method} {target} HTTP/1.1\r\nHost: admin\r\n{more}"
+        if text or method == "POST":
+            head += f"Content-Length: {len(text)}\r\n"
+        line.sendall(head.encode() + b"\r\n" + text)
+        if method == "HEAD":
+            line.shutdown(socket.SHUT_WR)
+            reply = b""
+            while piece := line.recv(1 << 20):
+                reply += piece
+        else:
+            reply = read_message(line.recv)
+        if peer is None:
+            line.close()
+        head, _, content = reply.partition(b"\r\n\r\n")
+        lines = head.decode().split("\r\n")
+        fields = dict((name.lower(), value.strip()) for name, _, value in (line.partition(":") for line in lines[1:]))
+        return int(lines[0].split(" ")[1]), fields, content
+
+    def told(self, target, method="GET", text=b"", more=""):
+        """The status of the reply, and what its JSON says."""
+        status, fields, content = self.ask(target, method, text, more)
+        check(f"{method} {target} is JSON", fields["content-type"], JSON)
+        return status, json.loads(content)
+
+    def metric(self, name, **labels):
+        """The figure of a metric with these labels."""
+        return families(self.ask("/metrics")[2].decode())[name].samples[tuple(labels.items())]
+
+    def drained(self):
+        """Its end after a drain."""
+        check("a drain", self.told("/drain", "POST"), (200, {"state": "draining"}))
+        out = self.run.stdout.read().decode()
+        return self.run.wait(), out, self.run.stderr.read()
+
+
+def figures(name, **counts):
+    return {"tenant": name, **{word: counts.get(word, 0) for word in NAMES}}
+
+
+def looked_at(folder):
+    """Each path, its content's type, and what it takes."""
+    with BackEnd() as back_end, LookedAfter(folder, [tenant("a", back_end), tenant("b", back_end)]) as service:
+        for target, media in (("/", "text/html; charset=utf-8"), ("/metrics", "text/plain; version=0.0.4"),
+                              ("/healthz", JSON), ("/readyz", JSON), ("/tenants", JSON), ("/tenants/b", JSON)):
+            status, fields, content = service.ask(target)
+            check(f"GET {target}", (status, fields["content-type"], len(content)),
+                  (200, media, int(fields["content-length"])))
+            check(f"HEAD {target}", service.ask(target, "HEAD")[0::2], (200, b""))
+            check(f"with a query {target}", service.ask(target + "?x=/tenants")[0], 200)
+            check(f"with a host {target}", service.ask("http://admin" + target)[0], 200)
+        check("healthz", service.told("/healthz"), (200, {"state": "ok"}))
+        check("readyz", service.told("/readyz"), (200, {"state": "ready"}))
+        check("tenants", service.told("/tenants"), (200, {"tenants": [figures("a"), figures("b")]}))
+        status, told = service.told("/tenants/b")
+        check("a tenant", (status, {word: told[word] for word in figures("b")}), (200, figures("b")))
+        for target in ("/tenants/c", "/tenants/", "/metrics/", "/v1/traces", "/Tenants", "/tenants/a%62"):
+            check(f"nothing at {target}", service.told(target)[0], 404)
+        for target, method, allow in (("/", "POST", "GET, HEAD"), ("/metrics", "PUT", "GET, HEAD"),
+                                      ("/healthz", "DELETE", "GET, HEAD"), ("/drain", "GET", "POST"),
+                                      ("/tenants", "DELETE", "GET, HEAD, POST"),
+                                      ("/tenants/a", "POST", "GET, HEAD, DELETE")):
+            status, fields, _ = service.ask(target, method)
+            check(f"{method} {target}", (status, fields.get("allow")), (405, allow))
+        check("one connection", [service.ask("/healthz", peer=peer)[0] for peer in [service.to_admin()] * 3], [200] * 3)
+        check("no spans come in there", service.ask("/v1/traces", "POST", body(1, 1))[0], 404)
+        with service.connect() as peer:
+            peer.sendall(b"GET /metrics HTTP/1.1\r\nHost: a\r\n\r\n")
+            check("none of it where spans come in", read_message(peer.recv).split(b" ")[1], b"404")
+        check("the end", service.drained(), (0, line_of("a") + line_of("b"), b""))
+
+
+def scraped(folder):
+    """Metrics have the form that is documented, and say what reports say."""
+    with BackEnd() as back_end, \
+            LookedAfter(folder, [tenant("a.b-c_D", back_end), tenant("e", back_end, wait=86_400_000)]) as service:
+        for name, spans in (("a.b-c_D", 3), ("e", 2)):
+            for span in range(1, spans + 1):
+                check("a post", service.post(name, body(span, span)), (200, b""))
+        wait_for(lambda: service.told("/tenants/a.b-c_D")[1]["exported"] == 3, "the first one's are sent")
+        found = families(service.ask("/metrics")[2].decode())
+        wanted = {"a.b-c_D": {"accepted": 3, "exported": 3}, "e": {"accepted": 2, "undecided": 2}}
+        for word in NAMES:
+            metric = METRICS.get(word, f"nimchaes_{word}_spans" + ("" if word in GAUGES else "_total"))
+            family = found.pop(metric)
+            check(f"type of {metric}", family.kind, "gauge" if word in GAUGES else "counter")
+            check(f"{metric} has help", bool(family.help), True)
+            check(metric, family.samples, {(("tenant", name),): float(counts.get(word, 0))
+                                           for name, counts in wanted.items()})
+        check("of the service", {name: family.kind for name, family in found.items()},
+              {name: kind for kind, names in OF_SERVICE.items() for name in names})
+        check("they have help", all(family.help for family in found.values()), True)
+        check("tenants", found["nimchaes_tenants"].samples, {(): 2.0})
+        check("not draining", found["nimchaes_draining"].samples, {(): 0.0})
+        check("what runs", found["nimchaes_build_info"].samples, {(("version", "0.1.0"),): 1.0})
+        service.drained()
+
+
+def in_force(folder):
+    """A tenant's settings are those of its document, and those that it doesn't have are the defaults."""
+    document = '''[[tenant]]
+name = "new"
+max_spans = 7
+[tenant.batch]
+timeout_ms = 9
+[[tenant.tail_sampling.policy]]
+type = "string_attribute"
+key = "a\\"b"
+values = ["x"]
+'''
+    with BackEnd() as back_end, LookedAfter(folder, [tenant("a", back_end)]) as service:
+        check("its endpoint", service.told("/tenants/a")[1]["settings"]["endpoint"], f"127.0.0.1:{back_end.port}")
+        check("it comes", service.told("/tenants", "POST", document.encode())[0], 201)
+        service.hear()
+        check("all of it", service.told("/tenants/new"), (200, figures("new") | {"settings": {
+            "endpoint": "127.0.0.1:4319", "max_spans": 7, "seed": 0,
+            "tail_sampling": {"decision_wait_ms": 30000, "num_traces": 50000,
+                              "decision_cache": {"sampled_cache_size": 0, "non_sampled_cache_size": 0},
+                              "policy": [{"type": "string_attribute", "key": 'a"b', "values": ["x"]}]},
+            "batch": {"send_batch_size": 8192, "timeout_ms": 9, "send_batch_max_size": 0},
+            "sending_queue": {"queue_size": 1000, "num_consumers": 10},
+            "retry_on_failure": {"initial_interval_ms": 5000, "max_interval_ms": 30000, "max_elapsed_time_ms": 300000,
+                                 "multiplier": 1500, "randomization_factor": 500}}}))
+        check("it goes", service.told("/tenants/new", "DELETE")[0], 200)
+        check("nobody", service.told("/tenants/new")[0], 404)
+        service.hear()
+        check("the end", service.drained()[0], 0)
+
+
+def counted(folder):
+    """What the service counts of its connections, requests, bytes and batches is what its clients and back ends see."""
+    with BackEnd() as back_end, BackEnd(BUSY) as busy, BackEnd(None) as held, \
+            LookedAfter(folder, [tenant("a", back_end), tenant("busy", busy), tenant("held", held)]) as service:
+        def by_class(name, kind):
+            return service.metric(name, **{"class": kind})
+
+        wait_for(lambda: service.metric("nimchaes_connections_total") == service.knocks, "those at the start come")
+        wait_for(lambda: service.metric("nimchaes_connections_open") == 0, "those at the start have ended")
+        sent = [head_of("a", len(body(1, span))) + body(1, span) for span in (1, 2)]
+        sent.append(b"GET /x HTTP/1.1\r\nHost: a\r\n\r\n")
+        with service.connect() as peer:
+            got = b""
+            for message in sent:
+                peer.sendall(message)
+                got += read_message(peer.recv)
+            wait_for(lambda: service.metric("nimchaes_sent_bytes_total") == len(got), "its replies were sent")
+            check("open", service.metric("nimchaes_connections_open"), 1.0)
+            check("in", service.metric("nimchaes_received_bytes_total"), float(len(b"".join(sent))))
+            peer.sendall(b"no HTTP\r\n\r\n")
+            check("bad", read_message(peer.recv).split(b" ")[1], b"400")
+        wait_for(lambda: service.metric("nimchaes_connections_open") == 0, "it has ended")
+        check("taken", service.metric("nimchaes_connections_total"), float(service.knocks + 1))
+        check("taken as 2xx", by_class("nimchaes_requests_total", "2xx"), 2.0)
+        check("told as 4xx", by_class("nimchaes_requests_total", "4xx"), 2.0)
+        wait_for(lambda: by_class("nimchaes_back_end_answers_total", "2xx") > 0, "it is sent")
+        check("none again", service.metric("nimchaes_retries_total"), 0.0)
+        check("a post", service.post("busy", body(3, 3)), (200, b""))
+        wait_for(lambda: service.metric("nimchaes_retries_total") > 1, "it is sent again")
+        check("told so", by_class("nimchaes_back_end_answers_total", "5xx") > 1, True)
+        busy.reply = talk.TAKEN
+        wait_for(lambda: service.told("/tenants/busy")[1]["exported"] == 1, "it is taken")
+        check("a post", service.post("held", body(4, 4)), (200, b""))
+        wait_for(lambda: service.metric("nimchaes_senders_busy") == 1, "it is held")
+        check("none waits", service.metric("nimchaes_lane_jobs"), 0.0)
+        held.release()
+        wait_for(lambda: service.metric("nimchaes_senders_busy") == 0, "it is let go")
+        resident = int(Path(f"/proc/{service.run.pid}/status").read_text().split("VmRSS:")[1].split()[0]) * 1024
+        told = service.metric("otelcol_process_memory_rss_bytes")
+        check(f"memory: {told} and {resident}", 0.8 < told / resident < 1.25, True)
+        check("the end", service.drained()[0], 0)
+
+
+def with_token(folder):
+    """Whoever asks has to have the token, but for the page and its health."""
+    file = Path(folder, "token")
+    file.write_text(TOKEN + "\n")
+    with BackEnd() as back_end, \
+            LookedAfter(folder, [tenant("a", back_end)], "--admin-token-file", str(file)) as service:
+        wrong = ("", f"Authorization: Bearer {TOKEN}x\r\n", f"Authorization: Bearer {TOKEN[:-1]}\r\n",
+                 f"Authorization: Basic {TOKEN}\r\n", "Authorization: Bearer \r\n", "Authorization: \r\n",
+                 f"Authorization: Bearer {TOKEN[:-1]}M\r\n", f"Authorization: Bearer {TOKEN}\r\n" * 2)
+        for more in wrong:
+            for target, method in (("/metrics", "GET"), ("/tenants", "GET"), ("/tenants/a", "DELETE"),
+                                   ("/readyz", "GET"), ("/drain", "POST"), ("/tenants", "POST"), ("/nothing", "GET"),
+                                   ("/drain", "GET")):
+                status, fields, _ = service.ask(target, method, more=more)
+                check(f"{method} {target} with {more!r}", (status, fields.get("www-authenticate")), (401, "Bearer"))
+        for target in ("/", "/healthz"):
+            check(f"{target} without", service.ask(target)[0], 200)
+        for scheme in ("Bearer", "bearer", "BEARER"):
+            right = f"Authorization: {scheme} {TOKEN}\r\n"
+            check("with it", service.told("/tenants", more=right), (200, {"tenants": [figures("a")]}))
+        check("a drain", service.ask("/drain", "POST", more=right)[0], 200)
+        check("the end", (service.run.stdout.read().decode(), service.run.wait()), (line_of("a"), 0))
+
+
+def without_token(folder):
+    """Where everybody could ask, where the token is short or isn't there, and where the options don't fit."""
+    short, none = Path(folder, "short"), Path(folder, "none")
+    short.write_text("0123456789abcde\n")
+    with BackEnd() as back_end:
+        settings = Path(folder, "settings.toml")
+        settings.write_text(talk.globals_of() + tenant("a", back_end))
+        for options, status, words in (
+                (("--admin", "0.0.0.0:0"), 1, b"--admin-token-file"), (("--admin", "no address"), 1, b""),
+                (("--admin", "127.0.0.1:0", "--admin-token-file", str(short)), 1, b"16 bytes"),
+                (("--admin", "127.0.0.1:0", "--admin-token-file", str(none)), 1, b""),
+                (("--admin-token-file", str(short)), 2, b"usage"), (("--admin",), 2, b"usage"),
+                (("--admin", "127.0.0.1:0", "--admin", "127.0.0.1:0"), 2, b"usage")):
+            run = subprocess.run([talk.program, "serve", str(settings), *options], stdin=subprocess.DEVNULL,
+                                 capture_output=True, timeout=MOST, check=False)
+            check(f"with {options}", (run.returncode, run.stdout, words in run.stderr), (status, b"", True))
+
+
+def asked_in(folder):
+    """A tenant comes by its document and goes again, and what is wrong with a document is told in words."""
+    with BackEnd() as back_end, LookedAfter(folder, [tenant("a", back_end)]) as service:
+        check("unknown", service.post("new", body(1, 1))[0], 403)
+        document = tenant("new", back_end).encode()
+        check("it comes", service.told("/tenants", "POST", document), (201, {"tenant": "new"}))
+        check("that is printed", service.hear(), "added new 1\n")
+        check("a post", service.post("new", body(1, 1)), (200, b""))
+        check("again", service.told("/tenants", "POST", document)[0], 409)
+        check("that is printed", service.hear(), "refused add 14\n")
+        for text, words in ((b"", "tenant"), (b"[[tenant]]\n", "name"), (b"\xff", "UTF-8"), (b"[[", "TOML"),
+                            (tenant("other", back_end).replace("= 100000", "= true", 1).encode(), "max_spans")):
+            status, told = service.told("/tenants", "POST", text)
+            check(f"of {text[:20]!r}: {told}", (status, words in told["error"]), (422, True))
+            check("that is printed", service.hear()[:12], "refused add ")
+        two = tenant("x", back_end) + tenant("y", back_end)
+        check("two of them", service.told("/tenants", "POST", two.encode())[0], 422)
+        service.hear()
+        wait_for(lambda: service.told("/tenants/new")[1]["exported"] == 1, "it is sent")
+        check("it goes", service.told("/tenants/new", "DELETE"), (200, figures("new", accepted=1, exported=1)))
+        check("that is printed", service.hear(), line_of("new", accepted=1, exported=1))
+        check("it has gone", service.told("/tenants/new", "DELETE"), (404, {"error": "unknown tenant"}))
+        check("nobody", service.told("/tenants"), (200, {"tenants": [figures("a")]}))
+        check("unknown", service.post("new", body(2, 2))[0], 403)
+        check("the end", service.drained(), (0, line_of("a"), b""))
+
+
+def asked_out_late(folder):
+    """A tenant that waits for its back end is told to be going, and meanwhile other things are answered but changes."""
+    with BackEnd() as back_end, BackEnd(BUSY) as busy, \
+            LookedAfter(folder, [tenant("a", back_end), tenant("slow", busy)]) as service:
+        check("a post", service.post("slow", body(1, 1)), (200, b""))
+        told = []
+        asking = threading.Thread(target=lambda: told.append(service.told("/tenants/slow", "DELETE")))
+        asking.start()
+        time.sleep(0.5)
+        start = time.monotonic()
+        check("health", service.told("/healthz")[0], 200)
+        check("figures", len(service.told("/tenants")[1]["tenants"]), 2)
+        check("another change", service.told("/tenants/a", "DELETE")[0], 503)
+        check("at once", time.monotonic() - start < 1, True)
+        asking.join()
+        check("it goes on", told, [(202, {"state": "it is being done"})])
+        check("another change still", service.told("/tenants/a", "DELETE")[0], 503)
+        busy.reply = talk.TAKEN
+        check("it went", service.hear(), line_of("slow", accepted=1, exported=1))
+        wait_for(lambda: service.told("/tenants/a", "DELETE")[0] == 200, "the other may go")
+        check("the end", service.drained()[0], 0)
+
+
+def drained_by_call(folder):
+    """A drain under load loses nothing: ledgers, back ends and clients agree."""
+    with BackEnd() as back_end, BackEnd(None) as held:
+        sections = [tenant(name, back_end, wait=5, timeout=20, consumers=4) for name in "abc"] + [tenant("held", held)]
+        with LookedAfter(folder, sections, receivers=8) as service:
+            taken = dict.fromkeys("abc", 0)
+            check("a post", service.post("held", body(9, 9)), (200, b""))
+            wait_for(lambda: held.posts, "it is sent")
+
+            def load(name, trace):
+                with service.connect() as peer:
+                    while (told := service.post(name, body(trace, taken[name] % 255 + 1), peer)) == (200, b""):
+                        taken[name] += 1
+                        time.sleep(0.002)
+                check("what is told", told, (503, b"\x12\x0dshutting down"))
+
+            def drain():
+                time.sleep(0.3)
+                for _ in range(2):
+                    check("a drain", service.told("/drain", "POST"), (200, {"state": "draining"}))
+                check("readyz", service.told("/readyz"), (503, {"state": "draining"}))
+                check("healthz", service.told("/healthz")[0], 200)
+                check("a change", service.told("/tenants/a", "DELETE"), (503, {"error": "shutting down"}))
+                check("metrics", families(service.ask("/metrics")[2].decode())["nimchaes_draining"].samples, {(): 1.0})
+                held.release()
+
+            in_threads(*(lambda n=name, t=trace: load(n, t) for trace, name in enumerate("abc", 1)), drain)
+            check("some were taken", min(taken.values()) > 10, True)
+            ledgers = "".join(line_of(name, accepted=taken[name], exported=taken[name]) for name in "abc")
+            check("ledgers", service.run.stdout.read().decode(), ledgers + line_of("held", accepted=1, exported=1))
+            check("status", service.run.wait(), 0)
+        spans = b"".join(back_end.bodies()).count(b"\x12\x1c\x0a\x10")
+        check("spans", spans, sum(taken.values()))
+
+
+def slow_lookers(folder):
+    """Those who read slowly, send slowly or send nothing hold up nobody, and not the end for long."""
+    with BackEnd() as back_end:
+        with LookedAfter(folder, [tenant(f"tenant-{n}", back_end) for n in range(400)]) as service:
+            reads_not, halves, idle = service.to_admin(), service.to_admin(), service.to_admin()
+            reads_not.setsockopt(socket.SOL_SOCKET, socket.SO_RCVBUF, 4096)
+            reads_not.sendall(b"GET /metrics HTTP/1.1\r\nHost: a\r\n\r\n" * 40)
+            halves.sendall(b"GET /metrics HT")
+            time.sleep(0.2)
+            start = time.monotonic()
+            check("another", len(service.told("/tenants")[1]["tenants"]), 400)
+            check("spans", service.post("tenant-7", body(1, 1)), (200, b""))
+            check("at once", time.monotonic() - start < 1, True)
+            begun = time.monotonic()
+            check("half a request is let go", halves.recv(1 << 16), b"")
+            check("within its limit", time.monotonic() - begun < 6, True)
+            late = service.to_admin()
+            late.sendall(b"GET /tenants")
+            start = time.monotonic()
+            check("the end", service.drained()[0], 0)
+            check("within its limits", time.monotonic() - start < 12, True)
+            for peer in (reads_not, halves, idle, late):
+                peer.close()
+
+
+def without_input(folder):
+    """An input that ends at once ends nothing, and isn't read."""
+    with BackEnd() as back_end:
+        settings = Path(folder, "settings.toml")
+        port, admin = free_port(), free_port()
+        settings.write_text(talk.globals_of(port) + tenant("a", back_end))
+        run = subprocess.Popen([talk.program, "serve", str(settings), "--admin", f"127.0.0.1:{admin}"],
+                               stdin=subprocess.DEVNULL, stdout=subprocess.PIPE)
+        try:
+            time.sleep(0.5)
+            check("it serves", run.poll(), None)
+            with socket.create_connection(("127.0.0.1", admin), timeout=MOST) as peer:
+                peer.sendall(b"POST /drain HTTP/1.1\r\nHost: a\r\nContent-Length: 0\r\nConnection: close\r\n\r\n")
+                check("a drain", read_message(peer.recv).split(b"\r\n")[0], b"HTTP/1.1 200 OK")
+            check("the end", (run.stdout.read().decode(), run.wait(MOST)), (line_of("a"), 0))
+        finally:
+            run.kill()
+            run.stdout.close()
+
+
+def few_files(folder):
+    """With one file fewer than the port and its connections need beside all else the service doesn't start. With as
+    many as that each receiver, each sender and each of the eight has one."""
+    need = 4 + 2 + 10 + 5
+    limited = [("/bin/sh", "-c", f'ulimit -n {most} && exec "$0" "$@"') for most in (need - 1, need)]
+    with BackEnd(None) as slow:
+        section = tenant("a", slow, consumers=2)
+        settings = Path(folder, "settings.toml")
+        settings.write_text(talk.globals_of() + section)
+        run = subprocess.run([*limited[0], talk.program, "serve", str(settings), "--admin", "127.0.0.1:0"],
+                             stdin=subprocess.DEVNULL, capture_output=True, timeout=MOST, check=False)
+        check("one too few", (run.returncode, run.stdout, f"need {need}:".encode() in run.stderr), (1, b"", True))
+        with LookedAfter(folder, [section], under=limited[1]) as service:
+            kept = [service.connect() for _ in range(4)]
+            for number, client in enumerate(kept, 1):
+                check("a post", service.post("a", body(number, number), client), (200, b""))
+            wait_for(lambda: len(slow.posts) == 2, "each sender waits for its answer")
+            lookers = [service.to_admin() for _ in range(8)]
+            check("each looks", [service.ask("/healthz", peer=looker)[0] for looker in lookers], [200] * 8)
+            for peer in kept + lookers:
+                peer.close()
+            slow.release()
+            check("the end", service.drained()[:2], (0, line_of("a", accepted=4, exported=4)))
+
+
+def scraped_often(folder):
+    """A thousand tenants scraped each second cost little: prints how much of a processor."""
+    with BackEnd() as back_end, LookedAfter(folder, [tenant(f"tenant-{n}", back_end) for n in range(1000)]) as service:
+        clock = os.sysconf("SC_CLK_TCK")
+
+        def used():
+            words = Path(f"/proc/{service.run.pid}/stat").read_text().rpartition(")")[2].split()
+            return (int(words[11]) + int(words[12])) / clock
+
+        rest = used()
+        time.sleep(10)
+        rest, start = used() - rest, used()
+        longest = 0
+        for _ in range(10):
+            begun = time.monotonic()
+            found = families(service.ask("/metrics")[2].decode())
+            longest = max(longest, time.monotonic() - begun)
+            time.sleep(1)
+        cost = (used() - start - rest) / 10
+        print(f"1,000 tenants: {cost:.4f} processors for a scrape a second, {longest:.3f} s the longest")
+        check("all are there", len(found["nimchaes_pending_spans"].samples), 1000)
+        check("the end", service.drained()[0], 0)
+
+
+TESTS = (looked_at, scraped, in_force, counted, with_token, without_token, asked_in, asked_out_late, drained_by_call,
+         slow_lookers, without_input, few_files)
