@@ -519,11 +519,11 @@ def by_promtool(folder):
 
 
 class Prometheus:
-    """Prometheus itself, which scrapes a port each second."""
+    """Prometheus itself, which scrapes a port every two seconds."""
 
     def __init__(self, folder, port):
         file = Path(folder, "prometheus.yml")
-        file.write_text("global: {scrape_interval: 1s, scrape_timeout: 1s}\nscrape_configs:\n"
+        file.write_text("global: {scrape_interval: 2s, scrape_timeout: 1s}\nscrape_configs:\n"
                         f"- {{job_name: tried, static_configs: [{{targets: ['127.0.0.1:{port}']}}]}}\n")
         self.port = free_port()
         self.run = subprocess.Popen(
