@@ -75,9 +75,9 @@ def listed(lines):
 
 def synopsis(lines):
     """Each way to call it on a line of its own."""
-    joined = " | ".join(line.removeprefix(USAGE).strip() for line in lines)
+    joined = " ".join(" ".join(lines).removeprefix(USAGE).split())
     name = joined.split()[0]
-    ways = [way.removeprefix(name).strip() for way in joined.split(" | ")]
+    ways = filter(None, map(str.strip, re.split(rf"\b{name} | \| ", joined)))
     return ".br\n".join(f"{words_of(name)} {words_of(way)}\n" for way in ways)
 
 

@@ -87,8 +87,10 @@ def manual(folder):
     statuses = re.search(r"Exit statuses: ([^.]*)\.", text)[1]
     check("statuses", re.search(r"EXIT STATUS(.*) FILES", told)[1].split(), statuses.replace(";", "").split())
     synopsis = re.search("SYNOPSIS(.*) DESCRIPTION", told)[1]
-    for way in ("replay SETTINGS", "serve SETTINGS", "check SETTINGS"):
+    for way in ("replay SETTINGS", "serve SETTINGS [--audit] [--verbose] [--connections N]", "check SETTINGS", "--help", "--version"):
         check(f"the synopsis has {way}", f"trace_collector {way}" in synopsis, True)
+    for option in re.findall("^  (--[a-z-]+)", text, re.M):
+        check(f"the synopsis has {option}", option in synopsis, True)
     if is_there("mandoc"):
         check("mandoc", said("mandoc", "-T", "lint", "-W", "warning", str(page)), (0, ""))
     if is_there("man"):

@@ -17,6 +17,15 @@ HERE = Path(__file__).resolve().parent.parent
 PROGRAM = os.path.abspath(sys.argv[1] if len(sys.argv) > 1 else HERE / "trace_collector")
 SETTINGS = str(HERE / "crates/trace_collector_program/data/settings.toml")
 USAGE = b"usage: trace_collector replay SETTINGS | serve SETTINGS [--audit]\n"
+# what --help says of it
+WAYS = b"""usage: trace_collector replay SETTINGS
+       trace_collector check SETTINGS
+       trace_collector serve SETTINGS [--audit] [--verbose] [--connections N] [--senders N]
+                       [--client-timeout MS] [--request-timeout MS] [--back-end-timeout MS]
+                       [--admin HOST:PORT [--admin-token-file FILE]]
+       trace_collector --help | --version
+
+"""
 SPAN = "0a20121e121c0a101111111111111111111111111111111112082121212121212121"
 # the options of `serve` that have a number, and the greatest one
 MOST = {"--connections": 65_536, "--senders": 4_096, "--client-timeout": 2**32 - 1, "--request-timeout": 2**32 - 1,
@@ -53,7 +62,7 @@ def usage():
     for arguments in wrong:
         check(arguments, ended(arguments), (2, b"", USAGE))
     status, out, err = ended(["--help"])
-    check("--help", (status, err, USAGE.strip() in out, out.endswith(b"\n")), (0, b"", True, True))
+    check("--help", (status, err, WAYS in out, out.endswith(b"\n")), (0, b"", True, True))
     status, out, err = ended(["--version"])
     check("--version", (status, err, out.count(b"\n"), out[:16]), (0, b"", 1, b"trace_collector "))
 
@@ -145,12 +154,16 @@ FAULTY = [
      "not have\nshards may be: a whole number from 1 to 64, or missing, which is 1\n"),
     (TENANT + TENANT.replace("always_sample", "latency"), "settings fault 14 a\na second tenant has the name a\n"),
     (TENANT + TENANT.replace('"a"', '"b"').replace("always_sample", "latency"), "settings fault 11 threshold_ms\n"
-     "tenant 2 (b), a policy: the key threshold_ms is missing\nthreshold_ms may be: whole milliseconds from 0 to "
+     "tenant 2 (b), policy 1: the key threshold_ms is missing\nthreshold_ms may be: whole milliseconds from 0 to "
      "1099511627776\n"),
+    ("""tenant = [{ name = "a", tail_sampling.policy = [{ type = "latency", threshold_ms = 1 }, { name = "slow", type = "latency" },
+     { type = "latency" }] }]""", "settings fault 11 threshold_ms\ntenant 1 (a), policy 2 (slow): the key threshold_ms is missing\n"
+     "threshold_ms may be: whole milliseconds from 0 to 1099511627776\n"
+     "# warning: tenant 1 (a), policy 2: no setting has the key name, so it is ignored\n"),
     (TENANT + '[[tenant.tail_sampling.policy]]\ntype = "always_sample"\n' * 64, "settings fault 15\ntenant 1 (a), more than 64 "
      "policies, where an and counts as those that it holds\n"),
     (TENANT.replace("[[tenant.", "max_spans = 2147483648\n[[tenant.") + TENANT.replace('"a"', '"b"'), "settings fault 15\n"
-     "more than 1000 tenants, more than 64 policies of one tenant, or a sum of max_spans above 2147483648\n"),
+     "the document: the max_spans of all tenants are above 2147483648 together\n"),
 ]
 # what standard error is told of a good document, and the document: addresses that can't be any, and counts that are too
 # low. The smallest document leaves it at 4 senders and 10 consumers.
@@ -330,7 +343,7 @@ def checks():
 FAULTS = HERE / "docs/FAULTS.md"
 KEYS = HERE / "crates/settings_check/src/table.rt"
 ALWAYS = 'policy = [{ type = "always_sample" }]'
-TITLES = {"The document": "the document", "Policies": "a policy"}
+TITLES = {"The document": "the document"}
 WRONG = {"11": "is missing", "12": "is of another kind, or a member of it is", "13": "has a value that it may not have"}
 
 
@@ -363,10 +376,18 @@ def with_line(section, key, code):
     return f"{TENANT}{section}\n{code}\n"
 
 
-def told_of(section, number, key, may_be):
+def policy_of(key, code):
+    """The words of the only policy of a tenant, of which a fault is, or its first part."""
+    name = re.match('name = "(\\w+)"', code)
+    part = ", part 1" if "and_sub_policy = [{" in code and key != "and_sub_policy" else ""
+    return f"policy 1{f' ({name[1]})' if name else ''}{part}"
+
+
+def told_of(section, number, key, may_be, code):
     """How the first lines of what is told of a fault of docs/FAULTS.md end."""
     if number in WRONG:
         title = TITLES.get(section) or "table " + section.strip("[]").rsplit(".", 1)[-1]
+        title = policy_of(key, code) if section == "Policies" else title
         return [f"settings fault {number} {key}", f"{title}: the key {key} {WRONG[number]}", f"{key} may be: {may_be}"]
     return {"10": ["settings fault 10", "the text is no TOML document"],
             "14": [f"settings fault 14 {key}", f"a second tenant has the name {key}"]}[number]
@@ -387,7 +408,7 @@ def page_of_faults():
             of_kind |= {key} if number == "12" else set()
             for code in wrong:
                 status, lines = said(with_line(section, key, code))
-                told = told_of(section, number, key, may_be)
+                told = told_of(section, number, key, may_be, code)
                 check(f"{code} of {section}", (status, [line.endswith(end) for line, end in zip(lines, told)]),
                       (1, [True] * len(told)))
             for code in right:

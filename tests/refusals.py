@@ -32,8 +32,11 @@ KNOWN = [
     ("tenant_shard/src/shard.rt", "run", 2, "room for the outcomes was refused, or a step was"),
     ("trace_service/src/post.rt", "without_memory", 1, "the reply itself"),
     ("trace_service/src/context.rt", "post_now", 1, "memory was refused, so the reserve was given up, and isn't there again"),
-    ("trace_service/src/changes.rt", "added", 2, "the line that is answered says so, or there was no memory to hear it"),
-    ("trace_service/src/changes.rt", "retired", 1, "there was no memory to hear what is answered"),
+    ("trace_service/src/changes.rt", "added", 1, "there was no memory to hear what is answered: it is no text"),
+    ("trace_service/src/changes.rt", "add_answered", 1, "there was no memory to hear what is answered"),
+    ("trace_service/src/changes.rt", "not_added", 1, "the line that is answered says so"),
+    ("trace_service/src/changes.rt", "retired", 1, "there was no memory to hear what is answered: it is no text"),
+    ("trace_service/src/changes.rt", "retire_answered", 1, "there was no memory to hear what is answered"),
     ("trace_service/src/comings.rt", "from", 1, "of a document's faults want of memory alone has no number"),
 ]
 

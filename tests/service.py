@@ -5,7 +5,7 @@
     python3 tests/service.py PROGRAM SECONDS          # `agreement` alone, for so long
     python3 tests/service.py PROGRAM comings TENANTS  # how much memory so many leave behind that come and go
 
-Takes the program's path, `./trace_collector` if there is none. Each test of tests/serving/ starts the program at a free
+Takes the program's path, `./trace_collector` if there is none. `leaves_with_an_audit` runs where it is named alone. Each test of tests/serving/ starts the program at a free
 port with back ends made of Python's standard library, posts bodies, and looks at what comes out. What is expected was
 worked out by hand. It prints what is wrong, and ends with 1 where something is.
 """
@@ -34,6 +34,8 @@ def agree(folder):
 TESTS = {test.__name__: test
          for test in (*loopback.TESTS, *clients.TESTS, *back_ends.TESTS, *comings.TESTS, *limits.TESTS, *rest.TESTS,
                       *ending.TESTS, *memory.TESTS, *admin.TESTS, *short.TESTS, agree)}
+# Those of these names alone.
+BY_HAND = {test.__name__: test for test in short.BY_HAND}
 
 
 def run(name, test):
@@ -52,14 +54,14 @@ def run(name, test):
 
 def main():
     words = sys.argv[1:]
-    talk.program = os.path.abspath(words.pop(0) if words and words[0] not in (*TESTS, "comings") else HERE / "trace_collector")
+    talk.program = os.path.abspath(words.pop(0) if words and words[0] not in (*TESTS, *BY_HAND, "comings") else HERE / "trace_collector")
     if len(words) == 1 and words[0].isdigit():
         run("agreement", lambda folder: print(agreement.agrees(folder, int(words[0])), "spans", flush=True))
     elif len(words) == 2 and words[0] == "comings":
         run("comings", lambda folder: comings.memory_of_many(folder, int(words[1])))
     elif words:
         for name in words:
-            print(f"{name}: {run(name, TESTS[name]):.1f} s", flush=True)
+            print(f"{name}: {run(name, (TESTS | BY_HAND)[name]):.1f} s", flush=True)
     else:
         with subprocess.Popen([sys.executable, __file__, talk.program, BESIDE], stdout=subprocess.PIPE) as beside:
             for name in (name for name in TESTS if name != BESIDE):

@@ -4,12 +4,13 @@
     python3 tests/strangers.py [PROGRAM] [NAME..]     # all, or those of these names
 
 Takes the program's path, `./trace_collector` if there is none. `curl`, `ab`, `wrk`, `h2load`, `nghttp`, `nginx`, `haproxy`,
-`promtool`, `prometheus` and the Python library h11, a strict reader and writer of HTTP/1.1, are used where they are
-installed; it says which aren't. h11 posts ten thousand messages that are made by chance, and is a back end that answers as
-many by chance. What has to come is what docs/HTTP.md says, and docs/OPERATING.md of metrics. It prints what is wrong, and
+`apache2`, `varnishd`, `promtool`, `prometheus`, `go` and its OpenTelemetry SDK, `node`, and the Python library h11, a strict reader and writer of HTTP/1.1,
+are used where they are installed; it says which aren't. h11 posts ten thousand messages that are made by chance, and is a
+back end that answers as many by chance; Go's net/http and Node's http do so with three thousand (tests/strangers/). What has to come is what docs/HTTP.md says, and docs/OPERATING.md of metrics. It prints what is wrong, and
 ends with 1 where something is.
 """
 
+import base64
 import http.client
 import json
 import os
@@ -38,10 +39,15 @@ except ImportError:
     h11 = None
 
 HERE = Path(__file__).resolve().parent.parent
+STRANGERS = HERE / "tests" / "strangers"
 SEED = 20251126
 MESSAGES, JOBS, POSTS = 10_000, 10_000, 200
+PEER_MESSAGES, PEER_JOBS = 3_000, 3_000
 TYPE, FIELD = "Content-Type: application/x-protobuf", "X-Scope-OrgID: a"
 URL = "http://127.0.0.1:{}/v1/traces"
+# Where Debian's packages have what is written in Go.
+GOCODE = "/usr/share/gocode"
+TRACES, SCHEMA = 1_000, b"https://opentelemetry.io/schemas/1.4.0"
 
 
 def curl(service, text, *words, path="/v1/traces", fields=(TYPE, FIELD)):
@@ -189,6 +195,25 @@ listen collector
 """
 
 
+APACHE = """ServerRoot {folder}
+ServerName 127.0.0.1
+PidFile {folder}/pid
+ErrorLog {folder}/error
+Listen 127.0.0.1:{port}
+LoadModule mpm_event_module /usr/lib/apache2/modules/mod_mpm_event.so
+LoadModule authz_core_module /usr/lib/apache2/modules/mod_authz_core.so
+LoadModule proxy_module /usr/lib/apache2/modules/mod_proxy.so
+LoadModule proxy_http_module /usr/lib/apache2/modules/mod_proxy_http.so
+User www-data
+Group www-data
+ProxyPass / http://127.0.0.1:{to}/ enablereuse=on max=8
+"""
+VARNISH = """vcl 4.1;
+backend collector {{ .host = "127.0.0.1"; .port = "{to}"; .max_connections = 8; }}
+sub vcl_recv {{ return (pass); }}
+"""
+
+
 class Proxy:
     """A proxy in front of a service, with these settings."""
 
@@ -196,6 +221,7 @@ class Proxy:
         self.port = free_port()
         file = Path(folder, "proxy.conf")
         file.write_text(settings.format(folder=folder, port=self.port, to=to))
+        words = [word.format(folder=folder, port=self.port) for word in words]
         self.run = subprocess.Popen([*words, str(file)], stdout=subprocess.DEVNULL, stderr=subprocess.DEVNULL)
 
     def __enter__(self):
@@ -261,6 +287,16 @@ def behind_haproxy(folder):
     behind(folder, HAPROXY, "haproxy", "-db", "-f")
 
 
+def behind_apache2(folder):
+    """Apache's httpd."""
+    behind(folder, APACHE, "apache2", "-X", "-f")
+
+
+def behind_varnishd(folder):
+    """Varnish, which passes all on."""
+    behind(folder, VARNISH, "varnishd", "-j", "none", "-F", "-n", "{folder}/varnish", "-a", "127.0.0.1:{port}", "-f")
+
+
 class Message:
     """A message by chance, how it is to be answered, and the spans that it brings if it is taken."""
 
@@ -300,8 +336,8 @@ class Message:
         self.closes = chance.random() < 0.02
         fields += [(b"Connection", chance.choice((b"close", b"x, Close")))] * self.closes
         chance.shuffle(fields)
-        self.head = h11.Request(method=self.method, target=path, headers=[
-            (chance.choice((name, name.lower(), name.upper())), value) for name, value in fields])
+        self.number, self.path = number, path
+        self.fields = [(chance.choice((name, name.lower(), name.upper())), value) for name, value in fields]
 
 
 def others(chance, most):
@@ -337,7 +373,7 @@ class Client:
         """The status of the reply to a message, or of what stands there else."""
         if self.peer is None:
             self.peer, self.state = self.service.connect(), h11.Connection(h11.CLIENT)
-        self.send(message.head)
+        self.send(h11.Request(method=message.method, target=message.path, headers=message.fields))
         if message.waits:
             check("leave to go on", self.event().status_code, 100)
         text = message.text
@@ -382,7 +418,7 @@ def by_h11(folder):
         for number in range(MESSAGES):
             message = Message(chance, number)
             status = client.told(message)
-            check(f"message {number}, {message.head}", status, message.status)
+            check(f"message {number}, {message.method} {message.path} {message.fields}", status, message.status)
             told[status] += 1
             if status == 200:
                 taken[message.name].update(message.ids)
@@ -479,26 +515,183 @@ def reply(chance, status):
 
 
 def to_h11(folder):
-    """Jobs to h11, which answers by chance: each post is read, an answer that says so is posted again, and each span is
-    counted as it was answered last."""
+    """Jobs to h11, which answers by chance."""
     with Answering() as end:
-        sections = [tenant(name, end, consumers=4, queue=JOBS) for name in "abcd"]
-        with Service(folder, sections, senders=8) as service:
-            with service.connect() as peer:
-                for number in range(JOBS):
-                    text = request((f"{number:016}".encode(), b"00000001", b""))
-                    check("a post", service.post("abcd"[number % 4], text, peer), (200, b""))
-            status, out, err = service.end()
-        last = Counter(told[-1] for told in end.told.values())
-        again = {status for told in end.told.values() for status in told[:-1]}
-        check("all came", last.total(), JOBS)
-        check("what is posted again", again, {429, 502, 503, 504})
-        counts = Counter()
-        for line in out.splitlines():
-            counts.update({name: int(count) for name, count in re.findall(r"(\w+)=(\d+)", line)})
-        wanted = {"accepted": JOBS, "exported": last[200], "back_end_refused": JOBS - last[200]}
-        check("what is counted", {name: count for name, count in counts.items() if count}, wanted)
-        check("status and standard error", (status, err), (0, b""))
+        to_end(folder, end, JOBS)
+
+
+def to_end(folder, end, jobs):
+    """Jobs to a back end that answers by chance: each post is read, an answer that says so is posted again, and each span
+    is counted as it was answered last."""
+    sections = [tenant(name, end, consumers=4, queue=jobs) for name in "abcd"]
+    with Service(folder, sections, senders=8) as service:
+        with service.connect() as peer:
+            for number in range(jobs):
+                text = request((f"{number:016}".encode(), b"00000001", b""))
+                check("a post", service.post("abcd"[number % 4], text, peer), (200, b""))
+        status, out, err = service.end()
+    told = end.told
+    last = Counter(statuses[-1] for statuses in told.values())
+    again = {status for statuses in told.values() for status in statuses[:-1]}
+    check("all came", last.total(), jobs)
+    check("what is posted again", again, {429, 502, 503, 504})
+    counts = Counter()
+    for line in out.splitlines():
+        counts.update({name: int(count) for name, count in re.findall(r"(\w+)=(\d+)", line)})
+    wanted = {"accepted": jobs, "exported": last[200], "back_end_refused": jobs - last[200]}
+    check("what is counted", {name: count for name, count in counts.items() if count}, wanted)
+    check("status and standard error", (status, err), (0, b""))
+
+
+def built_by_go(folder, name, **more):
+    """A program of tests/strangers/, built by Go."""
+    program = Path(folder, name)
+    run = subprocess.run(["go", "build", "-o", program, STRANGERS / f"{name}.go"],
+                         env={**os.environ, "GO111MODULE": "off", "GOFLAGS": "", **more}, check=False)
+    check("go build", run.returncode, 0)
+    return program
+
+
+def as_json(message):
+    """A message for tests/strangers/peer.go."""
+    def text(some):
+        return base64.b64encode(some).decode()
+
+    return json.dumps({
+        "Number": message.number, "Method": message.method.decode(), "Target": message.path.decode(),
+        "Fields": [(text(name), text(value)) for name, value in message.fields], "Body": text(message.text),
+        "Chunked": message.chunked, "Close": message.closes}) + "\n"
+
+
+def by_go(folder):
+    """Messages by chance from Go's net/http."""
+    by_peer(folder, built_by_go(folder, "peer"))
+
+
+def by_node(folder):
+    """The same from Node's http, which writes no method in small letters."""
+    by_peer(folder, "node", STRANGERS / "peer.js")
+
+
+def by_peer(folder, *words):
+    """Messages by chance, four at a time over connections that are kept: each is answered as it has to be, and what is
+    taken comes, each span once."""
+    chance = random.Random(SEED + 2)
+    messages = [Message(chance, number) for number in range(PEER_MESSAGES)]
+    messages = [message for message in messages if message.method.isupper()]
+    # It keeps more connections than it uses at a time.
+    with BackEnd() as ones, BackEnd() as twos, Service(
+            folder, [tenant("a", ones, batch=100, timeout=100), tenant("b", twos, batch=100, timeout=100)],
+            receivers=16) as service:
+        run = subprocess.run([*words, "send", f"127.0.0.1:{service.port}"], capture_output=True,
+                             input="".join(map(as_json, messages)).encode(), timeout=2 * MOST, check=False)
+        check("the peer", (run.returncode, run.stderr), (0, b""))
+        told = {answer["Number"]: answer for answer in map(json.loads, run.stdout.splitlines())}
+        taken = {"a": Counter(), "b": Counter()}
+        for message in messages:
+            answer = told.get(message.number, {})
+            wanted = {"Number": message.number, "Status": message.status, "Type": "application/x-protobuf", "Error": ""}
+            check(f"message {message.number}, {message.method} {message.path} {message.fields}",
+                  {name: answer.get(name) for name in wanted}, wanted)
+            check("its content", answer.get("Length", 0) > 0, message.status != 200 and message.method != b"HEAD")
+            check("it closes", answer.get("Closes", False) or not message.closes, True)
+            if message.status == 200:
+                taken[message.name].update(message.ids)
+        done = "".join(line_of(name, accepted=taken[name].total(), exported=taken[name].total()) for name in "ab")
+        check("the end", service.end(), (0, done, b""))
+        for name, back_end in (("a", ones), ("b", twos)):
+            came = Counter(span for text in back_end.bodies() for span in SPAN.findall(text))
+            check(f"{name}'s spans that didn't come once", ((taken[name] - came).total(), (came - taken[name]).total()),
+                  (0, 0))
+
+
+class PeerEnd:
+    """A back end of a program of tests/strangers/, whose answers are made by chance."""
+
+    def __init__(self, *words):
+        self.run = subprocess.Popen([*words, "serve", str(SEED)], stdin=subprocess.PIPE, stdout=subprocess.PIPE)
+        self.port = int(self.run.stdout.readline())
+        # by span, each status that it was answered
+        self.answered = {}
+        self.listener = threading.Thread(target=self.listen)
+        self.listener.start()
+
+    def __enter__(self):
+        return self
+
+    def __exit__(self, *_):
+        self.run.kill()
+        self.run.wait()
+
+    def listen(self):
+        for post in map(json.loads, self.run.stdout):
+            text = base64.b64decode(post["Body"])
+            fields = {name.lower(): values for name, values in post["Fields"].items() if name.lower() != "host"}
+            wanted = {"content-type": ["application/x-protobuf"], "content-length": [str(len(text))], "connection": ["close"]}
+            check("a post", (post["Head"], fields), (f"POST /v1/traces HTTP/1.1 127.0.0.1:{self.port}", wanted))
+            for span in SPAN.findall(text):
+                self.answered.setdefault(span, []).append(post["Status"])
+
+    @property
+    def told(self):
+        """Once it has ended."""
+        self.run.stdin.close()
+        self.listener.join()
+        return self.answered
+
+
+def to_go(folder):
+    """Jobs to Go's net/http, which answers by chance."""
+    with PeerEnd(built_by_go(folder, "peer")) as end:
+        to_end(folder, end, PEER_JOBS)
+
+
+def to_node(folder):
+    """Jobs to Node's http, which answers by chance."""
+    with PeerEnd("node", STRANGERS / "peer.js") as end:
+        to_end(folder, end, PEER_JOBS)
+
+
+def parts(text, number):
+    """The texts of this field of a message whose fields are all texts."""
+    at, found = 0, []
+    while at < len(text):
+        tag, length, shift = text[at], 0, 0
+        at += 1
+        while True:
+            byte = text[at]
+            at += 1
+            length |= (byte & 127) << shift
+            shift += 7
+            if byte < 128:
+                break
+        if tag == number << 3 | 2:
+            found.append(text[at:at + length])
+        at += length
+    return found
+
+
+def by_sdk(folder):
+    """Spans of OpenTelemetry's Go SDK, with attributes, events, links and limits: each that its exporter was told is taken
+    comes, to the byte, under the SDK's resource and scope."""
+    program = built_by_go(folder, "sdk", GOPATH=GOCODE)
+    with BackEnd() as back_end, Service(
+            folder, [tenant("a", back_end, batch=100, timeout=20, most=1_000_000)], shards=1) as service:
+        run = subprocess.run([program, URL.format(service.port), "a", str(TRACES), str(SEED)], capture_output=True,
+                             timeout=2 * MOST, check=False)
+        check("the SDK", (run.returncode, run.stderr), (0, b""))
+        told = Counter(map(bytes.fromhex, run.stdout.decode().split()))
+        check("it makes many spans, each once", told.total() >= TRACES and max(told.values()) == 1, True)
+        check("the end", service.end(), (0, line_of("a", accepted=told.total(), exported=told.total()), b""))
+        groups = [group for text in back_end.bodies() for group in parts(text, 1)]
+        check("schemas", {part for group in groups for part in parts(group, 3)}, {SCHEMA})
+        check("resources", {part for group in groups for part in parts(group, 1)},
+              {talk.piece(1, talk.piece(1, b"service.name") + talk.piece(2, talk.piece(1, b"tried")))})
+        scopes = [scope for group in groups for scope in parts(group, 2)]
+        check("scopes", {part for scope in scopes for part in parts(scope, 1)},
+              {talk.piece(1, b"tests/strangers") + talk.piece(2, b"1")})
+        came = Counter(span for scope in scopes for span in parts(scope, 2))
+        check("spans that didn't come as they are", ((told - came).total(), (came - told).total()), (0, 0))
 
 
 def by_promtool(folder):
@@ -576,12 +769,15 @@ def by_prometheus(folder):
             wait_for(lambda: found.asked("up") == {"": 0.0}, "it sees the end")
 
 
-TESTS = {test.__name__: test for test in (by_curl, by_ab, by_wrk, by_h2load, by_nghttp, behind_nginx, behind_haproxy,
-                                             by_h11, to_h11, by_promtool, by_prometheus)}
+TESTS = {test.__name__: test for test in (
+    by_curl, by_ab, by_wrk, by_h2load, by_nghttp, behind_nginx, behind_haproxy, behind_apache2, behind_varnishd, by_h11, to_h11,
+    by_go, to_go, by_sdk, by_node, to_node, by_promtool, by_prometheus)}
 
 
 def is_there(name):
     word = name.rpartition("_")[2]
+    if word == "sdk":
+        return shutil.which("go") is not None and Path(GOCODE, "src/go.opentelemetry.io/otel/sdk").exists()
     return h11 is not None if word == "h11" else shutil.which(word) is not None
 
 

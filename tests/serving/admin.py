@@ -6,6 +6,7 @@ import socket
 import subprocess
 import threading
 import time
+from contextlib import suppress
 from pathlib import Path
 
 from serving import talk
@@ -20,7 +21,8 @@ OF_SERVICE = {"gauge": ("nimchaes_build_info", "nimchaes_tenants", "nimchaes_dra
                         "nimchaes_senders", "nimchaes_senders_busy", "otelcol_process_memory_rss_bytes"),
               "counter": ("otelcol_process_uptime_seconds_total", "nimchaes_memory_refusals_total",
                           "nimchaes_connections_total", "nimchaes_received_bytes_total", "nimchaes_sent_bytes_total",
-                          "nimchaes_requests_total", "nimchaes_retries_total", "nimchaes_back_end_answers_total")}
+                          "nimchaes_requests_total", "nimchaes_turns_total", "nimchaes_idle_turns_total",
+                          "nimchaes_retries_total", "nimchaes_back_end_answers_total")}
 METRICS = {"accepted": "otelcol_receiver_accepted_spans_total", "exported": "otelcol_exporter_sent_spans_total",
            "queue_full": "otelcol_exporter_enqueue_failed_spans_total"}
 JSON = "application/json"
@@ -115,14 +117,18 @@ def looked_at(folder):
         check("tenants", service.told("/tenants"), (200, {"tenants": [figures("a"), figures("b")]}))
         status, told = service.told("/tenants/b")
         check("a tenant", (status, {word: told[word] for word in figures("b")}), (200, figures("b")))
-        for target in ("/tenants/c", "/tenants/", "/metrics/", "/v1/traces", "/Tenants", "/tenants/a%62"):
-            check(f"nothing at {target}", service.told(target)[0], 404)
+        for target in ("/tenants/c", "/tenants/a%62", "/tenants/%FF"):
+            check(f"nobody at {target}", service.told(target), (404, {"error": "unknown tenant"}))
+            check(f"nobody goes at {target}", service.told(target, "DELETE"), (404, {"error": "unknown tenant"}))
+        for target in ("/tenants/", "/metrics/", "/v1/traces", "/Tenants"):
+            check(f"nothing at {target}", service.told(target), (404, {"error": "no such path"}))
         for target, method, allow in (("/", "POST", "GET, HEAD"), ("/metrics", "PUT", "GET, HEAD"),
                                       ("/healthz", "DELETE", "GET, HEAD"), ("/drain", "GET", "POST"),
                                       ("/tenants", "DELETE", "GET, HEAD, POST"),
                                       ("/tenants/a", "POST", "GET, HEAD, DELETE")):
-            status, fields, _ = service.ask(target, method)
-            check(f"{method} {target}", (status, fields.get("allow")), (405, allow))
+            status, fields, content = service.ask(target, method)
+            check(f"{method} {target}", (status, fields.get("allow"), fields["content-type"], content),
+                  (405, allow, JSON, b'{"error":"method not allowed"}'))
         check("one connection", [service.ask("/healthz", peer=peer)[0] for peer in [service.to_admin()] * 3], [200] * 3)
         check("no spans come in there", service.ask("/v1/traces", "POST", body(1, 1))[0], 404)
         with service.connect() as peer:
@@ -214,6 +220,8 @@ def counted(folder):
         check("taken as 2xx", by_class("nimchaes_requests_total", "2xx"), 2.0)
         check("told as 4xx", by_class("nimchaes_requests_total", "4xx"), 2.0)
         wait_for(lambda: by_class("nimchaes_back_end_answers_total", "2xx") > 0, "it is sent")
+        idle, turns = (service.metric(f"nimchaes_{name}_total") for name in ("idle_turns", "turns"))
+        check(f"{turns} turns, of which {idle} found nothing", 0 < idle < turns, True)
         check("none again", service.metric("nimchaes_retries_total"), 0.0)
         check("a post", service.post("busy", body(3, 3)), (200, b""))
         wait_for(lambda: service.metric("nimchaes_retries_total") > 1, "it is sent again")
@@ -244,8 +252,10 @@ def with_token(folder):
             for target, method in (("/metrics", "GET"), ("/tenants", "GET"), ("/tenants/a", "DELETE"),
                                    ("/readyz", "GET"), ("/drain", "POST"), ("/tenants", "POST"), ("/nothing", "GET"),
                                    ("/drain", "GET")):
-                status, fields, _ = service.ask(target, method, more=more)
-                check(f"{method} {target} with {more!r}", (status, fields.get("www-authenticate")), (401, "Bearer"))
+                status, fields, content = service.ask(target, method, more=more)
+                check(f"{method} {target} with {more!r}",
+                      (status, fields.get("www-authenticate"), fields["content-type"], content),
+                      (401, "Bearer", JSON, b'{"error":"the token is missing or another"}'))
         for target in ("/", "/healthz"):
             check(f"{target} without", service.ask(target)[0], 200)
         for scheme in ("Bearer", "bearer", "BEARER"):
@@ -256,7 +266,7 @@ def with_token(folder):
 
 
 def without_token(folder):
-    """Where everybody could ask, where the token is short or isn't there, and where the options don't fit."""
+    """Where everybody could ask, where the token is short, is none or isn't there, and where the options don't fit."""
     short, none = Path(folder, "short"), Path(folder, "none")
     short.write_text("0123456789abcde\n")
     with BackEnd() as back_end:
@@ -271,6 +281,29 @@ def without_token(folder):
             run = subprocess.run([talk.program, "serve", str(settings), *options], stdin=subprocess.DEVNULL,
                                  capture_output=True, timeout=MOST, check=False)
             check(f"with {options}", (run.returncode, run.stdout, words in run.stderr), (status, b"", True))
+        wrong = Path(folder, "wrong")
+        for text in (f"{TOKEN} ", f"{TOKEN} \n", f"{TOKEN}\t", f" {TOKEN}\n", f"{TOKEN} {TOKEN}", f"{TOKEN}\n\n", f"{TOKEN}\n{TOKEN}\n",
+                     f"{TOKEN}\r{TOKEN}", f"{TOKEN}=a", f"={TOKEN}", "=" * 16, f"{TOKEN}!", f"{TOKEN}\0", f"{TOKEN}\u00e9",
+                     f'"{TOKEN}"', f"Bearer {TOKEN}"):
+            wrong.write_text(text)
+            run = subprocess.run([talk.program, "serve", str(settings), "--admin", "127.0.0.1:0", "--admin-token-file", str(wrong)],
+                                 stdin=subprocess.DEVNULL, capture_output=True, timeout=MOST, check=False)
+            told = f"input or output fault\n{wrong}: a token is one line of letters, digits and - . _ ~ + /, with = at its end alone\n"
+            check(f"with {text!r}", (run.returncode, run.stdout, run.stderr.decode()), (1, b"", told))
+
+
+def with_each_token(folder):
+    """A token has any characters that one may have, and may end with a line."""
+    file = Path(folder, "token")
+    with BackEnd() as back_end:
+        for token, end in (("abcdefghijklmnopqrstuvwxyz", ""), ("ABCDEFGHIJKLMNOPQRSTUVWXYZ==", "\n"), ("0123456789-._~+/===", "\r\n")):
+            file.write_bytes((token + end).encode())
+            with LookedAfter(folder, [tenant("a", back_end)], "--admin-token-file", str(file)) as service:
+                check("another", service.ask("/tenants", more=f"Authorization: Bearer {token}=\r\n")[0], 401)
+                right = f"Authorization: Bearer {token}\r\n"
+                check("with it", service.ask("/tenants", more=right)[0], 200)
+                check("a drain", service.ask("/drain", "POST", more=right)[0], 200)
+                check("the end", service.run.wait(MOST), 0)
 
 
 def asked_in(folder):
@@ -298,6 +331,35 @@ def asked_in(folder):
         check("nobody", service.told("/tenants"), (200, {"tenants": [figures("a")]}))
         check("unknown", service.post("new", body(2, 2))[0], 403)
         check("the end", service.drained(), (0, line_of("a"), b""))
+
+
+def warned(folder):
+    """Keys of a posted document that no setting has are told beside the name of its tenant, and what is told beside
+    a fault stays one member."""
+    with BackEnd() as back_end, LookedAfter(folder, [tenant("a", back_end)]) as service:
+        plain = tenant("plain", back_end).encode()
+        check("none", service.ask("/tenants", "POST", plain)[0::2], (201, b'{"tenant":"plain"}'))
+        slips = b"gobal = 1\n" + tenant("slips", back_end).replace("max_spans", "spans = 1\nmax_spans").encode()
+        slips += b"[tenant.batch2]\n" + b'"a\\"b\\n" = 1\n'
+        lines = ("# warning: the document: no setting has the key gobal, so it is ignored",
+                 "# warning: tenant 1 (slips): no setting has the key batch2, so it is ignored",
+                 "# warning: tenant 1 (slips): no setting has the key spans, so it is ignored")
+        check("a line each", service.told("/tenants", "POST", slips),
+              (201, {"tenant": "slips", "warnings": "\n".join(lines)}))
+        check("its name again", service.told("/tenants", "POST", slips),
+              (409, {"error": "a tenant of that name is present"}))
+        mark = tenant("mark", back_end).encode() + b'[tenant."# the settings in force"]\n'
+        check("a key like the line behind warnings", service.told("/tenants", "POST", mark),
+              (201, {"tenant": "mark", "warnings": "# warning: tenant 1 (mark): no setting has the key "
+                                                   "# the settings in force, so it is ignored"}))
+        both = b"gobal = 1\n" + tenant("faulty", back_end).replace("= 100000", "= true", 1).encode()
+        status, told = service.told("/tenants", "POST", both)
+        check("of a fault", (status, list(told), "max_spans" in told["error"]), (422, ["error"], True))
+        check("two of them", service.told("/tenants", "POST", plain + tenant("b", back_end).encode()),
+              (422, {"error": "the document doesn't have exactly one tenant"}))
+        for name in ("plain", "slips", "mark"):
+            check("it goes", service.told(f"/tenants/{name}", "DELETE"), (200, figures(name)))
+        check("the end", service.drained()[0], 0)
 
 
 def asked_out_late(folder):
@@ -383,6 +445,38 @@ def slow_lookers(folder):
                 peer.close()
 
 
+def asked_to_the_end(folder):
+    """Who asks again and again over one connection doesn't keep the service from ending: once the work is over it is let
+    go behind an answer."""
+    with BackEnd(None) as held, LookedAfter(folder, [tenant("a", held)]) as service:
+        check("a post", service.post("a", body(1, 1)), (200, b""))
+        wait_for(lambda: held.posts, "it is sent")
+        over, statuses = threading.Event(), []
+
+        def scrape():
+            with service.to_admin() as peer, suppress(ConnectionError):
+                while not over.wait(0.3):
+                    peer.sendall(b"GET /metrics HTTP/1.1\r\nHost: admin\r\n\r\n")
+                    if not (reply := read_message(peer.recv)):
+                        return
+                    statuses.append(reply.split(b" ")[1])
+
+        scraper = threading.Thread(target=scrape)
+        scraper.start()
+        check("a drain", service.told("/drain", "POST"), (200, {"state": "draining"}))
+        before = len(statuses)
+        wait_for(lambda: len(statuses) > before + 2, "it is told until all is sent")
+        held.release()
+        try:
+            status = service.run.wait(3)
+        except subprocess.TimeoutExpired:
+            status = None
+        check("it ends", status, 0)
+        over.set()
+        scraper.join()
+        check("what is told", set(statuses), {b"200"})
+
+
 def without_input(folder):
     """An input that ends at once ends nothing, and isn't read."""
     with BackEnd() as back_end:
@@ -452,5 +546,5 @@ def scraped_often(folder):
         check("the end", service.drained()[0], 0)
 
 
-TESTS = (looked_at, scraped, in_force, counted, with_token, without_token, asked_in, asked_out_late, drained_by_call,
-         slow_lookers, without_input, few_files)
+TESTS = (looked_at, scraped, in_force, counted, with_token, without_token, with_each_token, asked_in, warned, asked_out_late,
+         drained_by_call, slow_lookers, asked_to_the_end, without_input, few_files)

@@ -7,6 +7,9 @@ import signal
 import socket
 import struct
 import subprocess
+import threading
+import time
+from contextlib import suppress
 from pathlib import Path
 
 from serving import talk
@@ -60,8 +63,8 @@ def nowhere(name, back_end):
 
 def with_clients(folder):
     """A client that keeps its connection is told that the service shuts down, and what it was told before was counted
-    and sent."""
-    with BackEnd() as back_end, Service(folder, [tenant("a", back_end, wait=86_400_000)]) as service:
+    and sent. Who says nothing keeps the service, and is told so once more."""
+    with BackEnd(None) as back_end, Service(folder, [tenant("a", back_end, wait=86_400_000)]) as service:
         with service.connect() as kept, service.connect() as idle:
             check("a post", service.post("a", body(1, 1), kept), (200, b""))
             check("another's", service.post("a", body(5, 5), idle), (200, b""))
@@ -71,11 +74,57 @@ def with_clients(folder):
                 taken += 1
             check("what it is told", told, (503, b"\x12\x0dshutting down"))
             check("what is no request yet", service.post("a", body(3, 3)[:33], kept), (400, b"\x12\x0cbad protobuf"))
+            back_end.release()
             check("reports", service.hear(), line_of("a", accepted=taken, exported=taken))
             check("it waits for its clients", service.run.poll(), None)
             check("who comes late", service.post("a", body(4, 4), idle)[0], 503)
+            idle.settimeout(10)
+            check("is let go", idle.recv(1), b"")
         check("the end", service.end(), (0, "", b""))
         check("spans", b"".join(back_end.bodies()).count(b"\x0a\x10"), taken)
+
+
+def with_busy_clients(folder):
+    """Who posts again and again over one connection doesn't keep the service: once all is sent each is let go behind a
+    reply, and none within a post."""
+    over = threading.Event()
+    with BackEnd() as back_end, Service(folder, [tenant("a", back_end)]) as service:
+        told = []
+
+        def post_on():
+            with service.connect() as peer, suppress(ConnectionError):
+                while not over.wait(0.01) and (status := service.post("a", body(1, 1), peer)[0]):
+                    told.append(status)
+
+        def post_slowly():
+            with service.connect() as peer:
+                check("a post", service.post("a", body(2, 2), peer), (200, b""))
+                peer.sendall(head_of("a", 34) + body(3, 3)[:20])
+                check("all is sent", service.hear()[:8], "report a")
+                time.sleep(0.3)
+                peer.sendall(body(3, 3)[20:])
+                check("the rest of a post", read_message(peer.recv)[:12], b"HTTP/1.1 503")
+                peer.settimeout(10)
+                check("is let go", peer.recv(1), b"")
+
+        clients = [threading.Thread(target=work) for work in (post_on, post_on, post_slowly)]
+        for client in clients:
+            client.start()
+        time.sleep(0.5)
+        service.run.stdin.close()
+        check("it ends", ended_within(service, 5), 0)
+        over.set()
+        for client in clients:
+            client.join()
+        check("what is told", (told[0], set(told) <= {200, 503}), (200, True))
+
+
+def ended_within(service, seconds):
+    """The status of a service that ends within so many seconds, and else none."""
+    try:
+        return service.run.wait(seconds)
+    except subprocess.TimeoutExpired:
+        return None
 
 
 def told_of(folder):
@@ -228,7 +277,10 @@ def told_why(folder):
         file.write_text(globals_of() + section + section)
         check("a faulty file", said(file), (1, f"settings fault 14 a\n{file}: `trace_collector check` says it in words\n"))
         file.write_text('[global]\nlisten = "nowhere"\n' + section)
-        check("no address", said(file), (1, f"{fault}nowhere: invalid socket address\n"))
+        check("no address", said(file), (1, f"{fault}nowhere: doesn't end with a colon and a port from 0 to 65535\n"))
+        file.write_text('[global]\nlisten = "no.host.invalid:4318"\n' + section)
+        status, told = said(file)
+        check(f"no host: {told}", (status, told.startswith(f"{fault}no.host.invalid:4318: ")), (1, True))
         port = taken.getsockname()[1]
         file.write_text(globals_of(port) + section)
         check("a port in use", said(file), (1, f"{fault}127.0.0.1:{port}: Address already in use (os error 98)\n"))
@@ -301,5 +353,5 @@ def port_below(process):
         return None
 
 
-TESTS = (drained, giving_up, with_clients, told_of, skipped, failing_output, cut_answers, without_streams, few_files, told_why,
+TESTS = (drained, giving_up, with_clients, with_busy_clients, told_of, skipped, failing_output, cut_answers, without_streams, few_files, told_why,
          failing_input, started_by_a_script)

@@ -11,6 +11,8 @@ from serving.talk import (ERROR, ERRORS, MOST, BackEnd, Service, body, check, gl
 
 HEAD = b"POST /v1/traces HTTP/1.1\r\nHost: c\r\nX-Scope-OrgID: a\r\nContent-Type: application/x-protobuf\r\n"
 CHUNKED = HEAD + b"Transfer-Encoding: chunked\r\n\r\n22\r\n" + body(17, 33) + b"\r\n0\r\n\r\n"
+NO_PORT = "doesn't end with a colon and a port from 0 to 65535"
+SCHEME = "has a scheme, where a host, a colon and a port are wanted"
 REPLY = b"HTTP/1.1 200 OK\r\nContent-Type: application/x-protobuf\r\nContent-Length: 0\r\n\r\n"
 
 
@@ -127,7 +129,7 @@ def reports(folder):
 
 def faulty_starts(folder):
     """A port that is in use, an address that isn't one, settings that aren't any, and arguments: in this order what is
-    wrong is told, in one line."""
+    wrong is told, in one line, and with --verbose behind it of an address what it lacks."""
     def started(settings, *options):
         file = Path(folder, "settings.toml")
         file.write_text(settings)
@@ -146,6 +148,11 @@ def faulty_starts(folder):
         check("two of a name", started(globals_of() + section + section), (1, b"", b"settings fault 14 a\n"))
         check("no tenant", started("tenant = 1\n"), (1, b"", b"settings fault 12 tenant\n"))
         check("no address", started('[global]\nlisten = "nowhere"\n' + section), fault)
+        for address, lacks in (("nowhere", NO_PORT), ("127.0.0.1", NO_PORT), ("http://127.0.0.1:4318", SCHEME),
+                               ("127.0.0.1:4318/v1/traces", NO_PORT), ("http://127.0.0.1:4318/v1/traces", SCHEME),
+                               ("127.0.0.1:65536", NO_PORT)):
+            check(f"at {address}", started(f'[global]\nlisten = "{address}"\n{section}', "--verbose"),
+                  (1, b"", f"input or output fault\n{address}: {lacks}\n".encode()))
         done = subprocess.run([talk.program, "serve", str(Path(folder, "missing"))], input=b"", capture_output=True,
                               timeout=MOST, check=False)
         check("no file", (done.returncode, done.stdout, done.stderr), fault)

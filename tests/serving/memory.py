@@ -40,13 +40,13 @@ SHAPES = {
     "empty scope spans": (piece(2, b""), in_resource, 4),
     "resource spans of an empty span": (piece(1, piece(2, piece(2, b""))), alone, 4),
     "empty spans": (piece(2, b""), in_scope, 4),
-    "resource spans of a span": (piece(1, piece(2, SPAN)), alone, 16),
-    "the same, with a resource and a scope": (piece(1, EMPTY + piece(2, EMPTY + SPAN)), alone, 16),
-    "the same, with schemas too": (piece(1, EMPTY + piece(2, EMPTY + SPAN + URL) + URL), alone, 19),
-    "scope spans of a span": (piece(2, SPAN), in_resource, 13),
-    "the same, with a scope and a schema": (piece(2, EMPTY + SPAN + URL), in_resource, 16),
-    "spans": (SPAN, in_scope, 9),
-    "spans that are written anew": (piece(2, IDS + piece(3, b"")), in_scope, 13),
+    "resource spans of a span": (piece(1, piece(2, SPAN)), alone, 8),
+    "the same, with a resource and a scope": (piece(1, EMPTY + piece(2, EMPTY + SPAN)), alone, 8),
+    "the same, with schemas too": (piece(1, EMPTY + piece(2, EMPTY + SPAN + URL) + URL), alone, 8),
+    "scope spans of a span": (piece(2, SPAN), in_resource, 8),
+    "the same, with a scope and a schema": (piece(2, EMPTY + SPAN + URL), in_resource, 8),
+    "spans": (SPAN, in_scope, 8),
+    "spans that are written anew": (piece(2, IDS + piece(3, b"")), in_scope, 8),
 }
 
 
@@ -122,7 +122,7 @@ def most_while_made_ready(folder):
 
 
 def many_large_bodies(folder):
-    """Twelve bodies at once, each of which takes more than twenty times its bytes while it is made ready, take no more
+    """Twelve bodies at once, each of which takes seven times its bytes while it is made ready, take no more
     than as many bytes as are made ready at a time do, beside their own. A small one is answered too. Threads share
     their memory, so that what one gave back isn't kept for it alone."""
     again, round_it, most = SHAPES["resource spans of a span"]

@@ -36,8 +36,9 @@ def large():
 
 
 def sections(back_end):
-    return [tenant(name, back_end, wait=WAIT, timeout=100, consumers=2, most=40_000_000)
-            for name in "ab"]
+    """No trace is pushed out by others."""
+    return [tenant(name, back_end, wait=WAIT, timeout=100, consumers=2, most=40_000_000).replace(
+        "[tenant.tail_sampling]", "[tenant.tail_sampling]\nnum_traces = 1000000") for name in "ab"]
 
 
 def needed(folder, back_end, heaps):
@@ -116,10 +117,11 @@ def taken_again(service, end):
     return status
 
 
-def under(heaps, most, what, text):
+def under(heaps, most, what, text, *options):
     """One service under a limit of so many bytes of addresses."""
     with tempfile.TemporaryDirectory() as folder, BackEnd() as back_end:
-        with Service(folder, sections(back_end), under=(*heaps, "prlimit", f"--as={most}"), **HOW) as service:
+        with Service(folder, sections(back_end), *options, under=(*heaps, "prlimit", f"--as={most}"),
+                     **HOW) as service:
             clients = [Client(service, number, text) for number in range(CLIENTS)]
             in_threads(*(client.run for client in clients))
             # Whoever waits for what it prints waits no longer.
@@ -130,7 +132,7 @@ def under(heaps, most, what, text):
             watch.cancel()
 
 
-def leaves_by_itself(folder):
+def leaves_by_itself(folder, *options):
     """Under each of eight limits, from what it needs at rest to ample, a service that was posted more than it had
     memory for sends all that it took once the load is over, tells reports meanwhile, takes posts again, and ends:
     whether its threads share their memory or not."""
@@ -140,9 +142,16 @@ def leaves_by_itself(folder):
         with BackEnd() as back_end:
             least = needed(folder, back_end, heaps)
         works += [lambda heaps=heaps, most=least + (room << 20), what=f"{name}, {room} MB more":
-                  under(heaps, most, what, text) for room in ROOM]
+                  under(heaps, most, what, text, *options) for room in ROOM]
     for at in range(0, len(works), AT_A_TIME):
         in_threads(*works[at:at + AT_A_TIME])
 
 
+def leaves_with_an_audit(folder):
+    """The same of a service that keeps a log, which takes what memory there is and is stopped where there is none. It may
+    stand still for good then (docs/OPERATING.md, "The audit")."""
+    leaves_by_itself(folder, "--audit")
+
+
 TESTS = (leaves_by_itself,)
+BY_HAND = (leaves_with_an_audit,)

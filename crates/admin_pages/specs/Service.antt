@@ -46,7 +46,10 @@ standing_of f =
 -- how batches leave it
 abbrev pub sending_of : ServiceFigures → List MeasureData
 sending_of f =
-    gauge (codes "nimchaes_lane_jobs") (codes "Batches that wait for a sender") f.counts.lane_jobs
+    counter (codes "nimchaes_turns_total")
+    (codes "Turns of shards that looked whether a decision or a batch was ready") f.counts.turns
+    ∷ counter (codes "nimchaes_idle_turns_total") (codes "Turns of shards that found nothing ready") f.counts.idle_turns
+    ∷ gauge (codes "nimchaes_lane_jobs") (codes "Batches that wait for a sender") f.counts.lane_jobs
     ∷ gauge (codes "nimchaes_lane_capacity") (codes "Batches for which there is room before senders") f.lane_capacity
     ∷ gauge (codes "nimchaes_senders") (codes "Senders that there are") f.senders
     ∷ gauge (codes "nimchaes_senders_busy") (codes "Senders that have a batch") f.counts.senders_busy

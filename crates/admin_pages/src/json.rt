@@ -15,7 +15,8 @@ pub fn put_tenants(
     out: &mut Vec<u8>,
     tenants: &[TenantFigures],
 ) -> Result<(), AllocError>
-    ensures { OnOk result (out.new.items ≡ out.old.items ++ tenants_text (map tenant_of tenants.now)) }
+    ensures { OnOk result (out.new.items ≡ out.old.items ++ tenants_text
+        (map tenant_of tenants.now)) }
 {
     out.extend_from_slice(b"{\"tenants\":")?;
     put_array(alloc, out, tenants)?;
@@ -41,7 +42,8 @@ pub fn put_tenant(
 /// Appends an array of tenants.
 #[tactic(auto, using(crate::proofs::Joined::more))]
 fn put_array(alloc: Global, out: &mut Vec<u8>, tenants: &[TenantFigures]) -> Result<(), AllocError>
-    ensures { OnOk result (out.new.items ≡ out.old.items ++ array_text (map tenant_of tenants.now)) }
+    ensures { OnOk result (out.new.items ≡ out.old.items ++ array_text
+        (map tenant_of tenants.now)) }
 {
     let [first, rest @ ..] = tenants else {
         return out.extend_from_slice(b"[]");
@@ -58,7 +60,8 @@ fn put_further(
     out: &mut Vec<u8>,
     mut tenants: &[TenantFigures],
 ) -> Result<(), AllocError>
-    ensures { OnOk result (out.new.items ≡ out.old.items ++ further_text (map tenant_of tenants.entry.now)) }
+    ensures { OnOk result (out.new.items ≡ out.old.items ++ further_text
+        (map tenant_of tenants.entry.now)) }
 {
     while let [first, rest @ ..] = tenants {
         out.extend_from_slice(b",")?;
@@ -94,7 +97,8 @@ fn put_counter(
     tenant: &TenantFigures,
     counter: SpanCounter,
 ) -> Result<(), AllocError>
-    ensures { OnOk result (out.new.items ≡ out.old.items ++ counter_text (tenant_of tenant.now) counter) }
+    ensures { OnOk result (out.new.items ≡ out.old.items ++ counter_text (tenant_of tenant.now)
+        counter) }
 {
     let (word, value) = (counter.word(), counter.value(&tenant.counters));
     let member = format!(in alloc; ",\"{word}\":{value}")?;

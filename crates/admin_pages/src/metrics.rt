@@ -14,7 +14,8 @@ pub fn put_tenant_metrics(
     out: &mut Vec<u8>,
     tenants: &[TenantFigures],
 ) -> Result<(), AllocError>
-    ensures { OnOk result (out.new.items ≡ out.old.items ++ tenants_text (map tenant_of tenants.now)) }
+    ensures { OnOk result (out.new.items ≡ out.old.items ++ tenants_text
+        (map tenant_of tenants.now)) }
 {
     let counters = SpanCounter::all();
     put_families(alloc, out, tenants, &counters)
@@ -30,7 +31,8 @@ pub fn put_measure(
     kind: MetricKind,
     value: u64,
 ) -> Result<(), AllocError>
-    ensures { OnOk result (out.new.items ≡ out.old.items ++ measure_text name.now help.now kind value) }
+    ensures { OnOk result (out.new.items ≡ out.old.items ++ measure_text name.now help.now kind
+        value) }
 {
     put_head(alloc, out, name, help, kind)?;
     let sample = format!(in alloc; "{name} {value}\n")?;
@@ -56,7 +58,8 @@ pub fn put_measures(
     samples: &[Sample],
 ) -> Result<(), AllocError>
     ensures { OnOk result (out.new.items
-        ≡ out.old.items ++ measures_text name.now help.now kind label.now (map sample_of samples.now)) }
+        ≡ out.old.items ++ measures_text name.now help.now kind label.now
+        (map sample_of samples.now)) }
 {
     put_head(alloc, out, name, help, kind)?;
     put_labels(alloc, out, name, label, samples)
@@ -105,7 +108,8 @@ fn put_family(
     tenants: &[TenantFigures],
     counter: SpanCounter,
 ) -> Result<(), AllocError>
-    ensures { OnOk result (out.new.items ≡ out.old.items ++ family_text (map tenant_of tenants.now) counter) }
+    ensures { OnOk result (out.new.items ≡ out.old.items ++ family_text (map tenant_of tenants.now)
+        counter) }
 {
     let (name, kind) = (counter.metric(), counter.kind());
     put_head(alloc, out, name, counter.help(), kind)?;

@@ -35,6 +35,9 @@ pub struct ServiceCounts {
     pub sent_bytes: u64,
     /// Requests of clients, by what they were answered.
     pub requests: StatusCounts,
+    /// Turns of shards, those that found nothing ready among them.
+    pub turns: u64,
+    pub idle_turns: u64,
     /// Batches that wait for a sender.
     pub lane_jobs: u64,
     pub senders_busy: u64,
@@ -146,10 +149,20 @@ fn standing(figures: &ServiceFigures) -> [Measure; 4]
 }
 
 /// How batches leave it.
-fn sending(figures: &ServiceFigures) -> [Measure; 5]
+fn sending(figures: &ServiceFigures) -> [Measure; 7]
     ensures { map measure_view result ≡ sending_of figures.now }
 {
     [
+        counter(
+            "nimchaes_turns_total",
+            "Turns of shards that looked whether a decision or a batch was ready",
+            figures.counts.turns,
+        ),
+        counter(
+            "nimchaes_idle_turns_total",
+            "Turns of shards that found nothing ready",
+            figures.counts.idle_turns,
+        ),
         gauge(
             "nimchaes_lane_jobs",
             "Batches that wait for a sender",
@@ -213,7 +226,8 @@ fn receiving(figures: &ServiceFigures) -> [Measure; 5]
 
 /// Appends these families.
 fn put_each(alloc: Global, out: &mut Vec<u8>, mut measures: &[Measure]) -> Result<(), AllocError>
-    ensures { OnOk result (out.new.items ≡ out.old.items ++ families_of (map measure_view measures.entry.now)) }
+    ensures { OnOk result (out.new.items ≡ out.old.items ++ families_of
+        (map measure_view measures.entry.now)) }
 {
     while let [first, rest @ ..] = measures {
         put_measure(alloc, out, first.name, first.help, first.kind, first.value)?;

@@ -41,7 +41,8 @@ pub fn put_settled_tenant(
 /// Appends the object of a tenant's settings.
 #[tactic(auto, using(crate::proofs::Joined::more), unfolding(crate::specs::Settings::section_text))]
 fn put_section(alloc: Global, out: &mut Vec<u8>, section: &Section) -> Result<(), AllocError>
-    ensures { OnOk result (out.new.items ≡ out.old.items ++ section_text (section_view section.now)) }
+    ensures { OnOk result (out.new.items ≡ out.old.items ++ section_text
+        (section_view section.now)) }
 {
     out.extend_from_slice(b"{")?;
     put_plain(alloc, out, section)?;
@@ -64,7 +65,8 @@ fn put_plain(alloc: Global, out: &mut Vec<u8>, section: &Section) -> Result<(), 
 /// Appends a tenant's tables.
 #[tactic(auto, using(crate::proofs::Joined::more), unfolding(crate::specs::Settings::tables_text))]
 fn put_tables(alloc: Global, out: &mut Vec<u8>, section: &Section) -> Result<(), AllocError>
-    ensures { OnOk result (out.new.items ≡ out.old.items ++ tables_text (section_view section.now)) }
+    ensures { OnOk result (out.new.items ≡ out.old.items ++ tables_text
+        (section_view section.now)) }
 {
     out.extend_from_slice(b",\"tail_sampling\":")?;
     put_sampling(alloc, out, &section.tail_sampling)?;
@@ -79,7 +81,8 @@ fn put_tables(alloc: Global, out: &mut Vec<u8>, section: &Section) -> Result<(),
 /// Appends the table `tail_sampling`.
 #[tactic(auto, using(crate::proofs::Joined::more), unfolding(crate::specs::Settings::sampling_text))]
 fn put_sampling(alloc: Global, out: &mut Vec<u8>, sampling: &TailSampling) -> Result<(), AllocError>
-    ensures { OnOk result (out.new.items ≡ out.old.items ++ sampling_text (tail_sampling_view sampling.now)) }
+    ensures { OnOk result (out.new.items ≡ out.old.items ++ sampling_text
+        (tail_sampling_view sampling.now)) }
 {
     let (wait, traces) = (sampling.decision_wait, sampling.num_traces);
     let (sampled, others) = (sampling.sampled_cache_size, sampling.non_sampled_cache_size);
@@ -111,7 +114,8 @@ fn put_batch(alloc: Global, out: &mut Vec<u8>, batch: &Batch) -> Result<(), Allo
 /// Appends the table `sending_queue`.
 #[tactic(auto, unfolding(crate::specs::Settings::queue_text))]
 fn put_queue(alloc: Global, out: &mut Vec<u8>, queue: &SendingQueue) -> Result<(), AllocError>
-    ensures { OnOk result (out.new.items ≡ out.old.items ++ queue_text (sending_queue_view queue.now)) }
+    ensures { OnOk result (out.new.items ≡ out.old.items ++ queue_text
+        (sending_queue_view queue.now)) }
 {
     let (size, consumers) = (queue.queue_size, queue.num_consumers);
     let table = format!(in alloc; "{{\"queue_size\":{size},\"num_consumers\":{consumers}}}")?;
@@ -172,7 +176,8 @@ fn put_policy(alloc: Global, out: &mut Vec<u8>, policy: &PolicySpec) -> Result<(
 
 /// Appends policies that hold no other, as the elements of an array.
 fn put_leaves(alloc: Global, out: &mut Vec<u8>, mut leaves: &[LeafPolicy]) -> Result<(), AllocError>
-    ensures { OnOk result (out.new.items ≡ out.old.items ++ leaves_behind [] (map leaf_view leaves.entry.now)) }
+    ensures { OnOk result (out.new.items ≡ out.old.items ++ leaves_behind []
+        (map leaf_view leaves.entry.now)) }
 {
     let mut mark = b"".as_slice();
     while let [first, rest @ ..] = leaves {

@@ -31,6 +31,8 @@ fn figures(resident_bytes: Option<u64>) -> ServiceFigures {
             received_bytes: 16,
             sent_bytes: 17,
             requests: counts(20),
+            turns: 28,
+            idle_turns: 29,
             lane_jobs: 30,
             senders_busy: 33,
             retries: 34,
@@ -56,6 +58,8 @@ nimchaes_requests_total{class=\"2xx\"} 20
 nimchaes_requests_total{class=\"4xx\"} 21
 nimchaes_requests_total{class=\"5xx\"} 22
 nimchaes_requests_total{class=\"other\"} 23
+nimchaes_turns_total 28
+nimchaes_idle_turns_total 29
 nimchaes_lane_jobs 30
 nimchaes_lane_capacity 31
 nimchaes_senders 32

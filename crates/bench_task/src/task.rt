@@ -15,7 +15,8 @@ pub enum Task<'a> {
 /// What these arguments ask for, without the program's name.
 pub fn asked_task(args: &[String]) -> Option<Task<'_>>
     ensures asked { IfSome result (λ asked. Asks (map string_bytes args.now) (task_view asked)) }
-    ensures usage { IsNone result → (asked : TaskData) → ¬ (Asks (map string_bytes args.now) asked) }
+    ensures usage { IsNone result → (asked : TaskData)
+        → ¬ (Asks (map string_bytes args.now) asked) }
 {
     match args {
         [] => Some(Task::CheckStored),

@@ -87,7 +87,8 @@ fn write_rounds(
     text: &mut Vec<u8>,
     rounds: u32,
 ) -> Result<(), BenchFault>
-    ensures written { OnOk result (0 < rounds → text.new.items ≡ request_text (request_view request.now)) }
+    ensures written { OnOk result (0 < rounds
+        → text.new.items ≡ request_text (request_view request.now)) }
     ensures of_round { IfErr result IsOfRound }
 {
     'each: for _round in 0..rounds {

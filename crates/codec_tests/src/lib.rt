@@ -9,6 +9,8 @@ mod bodies;
 #[cfg(test)]
 mod canonical;
 #[cfg(test)]
+mod defaults;
+#[cfg(test)]
 mod definitions;
 #[cfg(test)]
 mod listed;

@@ -1,7 +1,9 @@
 //! The parts of a body as one text.
 
 use bytes::Bytes;
-use otlp_parts::{BodyParts, ResourceParts, ScopeParts, read_parts};
+use otlp_parts::{
+    BodyParts, PartText, ResourceParts, ScopeList, ScopeParts, SpanTexts, read_parts,
+};
 use std::alloc::Global;
 use std::test::Fail;
 
@@ -13,27 +15,45 @@ fn put(alloc: Global, out: &mut String, what: &str, bytes: &[u8]) -> Result<(), 
     Ok(())
 }
 
-fn put_some(alloc: Global, out: &mut String, what: &str, text: &Option<Bytes>) -> Result<(), Fail> {
-    match text {
+fn put_some(alloc: Global, out: &mut String, what: &str, text: &PartText) -> Result<(), Fail> {
+    match text.as_ref() {
         Some(text) => put(alloc, out, what, text.as_slice()),
         None => Ok(()),
     }
 }
 
+/// A text that stands whether or not it is empty.
+fn put_url(alloc: Global, out: &mut String, what: &str, url: &PartText) -> Result<(), Fail> {
+    match url.as_ref() {
+        Some(url) => put(alloc, out, what, url.as_slice()),
+        None => put(alloc, out, what, &[]),
+    }
+}
+
 fn put_scope(alloc: Global, out: &mut String, parts: &ScopeParts) -> Result<(), Fail> {
     put_some(alloc, out, "scope_", &parts.scope)?;
-    put(alloc, out, "in_", parts.schema_url.as_slice())?;
-    for span in parts.spans.as_slice() {
-        put(alloc, out, "span_", span.as_slice())?;
+    put_url(alloc, out, "in_", &parts.schema_url)?;
+    match &parts.spans {
+        SpanTexts::One(span) => put(alloc, out, "span_", span.as_slice())?,
+        SpanTexts::More(spans) => {
+            for span in spans.as_slice() {
+                put(alloc, out, "span_", span.as_slice())?;
+            }
+        }
     }
     Ok(())
 }
 
 fn put_resource(alloc: Global, out: &mut String, parts: &ResourceParts) -> Result<(), Fail> {
     put_some(alloc, out, "resource_", &parts.resource)?;
-    put(alloc, out, "of_", parts.schema_url.as_slice())?;
-    for scope in parts.scopes.as_slice() {
-        put_scope(alloc, out, scope)?;
+    put_url(alloc, out, "of_", &parts.schema_url)?;
+    match &parts.scopes {
+        ScopeList::One(scope) => put_scope(alloc, out, scope)?,
+        ScopeList::More(scopes) => {
+            for scope in scopes.as_slice() {
+                put_scope(alloc, out, scope)?;
+            }
+        }
     }
     Ok(())
 }

@@ -33,8 +33,9 @@ pub fn post_job<A: Addresses, D: Dial>(
     addresses: &A,
     job: &Job,
 ) -> Answer
-    ensures { JobComesTo A.tells D.dials D.Connection.gives D.Connection.takes D.Connection.ends D.Connection.failed
-        addresses.now dialer.old dialer.new (posted job.now (answer_view result)) }
+    ensures { JobComesTo A.tells D.dials D.Connection.gives D.Connection.takes D.Connection.ends
+        D.Connection.failed addresses.now dialer.old dialer.new
+        (posted job.now (answer_view result)) }
 {
     let Some(address) = addresses.address(job.tenant) else {
         return Answer::Failed;

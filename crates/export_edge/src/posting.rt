@@ -12,8 +12,8 @@ use std::alloc::Global;
 /// Posts the payload over a new line, and says what came of it. Each fault is `Answer::Failed`: of the line, of memory,
 /// of the answer's head, its framing or its body. The line is given up with it.
 pub fn post_over<L: Line>(alloc: Global, line: &mut L, host: &str, payload: &[u8]) -> Answer
-    ensures { ComesTo L.gives L.takes L.ends L.failed (post_text host.now payload.now) line.old line.new
-        (answer_view result) }
+    ensures { ComesTo L.gives L.takes L.ends L.failed (post_text host.now payload.now) line.old
+        line.new (answer_view result) }
 {
     match exchange(alloc, line, host, payload) {
         Ok(answer) => answer,
@@ -28,11 +28,11 @@ fn exchange<L: Line>(
     host: &str,
     payload: &[u8],
 ) -> Result<Answer, EdgeFault>
-    ensures on_success { IfOk result (λ answer. Exchanges L.gives L.takes L.ends (post_text host.now payload.now)
-        line.old
+    ensures on_success { IfOk result (λ answer. Exchanges L.gives L.takes L.ends
+        (post_text host.now payload.now) line.old
         line.new (answer_view answer)) }
-    ensures on_error { IfErr result (λ fault. BreaksOff L.gives L.takes L.failed (post_text host.now payload.now)
-        line.old
+    ensures on_error { IfErr result (λ fault. BreaksOff L.gives L.takes L.failed
+        (post_text host.now payload.now) line.old
         line.new fault) }
 {
     write_post(alloc, line, host, payload)?;

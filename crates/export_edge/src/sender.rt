@@ -22,8 +22,8 @@ pub fn run_sender<B: BackEnd, S: AnswerSink, T: Beat, R: Wait>(
 )
     requires { seat.old.lane ≡ lane.now.name }
     ensures same { (seat.new.lane ≡ seat.old.lane) × (seat.new.pushes ≡ seat.old.pushes) }
-    ensures work { Sending B.posts S.takes S.refuses T.gives T.rests back_end.old back_end.new sink.old sink.new
-        beat.old beat.new seat.old.pops seat.new.pops }
+    ensures work { Sending B.posts S.takes S.refuses T.gives T.rests back_end.old back_end.new
+        sink.old sink.new beat.old beat.new seat.old.pops seat.new.pops }
 {
     'rounds: for _ in rt.forever() {
         if beat.is_over() {
@@ -47,8 +47,10 @@ fn send_once<B: BackEnd, S: AnswerSink, T: Beat, R: Wait>(
     ensures same { (seat.new.lane ≡ seat.old.lane) × (seat.new.pushes ≡ seat.old.pushes) }
     // Whatever was done before.
     ensures work { (b : B) (s : S) (t : T) (before : List NumberedJob)
-        → Sending B.posts S.takes S.refuses T.gives T.rests b back_end.old s sink.old t beat.old before seat.old.pops
-        → Sending B.posts S.takes S.refuses T.gives T.rests b back_end.new s sink.new t beat.new before seat.new.pops }
+        → Sending B.posts S.takes S.refuses T.gives T.rests b back_end.old s sink.old t beat.old
+        before seat.old.pops
+        → Sending B.posts S.takes S.refuses T.gives T.rests b back_end.new s sink.new t beat.new
+        before seat.new.pops }
 {
     match lane.pop(rt, seat) {
         Some(job) => send(rt, back_end, sink, beat, &job),
@@ -82,7 +84,8 @@ fn hand_in<S: AnswerSink, T: Beat, R: Wait>(
     answer: &Answer,
 )
     ensures { (refusals : List ℕ) × (now : ℕ)
-        × Hands S.takes S.refuses sink.old (handed (posted job.now (answer_view answer.now)) refusals now) sink.new
+        × Hands S.takes S.refuses sink.old
+        (handed (posted job.now (answer_view answer.now)) refusals now) sink.new
         × Ticks T.gives T.rests beat.old (refusals ++ now ∷ []) beat.new }
 {
     'attempts: for _ in rt.forever() {

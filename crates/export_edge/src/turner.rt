@@ -19,8 +19,8 @@ pub fn run_turner<S: JobSource, B: Beat, R: Wait>(
 ) -> Option<Job>
     requires { seat.old.lane ≡ lane.now.name }
     ensures same { (seat.new.lane ≡ seat.old.lane) × (seat.new.pops ≡ seat.old.pops) }
-    ensures work { Turning S.turns B.gives B.rests source.old source.new beat.old beat.new seat.old.pushes
-        seat.new.pushes result }
+    ensures work { Turning S.turns B.gives B.rests source.old source.new beat.old beat.new
+        seat.old.pushes seat.new.pushes result }
 {
     let mut held = None;
     'rounds: for _ in rt.forever() {
@@ -46,7 +46,8 @@ fn turn_once<S: JobSource, B: Beat, R: Wait>(
     // Whatever was done before.
     ensures work { (start : S) (b : B) (before : List NumberedJob)
         → Turning S.turns B.gives B.rests start source.old b beat.old before seat.old.pushes held
-        → Turning S.turns B.gives B.rests start source.new b beat.new before seat.new.pushes result }
+        → Turning S.turns B.gives B.rests start source.new b beat.new before seat.new.pushes
+        result }
 {
     match held {
         Some(job) => offer(rt, lane, seat, beat, job),
@@ -64,7 +65,8 @@ fn offer<B: Beat, R: Wait>(
 ) -> Option<Job>
     requires { seat.old.lane ≡ lane.now.name }
     ensures same { (seat.new.lane ≡ seat.old.lane) × (seat.new.pops ≡ seat.old.pops) }
-    ensures pushed { MatchOption result ((n : ℕ) × (seat.new.pushes ≡ seat.old.pushes ++ (n, job) ∷ []))
+    ensures pushed { MatchOption result ((n : ℕ)
+        × (seat.new.pushes ≡ seat.old.pushes ++ (n, job) ∷ []))
         (λ back. (back ≡ job) × (seat.new.pushes ≡ seat.old.pushes)) }
     ensures rests { (beat.new ≡ beat.old) ⊎ B.rests beat.old beat.new }
 {
@@ -80,7 +82,8 @@ fn offer<B: Beat, R: Wait>(
 /// Makes a turn at the moment that it is, and pauses where there was nothing to do. The job that it gave, if it gave
 /// one.
 fn next_job<S: JobSource, B: Beat>(source: &mut S, beat: &mut B) -> Option<Job>
-    ensures { (made : Turn) × S.turns source.old made source.new × (jobs_in made ≡ option_to_list result)
+    ensures { (made : Turn) × S.turns source.old made source.new
+        × (jobs_in made ≡ option_to_list result)
         × ((mid : B) × B.gives beat.old made.now mid × ((beat.new ≡ mid) ⊎ B.rests mid beat.new)) }
 {
     let now = beat.now();

@@ -47,9 +47,10 @@ pub trait AnswerSink {
         ticket: u64,
         answer: &Answer,
     ) -> Result<(), AnswerRefused>
-        ensures taken { OnOk result (takes self.old (given tenant now ticket (answer_view answer.now)) self.new) }
-        ensures on_refusal { OnErr result (refuses self.old (given tenant now ticket (answer_view answer.now))
-            self.new) };
+        ensures taken { OnOk result (takes self.old
+            (given tenant now ticket (answer_view answer.now)) self.new) }
+        ensures on_refusal { OnErr result
+            (refuses self.old (given tenant now ticket (answer_view answer.now)) self.new) };
 }
 
 /// To what turners and senders work: what the moment is, and when their work is over.

@@ -24,7 +24,8 @@ pub fn read_answer<L: Line>(alloc: Global, line: &mut L) -> Result<Answer, EdgeF
         × Tells read (nat_lt (L.ends line.old) (L.ends line.new)) (answer_view answer)) }
     ensures on_error { OnErr result ((read : List ℕ)
         × Moves L.gives L.takes line.old line.new read []) }
-    ensures failed { result ≡ Err EdgeFault.ReadFailed → HasFailed (L.failed line.old) (L.failed line.new) }
+    ensures failed { result ≡ Err EdgeFault.ReadFailed
+        → HasFailed (L.failed line.old) (L.failed line.new) }
     ensures no_write { result ≢ Err EdgeFault.WriteFailed }
 {
     let mut buffer = Vec::new(alloc);
@@ -50,7 +51,8 @@ fn read_final_head<L: Line>(
         × Moves L.gives L.takes line.old line.new read []) }
     ensures ends { L.ends line.old ≤ L.ends line.new }
     ensures kept { OnOk result (L.failed line.new ≡ L.failed line.old) }
-    ensures failed { result ≡ Err EdgeFault.ReadFailed → HasFailed (L.failed line.old) (L.failed line.new) }
+    ensures failed { result ≡ Err EdgeFault.ReadFailed
+        → HasFailed (L.failed line.old) (L.failed line.new) }
     ensures no_write { result ≢ Err EdgeFault.WriteFailed }
 {
     let mut interims = 0;
@@ -87,15 +89,18 @@ fn read_after<L: Line>(
     head: AnswerHead,
 ) -> Result<Answer, EdgeFault>
     requires { head.len ≤ length buffer.old.items }
-    ensures on_success { IfOk result (λ answer. (h : ResponseHead) → IsAnswerHead buffer.old.items head h
+    ensures on_success { IfOk result (λ answer. (h : ResponseHead)
+        → IsAnswerHead buffer.old.items head h
         → (read : List ℕ)
         × Moves L.gives L.takes line.old line.new read []
         × ((before : List ℕ) → HasFinalHead before h (drop head.len buffer.old.items)
-        → Tells (before ++ read) (nat_lt (L.ends line.old) (L.ends line.new)) (answer_view answer))) }
+        → Tells (before ++ read) (nat_lt (L.ends line.old) (L.ends line.new))
+        (answer_view answer))) }
     ensures on_error { OnErr result ((read : List ℕ)
         × Moves L.gives L.takes line.old line.new read []) }
     ensures ends { L.ends line.old ≤ L.ends line.new }
-    ensures failed { result ≡ Err EdgeFault.ReadFailed → HasFailed (L.failed line.old) (L.failed line.new) }
+    ensures failed { result ≡ Err EdgeFault.ReadFailed
+        → HasFailed (L.failed line.old) (L.failed line.new) }
     ensures no_write { result ≢ Err EdgeFault.WriteFailed }
 {
     match head.framing {

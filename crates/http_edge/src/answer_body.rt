@@ -30,7 +30,8 @@ pub(crate) struct AnswerBody {
 impl AnswerBody {
     /// Takes one piece more.
     fn add(&mut self, piece: &[u8]) -> Result<(), AllocError>
-        ensures { OnOk result ((body : List ℕ) → Keeps body self.old → Keeps (body ++ piece.now) self.new) }
+        ensures { OnOk result ((body : List ℕ) → Keeps body self.old
+            → Keeps (body ++ piece.now) self.new) }
     {
         if self.is_over {
             return Ok(());
@@ -61,13 +62,14 @@ pub(crate) fn read_answer_body<L: Line>(
 ) -> Result<Option<Vec<u8>>, EdgeFault>
     ensures on_success { IfOk result (λ found. (read : List ℕ)
         × Moves L.gives L.takes line.old line.new read []
-        × IsAnswerBody framing (buffer.old.items ++ read) (L.ends line.old < L.ends line.new) (option_map (λ v.
-        v.items) found)) }
+        × IsAnswerBody framing (buffer.old.items ++ read) (L.ends line.old < L.ends line.new)
+        (option_map (λ v. v.items) found)) }
     ensures on_error { OnErr result ((read : List ℕ)
         × Moves L.gives L.takes line.old line.new read []) }
     ensures ends { L.ends line.old ≤ L.ends line.new }
     ensures kept { OnOk result (L.failed line.new ≡ L.failed line.old) }
-    ensures failed { result ≡ Err EdgeFault.ReadFailed → HasFailed (L.failed line.old) (L.failed line.new) }
+    ensures failed { result ≡ Err EdgeFault.ReadFailed
+        → HasFailed (L.failed line.old) (L.failed line.new) }
     ensures no_write { result ≢ Err EdgeFault.WriteFailed }
 {
     if is_chunked(framing) {
@@ -98,13 +100,14 @@ fn read_answer_chunks<L: Line>(
 ) -> Result<Option<Vec<u8>>, EdgeFault>
     ensures on_success { IfOk result (λ found. (read : List ℕ)
         × Moves L.gives L.takes line.old line.new read []
-        × IsAnswerBody Framing.Chunked (buffer.old.items ++ read) (L.ends line.old < L.ends line.new) (option_map (λ v.
-        v.items) found)) }
+        × IsAnswerBody Framing.Chunked (buffer.old.items ++ read)
+        (L.ends line.old < L.ends line.new) (option_map (λ v. v.items) found)) }
     ensures on_error { OnErr result ((read : List ℕ)
         × Moves L.gives L.takes line.old line.new read []) }
     ensures ends { L.ends line.old ≤ L.ends line.new }
     ensures kept { OnOk result (L.failed line.new ≡ L.failed line.old) }
-    ensures failed { result ≡ Err EdgeFault.ReadFailed → HasFailed (L.failed line.old) (L.failed line.new) }
+    ensures failed { result ≡ Err EdgeFault.ReadFailed
+        → HasFailed (L.failed line.old) (L.failed line.new) }
     ensures no_write { result ≢ Err EdgeFault.WriteFailed }
 {
     let mut part = ChunkedState::Line;
@@ -141,7 +144,8 @@ fn take_chunks(
 ) -> Result<(usize, AnswerPieces), AllocError>
     ensures within { IfOk result (λ r. r.0 ≤ length bytes.now) }
     ensures pieces { IfOk result (λ r. (stream body : List ℕ) → IsAt stream part.old body bytes.now
-        → Keeps body kept.old → IsChunkPieces stream part.new kept.new (drop r.0 bytes.now) due r.1) }
+        → Keeps body kept.old → IsChunkPieces stream part.new kept.new (drop r.0 bytes.now) due
+        r.1) }
 {
     if !due {
         return Ok((0, AnswerPieces::More));
@@ -175,7 +179,8 @@ fn take_plain(
     ensures within { IfOk result (λ r. r.0 ≤ length bytes.now) }
     ensures pieces { IfOk result (λ r. (framing : Framing) (stream body : List ℕ)
         → HasCome framing stream decoder.old body bytes.now
-        → Keeps body kept.old → IsPlainPieces framing stream decoder.new kept.new (drop r.0 bytes.now) r.1) }
+        → Keeps body kept.old → IsPlainPieces framing stream decoder.new kept.new
+        (drop r.0 bytes.now) r.1) }
 {
     let mut spans = [EMPTY_HEADER_SPAN; MAX_FIELDS];
     let mut at = 0;
@@ -202,13 +207,14 @@ fn read_plain_body<L: Line>(
 ) -> Result<Option<Vec<u8>>, EdgeFault>
     ensures on_success { IfOk result (λ found. (read : List ℕ)
         × Moves L.gives L.takes line.old line.new read []
-        × IsPlainBody framing (buffer.old.items ++ read) (L.ends line.old < L.ends line.new) (option_map (λ v.
-        v.items) found)) }
+        × IsPlainBody framing (buffer.old.items ++ read) (L.ends line.old < L.ends line.new)
+        (option_map (λ v. v.items) found)) }
     ensures on_error { OnErr result ((read : List ℕ)
         × Moves L.gives L.takes line.old line.new read []) }
     ensures ends { L.ends line.old ≤ L.ends line.new }
     ensures kept { OnOk result (L.failed line.new ≡ L.failed line.old) }
-    ensures failed { result ≡ Err EdgeFault.ReadFailed → HasFailed (L.failed line.old) (L.failed line.new) }
+    ensures failed { result ≡ Err EdgeFault.ReadFailed
+        → HasFailed (L.failed line.old) (L.failed line.new) }
     ensures no_write { result ≢ Err EdgeFault.WriteFailed }
 {
     let limits = Limits {

@@ -51,12 +51,13 @@ pub(crate) fn read_body<L: Line>(
     ensures on_error { OnErr result ((read : List ℕ)
         × Moves L.gives L.takes line.old line.new read []) }
     ensures end { result ≡ Ok BodyRead.Ended → L.ends line.old < L.ends line.new }
-    ensures work { OnOk result (work (L.reads_left line.new) buffer.new.items + from ≤ work (L.reads_left line.old)
-        buffer.old.items) }
+    ensures work { OnOk result (work (L.reads_left line.new) buffer.new.items + from ≤ work
+        (L.reads_left line.old) buffer.old.items) }
     ensures ends { L.ends line.old ≤ L.ends line.new }
     ensures kept { OnOk result (L.failed line.new ≡ L.failed line.old) }
     ensures unfailed { result ≡ Err EdgeFault.OutOfMemory → L.failed line.new ≡ L.failed line.old }
-    ensures failed { result ≡ Err EdgeFault.ReadFailed → HasFailed (L.failed line.old) (L.failed line.new) }
+    ensures failed { result ≡ Err EdgeFault.ReadFailed
+        → HasFailed (L.failed line.old) (L.failed line.new) }
     ensures no_write { result ≢ Err EdgeFault.WriteFailed }
 {
     match kind {
@@ -89,12 +90,13 @@ fn read_sized<L: Line>(
     ensures on_error { OnErr result ((read : List ℕ)
         × Moves L.gives L.takes line.old line.new read []) }
     ensures end { result ≡ Ok BodyRead.Ended → L.ends line.old < L.ends line.new }
-    ensures work { OnOk result (work (L.reads_left line.new) buffer.new.items + from ≤ work (L.reads_left line.old)
-        buffer.old.items) }
+    ensures work { OnOk result (work (L.reads_left line.new) buffer.new.items + from ≤ work
+        (L.reads_left line.old) buffer.old.items) }
     ensures ends { L.ends line.old ≤ L.ends line.new }
     ensures kept { OnOk result (L.failed line.new ≡ L.failed line.old) }
     ensures unfailed { result ≡ Err EdgeFault.OutOfMemory → L.failed line.new ≡ L.failed line.old }
-    ensures failed { result ≡ Err EdgeFault.ReadFailed → HasFailed (L.failed line.old) (L.failed line.new) }
+    ensures failed { result ≡ Err EdgeFault.ReadFailed
+        → HasFailed (L.failed line.old) (L.failed line.new) }
     ensures no_write { result ≢ Err EdgeFault.WriteFailed }
 {
     let mut body = take_front(alloc, buffer, from, len)?;
@@ -118,7 +120,8 @@ fn take_front(
     len: usize,
 ) -> Result<Vec<u8>, AllocError>
     requires { from ≤ length buffer.old.items }
-    ensures parts { IfOk result (λ body. body.items ++ buffer.new.items ≡ drop from buffer.old.items) }
+    ensures parts { IfOk result (λ body. body.items ++ buffer.new.items ≡ drop from
+        buffer.old.items) }
     ensures within { IfOk result (λ body. length body.items ≤ len) }
     ensures all { IfOk result (λ body. length body.items < len → buffer.new.items ≡ []) }
     ensures shorter { OnOk result (length buffer.new.items + from ≤ length buffer.old.items) }
@@ -156,12 +159,13 @@ fn read_chunks<L: Line>(
     ensures on_error { OnErr result ((read : List ℕ)
         × Moves L.gives L.takes line.old line.new read []) }
     ensures end { result ≡ Ok BodyRead.Ended → L.ends line.old < L.ends line.new }
-    ensures work { OnOk result (work (L.reads_left line.new) buffer.new.items ≤ work (L.reads_left line.old)
-        buffer.old.items) }
+    ensures work { OnOk result (work (L.reads_left line.new) buffer.new.items ≤ work
+        (L.reads_left line.old) buffer.old.items) }
     ensures ends { L.ends line.old ≤ L.ends line.new }
     ensures kept { OnOk result (L.failed line.new ≡ L.failed line.old) }
     ensures unfailed { result ≡ Err EdgeFault.OutOfMemory → L.failed line.new ≡ L.failed line.old }
-    ensures failed { result ≡ Err EdgeFault.ReadFailed → HasFailed (L.failed line.old) (L.failed line.new) }
+    ensures failed { result ≡ Err EdgeFault.ReadFailed
+        → HasFailed (L.failed line.old) (L.failed line.new) }
     ensures no_write { result ≢ Err EdgeFault.WriteFailed }
 {
     let mut part = ChunkedState::Line;
@@ -201,7 +205,8 @@ fn take_pieces(
     requires { length body.old.items + bytes_due part.old ≤ max_body }
     ensures within { IfOk result (λ r. r.0 ≤ length bytes.now) }
     ensures fits { OnOk result (length body.new.items + bytes_due part.new ≤ max_body) }
-    ensures pieces { IfOk result (λ r. (stream : List ℕ) → IsAt stream part.old body.old.items bytes.now
+    ensures pieces { IfOk result (λ r. (stream : List ℕ)
+        → IsAt stream part.old body.old.items bytes.now
         → IsPieces stream part.new body.new.items (drop r.0 bytes.now) due r.1) }
 {
     if !due {

@@ -68,7 +68,8 @@ pub(crate) fn framing_in(bytes: &[u8], spans: &[HeaderSpan], unstated: Framing) 
 }
 
 fn framing_by(unstated: Framing, coding: Single<'_>, length: Single<'_>) -> Option<Framing>
-    ensures { result ≡ framing_by_fields unstated (single_of coding.entry) (single_of length.entry) }
+    ensures { result ≡ framing_by_fields unstated (single_of coding.entry)
+        (single_of length.entry) }
 {
     match coding {
         Single::Absent => match length {
@@ -101,7 +102,8 @@ fn framing_by_length(length: Option<u64>) -> Option<Framing>
 /// Whether the Host is as it has to be.
 pub(crate) fn is_host_fit(bytes: &[u8], spans: &[HeaderSpan], minor: u8) -> bool
     requires { All (IsHeaderWithin (length bytes.now)) spans.now }
-    ensures { result ≡ is_host_fit minor (field (codes "host") (map (header_bytes bytes.now) spans.now)) }
+    ensures { result ≡ is_host_fit minor
+        (field (codes "host") (map (header_bytes bytes.now) spans.now)) }
 {
     match field(bytes, spans, b"host") {
         Single::Absent => minor == 0,

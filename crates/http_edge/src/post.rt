@@ -18,10 +18,11 @@ pub fn write_post<L: Line>(
 ) -> Result<(), EdgeFault>
     ensures on_success { OnOk result (Moves L.gives L.takes line.old line.new []
         (post_text host.now payload.now)) }
-    ensures on_error { OnErr result ((front : List ℕ) × (missing : List ℕ) × (post_text host.now payload.now ≡ front
-        ++ missing)
+    ensures on_error { OnErr result ((front : List ℕ) × (missing : List ℕ)
+        × (post_text host.now payload.now ≡ front ++ missing)
         × Moves L.gives L.takes line.old line.new [] front) }
-    ensures failed { result ≡ Err EdgeFault.WriteFailed → HasFailed (L.failed line.old) (L.failed line.new) }
+    ensures failed { result ≡ Err EdgeFault.WriteFailed
+        → HasFailed (L.failed line.old) (L.failed line.new) }
     ensures no_read { result ≢ Err EdgeFault.ReadFailed }
 {
     let head = post_head(alloc, host, payload.len())?;

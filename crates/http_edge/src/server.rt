@@ -48,8 +48,10 @@ pub fn serve<T: Threads + Sync, L: Line, H: Handler>(
     ensures fault { IfErr result (λ fault. (read : List ℕ) × (written : List ℕ)
         × Moves L.gives L.takes line.old line.new read written
         × Begins fault H.answers handler.old read handler.new written) }
-    ensures read { result ≡ Err EdgeFault.ReadFailed → HasFailed (L.failed line.old) (L.failed line.new) }
-    ensures write { result ≡ Err EdgeFault.WriteFailed → HasFailed (L.failed line.old) (L.failed line.new) }
+    ensures read { result ≡ Err EdgeFault.ReadFailed
+        → HasFailed (L.failed line.old) (L.failed line.new) }
+    ensures write { result ≡ Err EdgeFault.WriteFailed
+        → HasFailed (L.failed line.old) (L.failed line.new) }
 {
     buffer.clear();
     match converse(rt, alloc, line, handler, buffer) {
@@ -76,15 +78,19 @@ fn converse<T: Threads + Sync, L: Line, H: Handler>(
         × Moves L.gives L.takes line.old line.new read written
         × Talk H.answers handler.old read handler.new written over
         × (over ≡ false → L.ends line.old < L.ends line.new)) }
-    ensures broken { IfErr result (λ fault. fault ≢ OutOfMemory → (read : List ℕ) × (written : List ℕ)
+    ensures broken { IfErr result (λ fault. fault ≢ OutOfMemory → (read : List ℕ)
+        × (written : List ℕ)
         × Moves L.gives L.takes line.old line.new read written
-        × (missing : List ℕ) × Talks H.answers (Due H.answers) handler.old read handler.new (written ++ missing)) }
+        × (missing : List ℕ) × Talks H.answers (Due H.answers) handler.old read handler.new
+        (written ++ missing)) }
     ensures short { result ≡ Err OutOfMemory → (read : List ℕ) × (written : List ℕ)
         × Moves L.gives L.takes line.old line.new read written
         × Talks H.answers (Lacks H.answers) handler.old read handler.new written }
     ensures unfailed { result ≡ Err EdgeFault.OutOfMemory → L.failed line.new ≡ L.failed line.old }
-    ensures read { result ≡ Err EdgeFault.ReadFailed → HasFailed (L.failed line.old) (L.failed line.new) }
-    ensures write { result ≡ Err EdgeFault.WriteFailed → HasFailed (L.failed line.old) (L.failed line.new) }
+    ensures read { result ≡ Err EdgeFault.ReadFailed
+        → HasFailed (L.failed line.old) (L.failed line.new) }
+    ensures write { result ≡ Err EdgeFault.WriteFailed
+        → HasFailed (L.failed line.old) (L.failed line.new) }
 {
     let mut room: Room = [0u8; 8192];
     'messages: while exchange(rt, alloc, line, handler, &mut room, buffer)? {}
@@ -108,13 +114,15 @@ fn exchange<T: Threads + Sync, L: Line, H: Handler>(
         line.new) buffer.old.items }
     ensures on_error { IfErr result (λ fault. IsCut fault H.answers handler.old handler.new
         L.gives L.takes line.old line.new buffer.old.items) }
-    ensures work { result ≡ Ok true → work (L.reads_left line.new) buffer.new.items < work (L.reads_left line.old)
-        buffer.old.items }
+    ensures work { result ≡ Ok true → work (L.reads_left line.new) buffer.new.items < work
+        (L.reads_left line.old) buffer.old.items }
     ensures ends { L.ends line.old ≤ L.ends line.new }
     ensures kept { OnOk result (L.failed line.new ≡ L.failed line.old) }
     ensures unfailed { result ≡ Err EdgeFault.OutOfMemory → L.failed line.new ≡ L.failed line.old }
-    ensures read { result ≡ Err EdgeFault.ReadFailed → HasFailed (L.failed line.old) (L.failed line.new) }
-    ensures write { result ≡ Err EdgeFault.WriteFailed → HasFailed (L.failed line.old) (L.failed line.new) }
+    ensures read { result ≡ Err EdgeFault.ReadFailed
+        → HasFailed (L.failed line.old) (L.failed line.new) }
+    ensures write { result ≡ Err EdgeFault.WriteFailed
+        → HasFailed (L.failed line.old) (L.failed line.new) }
 {
     match read_head(alloc, line, room, buffer)? {
         HeadProgress::More => Ok(false),
@@ -146,15 +154,17 @@ fn read_head<L: Line>(
         × IsHeadProgress buffer.new.items begin) }
     ensures end { result ≡ Ok HeadProgress.More → L.ends line.old < L.ends line.new }
     ensures short { result ≡ Ok HeadProgress.More → length buffer.new.items < max_head }
-    ensures lines_bounded { result ≡ Ok HeadProgress.More → head_lines buffer.new.items ≤ max_fields + 1 }
+    ensures lines_bounded { result ≡ Ok HeadProgress.More
+        → head_lines buffer.new.items ≤ max_fields + 1 }
     ensures on_error { OnErr result ((read : List ℕ)
         × Moves L.gives L.takes line.old line.new read []) }
-    ensures work { OnOk result (work (L.reads_left line.new) buffer.new.items ≤ work (L.reads_left line.old)
-        buffer.old.items) }
+    ensures work { OnOk result (work (L.reads_left line.new) buffer.new.items ≤ work
+        (L.reads_left line.old) buffer.old.items) }
     ensures ends { L.ends line.old ≤ L.ends line.new }
     ensures kept { OnOk result (L.failed line.new ≡ L.failed line.old) }
     ensures unfailed { result ≡ Err EdgeFault.OutOfMemory → L.failed line.new ≡ L.failed line.old }
-    ensures failed { result ≡ Err EdgeFault.ReadFailed → HasFailed (L.failed line.old) (L.failed line.new) }
+    ensures failed { result ≡ Err EdgeFault.ReadFailed
+        → HasFailed (L.failed line.old) (L.failed line.new) }
     ensures no_write { result ≢ Err EdgeFault.WriteFailed }
 {
     let mut watch = Watch::before_head();
@@ -179,17 +189,19 @@ fn look<L: Line>(
     ensures found { IfOk result (λ found. IfSome found (IsHeadProgress buffer.new.items)) }
     ensures end { result ≡ Ok (Some HeadProgress.More) → L.ends line.old < L.ends line.new }
     ensures short { result ≡ Ok (Some HeadProgress.More) → length buffer.new.items < max_head }
-    ensures lines_bounded { result ≡ Ok (Some HeadProgress.More) → head_lines buffer.new.items ≤ max_fields + 1 }
+    ensures lines_bounded { result ≡ Ok (Some HeadProgress.More)
+        → head_lines buffer.new.items ≤ max_fields + 1 }
     ensures on_error { OnErr result ((read : List ℕ)
         × Moves L.gives L.takes line.old line.new read []) }
-    ensures work { OnOk result (work (L.reads_left line.new) buffer.new.items ≤ work (L.reads_left line.old)
-        buffer.old.items) }
-    ensures less { result ≡ Ok None → work (L.reads_left line.new) buffer.new.items < work (L.reads_left line.old)
-        buffer.old.items }
+    ensures work { OnOk result (work (L.reads_left line.new) buffer.new.items ≤ work
+        (L.reads_left line.old) buffer.old.items) }
+    ensures less { result ≡ Ok None → work (L.reads_left line.new) buffer.new.items < work
+        (L.reads_left line.old) buffer.old.items }
     ensures ends { L.ends line.old ≤ L.ends line.new }
     ensures kept { OnOk result (L.failed line.new ≡ L.failed line.old) }
     ensures unfailed { result ≡ Err EdgeFault.OutOfMemory → L.failed line.new ≡ L.failed line.old }
-    ensures failed { result ≡ Err EdgeFault.ReadFailed → HasFailed (L.failed line.old) (L.failed line.new) }
+    ensures failed { result ≡ Err EdgeFault.ReadFailed
+        → HasFailed (L.failed line.old) (L.failed line.new) }
     ensures no_write { result ≢ Err EdgeFault.WriteFailed }
 {
     if watch.is_due(buffer, false) {
@@ -213,15 +225,16 @@ fn refuse<L: Line>(
 ) -> Result<(), EdgeFault>
     ensures on_success { OnOk result (Moves L.gives L.takes line.old line.new []
         (refusal_text bodiless status)) }
-    ensures on_error { OnErr result ((front : List ℕ) × (missing : List ℕ) × (refusal_text bodiless status ≡ front
-        ++ missing)
+    ensures on_error { OnErr result ((front : List ℕ) × (missing : List ℕ)
+        × (refusal_text bodiless status ≡ front ++ missing)
         × Moves L.gives L.takes line.old line.new [] front) }
     ensures quiet { result ≡ Err OutOfMemory → Moves L.gives L.takes line.old line.new [] [] }
     ensures end { L.ends line.new ≡ L.ends line.old }
     ensures reads { L.reads_left line.new ≡ L.reads_left line.old }
     ensures kept { OnOk result (L.failed line.new ≡ L.failed line.old) }
     ensures unfailed { result ≡ Err EdgeFault.OutOfMemory → L.failed line.new ≡ L.failed line.old }
-    ensures failed { result ≡ Err EdgeFault.WriteFailed → HasFailed (L.failed line.old) (L.failed line.new) }
+    ensures failed { result ≡ Err EdgeFault.WriteFailed
+        → HasFailed (L.failed line.old) (L.failed line.new) }
     ensures no_read { result ≢ Err EdgeFault.ReadFailed }
 {
     let reply = Reply {
@@ -252,13 +265,15 @@ fn serve_message<T: Threads + Sync, L: Line, H: Handler>(
         line.new) buffer.old.items }
     ensures on_error { IfErr result (λ fault. IsCut fault H.answers handler.old handler.new
         L.gives L.takes line.old line.new buffer.old.items) }
-    ensures work { result ≡ Ok true → work (L.reads_left line.new) buffer.new.items < work (L.reads_left line.old)
-        buffer.old.items }
+    ensures work { result ≡ Ok true → work (L.reads_left line.new) buffer.new.items < work
+        (L.reads_left line.old) buffer.old.items }
     ensures ends { L.ends line.old ≤ L.ends line.new }
     ensures kept { OnOk result (L.failed line.new ≡ L.failed line.old) }
     ensures unfailed { result ≡ Err EdgeFault.OutOfMemory → L.failed line.new ≡ L.failed line.old }
-    ensures read { result ≡ Err EdgeFault.ReadFailed → HasFailed (L.failed line.old) (L.failed line.new) }
-    ensures write { result ≡ Err EdgeFault.WriteFailed → HasFailed (L.failed line.old) (L.failed line.new) }
+    ensures read { result ≡ Err EdgeFault.ReadFailed
+        → HasFailed (L.failed line.old) (L.failed line.new) }
+    ensures write { result ≡ Err EdgeFault.WriteFailed
+        → HasFailed (L.failed line.old) (L.failed line.new) }
 {
     interim(line, head.expects)?;
     match read_body(alloc, line, room, buffer, head.len, head.kind)? {
@@ -289,7 +304,8 @@ fn interim<L: Line>(line: &mut L, due: bool) -> Result<(), EdgeFault>
     ensures end { L.ends line.new ≡ L.ends line.old }
     ensures reads { L.reads_left line.new ≡ L.reads_left line.old }
     ensures kept { OnOk result (L.failed line.new ≡ L.failed line.old) }
-    ensures failed { result ≡ Err EdgeFault.WriteFailed → HasFailed (L.failed line.old) (L.failed line.new) }
+    ensures failed { result ≡ Err EdgeFault.WriteFailed
+        → HasFailed (L.failed line.old) (L.failed line.new) }
     ensures no_read { result ≢ Err EdgeFault.ReadFailed }
     ensures no_memory { result ≢ Err EdgeFault.OutOfMemory }
 {
@@ -327,7 +343,8 @@ fn handle_message<T: Threads + Sync, L: Line, H: Handler>(
     ensures reads { L.reads_left line.new ≡ L.reads_left line.old }
     ensures kept { OnOk result (L.failed line.new ≡ L.failed line.old) }
     ensures unfailed { result ≡ Err EdgeFault.OutOfMemory → L.failed line.new ≡ L.failed line.old }
-    ensures failed { result ≡ Err EdgeFault.WriteFailed → HasFailed (L.failed line.old) (L.failed line.new) }
+    ensures failed { result ≡ Err EdgeFault.WriteFailed
+        → HasFailed (L.failed line.old) (L.failed line.new) }
     ensures no_read { result ≢ Err EdgeFault.ReadFailed }
 {
     let closes = head.closes;
@@ -358,7 +375,8 @@ fn write_reply<L: Line>(
     ensures reads { L.reads_left line.new ≡ L.reads_left line.old }
     ensures kept { OnOk result (L.failed line.new ≡ L.failed line.old) }
     ensures unfailed { result ≡ Err EdgeFault.OutOfMemory → L.failed line.new ≡ L.failed line.old }
-    ensures failed { result ≡ Err EdgeFault.WriteFailed → HasFailed (L.failed line.old) (L.failed line.new) }
+    ensures failed { result ≡ Err EdgeFault.WriteFailed
+        → HasFailed (L.failed line.old) (L.failed line.new) }
     ensures no_read { result ≢ Err EdgeFault.ReadFailed }
 {
     if is_for_no_memory(reply) {

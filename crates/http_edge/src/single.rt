@@ -30,8 +30,8 @@ impl<'a> Single<'a> {
 
     /// The same with one value more.
     fn add(self, value: &'a [u8]) -> Single<'a>
-        ensures { (before : List (List ℕ)) → single_of self.entry ≡ single before → single_of result ≡ single (before
-            ++ value.now ∷ []) }
+        ensures { (before : List (List ℕ)) → single_of self.entry ≡ single before
+            → single_of result ≡ single (before ++ value.now ∷ []) }
     {
         match self {
             Single::Absent => Single::One(value),

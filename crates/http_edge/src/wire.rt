@@ -68,14 +68,16 @@ pub(crate) fn fill<L: Line>(
     ensures end { IfOk result (λ more. more ≡ false → (buffer.new.items ≡ buffer.old.items)
         × (L.ends line.old < L.ends line.new)) }
     ensures quiet { result ≡ Ok false → Moves L.gives L.takes line.old line.new [] [] }
-    ensures bound { OnOk result (length buffer.new.items ≤ length buffer.old.items + length room.old) }
+    ensures bound { OnOk result (length buffer.new.items ≤ length buffer.old.items + length
+        room.old) }
     ensures reads { OnOk result (L.reads_left line.new < L.reads_left line.old) }
-    ensures work { OnOk result (work (L.reads_left line.new) buffer.new.items < work (L.reads_left line.old)
-        buffer.old.items) }
+    ensures work { OnOk result (work (L.reads_left line.new) buffer.new.items < work
+        (L.reads_left line.old) buffer.old.items) }
     ensures ends { L.ends line.old ≤ L.ends line.new }
     ensures kept { OnOk result (L.failed line.new ≡ L.failed line.old) }
     ensures unfailed { result ≡ Err EdgeFault.OutOfMemory → L.failed line.new ≡ L.failed line.old }
-    ensures failed { result ≡ Err EdgeFault.ReadFailed → HasFailed (L.failed line.old) (L.failed line.new) }
+    ensures failed { result ≡ Err EdgeFault.ReadFailed
+        → HasFailed (L.failed line.old) (L.failed line.new) }
     ensures no_write { result ≢ Err EdgeFault.WriteFailed }
 {
     match line.read_some(room) {
@@ -184,12 +186,14 @@ pub(crate) fn drop_front(buffer: &mut Vec<u8>, count: usize)
 pub(crate) fn send<L: Line>(line: &mut L, bytes: &[u8]) -> Result<(), EdgeFault>
     ensures on_success { OnOk result (Moves L.gives L.takes line.old line.new []
         bytes.now) }
-    ensures on_error { OnErr result ((front : List ℕ) × (missing : List ℕ) × (bytes.now ≡ front ++ missing)
+    ensures on_error { OnErr result ((front : List ℕ) × (missing : List ℕ)
+        × (bytes.now ≡ front ++ missing)
         × Moves L.gives L.takes line.old line.new [] front) }
     ensures end { L.ends line.new ≡ L.ends line.old }
     ensures reads { L.reads_left line.new ≡ L.reads_left line.old }
     ensures kept { OnOk result (L.failed line.new ≡ L.failed line.old) }
-    ensures failed { result ≡ Err EdgeFault.WriteFailed → HasFailed (L.failed line.old) (L.failed line.new) }
+    ensures failed { result ≡ Err EdgeFault.WriteFailed
+        → HasFailed (L.failed line.old) (L.failed line.new) }
     ensures no_read { result ≢ Err EdgeFault.ReadFailed }
     ensures no_memory { result ≢ Err EdgeFault.OutOfMemory }
 {

@@ -108,7 +108,8 @@ impl Lane {
         ensures pushed { OnOk result ((n : ℕ) × AreBelow n seat.old.pushes
             × (seat.new.pushes ≡ seat.old.pushes ++ (n, job) ∷ [])) }
         ensures back { IfErr result (λ back. (back ≡ job) × (seat.new ≡ seat.old)) }
-        ensures full { IfErr result (λ _. (2 ^ 62 ≤ length seat.old.pushes) ⊎ WasFull self.now.capacity seat.old) }
+        ensures full { IfErr result (λ _. (2 ^ 62 ≤ length seat.old.pushes)
+            ⊎ WasFull self.now.capacity seat.old) }
     {
         if seat.pushed >= MOST_PUSHES {
             return Err(job);
@@ -173,7 +174,8 @@ fn seats_of(
     seats: usize,
 ) -> Result<Vec<LaneSeat>, AllocError>
     requires root { IsPassOf queue.now root.old × (known root.old ≡ seat_view seats seats [] []) }
-    ensures root { OnOk result (IsPassOf queue.now root.new × (known root.new ≡ seat_view 0 seats [] [])) }
+    ensures root { OnOk result (IsPassOf queue.now root.new
+        × (known root.new ≡ seat_view 0 seats [] [])) }
     ensures seats { IfOk result (λ list.
         list.items ≡ replicate seats (new_seat (lane_name queue.now.table.shared.table_id seats))) }
 {
@@ -189,7 +191,8 @@ fn seats_of(
 fn take_in(queue: &Queue, root: &mut Pass<Job, SeatView>, last: LaneSeat) -> u64
     requires root { IsPassOf queue.now root.old }
     requires last { last.lane.table ≡ queue.now.table.shared.table_id }
-    ensures root { IsPassOf queue.now root.new × (known root.new ≡ with_seat (known root.old) last) }
+    ensures root { IsPassOf queue.now root.new
+        × (known root.new ≡ with_seat (known root.old) last) }
     ensures pushed { (result ≡ length last.pushes) × (result ≤ 2 ^ 62) }
     ensures rising { AreRising last.pushes × AreRising last.pops }
 {

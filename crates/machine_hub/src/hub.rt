@@ -93,7 +93,8 @@ impl<M: Machine, L: StepLog<M>> Hub<M, L> {
         requires shard { shard < length self.now }
         requires same_hub { slots_of me.old ≡ self.now }
         ensures same_hub { slots_of me.new ≡ self.now }
-        ensures call { IfOk result (λ r. IsCallOn M.asks M.steps M.loses me.old me.new shard call r.0 r.1) }
+        ensures call { IfOk result (λ r. IsCallOn M.asks M.steps M.loses me.old me.new shard call
+            r.0 r.1) }
         ensures on_refusal { OnErr result (IsRefusedOn me.old me.new shard) }
     {
         let seat = &mut me.seats[shard];
@@ -131,10 +132,12 @@ impl<M: Machine, L: StepLog<M>> Hub<M, L> {
         requires keeper { keeper.slots ≡ self }
         requires callers { AreCallersOf self callers.items }
         ensures all { IfOk result (λ shards. vec_len callers ≡ keeper.callers) }
-        ensures runs { IfOk result (λ shards. AreShardRuns M.steps keeper.homes callers.items shards.items) }
+        ensures runs { IfOk result (λ shards. AreShardRuns M.steps keeper.homes callers.items
+            shards.items) }
         ensures histories { IfOk result (λ shards.
             AreShardHistories M.steps M.loses keeper.homes callers.items shards.items) }
-        ensures missing { IfErr result (λ back. (vec_len callers ≢ keeper.callers) × (back.hub ≡ self)
+        ensures missing { IfErr result (λ back. (vec_len callers ≢ keeper.callers)
+            × (back.hub ≡ self)
             × (back.keeper ≡ keeper) × (back.callers ≡ callers)) }
     {
         if callers.len() != keeper.callers {

@@ -21,7 +21,8 @@ pub trait StepLog<M: Machine>: Drop + Send {
 
     /// Makes room for one entry more. `number` is the machine's.
     fn room(&mut self, alloc: Global, number: u32) -> Result<(), AllocError>
-        ensures same { (entries self.new ≡ entries self.old) × (keeping self.new ≡ keeping self.old) }
+        ensures same { (entries self.new ≡ entries self.old)
+            × (keeping self.new ≡ keeping self.old) }
         ensures room { OnOk result (length (entries self.new) + 1 < 2 ^ 64) };
 
     /// Shares an entry, and keeps it behind the others where it keeps entries.

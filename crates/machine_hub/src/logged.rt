@@ -77,7 +77,8 @@ impl<M: Machine, L: StepLog<M>> LoggedMachine<M, L> {
     ) -> Result<(M::Outcome, Given<M>), AllocError>
         ensures made { IfOk result (λ r. IsMade M.asks M.steps call self.old self.new r.0
             (option_map (λ given. (given.0, arc_value given.1)) r.1)) }
-        ensures on_refusal { OnErr result ((self.new.entries ≡ self.old.entries) × (self.new.stopped ≡ true)) }
+        ensures on_refusal { OnErr result
+            ((self.new.entries ≡ self.old.entries) × (self.new.stopped ≡ true)) }
         ensures lost { OnErr result (IsLoss M.steps M.loses self.old.machine self.new.machine) }
         ensures same { (self.new.number ≡ self.old.number) × (self.new.keeps ≡ self.old.keeps) }
     {
@@ -126,10 +127,12 @@ impl<M: Machine, L: StepLog<M>> LoggedMachine<M, L> {
     /// Makes one step.
     fn make(&mut self, alloc: Global, call: M::Call) -> Result<(M::Step, M::Outcome), AllocError>
         ensures asked { IfOk result (λ made. M.asks call made.0) }
-        ensures made { IfOk result (λ made. M.steps self.old.machine made.0 made.1 self.new.machine) }
+        ensures made { IfOk result (λ made. M.steps self.old.machine made.0 made.1
+            self.new.machine) }
         ensures lost { OnErr result (M.loses self.old.machine self.new.machine) }
         ensures last { IfOk result (λ made. self.new.last ≡ Some (entry made.0 made.1)) }
-        ensures log { (self.new.entries ≡ self.old.entries) × (self.new.stopped ≡ self.old.stopped) }
+        ensures log { (self.new.entries ≡ self.old.entries)
+            × (self.new.stopped ≡ self.old.stopped) }
         ensures same { (self.new.number ≡ self.old.number) × (self.new.keeps ≡ self.old.keeps) }
     {
         let made = Some(self.machine.make(alloc, call)?);

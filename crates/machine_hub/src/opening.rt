@@ -26,7 +26,8 @@ pub(crate) struct Opening<M: Machine, L: StepLog<M>> {
 impl<M: Machine, L: StepLog<M>> Opening<M, L> {
     /// No shard, and callers without seats.
     fn new(alloc: Global, count: usize) -> Result<Opening<M, L>, AllocError>
-        ensures shards { IfOk result (λ o. (o.shards.items ≡ []) × (o.keepers.items ≡ []) × (o.count ≡ count)) }
+        ensures shards { IfOk result (λ o. (o.shards.items ≡ []) × (o.keepers.items ≡ [])
+            × (o.count ≡ count)) }
         ensures callers { IfOk result (λ o. o.callers.items ≡ replicate count []) }
     {
         let mut callers = Vec::new(alloc);
@@ -52,8 +53,9 @@ impl<M: Machine, L: StepLog<M>> Opening<M, L> {
         requires callers { vec_len self.old.callers ≡ self.old.count }
         requires machine { (machine.entries ≡ []) × (machine.stopped ≡ false) }
         ensures count { self.new.count ≡ self.old.count }
-        ensures added { OnOk result (IsAdded self.old.count machine self.old.shards.items self.new.shards.items
-            self.old.keepers.items self.new.keepers.items self.old.callers.items self.new.callers.items) }
+        ensures added { OnOk result (IsAdded self.old.count machine self.old.shards.items
+            self.new.shards.items self.old.keepers.items self.new.keepers.items
+            self.old.callers.items self.new.callers.items) }
     {
         let (slot, keeper, seats) = Slot::open(rt, alloc, machine, self.count)?;
         hand_out(&mut self.callers, seats)?;
@@ -72,7 +74,8 @@ pub(crate) fn open_all<M: Machine, L: StepLog<M>, R: Wait>(
 ) -> Result<Opening<M, L>, AllocError>
     requires count { 0 < count }
     requires machines { AreNew machines.items }
-    ensures { IfOk result (λ o. IsOpen count machines.items o.shards.items o.keepers.items o.callers.items) }
+    ensures { IfOk result (λ o. IsOpen count machines.items o.shards.items o.keepers.items
+        o.callers.items) }
 {
     let mut opening = Opening::new(alloc, count)?;
     machines.reverse();

@@ -46,7 +46,8 @@ impl<M: Machine> StepLog<M> for OptionalLog<M> {
         ensures same { (map arc_value self.new.kept.items ≡ map arc_value self.old.kept.items)
             × (self.new.keeps ≡ self.old.keeps) }
         ensures room { OnOk result (length (map arc_value self.new.kept.items) + 1 < 2 ^ 64) }
-        ensures grown { OnOk result ((self.old.keeps ≡ true) → vec_len self.new.kept < vec_capacity self.new.kept) }
+        ensures grown { OnOk result ((self.old.keeps ≡ true)
+            → vec_len self.new.kept < vec_capacity self.new.kept) }
     {
         if !self.keeps {
             return Ok(());
@@ -65,7 +66,8 @@ impl<M: Machine> StepLog<M> for OptionalLog<M> {
             map arc_value self.new.kept.items ≡ map arc_value self.old.kept.items ++ entry ∷ [])) }
         ensures nothing { (self.old.keeps ≡ false) →
             map arc_value self.new.kept.items ≡ map arc_value self.old.kept.items }
-        ensures on_refusal { OnErr result (map arc_value self.new.kept.items ≡ map arc_value self.old.kept.items) }
+        ensures on_refusal { OnErr result
+            (map arc_value self.new.kept.items ≡ map arc_value self.old.kept.items) }
     {
         let theirs = Arc::new(alloc, entry)?;
         if self.keeps {

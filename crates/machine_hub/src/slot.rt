@@ -126,7 +126,8 @@ impl<M: Machine, L: StepLog<M>> Slot<M, L> {
         requires seats { 0 < seats }
         requires machine { (machine.entries ≡ []) × (machine.stopped ≡ false) }
         ensures keeper { IfOk result (λ r. r.1 ≡ new_keeper r.0 (home_of machine) seats) }
-        ensures seats { IfOk result (λ r. r.2.items ≡ replicate seats (new_seat r.0 (home_of machine))) }
+        ensures seats { IfOk result (λ r. r.2.items ≡ replicate seats
+            (new_seat r.0 (home_of machine))) }
     {
         let mut list = Vec::new(alloc);
         let (cell, mut root) = Cell::<M, L>::ruled(alloc, 1)?;
@@ -235,7 +236,8 @@ fn take<M: Machine, L: StepLog<M>, R: Wait>(
 ) -> LoggedMachine<M, L>
     requires pass { IsPassOf cell.now pass.old }
     requires free { (0 < (known pass.old).parts) × ((known pass.old).held ≡ None) }
-    ensures { IsSamePass pass.old pass.new × Taken M.steps M.loses (known pass.old) result (known pass.new) }
+    ensures { IsSamePass pass.old pass.new
+        × Taken M.steps M.loses (known pass.old) result (known pass.new) }
 {
     for _ in rt.forever() {
         if let Some(machine) = cell.pop_as::<Takes, R>(rt, pass) {

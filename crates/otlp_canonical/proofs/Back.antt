@@ -1,5 +1,5 @@
 -- A text that is written of a sound value is read as that value.
-use Rattle.std.proofs.Common.{◌≡◌, ℕ, ◌<◌, ◌^◌, List, length, sym, ap, subst, ◌∙◌}
+use Rattle.std.proofs.Common.{ℕ, List, sym, ap, subst, ◌∙◌}
 use Rattle.otlp_trace.specs.Data.{ResourceData, ScopeData, SpanData, RequestData}
 use Rattle.otlp_trace.specs.Text.{resource_text, scope_text, span_text, request_text}
 use Rattle.otlp_read.specs.RoundTrip.{IsShort, RequestReadsBack, SpanReadsBack, ResourceReadsBack, ScopeReadsBack}

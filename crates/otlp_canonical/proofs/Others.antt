@@ -1,8 +1,8 @@
 -- Fields that a message doesn't know, one after the other.
-use Rattle.std.proofs.Common.{◌≡◌, ℕ, ◌-◌, Bool, true, false, List, [], ◌∷◌, ◌++◌, Option, Some, None, is_some, sym, subst, refl}
+use Rattle.std.proofs.Common.{◌≡◌, ℕ, ◌-◌, false, List, [], ◌∷◌, ◌++◌, Option, Some, None, is_some, sym, subst, refl}
 use Rattle.pb_wire.specs.Grammar.{Entry, IsField, Begins}
 use Rattle.otlp_read.specs.Nested.{Kept}
-use Rattle.otlp_read.specs.Walk.{Known, Piece, Pieces, no_pieces, more_pieces}
+use Rattle.otlp_read.specs.Walk.{Known, no_pieces, more_pieces}
 
 -- nothing is kept
 pub none_kept : {A : Type 0} (known : ℕ → Known A) (room : ℕ) (text : List ℕ) → text ≡ [] → Kept known room text

@@ -1,6 +1,6 @@
 -- What it means that a text is a message's canonical text: it is written of a value, and it is read as that very value.
 -- Canonical text is that of `otlp_trace`'s Text, in the proto3 encoding.
-use Rattle.std.specs.Prelude.{◌≡◌, Ok, ℕ, List, ◌++◌}
+use Rattle.std.specs.Prelude.{◌≡◌, Ok, ℕ, List}
 use Rattle.otlp_trace.specs.Data.{ResourceData, ScopeData, SpanData, RequestData}
 use Rattle.otlp_trace.specs.Text.{span_text, resource_text, scope_text, request_text}
 use Rattle.otlp_read.specs.Nested.{NestedResource, NestedScope, NestedSpan, NestedRequest}
@@ -16,6 +16,11 @@ pub record CanonicalSpan (room : ℕ) (text : List ℕ) : Type 0 where
   pub written : span_text value ≡ text
   pub typed : TypedSpan value
   pub nested : NestedSpan room value
+
+-- A reader makes of the text the span that it makes of the copy, which is that span's canonical text.
+pub record CanonicalCopy (room : ℕ) (text copy : List ℕ) : Type 0 where
+  pub canonical : CanonicalSpan room copy
+  pub same : read_with span_step room no_span text ≡ read_with span_step room no_span copy
 
 -- a resource's canonical text, likewise
 pub record CanonicalResource (room : ℕ) (text : List ℕ) : Type 0 where

@@ -1,3 +1,4 @@
 pub mod Canonical
+pub mod Defaults
 pub mod Parts
 pub mod Sound

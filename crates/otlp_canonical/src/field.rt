@@ -73,7 +73,8 @@ pub fn some_string(text: &[u8], number: u8) -> Option<&[u8]>
 #[inline(always)]
 pub fn some_number(text: &[u8], number: u8) -> Option<&[u8]>
     requires fits { number < 16 }
-    ensures { IfSome result (λ rest. Front (some_number number) (λ x. x < 2 ^ 32) text.now rest.now) }
+    ensures { IfSome result (λ rest. Front (some_number number) (λ x. x < 2 ^ 32) text.now
+        rest.now) }
 {
     let Some(value) = behind(text, number * 8) else {
         return Some(text);
@@ -89,7 +90,8 @@ pub fn some_number(text: &[u8], number: u8) -> Option<&[u8]>
 #[inline(always)]
 pub fn some_signed(text: &[u8], number: u8) -> Option<&[u8]>
     requires fits { number < 16 }
-    ensures { IfSome result (λ rest. Front (some_signed number) (FitsSigned w32) text.now rest.now) }
+    ensures { IfSome result (λ rest. Front (some_signed number) (FitsSigned w32) text.now
+        rest.now) }
 {
     let Some(value) = behind(text, number * 8) else {
         return Some(text);
@@ -111,7 +113,8 @@ pub fn some_signed(text: &[u8], number: u8) -> Option<&[u8]>
 
 /// What stands behind a number of eight bytes, which isn't 0.
 fn eight(value: &[u8]) -> Option<&[u8]>
-    ensures { IfSome result (λ rest. Front (to_le_bytes w64) (λ x. (0 < x) × (x < 2 ^ 64)) value.now rest.now) }
+    ensures { IfSome result (λ rest. Front (to_le_bytes w64) (λ x. (0 < x) × (x < 2 ^ 64)) value.now
+        rest.now) }
 {
     if value.len() < 8 {
         return None;
@@ -125,7 +128,8 @@ fn eight(value: &[u8]) -> Option<&[u8]>
 #[inline(always)]
 pub fn some_eight(text: &[u8], number: u8) -> Option<&[u8]>
     requires fits { number < 16 }
-    ensures { IfSome result (λ rest. Front (some_eight number) (λ x. x < 2 ^ 64) text.now rest.now) }
+    ensures { IfSome result (λ rest. Front (some_eight number) (λ x. x < 2 ^ 64) text.now
+        rest.now) }
 {
     match behind(text, number * 8 + 1) {
         None => Some(text),
@@ -138,7 +142,8 @@ pub fn some_eight(text: &[u8], number: u8) -> Option<&[u8]>
 
 /// What stands behind a number of four bytes, which isn't 0.
 fn four(value: &[u8]) -> Option<&[u8]>
-    ensures { IfSome result (λ rest. Front (to_le_bytes w32) (λ x. (0 < x) × (x < 2 ^ 32)) value.now rest.now) }
+    ensures { IfSome result (λ rest. Front (to_le_bytes w32) (λ x. (0 < x) × (x < 2 ^ 32)) value.now
+        rest.now) }
 {
     if value.len() < 4 {
         return None;

@@ -11,6 +11,7 @@
 //! Protocol Buffers encoding guide, over the messages of OTLP 1.x.
 #![tactic(auto)]
 
+mod defaults;
 mod field;
 mod message;
 mod number;
@@ -20,4 +21,5 @@ mod text;
 mod unknown;
 mod value;
 
+pub use defaults::without_defaults;
 pub use text::{is_request_text, is_resource_text, is_scope_text, is_span_text};

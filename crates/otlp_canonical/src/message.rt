@@ -44,7 +44,8 @@ pub fn each<M: Canonical>(text: &[u8], number: u8, room: u32) -> Option<&[u8]>
 pub fn some_message<M: Canonical>(text: &[u8], number: u8, room: u32) -> Option<&[u8]>
     requires fits { number < 16 }
     ensures { IfSome result (λ rest.
-        Front (λ o. embedded number (option_map M.write o)) (λ o. IfSome o (M.sound room)) text.now rest.now) }
+        Front (λ o. embedded number (option_map M.write o)) (λ o. IfSome o (M.sound room)) text.now
+        rest.now) }
 {
     if !begins(text, number) {
         return Some(text);

@@ -13,7 +13,8 @@ use otlp_trace::{AnyValue, ArrayValue, KeyValue, KeyValueList};
 
 /// What stands behind a string.
 fn string(text: &[u8]) -> Option<&[u8]>
-    ensures { (room : ℕ) → IfSome result (λ rest. Front kind_text (SoundKind room) text.now rest.now) }
+    ensures { (room : ℕ) → IfSome result
+        (λ rest. Front kind_text (SoundKind room) text.now rest.now) }
 {
     let (bytes, rest) = bytes_field(text, 1)?;
     if is_utf8(bytes) { Some(rest) } else { None }
@@ -21,7 +22,8 @@ fn string(text: &[u8]) -> Option<&[u8]>
 
 /// What stands behind a bool, which is 0 or 1.
 fn boolean(text: &[u8]) -> Option<&[u8]>
-    ensures { (room : ℕ) → IfSome result (λ rest. Front kind_text (SoundKind room) text.now rest.now) }
+    ensures { (room : ℕ) → IfSome result
+        (λ rest. Front kind_text (SoundKind room) text.now rest.now) }
 {
     let value = behind(text, 0x10)?;
     let (value, rest) = shortest(value)?;
@@ -30,7 +32,8 @@ fn boolean(text: &[u8]) -> Option<&[u8]>
 
 /// What stands behind a number.
 fn int(text: &[u8]) -> Option<&[u8]>
-    ensures { (room : ℕ) → IfSome result (λ rest. Front kind_text (SoundKind room) text.now rest.now) }
+    ensures { (room : ℕ) → IfSome result
+        (λ rest. Front kind_text (SoundKind room) text.now rest.now) }
 {
     let value = behind(text, 0x18)?;
     let (_value, rest) = shortest(value)?;
@@ -39,7 +42,8 @@ fn int(text: &[u8]) -> Option<&[u8]>
 
 /// What stands behind a double.
 fn double(text: &[u8]) -> Option<&[u8]>
-    ensures { (room : ℕ) → IfSome result (λ rest. Front kind_text (SoundKind room) text.now rest.now) }
+    ensures { (room : ℕ) → IfSome result
+        (λ rest. Front kind_text (SoundKind room) text.now rest.now) }
 {
     let value = behind(text, 0x21)?;
     let (_value, rest) = split(value, 8)?;
@@ -48,7 +52,8 @@ fn double(text: &[u8]) -> Option<&[u8]>
 
 /// What stands behind bytes.
 fn bytes(text: &[u8]) -> Option<&[u8]>
-    ensures { (room : ℕ) → IfSome result (λ rest. Front kind_text (SoundKind room) text.now rest.now) }
+    ensures { (room : ℕ) → IfSome result
+        (λ rest. Front kind_text (SoundKind room) text.now rest.now) }
 {
     let (_bytes, rest) = bytes_field(text, 7)?;
     Some(rest)

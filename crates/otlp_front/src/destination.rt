@@ -16,5 +16,6 @@ pub enum Route {
 /// Routes are equal where they lead to the same, and refusals where they are for the same reason.
 pub fn equal_routes()
     ensures routes { (a b : Route) → (⟦<Route as PartialEq>⟧.eq a b ≡ true) ↔ (a ≡ b) }
-    ensures refusals { (a b : RouteRefusal) → (⟦<RouteRefusal as PartialEq>⟧.eq a b ≡ true) ↔ (a ≡ b) }
+    ensures refusals { (a b : RouteRefusal)
+        → (⟦<RouteRefusal as PartialEq>⟧.eq a b ≡ true) ↔ (a ≡ b) }
 {}

@@ -19,7 +19,8 @@ use tail_settings::Settings;
 /// are on path, method, tenant, content type and content encoding, in this order.
 #[tactic(auto, unfolding(crate::specs::Route::route_of))]
 pub fn route(settings: &Settings, message: &HttpMessage) -> Route
-    ensures { route_by result ≡ route_of (names_in (settings_view settings.now)) (seen message.now) }
+    ensures { route_by result ≡ route_of (names_in (settings_view settings.now))
+        (seen message.now) }
 {
     if !is_for_traces(&message.target) {
         return Route::Refuse(RouteRefusal::NoSuchPath);
@@ -41,7 +42,8 @@ fn is_post(method: &Method) -> bool
 
 /// The number of the tenant that the message names.
 fn named_tenant(settings: &Settings, headers: &[Header]) -> Option<u32>
-    ensures { result ≡ tenant_in (names_in (settings_view settings.now)) (map header_of headers.now) }
+    ensures { result ≡ tenant_in (names_in (settings_view settings.now))
+        (map header_of headers.now) }
 {
     let name = only_value(headers, settings.global.tenant_header.as_bytes())?;
     number_of(settings, name)

@@ -10,3 +10,5 @@ pub mod Inner
 pub mod Ids
 pub mod Counts
 pub mod WithSpans
+pub mod Few
+pub mod Same

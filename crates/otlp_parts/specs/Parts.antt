@@ -1,10 +1,15 @@
 -- What the types of the code stand for, without where their bytes lie in memory. This project's own rule.
-use Rattle.std.specs.Prelude.{map, Option, Some, None}
+use Rattle.std.specs.Prelude.{ℕ, List, [], ◌∷◌, map, Option, Some, None}
 use Rattle.otlp_trace.specs.Data.{ScopeData, ResourceData}
 use Rattle.otlp_parts.specs.ReadAs.{scope_of, resource_of, scope_among, resource_among}
+use Rattle.span_pool.specs.Stored.{bytes_of}
 use Rattle.otlp_parts.specs.Texts.{ScopeTexts, ResourceTexts, BodyTexts}
 use Rattle.otlp_parts.specs.Kept.{KeptScope, KeptResource}
+use Rattle.otlp_parts.specs.declared.parts.SpanTexts.{SpanTexts}
+use Rattle.otlp_parts.specs.declared.parts.SpanTexts.TheVariants as span_texts
 use Rattle.otlp_parts.specs.declared.parts.ScopeParts.{ScopeParts}
+use Rattle.otlp_parts.specs.declared.parts.ScopeList.{ScopeList}
+use Rattle.otlp_parts.specs.declared.parts.ScopeList.TheVariants as scope_list
 use Rattle.otlp_parts.specs.declared.parts.ResourceParts.{ResourceParts}
 use Rattle.otlp_parts.specs.declared.parts.BodyParts.{BodyParts}
 use Rattle.otlp_parts.specs.declared.held.FoundScope.{FoundScope}
@@ -14,16 +19,26 @@ use Rattle.otlp_parts.specs.declared.held.FoundResource.TheVariants as found_res
 use Rattle.otlp_parts.specs.declared.held.ScopeReading.{ScopeReading}
 use Rattle.otlp_parts.specs.declared.held.ResourceReading.{ResourceReading}
 
+-- the spans of a scope
+abbrev pub spans_in : SpanTexts → List (List ℕ)
+spans_in (span_texts.One span) = span ∷ []
+spans_in (span_texts.More spans) = spans.items
+
 -- a scope spans
 abbrev pub scope_parts_view : ScopeParts → ScopeTexts
-scope_parts_view p = record { scope = p.scope; schema_url = p.schema_url; spans = p.spans.items }
+scope_parts_view p = record { scope = p.scope; schema_url = bytes_of p.schema_url; spans = spans_in p.spans }
+
+-- the scope spans of a resource
+abbrev pub scopes_in : ScopeList → List ScopeTexts
+scopes_in (scope_list.One scope) = scope_parts_view scope ∷ []
+scopes_in (scope_list.More scopes) = map scope_parts_view scopes.items
 
 -- a resource spans
 abbrev pub resource_parts_view : ResourceParts → ResourceTexts
 resource_parts_view p = record {
   resource = p.resource;
-  schema_url = p.schema_url;
-  scopes = map scope_parts_view p.scopes.items;
+  schema_url = bytes_of p.schema_url;
+  scopes = scopes_in p.scopes;
 }
 
 -- a body

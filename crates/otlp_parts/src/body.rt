@@ -40,6 +40,7 @@ fn with_parts(before: BodyParts, parts: ResourceParts) -> Result<BodyParts, Allo
     }) }
 {
     let mut body = before;
+    let parts = parts.like(body.resources.last())?;
     // A list of one takes the room of one: many bodies have one resource.
     if body.resources.is_empty() {
         body.resources.reserve_exact(1)?;
@@ -109,7 +110,8 @@ fn body_parts(alloc: Global, body: &Bytes) -> Result<BodyParts, ReadFault>
     ensures exact { Gives body_parts_view result (kept_of body.now) }
     ensures short { length body.now < 2 ^ 64 }
     ensures sliced { IfOk result (λ parts. parts.sliced ≤ body_size (body_parts_view parts)) }
-    ensures pinned { IfOk result (λ parts. (parts.sliced ≡ 0) ⊎ (length body.now ≤ 2 * parts.sliced)) }
+    ensures pinned { IfOk result (λ parts. (parts.sliced ≡ 0)
+        ⊎ (length body.now ≤ 2 * parts.sliced)) }
 {
     let size = body.len();
     let mut sliced = 0;
@@ -130,14 +132,16 @@ pub fn read_parts(alloc: Global, body: &Bytes) -> Result<BodyParts, ReadFault>
     ensures value { IfOk result (λ parts. ArePartsOf body.now (body_parts_view parts)) }
 
     // A body with a value has its parts read, unless memory runs out.
-    ensures only { (v : RequestData) → IsValue body.now v → Gives body_parts_view result (Ok (texts_of v)) }
+    ensures only { (v : RequestData) → IsValue body.now v
+        → Gives body_parts_view result (Ok (texts_of v)) }
 
     // A fault stands in the body.
     ensures fault { IfErr result (λ fault. fault ≢ ReadFault.OutOfMemory → IsFault body.now fault) }
 
     // Slices hold the whole body, so there are none, or they are at least half of it.
     ensures sliced { IfOk result (λ parts. parts.sliced ≤ body_size (body_parts_view parts)) }
-    ensures pinned { IfOk result (λ parts. (parts.sliced ≡ 0) ⊎ (length body.now ≤ 2 * parts.sliced)) }
+    ensures pinned { IfOk result (λ parts. (parts.sliced ≡ 0)
+        ⊎ (length body.now ≤ 2 * parts.sliced)) }
 {
     body_parts(alloc, body)
 }

@@ -1,19 +1,23 @@
 //! Parts with memory of their own.
 
 ghost use Rattle.std.specs.Prelude.{◌≡◌, IfOk, map};
-ghost use Rattle.otlp_parts.specs.Parts.{body_parts_view, resource_parts_view, scope_parts_view};
+ghost use Rattle.otlp_parts.specs.Parts.{body_parts_view, resource_parts_view, scope_parts_view, scopes_in, spans_in};
 
-use crate::parts::{BodyParts, ResourceParts, ScopeParts};
+use crate::part_text::PartText;
+use crate::parts::{BodyParts, ResourceParts, ScopeList, ScopeParts, SpanTexts};
 use bytes::Bytes;
 use std::alloc::{AllocError, Global};
 
 /// The same bytes, where there are any.
-fn copied(alloc: Global, text: Option<Bytes>) -> Result<Option<Bytes>, AllocError>
+fn copied(alloc: Global, text: PartText) -> Result<PartText, AllocError>
     ensures { IfOk result (λ copy. copy ≡ text) }
 {
-    match text {
-        Some(text) => Ok(Some(Bytes::copy_from_slice(alloc, text.as_slice())?)),
-        None => Ok(None),
+    match text.as_ref() {
+        Some(text) => {
+            let copy = Bytes::copy_from_slice(alloc, text.as_slice())?;
+            PartText::of(alloc, Some(copy))
+        }
+        None => PartText::of(alloc, None),
     }
 }
 
@@ -29,27 +33,60 @@ fn copied_texts(alloc: Global, texts: Vec<Bytes>) -> Result<Vec<Bytes>, AllocErr
     Ok(copies)
 }
 
+/// The same spans.
+fn copied_spans(alloc: Global, spans: SpanTexts) -> Result<SpanTexts, AllocError>
+    ensures { IfOk result (λ copy. spans_in copy ≡ spans_in spans) }
+{
+    match spans {
+        SpanTexts::One(span) => {
+            let copy = Bytes::copy_from_slice(alloc, span.as_slice())?;
+            Ok(SpanTexts::One(copy))
+        }
+        SpanTexts::More(spans) => {
+            let copies = copied_texts(alloc, spans)?;
+            Ok(SpanTexts::More(copies))
+        }
+    }
+}
+
 /// The same parts of a scope spans.
 fn copied_scope(alloc: Global, parts: ScopeParts) -> Result<ScopeParts, AllocError>
     ensures { IfOk result (λ copy. scope_parts_view copy ≡ scope_parts_view parts) }
 {
     Ok(ScopeParts {
         scope: copied(alloc, parts.scope)?,
-        schema_url: Bytes::copy_from_slice(alloc, parts.schema_url.as_slice())?,
-        spans: copied_texts(alloc, parts.spans)?,
+        schema_url: copied(alloc, parts.schema_url)?,
+        spans: copied_spans(alloc, parts.spans)?,
     })
 }
 
 /// The same scope spans, in the same order.
 fn copied_scopes(alloc: Global, scopes: Vec<ScopeParts>) -> Result<Vec<ScopeParts>, AllocError>
-    ensures { IfOk result (λ copies. map scope_parts_view copies.items ≡ map scope_parts_view scopes.items) }
+    ensures { IfOk result (λ copies. map scope_parts_view copies.items ≡ map scope_parts_view
+        scopes.items) }
 {
     let mut copies = Vec::with_capacity(alloc, scopes.len())?;
     for scope in scopes {
-        let copy = copied_scope(alloc, scope)?;
+        let copy = copied_scope(alloc, scope)?.like(copies.last())?;
         copies.push(copy)?;
     }
     Ok(copies)
+}
+
+/// The same list of scope spans.
+fn copied_list(alloc: Global, scopes: ScopeList) -> Result<ScopeList, AllocError>
+    ensures { IfOk result (λ copy. scopes_in copy ≡ scopes_in scopes) }
+{
+    match scopes {
+        ScopeList::One(scope) => {
+            let copy = copied_scope(alloc, scope)?;
+            Ok(ScopeList::One(copy))
+        }
+        ScopeList::More(scopes) => {
+            let copies = copied_scopes(alloc, scopes)?;
+            Ok(ScopeList::More(copies))
+        }
+    }
 }
 
 /// The same parts of a resource spans.
@@ -58,8 +95,8 @@ fn copied_resource(alloc: Global, parts: ResourceParts) -> Result<ResourceParts,
 {
     Ok(ResourceParts {
         resource: copied(alloc, parts.resource)?,
-        schema_url: Bytes::copy_from_slice(alloc, parts.schema_url.as_slice())?,
-        scopes: copied_scopes(alloc, parts.scopes)?,
+        schema_url: copied(alloc, parts.schema_url)?,
+        scopes: copied_list(alloc, parts.scopes)?,
     })
 }
 
@@ -70,7 +107,7 @@ pub fn copied_body(alloc: Global, parts: BodyParts) -> Result<BodyParts, AllocEr
 {
     let mut resources = Vec::with_capacity(alloc, parts.resources.len())?;
     for resource in parts.resources {
-        let copy = copied_resource(alloc, resource)?;
+        let copy = copied_resource(alloc, resource)?.like(resources.last())?;
         resources.push(copy)?;
     }
     Ok(BodyParts {

@@ -17,6 +17,7 @@ mod body;
 mod copies;
 mod held;
 mod message;
+mod part_text;
 mod parts;
 mod resource;
 mod scope;
@@ -24,4 +25,5 @@ mod span;
 mod walk;
 
 pub use body::read_parts;
-pub use parts::{BodyParts, ResourceParts, ScopeParts};
+pub use part_text::PartText;
+pub use parts::{BodyParts, ResourceParts, ScopeList, ScopeParts, SpanTexts};

@@ -1,27 +1,141 @@
 //! What is kept of a body.
 
+ghost use Rattle.std.specs.Prelude.{◌≡◌, ◌==◌, IfOk, length, map};
+ghost use Rattle.otlp_parts.specs.Parts.{spans_in, scopes_in, scope_parts_view, resource_parts_view};
+
+use crate::part_text::PartText;
 use bytes::Bytes;
+use std::alloc::AllocError;
+
+/// The canonical texts of the valid spans of a scope, in the order of the body.
+#[derive(Drop)]
+pub enum SpanTexts {
+    /// One, which takes no list.
+    One(Bytes),
+    /// Any number.
+    More(Vec<Bytes>),
+}
+
+impl SpanTexts {
+    /// These texts.
+    #[tactic(auto, using(crate::proofs::Few::only_one))]
+    pub(crate) fn of(spans: Vec<Bytes>) -> SpanTexts
+        ensures { spans_in result ≡ spans.items }
+    {
+        let mut spans = spans;
+        if spans.len() != 1 {
+            spans.shrink_to_fit();
+            return SpanTexts::More(spans);
+        }
+        match spans.pop() {
+            Some(span) => SpanTexts::One(span),
+            None => SpanTexts::More(spans),
+        }
+    }
+
+    /// Whether there is none.
+    pub fn is_empty(&self) -> bool
+        ensures { result ≡ (length (spans_in self.now) == 0) }
+    {
+        match self {
+            SpanTexts::One(_) => false,
+            SpanTexts::More(spans) => spans.is_empty(),
+        }
+    }
+}
 
 /// The spans of a scope.
 #[derive(Drop)]
 pub struct ScopeParts {
     /// The scope's canonical text, where there is one.
-    pub scope: Option<Bytes>,
-    /// The URL of the scope's schema in UTF-8, empty where there is none.
-    pub schema_url: Bytes,
+    pub scope: PartText,
+    /// The URL of the scope's schema in UTF-8, none where it is empty.
+    pub schema_url: PartText,
     /// The canonical texts of the valid spans, in the order of the body.
-    pub spans: Vec<Bytes>,
+    pub spans: SpanTexts,
+}
+
+impl ScopeParts {
+    /// The same, whose texts are shared with the scope spans before it where they are the same.
+    pub(crate) fn like(self, last: Option<&ScopeParts>) -> Result<ScopeParts, AllocError>
+        ensures { IfOk result (λ parts. scope_parts_view parts ≡ scope_parts_view self) }
+    {
+        let Some(last) = last else {
+            return Ok(self);
+        };
+        Ok(ScopeParts {
+            scope: self.scope.like(&last.scope)?,
+            schema_url: self.schema_url.like(&last.schema_url)?,
+            spans: self.spans,
+        })
+    }
+}
+
+/// The scope spans of a resource, in the order of the body.
+#[derive(Drop)]
+pub enum ScopeList {
+    /// One, which takes no list.
+    One(ScopeParts),
+    /// Any number.
+    More(Vec<ScopeParts>),
+}
+
+impl ScopeList {
+    /// These scope spans.
+    #[tactic(auto, using(crate::proofs::Few::only_one_made))]
+    pub(crate) fn of(scopes: Vec<ScopeParts>) -> ScopeList
+        ensures { scopes_in result ≡ map scope_parts_view scopes.items }
+    {
+        let mut scopes = scopes;
+        if scopes.len() != 1 {
+            scopes.shrink_to_fit();
+            return ScopeList::More(scopes);
+        }
+        match scopes.pop() {
+            Some(scope) => ScopeList::One(scope),
+            None => ScopeList::More(scopes),
+        }
+    }
+
+    /// The same, whose texts are shared with those of the list before it where both are of one and the same.
+    fn like(self, last: &ScopeList) -> Result<ScopeList, AllocError>
+        ensures { IfOk result (λ scopes. scopes_in scopes ≡ scopes_in self) }
+    {
+        match (self, last) {
+            (ScopeList::One(scope), ScopeList::One(last)) => {
+                let scope = scope.like(Some(last))?;
+                Ok(ScopeList::One(scope))
+            }
+            (scopes, _) => Ok(scopes),
+        }
+    }
 }
 
 /// The spans of a resource, by scope.
 #[derive(Drop)]
 pub struct ResourceParts {
     /// The resource's canonical text, where there is one.
-    pub resource: Option<Bytes>,
-    /// The URL of the resource's schema in UTF-8, empty where there is none.
-    pub schema_url: Bytes,
+    pub resource: PartText,
+    /// The URL of the resource's schema in UTF-8, none where it is empty.
+    pub schema_url: PartText,
     /// In the order of the body.
-    pub scopes: Vec<ScopeParts>,
+    pub scopes: ScopeList,
+}
+
+impl ResourceParts {
+    /// The same, whose texts are shared with the resource spans before it where they are the same.
+    pub(crate) fn like(self, last: Option<&ResourceParts>) -> Result<ResourceParts, AllocError>
+        ensures { IfOk result (λ parts. resource_parts_view parts ≡ resource_parts_view self) }
+    {
+        let Some(last) = last else {
+            return Ok(self);
+        };
+        Ok(ResourceParts {
+            resource: self.resource.like(&last.resource)?,
+            schema_url: self.schema_url.like(&last.schema_url)?,
+            scopes: self.scopes.like(&last.scopes)?,
+        })
+    }
 }
 
 /// The parts of a body.

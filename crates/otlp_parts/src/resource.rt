@@ -4,13 +4,14 @@ ghost use Rattle.std.specs.Prelude.{◌≡◌, ◌≤◌, ◌+◌, Ok, Some, len
 ghost use Rattle.otlp_trace.specs.Text.{resource_text};
 ghost use Rattle.otlp_read.specs.Fault.{Gives};
 ghost use Rattle.otlp_parts.specs.ReadAs.{resource_in, resource_of, resource_among, another_resource};
-ghost use Rattle.otlp_parts.specs.Kept.{KeptResource, no_kept_resource, kept_resource_step, kept_resource_texts, scope_spans_onto};
-ghost use Rattle.otlp_parts.specs.Parts.{found_resource_view, resource_reading_view, resource_parts_view, scope_parts_view};
-ghost use Rattle.otlp_parts.specs.Sizes.{text_size, scopes_size, resource_size};
+ghost use Rattle.otlp_parts.specs.Kept.{KeptResource, no_kept_resource, kept_resource_step, kept_resource_texts, kept_scope_texts, scope_spans_onto};
+ghost use Rattle.otlp_parts.specs.Parts.{found_resource_view, resource_reading_view, resource_parts_view, scope_reading_view, scope_parts_view};
+ghost use Rattle.otlp_parts.specs.Sizes.{text_size, texts_size, scope_size, scopes_size, resource_size};
 
-use crate::held::{FoundResource, ResourceFields, ResourceReading, ResourceText};
+use crate::held::{FoundResource, ResourceFields, ResourceReading, ResourceText, ScopeReading};
 use crate::message::{as_field, resource_written, string};
-use crate::parts::ResourceParts;
+use crate::part_text::PartText;
+use crate::parts::{ResourceParts, ScopeList, ScopeParts};
 use crate::scope::{no_scope, scope_parts};
 use crate::walk::{Walked, walk_fields};
 use bytes::Bytes;
@@ -32,7 +33,8 @@ fn first_resource(
 ) -> Result<ResourceText, ReadFault>
     requires order { start ≤ end }
     requires within { end ≤ length text.now }
-    ensures exact { Gives (λ first. resource_of first.bytes) result (resource_in (slice_range text.now start end)) }
+    ensures exact { Gives (λ first. resource_of first.bytes) result
+        (resource_in (slice_range text.now start end)) }
 {
     let bytes = text.slice(start..end)?;
     if is_resource_text(bytes.as_slice(), RESOURCE_ROOM) {
@@ -110,7 +112,8 @@ fn resource_again(
 
 /// The canonical text of several resources, merged.
 fn merged_resource_text(alloc: Global, several: ResourceFields) -> Result<Option<Bytes>, ReadFault>
-    ensures exact { Gives (λ text. text) result (Ok (option_map resource_text (resource_among several.fields.items))) }
+    ensures exact { Gives (λ text. text) result
+        (Ok (option_map resource_text (resource_among several.fields.items))) }
 {
     let ResourceSpans { resource, .. } = read_resource_spans(
         alloc,
@@ -132,7 +135,8 @@ fn resource_part(
     found: FoundResource,
     sliced: &mut usize,
 ) -> Result<Option<Bytes>, ReadFault>
-    ensures exact { Gives (λ text. text) result (Ok (option_map resource_text (found_resource_view found))) }
+    ensures exact { Gives (λ text. text) result
+        (Ok (option_map resource_text (found_resource_view found))) }
     ensures sliced_within { IfOk result (λ text. sliced.new ≤ sliced.old + text_size text) }
 {
     match found {
@@ -163,7 +167,8 @@ pub fn resource_parts(
     reading: ResourceReading,
     sliced: &mut usize,
 ) -> Result<ResourceParts, ReadFault>
-    ensures exact { Gives resource_parts_view result (Ok (kept_resource_texts (resource_reading_view reading))) }
+    ensures exact { Gives resource_parts_view result
+        (Ok (kept_resource_texts (resource_reading_view reading))) }
     ensures sliced_within { IfOk result (λ parts.
         sliced.new + scopes_size (map scope_parts_view reading.scopes.items)
         ≤ sliced.old + resource_size (resource_parts_view parts)) }
@@ -171,10 +176,28 @@ pub fn resource_parts(
     *sliced = sliced.saturating_add(reading.schema_url.len());
     let resource = resource_part(alloc, reading.resource, sliced)?;
     Ok(ResourceParts {
-        resource,
-        schema_url: reading.schema_url,
-        scopes: reading.scopes,
+        resource: PartText::of(alloc, resource)?,
+        schema_url: PartText::of_url(alloc, reading.schema_url)?,
+        scopes: ScopeList::of(reading.scopes),
     })
+}
+
+/// What is kept of one more scope spans, whose texts are shared with the one before it where they are the same.
+fn next_scope(
+    alloc: Global,
+    before: &ResourceReading,
+    scope: ScopeReading,
+    sliced: &mut usize,
+) -> Result<ScopeParts, ReadFault>
+    ensures exact { Gives scope_parts_view result
+        (Ok (kept_scope_texts (scope_reading_view scope))) }
+    ensures sliced_within { IfOk result (λ parts.
+        sliced.new + texts_size scope.spans.items ≤ sliced.old + scope_size
+        (scope_parts_view parts)) }
+{
+    let parts = scope_parts(alloc, scope, sliced)?;
+    let parts = parts.like(before.scopes.last())?;
+    Ok(parts)
 }
 
 /// What was read, with one more scope spans.
@@ -191,8 +214,9 @@ fn with_scope_spans(
     requires within { end ≤ length text.now }
     ensures exact { Gives resource_reading_view result
         (scope_spans_onto (resource_reading_view before) (slice_range text.now start end)) }
-    ensures sliced_within { IfOk result (λ after. sliced.new + scopes_size (map scope_parts_view before.scopes.items)
-        ≤ sliced.old + scopes_size (map scope_parts_view after.scopes.items)) }
+    ensures sliced_within { IfOk result (λ after. sliced.new + scopes_size
+        (map scope_parts_view before.scopes.items) ≤ sliced.old + scopes_size
+        (map scope_parts_view after.scopes.items)) }
 {
     let inside = text.slice(start..end)?;
     let scope = walk_fields(alloc, no_scope(alloc), &inside, RESOURCE_ROOM, sliced)?;
@@ -202,7 +226,7 @@ fn with_scope_spans(
     if scope.spans.is_empty() {
         return Ok(reading);
     }
-    let parts = scope_parts(alloc, scope, sliced)?;
+    let parts = next_scope(alloc, &reading, scope, sliced)?;
     // A list of one takes the room of one: most resources have one scope.
     if reading.scopes.is_empty() {
         reading.scopes.reserve_exact(1)?;

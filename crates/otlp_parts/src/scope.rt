@@ -10,7 +10,8 @@ ghost use Rattle.otlp_parts.specs.Sizes.{text_size, texts_size, scope_size};
 
 use crate::held::{FoundScope, ScopeFields, ScopeReading, ScopeText};
 use crate::message::{as_field, scope_written, string};
-use crate::parts::ScopeParts;
+use crate::part_text::PartText;
+use crate::parts::{ScopeParts, SpanTexts};
 use crate::span::span_part;
 use crate::walk::Walked;
 use bytes::Bytes;
@@ -32,7 +33,8 @@ fn first_scope(
 ) -> Result<ScopeText, ReadFault>
     requires order { start ≤ end }
     requires within { end ≤ length text.now }
-    ensures exact { Gives (λ first. scope_of first.bytes) result (scope_in (slice_range text.now start end)) }
+    ensures exact { Gives (λ first. scope_of first.bytes) result
+        (scope_in (slice_range text.now start end)) }
 {
     let bytes = text.slice(start..end)?;
     if is_scope_text(bytes.as_slice(), SCOPE_ROOM) {
@@ -55,7 +57,8 @@ fn first_scope(
 
 /// The one scope that came, as a field.
 fn scope_fields(alloc: Global, first: ScopeText) -> Result<ScopeFields, ReadFault>
-    ensures exact { Gives (λ several. scope_among several.fields.items) result (Ok (Some (scope_of first.bytes))) }
+    ensures exact { Gives (λ several. scope_among several.fields.items) result
+        (Ok (Some (scope_of first.bytes))) }
 {
     let fields = as_field(alloc, 1, first.bytes.as_slice())?;
     Ok(ScopeFields { fields })
@@ -105,7 +108,8 @@ fn scope_again(
 
 /// The canonical text of several scopes, merged.
 fn merged_scope_text(alloc: Global, several: ScopeFields) -> Result<Option<Bytes>, ReadFault>
-    ensures exact { Gives (λ text. text) result (Ok (option_map scope_text (scope_among several.fields.items))) }
+    ensures exact { Gives (λ text. text) result
+        (Ok (option_map scope_text (scope_among several.fields.items))) }
 {
     let ScopeSpans { scope, .. } = read_scope_spans(
         alloc,
@@ -127,7 +131,8 @@ fn scope_part(
     found: FoundScope,
     sliced: &mut usize,
 ) -> Result<Option<Bytes>, ReadFault>
-    ensures exact { Gives (λ text. text) result (Ok (option_map scope_text (found_scope_view found))) }
+    ensures exact { Gives (λ text. text) result
+        (Ok (option_map scope_text (found_scope_view found))) }
     ensures sliced_within { IfOk result (λ text. sliced.new ≤ sliced.old + text_size text) }
 {
     match found {
@@ -158,16 +163,18 @@ pub fn scope_parts(
     reading: ScopeReading,
     sliced: &mut usize,
 ) -> Result<ScopeParts, ReadFault>
-    ensures exact { Gives scope_parts_view result (Ok (kept_scope_texts (scope_reading_view reading))) }
+    ensures exact { Gives scope_parts_view result
+        (Ok (kept_scope_texts (scope_reading_view reading))) }
     ensures sliced_within { IfOk result (λ parts.
-        sliced.new + texts_size reading.spans.items ≤ sliced.old + scope_size (scope_parts_view parts)) }
+        sliced.new + texts_size reading.spans.items ≤ sliced.old + scope_size
+        (scope_parts_view parts)) }
 {
     *sliced = sliced.saturating_add(reading.schema_url.len());
     let scope = scope_part(alloc, reading.scope, sliced)?;
     Ok(ScopeParts {
-        scope,
-        schema_url: reading.schema_url,
-        spans: reading.spans,
+        scope: PartText::of(alloc, scope)?,
+        schema_url: PartText::of_url(alloc, reading.schema_url)?,
+        spans: SpanTexts::of(reading.spans),
     })
 }
 

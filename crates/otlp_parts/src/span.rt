@@ -12,7 +12,7 @@ ghost use Rattle.otlp_parts.specs.ReadAs.{span_of};
 ghost use Rattle.otlp_parts.specs.Sizes.{text_size};
 
 use bytes::Bytes;
-use otlp_canonical::is_span_text;
+use otlp_canonical::{is_span_text, without_defaults};
 use otlp_read::{ReadFault, read_span};
 use otlp_trace::{Span, write_span};
 use span_pool::read_spans_are_viewed;
@@ -66,7 +66,20 @@ fn is_valid_text(text: &[u8]) -> bool
     is_id(view.trace_id(), 16) && is_id(view.span_id(), 8)
 }
 
-/// A span's canonical text, none where the span isn't valid: where it stands, or written of what is read.
+/// A canonical text, none where its span isn't valid.
+fn copied_part(copy: Vec<u8>) -> Result<Option<Bytes>, ReadFault>
+    requires canonical { CanonicalSpan 98 copy.items }
+    ensures exact { Gives (λ part. part) result (kept_span copy.items) }
+{
+    if !is_valid_text(copy.as_slice()) {
+        return Ok(None);
+    }
+    let part = Bytes::from_vec(copy)?;
+    Ok(Some(part))
+}
+
+/// A span's canonical text, none where the span isn't valid: where it stands, or a copy without the defaults that are
+/// written in it, or written of what is read.
 pub fn span_part(
     alloc: Global,
     text: &Bytes,
@@ -87,6 +100,10 @@ pub fn span_part(
         *sliced = sliced.saturating_add(bytes.len());
         let part = text.slice(start..end)?;
         return Ok(Some(part));
+    }
+    if let Some(copy) = without_defaults(alloc, bytes, SPAN_ROOM)? {
+        let part = copied_part(copy)?;
+        return Ok(part);
     }
     let span = read_span(alloc, bytes, SPAN_ROOM)?;
     if !is_valid(&span) {

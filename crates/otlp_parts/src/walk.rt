@@ -33,10 +33,12 @@ pub trait Walked: Drop {
         sliced: &mut usize,
     ) -> Result<Self, ReadFault>
         requires within { end ≤ length text.now }
-        requires stands { (content : List ℕ) → datum field.value ≡ bytes_datum content → Stands text.now end content }
+        requires stands { (content : List ℕ) → datum field.value ≡ bytes_datum content
+            → Stands text.now end content }
         ensures exact { (room : ℕ) (spelled : List ℕ) →
             Gives view result (step room (view self) (entry field.entry) spelled) }
-        ensures sliced_within { IfOk result (λ after. sliced.new + size (view self) ≤ sliced.old + size (view after)) };
+        ensures sliced_within { IfOk result
+            (λ after. sliced.new + size (view self) ≤ sliced.old + size (view after)) };
 }
 
 /// Goes on reading a message, where there is room for so many levels, its own among them.

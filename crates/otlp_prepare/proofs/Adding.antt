@@ -1,19 +1,20 @@
 -- One more origin, and the spans that come with it.
-use Rattle.std.proofs.Common.{◌≡◌, ◌∙◌, ◌<◌, ℕ, Bool, List, [], ◌∷◌, ◌++◌, map, length, refl, sym, ap, subst, append-nil, arith}
+use Rattle.std.proofs.Common.{◌≡◌, ◌∙◌, ◌<◌, ℕ, Bool, List, [], ◌∷◌, ◌++◌, Option, Result, Ok, Err, OnOk, map, length, refl, sym, ap, subst, append-nil, append_assoc, arith}
 use Rattle.std.proofs.lemmas.List.{get_or_append_left, length-append, map-append}
 use Rattle.std.proofs.Math.Seq.{get_or-append_seam}
 use Rattle.std.specs.Prelude.{◌&&◌}
-use Rattle.std.specs.List.{AllByRecursion}
+use Rattle.std.specs.List.{AllByRecursion, flat_map}
+use Rattle.otlp_parts.specs.Texts.{ScopeTexts, ResourceTexts}
 use Rattle.otlp_read.specs.RoundTrip.{IsShort}
 use Rattle.span_view.specs.Facts.{SpanFacts}
 use Rattle.span_pool.specs.Ids.{is_id}
 use Rattle.span_pool.specs.Stored.{Origin as OriginData, bytes_of}
 use Rattle.tail_settings.specs.Policy.{PolicyData}
 use Rattle.tail_policy.specs.declared.note.ResourceBits.{ResourceBits}
-use Rattle.tenant_rules.specs.Arrivals.{is_valid}
+use Rattle.tenant_rules.specs.Arrivals.{Arrival, is_valid}
 use Rattle.otlp_prepare.specs.declared.noted.SpanOrigin.{SpanOrigin}
 use Rattle.otlp_prepare.specs.Arrivals.{origin_view, no_origin, origin_at, arrival_with}
-use Rattle.otlp_prepare.specs.BodySpans.{UnnotedSpanData, part_with, part_arrival, part_arrivals, bits_in, IsFound, AreFound, Adds, IsValidRead, IsAround}
+use Rattle.otlp_prepare.specs.BodySpans.{UnnotedSpanData, part_with, part_arrival, part_arrivals, bits_in, IsFound, AreFound, Adds, AddsAround, IsValidRead, IsAround, arrivals_in_scope, arrivals_in_resource, arrivals_around}
 use Rattle.otlp_prepare.proofs.Lists.{every_append}
 use Rattle.otlp_prepare.proofs.Read.{AllTold, told}
 
@@ -129,3 +130,65 @@ pub none_added : (policies : List PolicyData) (os : List SpanOrigin) (around : O
     → length texts ≡ 0 → AreFound policies os parts → Adds policies (map (arrival_with around) texts) os parts os parts
 none_added policies os around [] parts none are = record { found = are; whole = sym (append-nil (part_arrivals os parts)) }
 none_added policies os around (text ∷ texts) parts none are = absurd (omega (arith, none))
+
+-- ---- the scopes of a resource
+
+-- the spans of some scopes were found behind those that had been, and the scopes that are left give the rest
+pub record IsAdding (policies : List PolicyData) (group : ResourceTexts) (left : List ScopeTexts) (os : List SpanOrigin) (parts : List UnnotedSpanData)
+    (os' : List SpanOrigin) (parts' : List UnnotedSpanData) : Type 0 where
+  pub found : AreFound policies os' parts'
+  pub whole : part_arrivals os' parts' ++ flat_map (arrivals_in_scope group) left ≡ part_arrivals os parts ++ arrivals_in_resource group
+
+pub none_yet : (policies : List PolicyData) (group : ResourceTexts) (left : List ScopeTexts) (os : List SpanOrigin) (parts : List UnnotedSpanData) → left ≡ group.scopes → AreFound policies os parts
+    → IsAdding policies group left os parts os parts
+none_yet policies group left os parts all are =
+    record { found = are; whole = ap (λ (xs : List ScopeTexts). part_arrivals os parts ++ flat_map (arrivals_in_scope group) xs) all }
+
+pub one_more : (policies : List PolicyData) (group : ResourceTexts) (scope : ScopeTexts) (before left : List ScopeTexts) (os os' os'' : List SpanOrigin) (parts parts' parts'' : List UnnotedSpanData)
+    → before ≡ scope ∷ left → IsAdding policies group before os parts os' parts' → Adds policies (arrivals_in_scope group scope) os' parts' os'' parts''
+    → IsAdding policies group left os parts os'' parts''
+one_more policies group scope before left os os' os'' parts parts' parts'' next is adds = record {
+  found = adds.found;
+  whole =
+      ap (λ (xs : List Arrival). xs ++ flat_map (arrivals_in_scope group) left) adds.whole
+      ∙ (append_assoc (part_arrivals os' parts') (arrivals_in_scope group scope) (flat_map (arrivals_in_scope group) left)
+      ∙ (ap (λ (xs : List ScopeTexts). part_arrivals os' parts' ++ flat_map (arrivals_in_scope group) xs) (sym next) ∙ is.whole));
+}
+
+pub all_now : {A : Type 0} (f : A → ScopeTexts) (policies : List PolicyData) (group : ResourceTexts) (left : List A) (os os' : List SpanOrigin) (parts parts' : List UnnotedSpanData) → length left ≡ 0
+    → IsAdding policies group (map f left) os parts os' parts' → Adds policies (arrivals_in_resource group) os parts os' parts'
+all_now f policies group [] os os' parts parts' none is = record { found = is.found; whole = sym (append-nil (part_arrivals os' parts')) ∙ is.whole }
+all_now f policies group (scope ∷ left) os os' parts parts' none is = absurd (omega (arith, none))
+
+-- of a resource of one scope
+of_one : (policies : List PolicyData) (group : ResourceTexts) (scope : ScopeTexts) (os os' : List SpanOrigin) (parts parts' : List UnnotedSpanData) → group.scopes ≡ scope ∷ []
+    → Adds policies (arrivals_in_scope group scope) os parts os' parts' → Adds policies (arrivals_in_resource group) os parts os' parts'
+of_one policies group scope os os' parts parts' one adds =
+    let same : arrivals_in_scope group scope ≡ arrivals_in_resource group = sym (append-nil (arrivals_in_scope group scope)) ∙ ap (flat_map (arrivals_in_scope group)) (sym one) in
+    record { found = adds.found; whole = adds.whole ∙ ap (λ (xs : List Arrival). part_arrivals os parts ++ xs) same }
+
+-- a resource spans with these scope spans
+abbrev with_scopes : Option (List ℕ) → Option (List ℕ) → List ScopeTexts → ResourceTexts
+with_scopes resource schema_url scopes = record { resource = resource; schema_url = bytes_of schema_url; scopes = scopes }
+
+-- by what stands round a resource spans as the code has it
+pub all_around : {T E : Type 0} (policies : List PolicyData) (group : ResourceTexts) (resource schema_url : Option (List ℕ)) (bits bits' : ResourceBits) (scopes : List ScopeTexts) (os os' : List SpanOrigin) (parts parts' : List UnnotedSpanData)
+    → resource ≡ group.resource → bytes_of schema_url ≡ group.schema_url → bits' ≡ bits → scopes ≡ group.scopes → IsAround policies group.resource bits → AreFound policies os parts
+    → (r : Result T E) → OnOk r (AddsAround resource bits' (arrivals_in_resource (with_scopes resource schema_url scopes)) os parts os' parts')
+    → OnOk r (Adds policies (arrivals_in_resource group) os parts os' parts')
+all_around policies group resource schema_url bits bits' scopes os os' parts parts' text url told all around are (Ok x) adds =
+    let same : with_scopes resource schema_url scopes ≡ group = λ i. record { resource = text i; schema_url = url i; scopes = all i } in
+    let told_here : IsAround policies group.resource bits' = subst (λ (b : ResourceBits). IsAround policies group.resource b) (sym told) around in
+    let here : IsAround policies resource bits' = subst (λ (t : Option (List ℕ)). IsAround policies t bits') (sym text) told_here in
+    subst (λ (g : ResourceTexts). Adds policies (arrivals_in_resource g) os parts os' parts') same (adds policies here are)
+all_around policies group resource schema_url bits bits' scopes os os' parts parts' text url told all around are (Err x) adds = tt
+
+-- and of one scope
+pub one_around : {T E : Type 0} (policies : List PolicyData) (group : ResourceTexts) (resource schema_url : Option (List ℕ)) (bits bits' : ResourceBits) (scope : ScopeTexts) (os os' : List SpanOrigin) (parts parts' : List UnnotedSpanData)
+    → resource ≡ group.resource → bytes_of schema_url ≡ group.schema_url → bits' ≡ bits → scope ∷ [] ≡ group.scopes → IsAround policies group.resource bits → AreFound policies os parts
+    → (r : Result T E) → OnOk r (AddsAround resource bits' (arrivals_around resource schema_url scope) os parts os' parts')
+    → OnOk r (Adds policies (arrivals_in_resource group) os parts os' parts')
+one_around {T} {E} policies group resource schema_url bits bits' scope os os' parts parts' text url told one around are (Ok x) adds =
+    all_around {T = T} {E = E} policies group resource schema_url bits bits' (scope ∷ []) os os' parts parts' text url told one around are (Ok x)
+    (λ others here found. of_one others (with_scopes resource schema_url (scope ∷ [])) scope os os' parts parts' refl (adds others here found))
+one_around {T} {E} policies group resource schema_url bits bits' scope os os' parts parts' text url told one around are (Err x) adds = tt

@@ -8,7 +8,8 @@ use Rattle.std.specs.Cmp.Lexicographic.{pointwise, pointwise_decides, bytes_deci
 use Rattle.tail_settings.specs.Policy.{StatusData, unset, ok, error, LeafData, always_sample, latency, status_code, string_attribute, numeric_attribute, PolicyData, leaf, and, policy_view}
 use Rattle.tail_settings.specs.declared.policy.PolicySpec.{PolicySpec}
 use Rattle.span_view.specs.Reading.{facts_of}
-use Rattle.span_pool.specs.Stored.{Origin as OriginData, bytes_of, same_text}
+use Rattle.otlp_parts.proofs.Same.{text_decides}
+use Rattle.span_pool.specs.Stored.{Origin as OriginData, bytes_of}
 use Rattle.span_pool.specs.Equal.{origin_eq}
 use Rattle.tenant_rules.specs.Arrivals.{Arrival}
 use Rattle.otlp_prepare.specs.declared.noted.SpanOrigin.{SpanOrigin}
@@ -81,12 +82,6 @@ after_true false more value holds is = absurd (cc)
 and_decides : {P Q : Type 0} → (a b : Bool) → Decides a P → Decides b Q → Decides (a && b) (P × Q)
 and_decides true b p q = (λ h. (p.0 refl, q.0 h), λ h. q.1 h.1)
 and_decides false b p q = (λ h. absurd (cc), λ h. p.1 h.0)
-
-text_decides : (a b : Option (List ℕ)) → Decides (same_text a b) (a ≡ b)
-text_decides None None = (λ h. refl, λ h. refl)
-text_decides None (Some y) = (λ h. absurd (cc), λ h. absurd (cc))
-text_decides (Some x) None = (λ h. absurd (cc), λ h. absurd (cc))
-text_decides (Some x) (Some y) = (λ h. ap Some ((bytes_decides x y).0 h), λ h. let same : x ≡ y = cc in (bytes_decides x y).1 same)
 
 origin_decides : (a b : OriginData) → Decides (origin_eq a b) (a ≡ b)
 origin_decides a b =

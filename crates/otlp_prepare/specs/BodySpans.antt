@@ -7,6 +7,8 @@ use Rattle.otlp_trace.specs.Text.{span_text, resource_text}
 use Rattle.otlp_read.specs.Nested.{NestedSpan, NestedResource}
 use Rattle.otlp_read.specs.RoundTrip.{IsShort}
 use Rattle.otlp_read.specs.Typed.{TypedSpan, TypedResource}
+use Rattle.otlp_parts.specs.declared.parts.ScopeParts.{ScopeParts}
+use Rattle.otlp_parts.specs.Parts.{scope_parts_view}
 use Rattle.otlp_parts.specs.Texts.{is_valid_span, ScopeTexts, ResourceTexts, BodyTexts}
 use Rattle.span_view.specs.Reading.{facts_of}
 use Rattle.span_pool.specs.Stored.{Origin as OriginData, bytes_of}
@@ -35,9 +37,22 @@ origin_in resource scope = record {
 abbrev pub arrivals_in_scope : ResourceTexts → ScopeTexts → List Arrival
 arrivals_in_scope resource scope = map (arrival_with (origin_in resource scope)) scope.spans
 
+-- the same by what stands round it
+abbrev pub arrivals_around : Option (List ℕ) → Option (List ℕ) → ScopeTexts → List Arrival
+arrivals_around resource schema_url scope =
+    arrivals_in_scope (record { resource = resource; schema_url = bytes_of schema_url; scopes = [] }) scope
+
 -- of one resource spans
 abbrev pub arrivals_in_resource : ResourceTexts → List Arrival
 arrivals_in_resource resource = flat_map (arrivals_in_scope resource) resource.scopes
+
+-- the spans of several scope spans, by what stands round them
+abbrev pub arrivals_around_all : Option (List ℕ) → Option (List ℕ) → List ScopeParts → List Arrival
+arrivals_around_all resource schema_url scopes = arrivals_in_resource (record {
+  resource = resource;
+  schema_url = bytes_of schema_url;
+  scopes = map scope_parts_view scopes;
+})
 
 -- and of a body
 abbrev pub arrivals_in_body : BodyTexts → List Arrival
@@ -144,3 +159,12 @@ pub record IsAround (policies : List PolicyData) (resource : Option (List ℕ)) 
   pub read : IsResourceRead resource
   pub short : IsShort (bytes_of resource)
   pub told : bits ≡ bits_in policies resource
+
+-- whatever the policies that are told these bits of the resource: these arrivals of it were found behind those that had
+-- been
+abbrev pub AddsAround : Option (List ℕ) → ResourceBits → List Arrival
+    → (origins : List SpanOrigin) → (parts : List UnnotedSpanData)
+    → (origins' : List SpanOrigin) → (parts' : List UnnotedSpanData) → Type 0
+AddsAround resource bits arrivals origins parts origins' parts' = (policies : List PolicyData)
+    → IsAround policies resource bits → AreFound policies origins parts
+    → Adds policies arrivals origins parts origins' parts'

@@ -41,7 +41,8 @@ fn read_body(alloc: Global, body: &Bytes) -> Result<BodyParts, ReadFault>
     ensures read { IfOk result (λ parts. AreRead (body_parts_view parts)) }
     ensures typed { (v : RequestData) → IsValue body.now v → TypedRequest v }
     ensures nested { (v : RequestData) → IsValue body.now v → NestedRequest v }
-    ensures only { (v : RequestData) → IsValue body.now v → Gives body_parts_view result (Ok (texts_of v)) }
+    ensures only { (v : RequestData) → IsValue body.now v
+        → Gives body_parts_view result (Ok (texts_of v)) }
     ensures fault { IfErr result (λ fault. fault ≢ ReadFault.OutOfMemory → IsFault body.now fault) }
 {
     are_bytes(body.as_slice());
@@ -60,7 +61,8 @@ fn prepare_parts<R: Threads + Sync>(
 ) -> Result<Prepared, AllocError>
     requires parts { (0 < parts) × (parts ≤ 16) }
     requires read { AreRead (body_parts_view body) }
-    ensures { (v : RequestData) → TypedRequest v → NestedRequest v → body_parts_view body ≡ texts_of v
+    ensures { (v : RequestData) → TypedRequest v → NestedRequest v
+        → body_parts_view body ≡ texts_of v
         → IfOk result (λ prepared. prepared ≡ prepared_of tenant (section_view section.now) v) }
 {
     let policies = TenantPolicies::of(section.tail_sampling.policies.as_slice());
@@ -87,15 +89,18 @@ pub fn prepare<R: Threads + Sync>(
     requires { (0 < parts) × (parts ≤ 16) }
 
     // What is prepared is the section's policies and the value of the body.
-    ensures value { IfOk result (λ prepared. IsPrepared tenant (section_view section.now) body prepared) }
+    ensures value { IfOk result (λ prepared. IsPrepared tenant (section_view section.now) body
+        prepared) }
 
     // A body with a value is prepared, unless memory runs out.
     ensures only { (v : RequestData) → IsValue body v →
         MatchResult result (λ prepared. prepared ≡
-        prepared_of tenant (section_view section.now) v) (λ refused. refused ≡ refusal.OutOfMemory) }
+        prepared_of tenant (section_view section.now) v)
+        (λ refused. refused ≡ refusal.OutOfMemory) }
 
     // The fault of a body that is bad stands in it.
-    ensures bad { (fault : ReadFault) → IfErr result (λ refused. refused ≡ refusal.Bad fault → IsFault body fault) }
+    ensures bad { (fault : ReadFault) → IfErr result
+        (λ refused. refused ≡ refusal.Bad fault → IsFault body fault) }
 {
     let read = read_body(alloc, &body)?;
     let prepared = prepare_parts(rt, alloc, tenant, section, read, parts)?;

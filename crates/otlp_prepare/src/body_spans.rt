@@ -1,19 +1,18 @@
 //! The spans of a body's parts, one after the other, and what stands round them.
 
-ghost use Rattle.std.specs.Prelude.{◌≡◌, ◌<◌, ◌++◌, map, IfOk, OnOk, List};
+ghost use Rattle.std.specs.Prelude.{◌≡◌, ◌<◌, ◌++◌, map, IfOk, OnOk, Some, None};
 ghost use Rattle.std.specs.List.{AllByRecursion};
 ghost use Rattle.otlp_read.specs.RoundTrip.{IsShort};
-ghost use Rattle.otlp_parts.specs.Parts.{body_parts_view, resource_parts_view, scope_parts_view};
+ghost use Rattle.otlp_parts.specs.Parts.{body_parts_view, resource_parts_view, scope_parts_view, scopes_in, spans_in};
 ghost use Rattle.span_pool.specs.Stored.{bytes_of};
-ghost use Rattle.tail_settings.specs.Policy.{PolicyData};
-ghost use Rattle.otlp_prepare.specs.Arrivals.{arrival_with, origin_view};
-ghost use Rattle.otlp_prepare.specs.BodySpans.{IsValidRead, IsScopeRead, IsResourceRead, IsGroupRead, AreRead, IsAround, part_with, AreFound, Adds, part_arrivals, bits_in, arrivals_in_resource, arrivals_in_body};
+ghost use Rattle.otlp_prepare.specs.Arrivals.{origin_view};
+ghost use Rattle.otlp_prepare.specs.BodySpans.{IsValidRead, IsScopeRead, IsResourceRead, IsGroupRead, AreRead, IsAround, part_with, AreFound, Adds, part_arrivals, arrivals_in_resource, arrivals_in_body, AddsAround, arrivals_around, arrivals_around_all};
 
 use crate::noted::SpanOrigin;
 use crate::origin_text::OriginText;
 use crate::unnoted::UnnotedSpan;
 use bytes::Bytes;
-use otlp_parts::{BodyParts, ResourceParts, ScopeParts};
+use otlp_parts::{BodyParts, PartText, ResourceParts, ScopeList, ScopeParts, SpanTexts};
 use span_pool::read_spans_are_viewed;
 use std::alloc::{AllocError, Global};
 use tail_policy::{PolicyByParts, ResourceBits, TenantPolicies, views_of_parts};
@@ -37,33 +36,45 @@ struct ResourceOrigin {
     bits: ResourceBits,
 }
 
-/// The same bytes, where there are any, with their digest.
-fn text_of(alloc: Global, bytes: Option<Bytes>) -> Result<OriginText, AllocError>
-    ensures { IfOk result (λ text. text ≡ bytes) }
+/// These bytes with their digest, or the last text where that has the same.
+#[tactic(auto, using(otlp_parts::proofs::Same::the_same_text))]
+fn shared_text(
+    alloc: Global,
+    bytes: &Bytes,
+    last: Option<&OriginText>,
+) -> Result<OriginText, AllocError>
+    ensures { IfOk result (λ text. text ≡ Some bytes.now) }
 {
-    match bytes {
-        Some(bytes) => OriginText::of(alloc, Some(SharedBytes::of(bytes))),
-        None => OriginText::of(alloc, None),
+    if let Some(last) = last {
+        if last.has(bytes) {
+            return last.shared();
+        }
     }
+    OriginText::of(alloc, SharedBytes::of(bytes.clone()?))
 }
 
-/// A URL with its digest, and none where it is empty.
-fn url_of(alloc: Global, url: Bytes) -> Result<OriginText, AllocError>
-    ensures { IfOk result (λ text. bytes_of text ≡ url) }
+/// The same text with its digest, where there is one.
+fn text_of(
+    alloc: Global,
+    missing: &OriginText,
+    text: &PartText,
+    last: Option<&OriginText>,
+) -> Result<OriginText, AllocError>
+    requires { missing.now ≡ None }
+    ensures { IfOk result (λ same. same ≡ text.now) }
 {
-    if url.is_empty() {
-        OriginText::of(alloc, None)
-    } else {
-        OriginText::of(alloc, Some(SharedBytes::of(url)))
+    match text.as_ref() {
+        Some(bytes) => shared_text(alloc, bytes, last),
+        None => missing.shared(),
     }
 }
 
 /// The bytes of a text, none where it is missing.
-fn bytes_in(text: &Option<Bytes>) -> &[u8]
+fn bytes_in(text: &PartText) -> &[u8]
     ensures same { result.now ≡ bytes_of text.now }
     ensures short { IsShort (bytes_of text.now) }
 {
-    match text {
+    match text.as_ref() {
         Some(text) => text.as_slice(),
         None => &[],
     }
@@ -72,7 +83,7 @@ fn bytes_in(text: &Option<Bytes>) -> &[u8]
 /// What a resource tells the policies.
 fn resource_told(
     policies: &TenantPolicies<'_>,
-    resource: &Option<Bytes>,
+    resource: &PartText,
 ) -> Result<ResourceBits, AllocError>
     requires { IsResourceRead resource.now }
     ensures { IfOk result (λ bits. IsAround policies.now resource.now bits) }
@@ -82,26 +93,60 @@ fn resource_told(
     policies.resource_note(bytes_in(resource))
 }
 
-/// What stands round the spans of a scope of this resource.
+/// What stands round the spans of a resource, likewise.
+fn outer_of(
+    alloc: Global,
+    missing: &OriginText,
+    resource: &PartText,
+    schema_url: &PartText,
+    bits: ResourceBits,
+    last: Option<&SpanOrigin>,
+) -> Result<ResourceOrigin, AllocError>
+    requires { missing.now ≡ None }
+    ensures { IfOk result (λ outer. (outer.resource ≡ resource.now)
+        × (outer.schema_url ≡ schema_url.now) × (outer.bits ≡ bits)) }
+{
+    Ok(ResourceOrigin {
+        resource: text_of(alloc, missing, resource, last.map(|last| &last.resource))?,
+        schema_url: text_of(
+            alloc,
+            missing,
+            schema_url,
+            last.map(|last| &last.resource_schema_url),
+        )?,
+        bits,
+    })
+}
+
+/// What stands round the spans of a scope of this resource. Texts that are the same as in the last one are shared with
+/// it: resources and scopes come again and again.
 fn origin_of(
     alloc: Global,
+    missing: &OriginText,
     outer: &ResourceOrigin,
-    scope: Option<Bytes>,
-    schema_url: Bytes,
+    scope: &PartText,
+    schema_url: &PartText,
+    last: Option<&SpanOrigin>,
 ) -> Result<SpanOrigin, AllocError>
+    requires { missing.now ≡ None }
     ensures { IfOk result (λ origin. origin_view origin ≡
         record {
           resource = outer.now.resource;
           resource_schema_url = bytes_of outer.now.schema_url;
-          scope = scope;
-          scope_schema_url = schema_url;
+          scope = scope.now;
+          scope_schema_url = bytes_of schema_url.now;
         }) }
 {
     Ok(SpanOrigin {
         resource: outer.resource.shared()?,
         resource_schema_url: outer.schema_url.shared()?,
-        scope: text_of(alloc, scope)?,
-        scope_schema_url: url_of(alloc, schema_url)?,
+        scope: text_of(alloc, missing, scope, last.map(|last| &last.scope))?,
+        scope_schema_url: text_of(
+            alloc,
+            missing,
+            schema_url,
+            last.map(|last| &last.scope_schema_url),
+        )?,
     })
 }
 
@@ -110,10 +155,32 @@ fn add_spans(
     parts: &mut Vec<UnnotedSpan>,
     origin: usize,
     bits: ResourceBits,
+    texts: SpanTexts,
+) -> Result<(), AllocError>
+    requires { AllByRecursion IsValidRead (spans_in texts) }
+    ensures parts { OnOk result (parts.new.items ≡ parts.old.items ++ map (part_with bits origin)
+        (spans_in texts)) }
+    ensures short { OnOk result (AllByRecursion IsShort (spans_in texts)) }
+{
+    match texts {
+        SpanTexts::One(text) => {
+            parts.push(UnnotedSpan::of(text, origin, bits))?;
+            Ok(())
+        }
+        SpanTexts::More(texts) => add_texts(parts, origin, bits, texts),
+    }
+}
+
+/// Appends the spans of these texts.
+fn add_texts(
+    parts: &mut Vec<UnnotedSpan>,
+    origin: usize,
+    bits: ResourceBits,
     texts: Vec<Bytes>,
 ) -> Result<(), AllocError>
     requires { AllByRecursion IsValidRead texts.items }
-    ensures parts { OnOk result (parts.new.items ≡ parts.old.items ++ map (part_with bits origin) texts.items) }
+    ensures parts { OnOk result (parts.new.items ≡ parts.old.items ++ map (part_with bits origin)
+        texts.items) }
     ensures short { OnOk result (AllByRecursion IsShort texts.items) }
 {
     parts.reserve(texts.len())?;
@@ -127,28 +194,53 @@ fn add_spans(
 fn add_scope(
     alloc: Global,
     found: &mut BodySpans,
+    missing: &OriginText,
     outer: &ResourceOrigin,
     scope: ScopeParts,
 ) -> Result<(), AllocError>
-    requires { IsScopeRead (scope_parts_view scope) }
-    ensures { OnOk result ((policies : List PolicyData) → IsAround policies outer.now.resource outer.now.bits
-        → AreFound policies found.old.origins.items found.old.parts.items
-        → Adds policies (map (arrival_with (record {
-          resource = outer.now.resource;
-          resource_schema_url = bytes_of outer.now.schema_url;
-          scope = scope.scope;
-          scope_schema_url = scope.schema_url;
-        })) scope.spans.items) found.old.origins.items found.old.parts.items
-        found.new.origins.items found.new.parts.items) }
+    requires missing { missing.now ≡ None }
+    requires read { IsScopeRead (scope_parts_view scope) }
+    ensures { OnOk result (AddsAround outer.now.resource outer.now.bits
+        (arrivals_around outer.now.resource outer.now.schema_url (scope_parts_view scope))
+        found.old.origins.items found.old.parts.items found.new.origins.items
+        found.new.parts.items) }
 {
     if scope.spans.is_empty() {
         return Ok(());
     }
     read_spans_are_viewed();
-    let origin = origin_of(alloc, outer, scope.scope, scope.schema_url)?;
+    let origin = origin_of(
+        alloc,
+        missing,
+        outer,
+        &scope.scope,
+        &scope.schema_url,
+        found.origins.last(),
+    )?;
     let index = found.origins.len();
     found.origins.push(origin)?;
     add_spans(&mut found.parts, index, outer.bits, scope.spans)?;
+    Ok(())
+}
+
+/// Appends the spans of several scopes of this resource.
+fn add_scopes(
+    alloc: Global,
+    found: &mut BodySpans,
+    missing: &OriginText,
+    outer: &ResourceOrigin,
+    scopes: Vec<ScopeParts>,
+) -> Result<(), AllocError>
+    requires missing { missing.now ≡ None }
+    requires read { AllByRecursion IsScopeRead (map scope_parts_view scopes.items) }
+    ensures { OnOk result (AddsAround outer.now.resource outer.now.bits
+        (arrivals_around_all outer.now.resource outer.now.schema_url scopes.items)
+        found.old.origins.items found.old.parts.items found.new.origins.items
+        found.new.parts.items) }
+{
+    for scope in scopes {
+        add_scope(alloc, found, missing, outer, scope)?;
+    }
     Ok(())
 }
 
@@ -157,23 +249,34 @@ fn add_resource(
     alloc: Global,
     policies: &TenantPolicies<'_>,
     found: &mut BodySpans,
+    missing: &OriginText,
     group: ResourceParts,
 ) -> Result<(), AllocError>
+    requires missing { missing.now ≡ None }
     requires read { IsGroupRead (resource_parts_view group) }
     requires found { AreFound policies.now found.old.origins.items found.old.parts.items }
     ensures { OnOk result (Adds policies.now (arrivals_in_resource (resource_parts_view group))
-        found.old.origins.items found.old.parts.items found.new.origins.items found.new.parts.items) }
+        found.old.origins.items found.old.parts.items found.new.origins.items
+        found.new.parts.items) }
 {
-    let bits = resource_told(policies, &group.resource)?;
-    let outer = ResourceOrigin {
-        resource: text_of(alloc, group.resource)?,
-        schema_url: url_of(alloc, group.schema_url)?,
+    let ResourceParts {
+        resource,
+        schema_url,
+        scopes,
+    } = group;
+    let bits = resource_told(policies, &resource)?;
+    let outer = outer_of(
+        alloc,
+        missing,
+        &resource,
+        &schema_url,
         bits,
-    };
-    for scope in group.scopes {
-        add_scope(alloc, found, &outer, scope)?;
+        found.origins.last(),
+    )?;
+    match scopes {
+        ScopeList::One(scope) => add_scope(alloc, found, missing, &outer, scope),
+        ScopeList::More(scopes) => add_scopes(alloc, found, missing, &outer, scopes),
     }
-    Ok(())
 }
 
 /// The spans of a body, in its order, each with what its resource tells the policies.
@@ -183,16 +286,19 @@ pub fn found_in(
     body: BodyParts,
 ) -> Result<BodySpans, AllocError>
     requires { AreRead (body_parts_view body) }
-    ensures found { IfOk result (λ found. AreFound policies.now found.origins.items found.parts.items) }
+    ensures found { IfOk result (λ found. AreFound policies.now found.origins.items
+        found.parts.items) }
     ensures arrivals { IfOk result (λ found.
-        part_arrivals found.origins.items found.parts.items ≡ arrivals_in_body (body_parts_view body)) }
+        part_arrivals found.origins.items found.parts.items ≡ arrivals_in_body
+        (body_parts_view body)) }
 {
+    let missing = OriginText::none(alloc)?;
     let mut found = BodySpans {
         origins: Vec::new(alloc),
         parts: Vec::new(alloc),
     };
     for group in body.resources {
-        add_resource(alloc, policies, &mut found, group)?;
+        add_resource(alloc, policies, &mut found, &missing, group)?;
     }
     Ok(found)
 }

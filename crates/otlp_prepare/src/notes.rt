@@ -1,6 +1,6 @@
 //! The notes of spans.
 
-ghost use Rattle.std.specs.Prelude.{◌≡◌, ◌<◌, ◌≤◌, List, [], map, IfOk};
+ghost use Rattle.std.specs.Prelude.{◌≡◌, ◌<◌, ◌≤◌, ◌++◌, List, [], map, length, reverse, IfOk, OnOk};
 ghost use Rattle.span_view.specs.Reading.{facts_of};
 ghost use Rattle.tail_settings.specs.Policy.{PolicyData};
 ghost use Rattle.otlp_prepare.specs.BodySpans.{own_note, noted};
@@ -12,6 +12,9 @@ use std::alloc::{AllocError, Global};
 use std::thread::Threads;
 use tail_notes::note_all;
 use tail_policy::{TenantPolicies, TraceNote};
+
+/// The most spans whose notes are made at a time, in all threads.
+const NOTED: usize = 4096;
 
 /// What each span tells by itself.
 fn own_views(alloc: Global, parts: &[UnnotedSpan]) -> Result<Vec<SpanRef<'_>>, AllocError>
@@ -52,7 +55,7 @@ fn with_notes(
 }
 
 /// Spans with their notes, in order, made in at most `threads` threads.
-pub fn noted_in<R: Threads + Sync>(
+fn noted_at_once<R: Threads + Sync>(
     rt: &R,
     alloc: Global,
     policies: &TenantPolicies<'_>,
@@ -64,4 +67,42 @@ pub fn noted_in<R: Threads + Sync>(
 {
     let own = own_notes(rt, alloc, policies, parts.as_slice(), threads)?;
     with_notes(alloc, parts, own)
+}
+
+/// The first of spans that stand in reverse, at most `NOTED`, in order. Their memory is given back.
+fn first_of(left: &mut Vec<UnnotedSpan>) -> Result<Vec<UnnotedSpan>, AllocError>
+    ensures front { IfOk result (λ now. reverse left.old.items ≡
+        now.items ++ reverse left.new.items) }
+    ensures fewer { OnOk result (0 < length left.old.items
+        → length left.new.items < length left.old.items) }
+{
+    let at = left.len().saturating_sub(NOTED);
+    let mut now = left.split_off(at)?;
+    left.shrink_to_fit();
+    now.reverse();
+    Ok(now)
+}
+
+/// Spans with their notes, in order, made in at most `threads` threads: of so many at a time that what is made of them
+/// takes the memory that they had.
+#[tactic(auto, using(crate::proofs::Lists::none_made, crate::proofs::Lists::all_made))]
+pub fn noted_in<R: Threads + Sync>(
+    rt: &R,
+    alloc: Global,
+    policies: &TenantPolicies<'_>,
+    parts: Vec<UnnotedSpan>,
+    threads: u32,
+) -> Result<Vec<NotedSpan>, AllocError>
+    requires { (0 < threads) × (threads ≤ 16) }
+    ensures { IfOk result (λ spans. spans.items ≡ map (noted policies.now) parts.items) }
+{
+    let mut spans = Vec::with_capacity(alloc, parts.len())?;
+    let mut left = parts;
+    left.reverse();
+    while !left.is_empty() {
+        let now = first_of(&mut left)?;
+        let mut more = noted_at_once(rt, alloc, policies, now, threads)?;
+        spans.append(&mut more)?;
+    }
+    Ok(spans)
 }

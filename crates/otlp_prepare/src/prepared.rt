@@ -64,7 +64,8 @@ fn is_same_span(
 ) -> bool
     requires one { one.now.origin < length origins.now }
     requires other { other.now.origin < length others.now }
-    ensures { result ≡ arrival_eq (arrival_in origins.now one.now) (arrival_in others.now other.now) }
+    ensures { result ≡ arrival_eq (arrival_in origins.now one.now)
+        (arrival_in others.now other.now) }
 {
     one.text == other.text && origins[one.origin] == others[other.origin]
 }
@@ -78,7 +79,8 @@ fn are_same_spans(
 ) -> bool
     requires one { AllByRecursion (λ s. s.origin < length origins.now) spans.now }
     requires other { AllByRecursion (λ s. s.origin < length others.now) more.now }
-    ensures { result ≡ pointwise arrival_eq (arrivals_in origins.now spans.now) (arrivals_in others.now more.now) }
+    ensures { result ≡ pointwise arrival_eq (arrivals_in origins.now spans.now)
+        (arrivals_in others.now more.now) }
 {
     if spans.len() != more.len() {
         return false;

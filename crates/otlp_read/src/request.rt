@@ -223,7 +223,8 @@ pub fn read_request(alloc: Global, bytes: &[u8]) -> Result<ExportTraceServiceReq
     ensures only { (v : RequestData) → IsValue bytes.now v → Gives request_view result (Ok v) }
 
     // A fault stands in the body.
-    ensures fault { IfErr result (λ fault. fault ≢ ReadFault.OutOfMemory → IsFault bytes.now fault) }
+    ensures fault { IfErr result (λ fault. fault ≢ ReadFault.OutOfMemory
+        → IsFault bytes.now fault) }
 {
     body(alloc, bytes)
 }
@@ -234,6 +235,7 @@ pub fn values_or_faults()
     ensures apart { (bytes : List ℕ) (v : RequestData) (fault : ReadFault) →
         IsFault bytes fault → IsValue bytes v → ⊥ }
     ensures exact { (bytes : List ℕ) (v : RequestData) → (value_of bytes ≡ Ok v) ↔ IsValue bytes v }
-    ensures fault { (bytes : List ℕ) (fault : ReadFault) → value_of bytes ≡ Err fault → IsFault bytes fault }
+    ensures fault { (bytes : List ℕ) (fault : ReadFault) → value_of bytes ≡ Err fault
+        → IsFault bytes fault }
     ensures merge { MergesLists (request_step 100) }
 {}

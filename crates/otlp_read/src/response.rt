@@ -107,7 +107,8 @@ pub fn read_response(bytes: &[u8]) -> Result<Option<Partial<'_>>, ReadFault>
     ensures value { IfOk result (λ partial. IsResponse bytes.now (reply_view partial)) }
 
     // A body with a value is read.
-    ensures only { (v : ResponseData) → IsResponse bytes.now v → IsOkAnd result (λ partial. reply_view partial ≡ v) }
+    ensures only { (v : ResponseData) → IsResponse bytes.now v
+        → IsOkAnd result (λ partial. reply_view partial ≡ v) }
 
     // A fault stands in the body.
     ensures fault { IfErr result (λ fault. IsResponseFault bytes.now fault) }
@@ -124,7 +125,8 @@ pub fn read_response(bytes: &[u8]) -> Result<Option<Partial<'_>>, ReadFault>
 pub fn responses_or_faults()
     ensures apart { (bytes : List ℕ) (v : ResponseData) (fault : ReadFault) →
         IsResponseFault bytes fault → IsResponse bytes v → ⊥ }
-    ensures exact { (bytes : List ℕ) (v : ResponseData) → (response_value_of bytes ≡ Ok v) ↔ IsResponse bytes v }
+    ensures exact { (bytes : List ℕ) (v : ResponseData)
+        → (response_value_of bytes ≡ Ok v) ↔ IsResponse bytes v }
     ensures fault { (bytes : List ℕ) (fault : ReadFault) →
         response_value_of bytes ≡ Err fault → IsResponseFault bytes fault }
     ensures merge { MergesLists (response_step 100) }

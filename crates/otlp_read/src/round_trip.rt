@@ -73,6 +73,7 @@ pub fn values_are_sound()
     ensures typed { (bytes : List ℕ) (v : RequestData) →
         All (λ b. b < 2 ^ 8) bytes → IsValue bytes v → TypedRequest v }
     ensures again { (bytes : List ℕ) (v : RequestData) →
-        All (λ b. b < 2 ^ 8) bytes → IsValue bytes v → IsShort (request_text v) → IsValue (request_text v) v }
+        All (λ b. b < 2 ^ 8) bytes → IsValue bytes v → IsShort (request_text v)
+        → IsValue (request_text v) v }
     ensures response { (bytes : List ℕ) (v : ResponseData) → IsResponse bytes v → TypedResponse v }
 {}

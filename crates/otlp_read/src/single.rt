@@ -31,7 +31,8 @@ pub fn read_scope(alloc: Global, bytes: &[u8], room: u32) -> Result<Instrumentat
 /// The resource, likewise. In a body there is room for 99.
 pub fn read_resource(alloc: Global, bytes: &[u8], room: u32) -> Result<Resource, ReadFault>
     requires room { room ≤ 101 }
-    ensures exact { Gives resource_view result (read_with resource_step room no_resource bytes.now) }
+    ensures exact { Gives resource_view result
+        (read_with resource_step room no_resource bytes.now) }
 {
     merged(alloc, Resource::empty(alloc), bytes, room)
 }
@@ -39,7 +40,8 @@ pub fn read_resource(alloc: Global, bytes: &[u8], room: u32) -> Result<Resource,
 /// The scope spans, likewise. In a body there is room for 99.
 pub fn read_scope_spans(alloc: Global, bytes: &[u8], room: u32) -> Result<ScopeSpans, ReadFault>
     requires room { room ≤ 101 }
-    ensures exact { Gives scope_spans_view result (read_with scope_spans_step room no_scope_spans bytes.now) }
+    ensures exact { Gives scope_spans_view result
+        (read_with scope_spans_step room no_scope_spans bytes.now) }
 {
     merged(alloc, ScopeSpans::empty(alloc), bytes, room)
 }
@@ -51,7 +53,8 @@ pub fn read_resource_spans(
     room: u32,
 ) -> Result<ResourceSpans, ReadFault>
     requires room { room ≤ 101 }
-    ensures exact { Gives resource_spans_view result (read_with resource_spans_step room no_resource_spans bytes.now) }
+    ensures exact { Gives resource_spans_view result
+        (read_with resource_spans_step room no_resource_spans bytes.now) }
 {
     merged(alloc, ResourceSpans::empty(alloc), bytes, room)
 }

@@ -194,7 +194,8 @@ impl Message for Span {
 #[inline(always)]
 fn span_number(before: Span, number: u32, n: u64, spelled: &[u8]) -> Result<Span, ReadFault>
     ensures exact { (room : ℕ) →
-        Gives span_view result (span_step room (span_view before) (numbered number (Varint n)) spelled.now) }
+        Gives span_view result (span_step room (span_view before) (numbered number (Varint n))
+        spelled.now) }
 {
     let mut span = before;
     match number {
@@ -211,7 +212,8 @@ fn span_number(before: Span, number: u32, n: u64, spelled: &[u8]) -> Result<Span
 #[inline(always)]
 fn span_time(before: Span, number: u32, bytes: [u8; 8], spelled: &[u8]) -> Result<Span, ReadFault>
     ensures exact { (room : ℕ) →
-        Gives span_view result (span_step room (span_view before) (numbered number (Eight bytes)) spelled.now) }
+        Gives span_view result (span_step room (span_view before) (numbered number (Eight bytes))
+        spelled.now) }
 {
     let mut span = before;
     match number {
@@ -248,7 +250,8 @@ fn span_bytes(
 fn span_id(alloc: Global, before: Span, number: u32, bytes: &[u8]) -> Result<Span, ReadFault>
     requires number { (number ≡ 1) ⊎ ((number ≡ 2) ⊎ (number ≡ 4)) }
     ensures exact { (room : ℕ) (spelled : List ℕ) →
-        Gives span_view result (span_step room (span_view before) (numbered number (Bytes bytes.now)) spelled) }
+        Gives span_view result (span_step room (span_view before)
+        (numbered number (Bytes bytes.now)) spelled) }
 {
     let mut span = before;
     let id = Octets::from_slice(alloc, bytes)?;
@@ -265,7 +268,8 @@ fn span_id(alloc: Global, before: Span, number: u32, bytes: &[u8]) -> Result<Spa
 fn span_string(alloc: Global, before: Span, number: u32, bytes: &[u8]) -> Result<Span, ReadFault>
     requires number { (number ≡ 3) ⊎ (number ≡ 5) }
     ensures exact { (room : ℕ) (spelled : List ℕ) →
-        Gives span_view result (span_step room (span_view before) (numbered number (Bytes bytes.now)) spelled) }
+        Gives span_view result (span_step room (span_view before)
+        (numbered number (Bytes bytes.now)) spelled) }
 {
     let mut span = before;
     let found = string(alloc, bytes)?;

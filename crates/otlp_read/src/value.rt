@@ -271,7 +271,8 @@ fn key_value(
     room: u32,
 ) -> Result<KeyValue, ReadFault>
     requires room { room ≤ 101 }
-    ensures exact { Gives key_value_view result (read_key_value room (key_value_view before) bytes.now) }
+    ensures exact { Gives key_value_view result
+        (read_key_value room (key_value_view before) bytes.now) }
 {
     if room == 0 {
         return Err(ReadFault::TooDeep);

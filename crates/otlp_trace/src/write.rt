@@ -37,7 +37,8 @@ fn fill<M: Message>(alloc: Global, out: &mut Vec<u8>, message: &M) -> Result<(),
 
 /// Appends all of a message's text, or nothing.
 fn append<M: Message>(alloc: Global, out: &mut Vec<u8>, message: &M) -> Result<(), AllocError>
-    ensures on_success { OnOk result (out.new.items ≡ out.old.items ++ M.text (M.view message.now)) }
+    ensures on_success { OnOk result (out.new.items ≡ out.old.items ++ M.text
+        (M.view message.now)) }
     ensures on_refusal { OnErr result (out.new.items ≡ out.old.items) }
 {
     // Room that was asked for is taken as it is; else the text is held in no more than it needs.
@@ -55,7 +56,8 @@ pub fn write_request(
     out: &mut Vec<u8>,
     request: &ExportTraceServiceRequest,
 ) -> Result<(), AllocError>
-    ensures on_success { OnOk result (out.new.items ≡ out.old.items ++ request_text (request_view request.now)) }
+    ensures on_success { OnOk result (out.new.items ≡ out.old.items ++ request_text
+        (request_view request.now)) }
     ensures on_refusal { OnErr result (out.new.items ≡ out.old.items) }
 {
     append(alloc, out, request)
@@ -63,7 +65,8 @@ pub fn write_request(
 
 /// Appends a span's canonical text, or nothing where memory is refused.
 pub fn write_span(alloc: Global, out: &mut Vec<u8>, span: &Span) -> Result<(), AllocError>
-    ensures on_success { OnOk result (out.new.items ≡ out.old.items ++ span_text (span_view span.now)) }
+    ensures on_success { OnOk result (out.new.items ≡ out.old.items ++ span_text
+        (span_view span.now)) }
     ensures on_refusal { OnErr result (out.new.items ≡ out.old.items) }
 {
     append(alloc, out, span)
@@ -75,7 +78,8 @@ pub fn write_resource(
     out: &mut Vec<u8>,
     resource: &Resource,
 ) -> Result<(), AllocError>
-    ensures on_success { OnOk result (out.new.items ≡ out.old.items ++ resource_text (resource_view resource.now)) }
+    ensures on_success { OnOk result (out.new.items ≡ out.old.items ++ resource_text
+        (resource_view resource.now)) }
     ensures on_refusal { OnErr result (out.new.items ≡ out.old.items) }
 {
     append(alloc, out, resource)
@@ -87,7 +91,8 @@ pub fn write_scope(
     out: &mut Vec<u8>,
     scope: &InstrumentationScope,
 ) -> Result<(), AllocError>
-    ensures on_success { OnOk result (out.new.items ≡ out.old.items ++ scope_text (scope_view scope.now)) }
+    ensures on_success { OnOk result (out.new.items ≡ out.old.items ++ scope_text
+        (scope_view scope.now)) }
     ensures on_refusal { OnErr result (out.new.items ≡ out.old.items) }
 {
     append(alloc, out, scope)
@@ -99,7 +104,8 @@ pub fn write_response(
     out: &mut Vec<u8>,
     response: &ExportTraceServiceResponse,
 ) -> Result<(), AllocError>
-    ensures on_success { OnOk result (out.new.items ≡ out.old.items ++ response_text (response_view response.now)) }
+    ensures on_success { OnOk result (out.new.items ≡ out.old.items ++ response_text
+        (response_view response.now)) }
     ensures on_refusal { OnErr result (out.new.items ≡ out.old.items) }
 {
     append(alloc, out, response)

@@ -14,7 +14,8 @@ pub fn put_reply(
     status: u16,
     body: &[u8],
 ) -> Result<(), AllocError>
-    ensures on_success { OnOk result (out.new.items ≡ out.old.items ++ reply_text name.now status body.now) }
+    ensures on_success { OnOk result (out.new.items ≡ out.old.items ++ reply_text name.now status
+        body.now) }
     ensures on_refusal { OnErr result (out.new.items ≡ out.old.items) }
 {
     let body = hex(alloc, body)?;
@@ -30,7 +31,8 @@ pub fn put_job(
     ticket: u64,
     payload: &[u8],
 ) -> Result<(), AllocError>
-    ensures on_success { OnOk result (out.new.items ≡ out.old.items ++ job_text name.now ticket payload.now) }
+    ensures on_success { OnOk result (out.new.items ≡ out.old.items ++ job_text name.now ticket
+        payload.now) }
     ensures on_refusal { OnErr result (out.new.items ≡ out.old.items) }
 {
     let payload = hex(alloc, payload)?;
@@ -63,7 +65,8 @@ pub fn put_refused(
     name: &str,
     number: u8,
 ) -> Result<(), AllocError>
-    ensures on_success { OnOk result (out.new.items ≡ out.old.items ++ refused_text name.now number) }
+    ensures on_success { OnOk result (out.new.items ≡ out.old.items ++ refused_text name.now
+        number) }
     ensures on_refusal { OnErr result (out.new.items ≡ out.old.items) }
 {
     let line = format!(in alloc; "refused {name} {number}\n")?;
@@ -100,7 +103,8 @@ pub fn put_report(
     name: &str,
     report: &[u8],
 ) -> Result<(), AllocError>
-    ensures on_success { OnOk result (out.new.items ≡ out.old.items ++ report_text name.now report.now) }
+    ensures on_success { OnOk result (out.new.items ≡ out.old.items ++ report_text name.now
+        report.now) }
     ensures on_refusal { OnErr result (out.new.items ≡ out.old.items) }
 {
     let mut line = format!(in alloc; "report {name} ")?.into_bytes();

@@ -214,7 +214,8 @@ fn job_answer<'a>(
 /// `STATUS RETRY HEX`, where there is more of the line
 #[tactic(auto, unfolding(crate::specs::Command::back_end_answer_from))]
 fn answer_behind(alloc: Global, text: Option<&[u8]>) -> Result<Option<Answer>, AllocError>
-    ensures { IfOk result (λ found. option_map answer_view found ≡ back_end_answer_from (words_behind text.entry)) }
+    ensures { IfOk result (λ found. option_map answer_view found ≡ back_end_answer_from
+        (words_behind text.entry)) }
 {
     match text {
         Some(text) => back_end_answer(alloc, text),
@@ -225,7 +226,8 @@ fn answer_behind(alloc: Global, text: Option<&[u8]>) -> Result<Option<Answer>, A
 /// `STATUS RETRY HEX`, the status a number or `failed`
 #[tactic(auto, using(crate::proofs::Words::back_end_answer_more), unfolding(crate::specs::Command::back_end_answer_from, crate::specs::Command::back_end_answer_of))]
 fn back_end_answer(alloc: Global, text: &[u8]) -> Result<Option<Answer>, AllocError>
-    ensures { IfOk result (λ found. option_map answer_view found ≡ back_end_answer_from (words_of text.now)) }
+    ensures { IfOk result (λ found. option_map answer_view found ≡ back_end_answer_from
+        (words_of text.now)) }
 {
     let (status_word, Some(rest)) = first_word(text) else {
         return Ok(None);
@@ -263,7 +265,8 @@ fn http(
     body_word: &[u8],
 ) -> Result<Option<Answer>, AllocError>
     ensures { IfOk result (λ found. option_map answer_view found
-        ≡ http_from (status_of status_word.now) (seconds_of retry_word.now) (bytes_of body_word.now)) }
+        ≡ http_from (status_of status_word.now) (seconds_of retry_word.now)
+        (bytes_of body_word.now)) }
 {
     let (Some(status), Some(retry_after)) = (status(status_word), seconds(retry_word)) else {
         return Ok(None);

@@ -58,7 +58,8 @@ pub fn next_line<R: BufRead, W: Write>(
 ) -> Result<bool, ScriptFault>
     ensures line { IfOk result (λ found. IfSome (R.remaining reader.old)
         (λ text. TakesLine text (R.remaining reader.new) found line.new.items)) }
-    ensures unread { OnErr result (IfSome (R.remaining reader.old) (λ text. ReadsOne text (R.remaining reader.new))) }
+    ensures unread { OnErr result (IfSome (R.remaining reader.old)
+        (λ text. ReadsOne text (R.remaining reader.new))) }
     ensures sends { Sends (W.contents writer.old) (W.contents writer.new)
         output.old.text.items [] output.new.text.items }
     ensures reads { OnOk result (input.new.reads < input.old.reads) }
@@ -87,7 +88,8 @@ fn take_fragment<R: BufRead>(
     requires kept { kept_of line.old.items ≡ line.old.items }
     requires nothing_held { ahead.old ≡ 0 → held.now.text.items ≡ [] }
     ensures part { IfOk result
-        (TakesPart (R.remaining reader.old) (R.remaining reader.new) line.old.items line.new.items) }
+        (TakesPart (R.remaining reader.old) (R.remaining reader.new) line.old.items
+        line.new.items) }
     ensures unread { OnErr result (Keeps (R.remaining reader.old) (R.remaining reader.new)) }
     ensures on_error { IfErr result IsOutside }
 {

@@ -11,6 +11,8 @@ use crate::session::AnswerFault;
 pub fn equal_commands()
     ensures command { (a b : Command)
         → (⟦<Command<'static> as PartialEq>⟧.eq a b ≡ true) ↔ (command_view a ≡ command_view b) }
-    ensures script_fault { (a b : ScriptFault) → (⟦<ScriptFault as PartialEq>⟧.eq a b ≡ true) ↔ (a ≡ b) }
-    ensures answer_fault { (a b : AnswerFault) → (⟦<AnswerFault as PartialEq>⟧.eq a b ≡ true) ↔ (a ≡ b) }
+    ensures script_fault { (a b : ScriptFault)
+        → (⟦<ScriptFault as PartialEq>⟧.eq a b ≡ true) ↔ (a ≡ b) }
+    ensures answer_fault { (a b : AnswerFault)
+        → (⟦<AnswerFault as PartialEq>⟧.eq a b ≡ true) ↔ (a ≡ b) }
 {}

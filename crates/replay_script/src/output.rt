@@ -99,7 +99,8 @@ fn write_out<W: Write>(
     ensures bound { result.0 ≤ length text.now }
     ensures all { OnOk result.1 (result.0 ≡ length text.now) }
     ensures on_error { IfErr result.1 (λ fault. fault ≡ ScriptFault.Line) }
-    ensures bytes { Appends (W.contents writer.old) (W.contents writer.new) (take result.0 text.now) }
+    ensures bytes { Appends (W.contents writer.old) (W.contents writer.new)
+        (take result.0 text.now) }
 {
     let mut written = 0;
     while written < text.len() {

@@ -50,9 +50,11 @@ fn answer_lines<T: Threads + Sync, S: Session, R: BufRead, W: Write>(
     output: &mut Output,
 ) -> Result<(), ScriptFault>
     ensures output { IfSome (R.remaining reader.old) (λ script. (text : List ℕ)
-        × Sends (W.contents writer.old) (W.contents writer.new) output.old.text.items text output.new.text.items
+        × Sends (W.contents writer.old) (W.contents writer.new) output.old.text.items text
+        output.new.text.items
         × Ends S.answers (lines_of script) session.old (R.remaining reader.new) text result) }
-    ensures little { OnOk result (length output.old.text.items < 65536 → length output.new.text.items < 65536) }
+    ensures little { OnOk result (length output.old.text.items < 65536
+        → length output.new.text.items < 65536) }
 {
     let mut line = Vec::new(alloc);
     let mut input = Input {

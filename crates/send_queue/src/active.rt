@@ -71,7 +71,8 @@ impl Active {
     pub(crate) fn fate(&self, now: u64, word: u32, answer: &Answer) -> Fate
         requires moment { now ≤ 2 ^ 62 }
         ensures { fate_view result ≡
-            fate_of (state_view self.now.retry) self.now.batch.spans now word (answer_view answer.now) }
+            fate_of (state_view self.now.retry) self.now.batch.spans now word
+            (answer_view answer.now) }
     {
         let spans = self.batch.spans;
         match classify(answer) {

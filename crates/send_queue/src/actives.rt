@@ -55,7 +55,8 @@ impl Actives {
     /// One more batch, under a ticket that is later than all others.
     pub(crate) fn put(&mut self, ticket: u64, active: Active) -> Result<(), AllocError>
         requires later { AllBefore ticket self.old }
-        ensures on_success { OnOk result (self.new ≡ self.old ++ active_view (ticket, active) ∷ []) }
+        ensures on_success { OnOk result
+            (self.new ≡ self.old ++ active_view (ticket, active) ∷ []) }
         ensures on_refusal { OnErr result (self.new ≡ self.old) }
     {
         self.entries.insert(ticket, active)?;
@@ -73,7 +74,8 @@ impl Actives {
     /// The batch under a ticket waits to be sent again from the moment `due` on, in milliseconds. It takes no memory.
     pub(crate) fn set_waiting(&mut self, ticket: u64, due: u64, retry: RetryState)
         ensures { (a : ActiveData) → under ticket self.old ≡ Some a →
-            self.new ≡ replaced ticket (record a { retry = state_view retry; due = Some due }) self.old }
+            self.new ≡ replaced ticket (record a { retry = state_view retry; due = Some due })
+            self.old }
     {
         let Some(active) = self.entries.get_mut(&ticket) else {
             return;

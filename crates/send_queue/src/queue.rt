@@ -59,7 +59,8 @@ impl SendQueue {
         sending: &SendingQueue,
         retry: &RetryOnFailure,
     ) -> Result<SendQueue, AllocError>
-        ensures { IfOk result (λ q. q ≡ no_batches (sending_queue_view sending.now) (retry_view retry.now)) }
+        ensures { IfOk result (λ q. q ≡ no_batches (sending_queue_view sending.now)
+            (retry_view retry.now)) }
     {
         let retries = BinaryHeap::with_capacity(alloc, sending.num_consumers as usize)?;
         Ok(SendQueue {
@@ -173,7 +174,8 @@ impl SendQueue {
     fn send_again(&mut self, retry: Retry) -> Result<(u64, Bytes), AllocError>
         requires tickets { self.old.handed_out < 2 ^ 62 }
         requires first { first_retry self.old.active ≡ Some retry }
-        ensures job { IfOk result (λ job. Some job ≡ job_of (retried (under retry.ticket self.old.active)) self.old) }
+        ensures job { IfOk result (λ job. Some job ≡ job_of
+            (retried (under retry.ticket self.old.active)) self.old) }
         ensures asked { OnOk result
             (self.new ≡ handed_of 0 (retried (under retry.ticket self.old.active)) self.old) }
         ensures on_refusal { OnErr result (self.new ≡ self.old) }
@@ -198,7 +200,8 @@ impl SendQueue {
     fn send_first(&mut self, moment: u64) -> Result<Option<(u64, Bytes)>, AllocError>
         requires tickets { self.old.handed_out < 2 ^ 62 }
         ensures job { IfOk result (λ job. job ≡ job_of (choice_by None self.old) self.old) }
-        ensures asked { OnOk result (self.new ≡ handed_of moment (choice_by None self.old) self.old) }
+        ensures asked { OnOk result (self.new ≡ handed_of moment (choice_by None self.old)
+            self.old) }
         ensures on_refusal { OnErr result (self.new ≡ self.old) }
     {
         if !self.has_consumer() {
@@ -228,7 +231,8 @@ impl SendQueue {
         answer: &Answer,
     ) -> Result<Settled, SettleFault>
         requires moment { now ≤ 2 ^ 62 }
-        ensures settled { result ≡ ok_or (settled ticket now word (answer_view answer.now) self.old) UnknownTicket }
+        ensures settled { result ≡ ok_or (settled ticket now word (answer_view answer.now) self.old)
+            UnknownTicket }
         ensures answered { self.new ≡ answered ticket now word (answer_view answer.now) self.old }
         ensures on_error { OnErr result (self.new ≡ self.old) }
     {

@@ -39,7 +39,8 @@ pub fn equal_verdicts()
 
 /// Answers are equal where they say the same.
 pub fn equal_answers()
-    ensures { (a b : Answer) → (⟦<Answer as PartialEq>⟧.eq a b ≡ true) ↔ (answer_view a ≡ answer_view b) }
+    ensures { (a b : Answer) → (⟦<Answer as PartialEq>⟧.eq a b ≡ true) ↔
+        (answer_view a ≡ answer_view b) }
 {}
 
 /// What an answer means for the batch. It takes no memory.

@@ -41,7 +41,8 @@ impl RetryState {
 
     /// The same with the interval after this one.
     pub(crate) fn with_next_interval(&self) -> RetryState
-        ensures { state_view result ≡ with_interval (next_interval (state_view self.now)) (state_view self.now) }
+        ensures { state_view result ≡ with_interval (next_interval (state_view self.now))
+            (state_view self.now) }
     {
         let longer = self.interval * u64::from(self.settings.multiplier) / 1000;
         RetryState {

@@ -1,7 +1,7 @@
 -- Texts one behind another, from the bracketing of a format to that of a definition.
 use Rattle.std.proofs.Common.{◌≡◌, ℕ, List, ◌++◌, sym, ◌∙◌, append_assoc}
 
-three : (a b c : List ℕ) → a ++ (b ++ c) ≡ a ++ b ++ c
+pub three : (a b c : List ℕ) → a ++ (b ++ c) ≡ a ++ b ++ c
 three a b c = sym (append_assoc a b c)
 
 four : (a b c d : List ℕ) → a ++ (b ++ (c ++ d)) ≡ a ++ b ++ c ++ d

@@ -8,19 +8,19 @@ use Rattle.tail_settings.specs.Fault.{FaultData}
 use Rattle.tail_settings.specs.Settings.{SettingsData, settings_of}
 use Rattle.settings_check.specs.Document.{document_of}
 use Rattle.settings_check.specs.Doubts.{doubts_in}
-use Rattle.settings_check.specs.Place.{NamesFirst, tenants_in}
+use Rattle.settings_check.specs.Place.{PlaceData, IsPlace, members_in}
 use Rattle.settings_check.specs.FaultTexts.{fault_text}
 use Rattle.settings_check.specs.Warning.{warnings_of}
 
 -- Of settings: the warnings, and a document that says all of them and means them again. Of a fault: that fault, with
--- the words of the tenant that it is in, and those of the TOML reader; and the warnings.
+-- the words of the tenant and of the policy that it is in, and those of the TOML reader; and the warnings.
 abbrev pub Reports : Option Members → Result SettingsData FaultData → Bool → List ℕ → Type 0
 Reports document (Ok settings) is_good text =
     (is_good ≡ true) × (shown : List ℕ)
     × (text ≡ warnings_of document ++ codes "# the settings in force\n" ++ shown)
     × IsDocumentText false (document_of settings) shown × (settings_of shown ≡ Ok settings)
 Reports document (Err fault) is_good text =
-    (is_good ≡ false) × (place : List ℕ) × (words : List ℕ) × NamesFirst fault 1 (tenants_in document) place
+    (is_good ≡ false) × (place : PlaceData) × (words : List ℕ) × IsPlace fault (members_in document) place
     × (text ≡ fault_text place fault words ++ warnings_of document)
 
 -- the report on a text, and what is doubtful in the settings that it means

@@ -114,17 +114,17 @@ allowed_of keys.MinValue = words.MIN_VALUE_MAY_BE.now
 allowed_of keys.MaxValue = words.MAX_VALUE_MAY_BE.now
 allowed_of keys.AndSubPolicy = words.AND_SUB_POLICY_MAY_BE.now
 
--- a kind of table in words
-abbrev pub title_of : TableKind → List ℕ
-title_of kinds.Document = codes "the document"
-title_of kinds.Global = codes "table global"
-title_of kinds.Tenant = codes "table tenant"
-title_of kinds.TailSampling = codes "table tail_sampling"
-title_of kinds.DecisionCache = codes "table decision_cache"
-title_of kinds.Batch = codes "table batch"
-title_of kinds.SendingQueue = codes "table sending_queue"
-title_of kinds.RetryOnFailure = codes "table retry_on_failure"
-title_of _ = codes "a policy"
+-- a kind of table in words, where these are the words of a policy
+abbrev pub title_of : TableKind → List ℕ → List ℕ
+title_of kinds.Document policy = codes "the document"
+title_of kinds.Global policy = codes "table global"
+title_of kinds.Tenant policy = codes "table tenant"
+title_of kinds.TailSampling policy = codes "table tail_sampling"
+title_of kinds.DecisionCache policy = codes "table decision_cache"
+title_of kinds.Batch policy = codes "table batch"
+title_of kinds.SendingQueue policy = codes "table sending_queue"
+title_of kinds.RetryOnFailure policy = codes "table retry_on_failure"
+title_of _ policy = policy
 
 -- the kind of a policy's table by its type, if it has one
 abbrev pub policy_kind : Option (List ℕ) → TableKind

@@ -25,7 +25,8 @@ use toml::{Table, Value};
 
 /// Puts a value at a key.
 pub fn put(alloc: Global, table: &mut Table, key: &str, value: Value) -> Result<(), AllocError>
-    ensures { OnOk result (table_view table.new ≡ put_member key.now (view value) (table_view table.old)) }
+    ensures { OnOk result (table_view table.new ≡ put_member key.now (view value)
+        (table_view table.old)) }
 {
     let key = String::from_str(alloc, key)?;
     drop(table.insert(key, value)?);
@@ -35,14 +36,16 @@ pub fn put(alloc: Global, table: &mut Table, key: &str, value: Value) -> Result<
 /// Puts a whole number at a key.
 fn put_number(alloc: Global, table: &mut Table, key: &str, n: u64) -> Result<(), AllocError>
     requires { n < 2 ^ 63 }
-    ensures { OnOk result (table_view table.new ≡ put_member key.now (number n) (table_view table.old)) }
+    ensures { OnOk result (table_view table.new ≡ put_member key.now (number n)
+        (table_view table.old)) }
 {
     put(alloc, table, key, Value::Integer(n as i64))
 }
 
 /// Puts a text at a key.
-fn put_text(alloc: Global, table: &mut Table, key: &str, text: &str) -> Result<(), AllocError>
-    ensures { OnOk result (table_view table.new ≡ put_member key.now (string text.now) (table_view table.old)) }
+pub fn put_text(alloc: Global, table: &mut Table, key: &str, text: &str) -> Result<(), AllocError>
+    ensures { OnOk result (table_view table.new ≡ put_member key.now (string text.now)
+        (table_view table.old)) }
 {
     put(alloc, table, key, Value::string(alloc, text)?)
 }

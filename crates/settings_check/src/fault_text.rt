@@ -3,28 +3,36 @@
 ghost use Rattle.std.specs.Prelude.{◌≡◌, IfOk, IsSomeAnd, string_bytes};
 ghost use Rattle.tail_settings.specs.Fault.{fault_view};
 ghost use Rattle.settings_check.specs.Table.{place_of};
-ghost use Rattle.settings_check.specs.FaultTexts.{key_lines, key_text, double_text, many_text, fault_text};
+ghost use Rattle.settings_check.specs.FaultTexts.{key_lines, key_text, double_text, too_much, many_text, fault_text};
+ghost use Rattle.settings_check.specs.Place.{place_view};
 
+use crate::place::Place;
 use crate::table::{TableKind, find_key};
 use std::alloc::{AllocError, Global};
 use tail_settings::SettingsFault;
 
-/// What is said of too much of something in all tenants.
-const MANY: &str = "settings fault 15
-more than 1000 tenants, more than 64 policies of one tenant, or a sum of max_spans above 2147483648
-";
+/// What is said of too many policies.
+const MANY_POLICIES: &str = "more than 64 policies, where an and counts as those that it holds\n";
+
+/// What is said of too many tenants.
+const MANY_TENANTS: &str = "the document: more than 1000 tenants\n";
+
+/// What is said of too many spans.
+const MANY_SPANS: &str =
+    "the document: the max_spans of all tenants are above 2147483648 together\n";
 
 /// The lines of a key: its table with what is wrong, and what it may be.
-fn key_lines(alloc: Global, place: &str, key: &str, what: &str) -> Result<String, AllocError>
+fn key_lines(alloc: Global, place: &Place, key: &str, what: &str) -> Result<String, AllocError>
     ensures { IfOk result (λ text. string_bytes text
-        ≡ key_lines place.now key.now what.now (place_of key.now TableKind.ALL)) }
+        ≡ key_lines (place_view place.now) key.now what.now (place_of key.now TableKind.ALL)) }
 {
     match find_key(key) {
         Some(found) => {
-            let title = found.0.title();
+            let tenant = place.tenant.as_str();
+            let title = found.0.title(place.policy.as_str());
             let allowed = found.1.allowed();
             let lines = format!(in alloc;
-                "{place}{title}: the key {key} {what}\n{key} may be: {allowed}\n"
+                "{tenant}{title}: the key {key} {what}\n{key} may be: {allowed}\n"
             )?;
             Ok(lines)
         }
@@ -35,12 +43,13 @@ fn key_lines(alloc: Global, place: &str, key: &str, what: &str) -> Result<String
 /// What is said of a fault of this number that is a key's.
 fn key_text(
     alloc: Global,
-    place: &str,
+    place: &Place,
     number: u32,
     key: &str,
     what: &str,
 ) -> Result<String, AllocError>
-    ensures { IfOk result (λ text. string_bytes text ≡ key_text place.now number key.now what.now) }
+    ensures { IfOk result (λ text. string_bytes text ≡ key_text (place_view place.now) number
+        key.now what.now) }
 {
     let lines = key_lines(alloc, place, key, what)?;
     let text = format!(in alloc; "settings fault {number} {key}\n{lines}")?;
@@ -57,28 +66,40 @@ fn double_text(alloc: Global, name: &str) -> Result<String, AllocError>
     Ok(text)
 }
 
-/// What is said of too much of something, in a tenant or else in all of them.
-fn many_text(alloc: Global, place: &str) -> Result<String, AllocError>
-    ensures { IfOk result (λ text. string_bytes text ≡ many_text place.now) }
+/// What there is too much of: in a tenant, or else in all of them.
+fn too_much(place: &Place) -> &'static str
+    ensures { result.now ≡ too_much (place_view place.now) }
 {
-    if place.is_empty() {
-        return String::from_str(alloc, MANY);
+    if !place.tenant.is_empty() {
+        return MANY_POLICIES;
     }
-    format!(in alloc;
-        "settings fault 15\n{place}more than 64 policies, where an and counts as those that it holds\n"
-    )
+    if place.count <= 1000 {
+        MANY_SPANS
+    } else {
+        MANY_TENANTS
+    }
 }
 
-/// What is said of a fault, behind the words of its tenant; with the reader's own words on a text that is no TOML
+/// What is said of too much of something.
+fn many_text(alloc: Global, place: &Place) -> Result<String, AllocError>
+    ensures { IfOk result (λ text. string_bytes text ≡ many_text (place_view place.now)) }
+{
+    let tenant = place.tenant.as_str();
+    let what = too_much(place);
+    let text = format!(in alloc; "settings fault 15\n{tenant}{what}")?;
+    Ok(text)
+}
+
+/// What is said of a fault, with the words of where it is, and the reader's own words on a text that is no TOML
 /// document. Of refused memory there is nothing to say but that.
 pub fn fault_text(
     alloc: Global,
-    place: &str,
+    place: &Place,
     fault: &SettingsFault,
     words: &str,
 ) -> Result<String, AllocError>
     ensures { IfOk result (λ text. IsSomeAnd (fault_view fault.now)
-        (λ seen. string_bytes text ≡ fault_text place.now seen words.now)) }
+        (λ seen. string_bytes text ≡ fault_text (place_view place.now) seen words.now)) }
 {
     match fault {
         SettingsFault::NotToml => {

@@ -5,7 +5,7 @@
 //! Where it isn't, the report has its fault, where that stands, and what the key may be. Either way it warns of each
 //! key that no setting has: `tail_settings` reads past it, so a misspelt key leaves a default in force. Beside that it
 //! has the doubts of a good document: addresses that can't be one, and fewer receivers or senders than may be kept at a
-//! time.
+//! time. What it says of such addresses [`address_fault`] gives to who can't listen at one.
 //!
 //! Which documents are good, and what they mean, is for `tail_settings` alone to say. The tables of src/table.rt have
 //! in words what each key may be, as docs/SETTINGS.md has it.
@@ -26,6 +26,7 @@ mod shown;
 mod table;
 mod unknown;
 
+pub use address::address_fault;
 pub use document::settings_text;
 pub use law::known_keys_are_those_that_are_read;
 pub use report::{Report, check};

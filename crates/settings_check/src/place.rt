@@ -1,30 +1,101 @@
-//! Which tenant a fault is in.
+//! Where a fault is: in which tenant, in which of its policies, and in which part of that.
 
-ghost use Rattle.std.specs.Prelude.{◌≡◌, ◌↔◌, codes, Some, Err, IfOk, IsSomeAnd, IsTrue, string_bytes};
+ghost use Rattle.std.specs.Prelude.{◌≡◌, ◌↔◌, ◌++◌, codes, Some, Err, IfOk, IsSomeAnd, IsTrue, string_bytes};
 ghost use Rattle.toml.specs.Parse.{parse_document};
 ghost use Rattle.toml.specs.View.{view, items_view};
 ghost use Rattle.tail_settings.specs.Fault.{FaultData, fault_view};
 ghost use Rattle.tail_settings.specs.Keys.{keys_of};
 ghost use Rattle.tail_settings.specs.Settings.{settings_of};
-ghost use Rattle.settings_check.specs.Place.{alone, IsWritable, HasAlone, NamesFirst};
-ghost use Rattle.settings_check.specs.Unknown.{items_in};
+ghost use Rattle.settings_check.specs.Place.{only, with_part, with_policy, tenant_with, document_with, IsWritable, HasAlone, IsFirst, found_view, table_found, name_words, numbered_words, tenant_place, part_place, policy_place, place_view, IsPlace};
+ghost use Rattle.settings_check.specs.Unknown.{text_in};
 
-use crate::document::put;
+use crate::document::{put, put_text};
 use crate::read;
-use crate::unknown::tenant_words;
+use crate::shown::shown;
+use crate::unknown::{joined, parts, policy_kind, tenant_words};
 use std::alloc::{AllocError, Global};
 use tail_settings::{SettingsFault, load};
 use toml::{Table, Value};
 
-/// The document of one tenant as a text, if it can be written.
-fn alone_text(alloc: Global, tenant: &Value) -> Result<Option<String>, AllocError>
-    ensures { IfOk result (λ text. IsWritable (view tenant.now)
-        → IsSomeAnd text (λ t. parse_document (string_bytes t) ≡ Some (alone (view tenant.now)))) }
+/// What is looked at by itself.
+#[derive(Clone, Copy)]
+pub enum Level {
+    /// A tenant of a document.
+    Tenant,
+    /// A policy of a tenant.
+    Policy,
+    /// A part of a policy `and`.
+    Part,
+}
+
+/// Where a fault is, in words.
+#[derive(Drop)]
+pub struct Place {
+    /// How many tenants the document has.
+    pub count: usize,
+    /// The words of its tenant, with a comma and a blank behind them. Nothing where it is in none: what holds for all
+    /// tenants, a name that two have, and a sum over all of them.
+    pub tenant: String,
+    /// The words of its policy, if it is in one.
+    pub policy: String,
+}
+
+/// The array of one value.
+fn only(alloc: Global, value: Value) -> Result<Value, AllocError>
+    ensures { IfOk result (λ v. view v ≡ only (view value)) }
 {
-    let mut tenants = Vec::new(alloc);
-    tenants.push(tenant.clone()?)?;
+    let mut values = Vec::new(alloc);
+    values.push(value)?;
+    Ok(Value::Array(values))
+}
+
+/// A policy `and` that has this part and no other.
+fn with_part(alloc: Global, part: Value) -> Result<Value, AllocError>
+    ensures { IfOk result (λ v. view v ≡ with_part (view part)) }
+{
+    let mut policy = Table::new(alloc);
+    put_text(alloc, &mut policy, "type", "and")?;
+    put(alloc, &mut policy, "and_sub_policy", only(alloc, part)?)?;
+    Ok(Value::Table(policy))
+}
+
+/// A tenant that has this policy, a name, and nothing else.
+fn with_policy(alloc: Global, policy: Value) -> Result<Value, AllocError>
+    ensures { IfOk result (λ v. view v ≡ with_policy (view policy)) }
+{
+    let mut sampling = Table::new(alloc);
+    put(alloc, &mut sampling, "policy", only(alloc, policy)?)?;
+    let mut tenant = Table::new(alloc);
+    put_text(alloc, &mut tenant, "name", "a")?;
+    put(alloc, &mut tenant, "tail_sampling", Value::Table(sampling))?;
+    Ok(Value::Table(tenant))
+}
+
+/// The tenant that a tenant is, or that has this policy, or this part of one, by itself.
+fn tenant_with(alloc: Global, level: Level, value: &Value) -> Result<Value, AllocError>
+    ensures { IfOk result (λ v. view v ≡ tenant_with level (view value.now)) }
+{
+    let value = value.clone()?;
+    match level {
+        Level::Tenant => Ok(value),
+        Level::Policy => with_policy(alloc, value),
+        Level::Part => {
+            let policy = with_part(alloc, value)?;
+            with_policy(alloc, policy)
+        }
+    }
+}
+
+/// Its document as a text, if it can be written.
+fn text_with(alloc: Global, level: Level, value: &Value) -> Result<Option<String>, AllocError>
+    ensures { IfOk result (λ text. IsWritable (document_with level (view value.now))
+        → IsSomeAnd text (λ t. parse_document (string_bytes t)
+        ≡ Some (document_with level (view value.now)))) }
+{
+    let tenant = tenant_with(alloc, level, value)?;
+    let tenants = only(alloc, tenant)?;
     let mut document = Table::new(alloc);
-    put(alloc, &mut document, "tenant", Value::Array(tenants))?;
+    put(alloc, &mut document, "tenant", tenants)?;
     match toml::table_to_string(alloc, &document) {
         Ok(text) => Ok(Some(text)),
         Err(toml::ser::Error::OutOfMemory) => Err(AllocError),
@@ -44,50 +115,146 @@ fn has_fault(alloc: Global, text: &str, fault: &SettingsFault) -> Result<bool, A
     }
 }
 
-/// Whether a tenant's table by itself, as a document, has this fault.
-fn has_alone(alloc: Global, tenant: &Value, fault: &SettingsFault) -> Result<bool, AllocError>
+/// Whether a table by itself, in a document, has this fault.
+fn has_alone(
+    alloc: Global,
+    level: Level,
+    value: &Value,
+    fault: &SettingsFault,
+) -> Result<bool, AllocError>
     ensures { IfOk result (λ has. (seen : FaultData) → fault_view fault.now ≡ Some seen
-        → IsWritable (view tenant.now) → (IsTrue has ↔ HasAlone seen (view tenant.now))) }
+        → IsWritable (document_with level (view value.now))
+        → (IsTrue has ↔ HasAlone level seen (view value.now))) }
 {
-    if tenant.as_table().is_none() {
+    if value.as_table().is_none() {
         return Ok(false);
     }
-    match alone_text(alloc, tenant)? {
+    match text_with(alloc, level, value)? {
         Some(text) => has_fault(alloc, text.as_str(), fault),
         None => Ok(false),
     }
 }
 
-/// The words of the first tenant that has a fault by itself; nothing where none has.
-fn faulty_tenant(
+/// The first of these that has a fault by itself, with its number, from 1.
+fn first<'a>(
     alloc: Global,
-    tenants: &[Value],
+    level: Level,
+    values: &'a [Value],
     fault: &SettingsFault,
-) -> Result<String, AllocError>
-    ensures { IfOk result (λ place. (seen : FaultData) → fault_view fault.now ≡ Some seen
-        → NamesFirst seen 1 (items_view tenants.now) (string_bytes place)) }
+) -> Result<Option<(usize, &'a Value)>, AllocError>
+    ensures { IfOk result (λ found. (seen : FaultData) → fault_view fault.now ≡ Some seen
+        → IsFirst level seen 1 (items_view values.now) (found_view found)) }
 {
     let mut number: usize = 0;
-    for tenant in tenants {
+    for value in values {
         number += 1;
-        if has_alone(alloc, tenant, fault)? {
-            let words = tenant_words(alloc, number, tenant.as_table())?;
-            let place = format!(in alloc; "{words}, ")?;
-            return Ok(place);
+        if has_alone(alloc, level, value, fault)? {
+            return Ok(Some((number, value)));
         }
     }
-    Ok(String::new(alloc))
+    Ok(None)
 }
 
-/// The words of the tenant that a document's fault is in. Nothing where it is in none: what holds for all tenants, a
-/// name that two have, and a sum over all of them.
-pub fn place(
+/// The table of what was found.
+fn table<'a>(found: Option<(usize, &'a Value)>) -> Option<&'a Table>
+    ensures { keys_of result ≡ table_found (found_view found.entry) }
+{
+    match found {
+        Some((_number, value)) => value.as_table(),
+        None => None,
+    }
+}
+
+/// A table's name in brackets, if it has one.
+fn name_words(alloc: Global, table: Option<&Table>) -> Result<String, AllocError>
+    ensures { IfOk result (λ words. string_bytes words
+        ≡ name_words (text_in (codes "name") (keys_of table.entry))) }
+{
+    match read::text(table, "name") {
+        Some(name) => {
+            let name = shown(alloc, name)?;
+            let words = format!(in alloc; " ({name})")?;
+            Ok(words)
+        }
+        None => Ok(String::new(alloc)),
+    }
+}
+
+/// A word with the number of a table, and with its name, if it has one.
+fn numbered(
+    alloc: Global,
+    word: &str,
+    number: usize,
+    table: Option<&Table>,
+) -> Result<String, AllocError>
+    ensures { IfOk result (λ words. string_bytes words
+        ≡ numbered_words word.now number (keys_of table.entry)) }
+{
+    let name = name_words(alloc, table)?;
+    let words = format!(in alloc; "{word}{number}{name}")?;
+    Ok(words)
+}
+
+/// The words of a tenant, before what follows.
+fn tenant_place(alloc: Global, tenant: Option<(usize, &Value)>) -> Result<String, AllocError>
+    ensures { IfOk result (λ words. string_bytes words ≡ tenant_place (found_view tenant.entry)) }
+{
+    match tenant {
+        Some((number, tenant)) => {
+            let words = tenant_words(alloc, number, tenant.as_table())?;
+            joined(alloc, words.as_str(), ", ")
+        }
+        None => Ok(String::new(alloc)),
+    }
+}
+
+/// The words of a part, behind those of its policy.
+fn part_place(alloc: Global, part: Option<(usize, &Value)>) -> Result<String, AllocError>
+    ensures { IfOk result (λ words. string_bytes words ≡ part_place (found_view part.entry)) }
+{
+    match part {
+        Some((number, part)) => numbered(alloc, ", part ", number, part.as_table()),
+        None => Ok(String::new(alloc)),
+    }
+}
+
+/// The words of a policy and of a part of it.
+fn policy_place(
+    alloc: Global,
+    policy: Option<(usize, &Value)>,
+    part: Option<(usize, &Value)>,
+) -> Result<String, AllocError>
+    ensures { IfOk result (λ words. string_bytes words
+        ≡ policy_place (found_view policy.entry) (found_view part.entry)) }
+{
+    match policy {
+        Some((number, policy)) => {
+            let words = numbered(alloc, "policy ", number, policy.as_table())?;
+            let part = part_place(alloc, part)?;
+            joined(alloc, words.as_str(), part.as_str())
+        }
+        None => String::from_str(alloc, "a policy"),
+    }
+}
+
+/// Where a document's fault is.
+pub fn locate(
     alloc: Global,
     document: Option<&Table>,
     fault: &SettingsFault,
-) -> Result<String, AllocError>
+) -> Result<Place, AllocError>
     ensures { IfOk result (λ place. (seen : FaultData) → fault_view fault.now ≡ Some seen
-        → NamesFirst seen 1 (items_in (codes "tenant") (keys_of document.entry)) (string_bytes place)) }
+        → IsPlace seen (keys_of document.entry) (place_view place)) }
 {
-    faulty_tenant(alloc, read::items(document, "tenant"), fault)
+    let tenants = read::items(document, "tenant");
+    let tenant = first(alloc, Level::Tenant, tenants, fault)?;
+    let policies = read::items(read::table(table(tenant), "tail_sampling"), "policy");
+    let policy = first(alloc, Level::Policy, policies, fault)?;
+    let parts = parts(policy_kind(table(policy)), table(policy));
+    let part = first(alloc, Level::Part, parts, fault)?;
+    Ok(Place {
+        count: tenants.len(),
+        tenant: tenant_place(alloc, tenant)?,
+        policy: policy_place(alloc, policy, part)?,
+    })
 }

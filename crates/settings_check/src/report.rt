@@ -11,7 +11,7 @@ ghost use Rattle.settings_check.specs.Warning.{warnings_of};
 use crate::document::settings_text;
 use crate::doubts::doubts;
 use crate::fault_text::fault_text;
-use crate::place::place;
+use crate::place::locate;
 use crate::read;
 use crate::unknown::{joined, warn_of_unknown};
 use std::alloc::{AllocError, Global};
@@ -76,8 +76,8 @@ fn fault_report(alloc: Global, text: &str, fault: &SettingsFault) -> Result<Repo
         (string_bytes report.doubts)) }
 {
     let (document, words) = read::document(alloc, text)?;
-    let place = place(alloc, document.as_ref(), fault)?;
-    let head = fault_text(alloc, place.as_str(), fault, words.as_str())?;
+    let place = locate(alloc, document.as_ref(), fault)?;
+    let head = fault_text(alloc, &place, fault, words.as_str())?;
     let warnings = warnings(alloc, document.as_ref())?;
     let told = joined(alloc, head.as_str(), warnings.as_str())?;
     Ok(Report {
@@ -101,8 +101,8 @@ fn check_text(alloc: Global, text: &str) -> Result<Report, AllocError>
 /// Checks the settings in a file's bytes.
 pub fn check(alloc: Global, bytes: &[u8]) -> Result<Report, AllocError>
     // Good where the bytes are a text that means settings, and then with all of them; otherwise with its fault.
-    ensures { IfOk result (λ report. IsFileReport bytes.now report.is_good (string_bytes report.text)
-        (string_bytes report.doubts)) }
+    ensures { IfOk result (λ report. IsFileReport bytes.now report.is_good
+        (string_bytes report.text) (string_bytes report.doubts)) }
 {
     match str::from_utf8(bytes) {
         Ok(text) => check_text(alloc, text),

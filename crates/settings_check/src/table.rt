@@ -398,9 +398,9 @@ impl TableKind {
         }
     }
 
-    /// The kind in words.
-    pub fn title(self) -> &'static str
-        ensures { result.now ≡ title_of self }
+    /// The kind in words, where these are the words of a policy.
+    pub fn title<'a>(self, policy: &'a str) -> &'a str
+        ensures { result.now ≡ title_of self policy.now }
     {
         match self {
             TableKind::Document => "the document",
@@ -411,7 +411,7 @@ impl TableKind {
             TableKind::Batch => "table batch",
             TableKind::SendingQueue => "table sending_queue",
             TableKind::RetryOnFailure => "table retry_on_failure",
-            _ => "a policy",
+            _ => policy,
         }
     }
 

@@ -43,7 +43,8 @@ fn numbered(alloc: Global, place: &str, word: &str, number: usize) -> Result<Str
 
 /// The key that may have been meant by one that no setting has.
 fn hint(alloc: Global, kind: TableKind, key: &str) -> Result<String, AllocError>
-    ensures { IfOk result (λ text. string_bytes text ≡ hint_text (meant_of key.now (keys_of_kind kind))) }
+    ensures { IfOk result (λ text. string_bytes text ≡ hint_text
+        (meant_of key.now (keys_of_kind kind))) }
 {
     match meant(kind.keys(), key) {
         Some(meant) => {
@@ -105,7 +106,7 @@ fn warn_in(
 }
 
 /// The kind of a policy's table.
-fn policy_kind(policy: Option<&Table>) -> TableKind
+pub fn policy_kind(policy: Option<&Table>) -> TableKind
     ensures { result ≡ kind_of (keys_of policy.entry) }
 {
     TableKind::of_policy(read::text(policy, "type"))
@@ -132,7 +133,7 @@ fn warn_in_leaves(
 }
 
 /// The policies that a policy of this kind holds.
-fn parts<'a>(kind: TableKind, policy: Option<&'a Table>) -> &'a [Value]
+pub fn parts<'a>(kind: TableKind, policy: Option<&'a Table>) -> &'a [Value]
     ensures { items_view result.now ≡ parts_of kind (keys_of policy.entry) }
 {
     match kind {
@@ -254,7 +255,8 @@ pub fn tenant_words(
     number: usize,
     tenant: Option<&Table>,
 ) -> Result<String, AllocError>
-    ensures { IfOk result (λ words. string_bytes words ≡ tenant_words number (keys_of tenant.entry)) }
+    ensures { IfOk result (λ words. string_bytes words ≡ tenant_words number
+        (keys_of tenant.entry)) }
 {
     let name = shown(alloc, name(tenant))?;
     let words = format!(in alloc; "tenant {number} ({name})")?;

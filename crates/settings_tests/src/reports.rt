@@ -1,6 +1,7 @@
 //! Reports on documents.
 
-use settings_check::{check, settings_text};
+use settings_check::{address_fault, check, settings_text};
+use std::alloc::{AllocError, Global};
 use std::test::Fail;
 use tail_settings::load;
 
@@ -106,5 +107,90 @@ fn settings_are_written_as_a_document(rt: HostRuntime) -> Result<(), Fail> {
     let settings = load(rt.alloc(), MISSPELT)?;
     let text = settings_text(rt.alloc(), &settings)?;
     assert_eq!(rt; text.as_str(), IN_FORCE);
+    Ok(())
+}
+
+/// Documents, each with what is told of it: faults in one of several policies and in a part of one, and too many spans.
+const FAULTY: &str = "[[tenant]]
+name = 'a'
+[[tenant.tail_sampling.policy]]
+type = 'latency'
+threshold_ms = 1
+[[tenant.tail_sampling.policy]]
+name = 'slow'
+type = 'latency'
+[[tenant.tail_sampling.policy]]
+type = 'latency'
+----
+settings fault 11 threshold_ms
+tenant 1 (a), policy 2 (slow): the key threshold_ms is missing
+threshold_ms may be: whole milliseconds from 0 to 1099511627776
+# warning: tenant 1 (a), policy 2: no setting has the key name, so it is ignored
+====
+[[tenant]]
+name = 'a'
+[[tenant.tail_sampling.policy]]
+type = 'always_sample'
+[[tenant]]
+name = 'b'
+[[tenant.tail_sampling.policy]]
+type = 'and'
+and_sub_policy = [{ type = 'always_sample' }, { type = 'and' }]
+----
+settings fault 13 type
+tenant 2 (b), policy 1, part 2: the key type has a value that it may not have
+type may be: always_sample, latency, status_code, string_attribute, numeric_attribute, or and, which no and can hold
+====
+[[tenant]]
+name = 'a'
+[[tenant.tail_sampling.policy]]
+type = 'always_sample'
+[[tenant.tail_sampling.policy]]
+type = 'and'
+----
+settings fault 11 and_sub_policy
+tenant 1 (a), policy 2: the key and_sub_policy is missing
+and_sub_policy may be: an array of one or more tables, each a policy of a type other than and
+====
+tenant = [
+    { name = 'a', max_spans = 2147483648, tail_sampling.policy = [{ type = 'always_sample' }] },
+    { name = 'b', max_spans = 1, tail_sampling.policy = [{ type = 'always_sample' }] },
+]
+----
+settings fault 15
+the document: the max_spans of all tenants are above 2147483648 together
+";
+
+/// The first case of which something else is told.
+fn first_wrong(alloc: Global, cases: &'static str) -> Result<&'static str, AllocError> {
+    for case in cases.split("====\n") {
+        let Some((document, wanted)) = case.split_once("----\n") else {
+            return Ok(case);
+        };
+        let report = check(alloc, document.as_bytes())?;
+        if report.is_good || report.text.as_str() != wanted {
+            return Ok(case);
+        }
+    }
+    Ok("")
+}
+
+#[test]
+fn a_fault_is_told_with_the_policy_that_it_is_in(rt: HostRuntime) -> Result<(), Fail> {
+    assert_eq!(rt; first_wrong(rt.alloc(), FAULTY)?, "");
+    Ok(())
+}
+
+#[test]
+fn what_an_address_lacks_is_told(rt: HostRuntime) -> Result<(), Fail> {
+    assert_eq!(rt; address_fault(b"127.0.0.1:4318"), None);
+    assert_eq!(rt;
+        address_fault(b"http://127.0.0.1:4318"),
+        Some("has a scheme, where a host, a colon and a port are wanted")
+    );
+    assert_eq!(rt;
+        address_fault(b"127.0.0.1:4318/v1/traces"),
+        Some("doesn't end with a colon and a port from 0 to 65535")
+    );
     Ok(())
 }

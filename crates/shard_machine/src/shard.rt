@@ -47,8 +47,10 @@ impl ShardMachine {
         members: &[u32],
         keys: HashKeys,
     ) -> Result<ShardMachine, AllocError>
-        ensures stands { IfOk result (λ s. ShardStands (opened (settings_view settings.now) members.now) s.views) }
-        ensures words { IfOk result (λ s. AreSeeded (settings_view settings.now) members.now s.words) }
+        ensures stands { IfOk result (λ s. ShardStands
+            (opened (settings_view settings.now) members.now) s.views) }
+        ensures words { IfOk result (λ s. AreSeeded (settings_view settings.now) members.now
+            s.words) }
     {
         let shard = Shard::open_with_keys(alloc, settings, members, keys)?;
         let words = seeded(alloc, settings, members)?;
@@ -253,8 +255,9 @@ fn seed_member(
     words: &mut JitterGenerators,
     tenant: u32,
 ) -> Result<(), AllocError>
-    ensures { OnOk result ((earlier : List ℕ) → AreSeeded (settings_view settings.now) earlier words.old →
-        AreSeeded (settings_view settings.now) (earlier ++ tenant ∷ []) words.new) }
+    ensures { OnOk result ((earlier : List ℕ)
+        → AreSeeded (settings_view settings.now) earlier words.old
+        → AreSeeded (settings_view settings.now) (earlier ++ tenant ∷ []) words.new) }
 {
     if let Some(section) = settings.section(tenant) {
         words.seed(tenant, section.seed)?;

@@ -59,7 +59,8 @@ impl SharedHub {
         ensures shards { IfOk result (λ r. length r.0 ≡ settings.now.global.shards) }
         ensures keeper { IfOk result (λ r. (r.1.slots ≡ r.0) × (r.1.callers ≡ callers)) }
         ensures opened { IfOk result (λ r. AreOpened (settings_view settings.now) r.1.homes) }
-        ensures keeps { IfOk result (λ r. kept r.1.homes ≡ replicate settings.now.global.shards keeps) }
+        ensures keeps { IfOk result (λ r. kept r.1.homes ≡ replicate settings.now.global.shards
+            keeps) }
         ensures callers { IfOk result (λ r. (vec_len r.2 ≡ callers) × AreCallersOf r.0 r.2.items) }
         ensures new { IfOk result (λ r. r.2.items ≡ replicate callers (new_caller r.0 r.1.homes)) }
     {
@@ -113,7 +114,8 @@ impl SharedHub {
         requires same_hub { slots_of me.old ≡ self.now }
         ensures same_hub { slots_of me.new ≡ self.now }
         ensures call { IfOk result (λ r.
-            IsAnswerOn me.old me.new (tenant % length self.now) tenant now ticket answer.now r.0 r.1) }
+            IsAnswerOn me.old me.new (tenant % length self.now) tenant now ticket answer.now r.0
+            r.1) }
         ensures on_refusal { OnErr result ((me.new ≡ me.old)
             ⊎ IsRefusedOn me.old me.new (tenant % length self.now)) }
         ensures fault { IfErr result (λ fault. fault ≡ faults.OutOfMemory) }
@@ -171,7 +173,8 @@ impl SharedHub {
             AreOpened table keeper.homes → AreOneRun table callers.items) }
         ensures one_history { IfOk result (λ shards. (table : SettingsData) →
             AreOpened table keeper.homes → AreOneHistory table callers.items shards.items) }
-        ensures missing { IfErr result (λ back. (vec_len callers ≢ keeper.callers) × (back.hub ≡ self)
+        ensures missing { IfErr result (λ back. (vec_len callers ≢ keeper.callers)
+            × (back.hub ≡ self)
             × (back.keeper ≡ keeper) × (back.callers ≡ callers)) }
     {
         runs_are_shard_runs();

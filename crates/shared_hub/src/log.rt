@@ -49,7 +49,8 @@ impl StepLog<ShardMachine> for OptionalLog {
         ensures same { (map arc_value self.new.kept.items ≡ map arc_value self.old.kept.items)
             × (self.new.keeps ≡ self.old.keeps) }
         ensures room { OnOk result (length (map arc_value self.new.kept.items) + 1 < 2 ^ 64) }
-        ensures grown { OnOk result ((self.old.keeps ≡ true) → vec_len self.new.kept < vec_capacity self.new.kept) }
+        ensures grown { OnOk result ((self.old.keeps ≡ true)
+            → vec_len self.new.kept < vec_capacity self.new.kept) }
         ensures next { OnOk result ((self.old.keeps ≡ true) → IsSome self.new.next) }
     {
         if !self.keeps {
@@ -73,7 +74,8 @@ impl StepLog<ShardMachine> for OptionalLog {
             map arc_value self.new.kept.items ≡ map arc_value self.old.kept.items ++ entry ∷ [])) }
         ensures nothing { (self.old.keeps ≡ false) →
             map arc_value self.new.kept.items ≡ map arc_value self.old.kept.items }
-        ensures on_refusal { OnErr result (map arc_value self.new.kept.items ≡ map arc_value self.old.kept.items) }
+        ensures on_refusal { OnErr result
+            (map arc_value self.new.kept.items ≡ map arc_value self.old.kept.items) }
     {
         let theirs = match self.next.take() {
             Some(next) => written(next, alloc, entry)?,

@@ -22,7 +22,8 @@ pub(crate) fn shards_of(
     keys: HashKeys,
 ) -> Result<Vec<ShardLog>, AllocError>
     ensures count { IfOk result (λ shards. vec_len shards ≡ settings.now.global.shards) }
-    ensures opened { IfOk result (λ shards. AreOpened (settings_view settings.now) (homes_of shards.items)) }
+    ensures opened { IfOk result (λ shards. AreOpened (settings_view settings.now)
+        (homes_of shards.items)) }
     ensures keeps { IfOk result (λ shards.
         kept (homes_of shards.items) ≡ replicate settings.now.global.shards keeps) }
     ensures new { IfOk result (λ shards. AreNew shards.items) }

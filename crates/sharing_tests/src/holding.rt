@@ -61,8 +61,10 @@ impl<M: Machine> StepLog<M> for HoldingLog {
     ) -> Result<Arc<EntryOf<M>, Global>, AllocError>
         ensures same { false ≡ false }
         ensures kept { IfOk result (λ kept. (arc_value kept ≡ entry)
-            × ((false ≡ true) → no_entries M.Step M.Outcome ≡ no_entries M.Step M.Outcome ++ entry ∷ [])) }
-        ensures on_refusal { OnErr result (no_entries M.Step M.Outcome ≡ no_entries M.Step M.Outcome) }
+            × ((false ≡ true) → no_entries M.Step M.Outcome ≡ no_entries M.Step M.Outcome ++ entry
+            ∷ [])) }
+        ensures on_refusal { OnErr result
+            (no_entries M.Step M.Outcome ≡ no_entries M.Step M.Outcome) }
     {
         Ok(Arc::new(alloc, entry)?)
     }

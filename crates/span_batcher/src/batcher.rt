@@ -73,7 +73,8 @@ fn cut_all(
     all: &[usize],
 ) -> Result<(Vec<Batch>, Vec<usize>), AllocError>
     requires valid_rules { AreValidRules (rules_of timeout size most) }
-    ensures batches { IfOk result (λ cut. cut.0.items ≡ cuts (rules_of timeout size most) moment all.now) }
+    ensures batches { IfOk result (λ cut. cut.0.items ≡ cuts (rules_of timeout size most) moment
+        all.now) }
     ensures rest { IfOk result (λ cut. cut.1.items ≡ uncut (rules_of timeout size most) all.now) }
 {
     let least = threshold(timeout, size);
@@ -97,7 +98,12 @@ impl SpanBatcher {
         requires valid_rules { AreValidRules (rules_of timeout size most) }
         requires timer { timeout ≤ 2 ^ 32 }
         ensures begins { Begins (rules_of timeout size most) result }
-        ensures none { result ≡ record { rules = rules_of timeout size most; start = None; spans = [] } }
+        ensures none { result ≡ record {
+          rules = rules_of timeout size most;
+          start = None;
+          spans
+              = [];
+        } }
     {
         SpanBatcher {
             alloc,
@@ -184,7 +190,8 @@ impl SpanBatcher {
         // What that is, in terms of the pending spans alone.
         ensures batches { IfOk result (λ planned.
             planned.batches ≡ cuts self.now.rules moment (self.now.spans ++ spans.now)) }
-        ensures pending { IfOk result (λ planned. taken planned self.now ≡ added moment spans.now self.now) }
+        ensures pending { IfOk result (λ planned. taken planned self.now ≡ added moment spans.now
+            self.now) }
     {
         let mut all = Vec::with_capacity(self.alloc, self.spans.len() + spans.len())?;
         all.extend_from_slice(&self.spans)?;
@@ -233,7 +240,8 @@ impl SpanBatcher {
     /// The batches stay with it. It takes no memory.
     pub fn exchange(&mut self, planned: &mut Planned)
         ensures pending { self.new ≡ taken planned.old self.old }
-        ensures former { planned.new ≡ record planned.old { start = self.old.start; spans = self.old.spans } }
+        ensures former { planned.new ≡ record planned.old
+            { start = self.old.start; spans = self.old.spans } }
     {
         std::mem::swap(&mut self.start, &mut planned.start);
         std::mem::swap(&mut self.spans, &mut planned.spans);
@@ -242,7 +250,8 @@ impl SpanBatcher {
     /// The timer runs out: all that is pending is one batch. It takes no memory.
     pub fn fire(&mut self) -> Batch
         requires pending { next_due self.old ≢ None }
-        ensures fires { (due : ℕ) → next_due self.old ≡ Some due → Fires due self.old result self.new }
+        ensures fires { (due : ℕ) → next_due self.old ≡ Some due
+            → Fires due self.old result self.new }
         ensures batch { (due : ℕ) → next_due self.old ≡ Some due →
             result ≡ record { moment = due; spans = self.old.spans } }
         ensures pending { self.new ≡ fired self.old }

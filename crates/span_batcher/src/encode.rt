@@ -88,7 +88,8 @@ fn is_same_text(
     other: Option<usize>,
 ) -> bool
     ensures { result ≡ same_text
-        (text_at (texts_in texts.now tenants.0) one) (text_at (texts_in texts.now tenants.1) other) }
+        (text_at (texts_in texts.now tenants.0) one)
+        (text_at (texts_in texts.now tenants.1) other) }
 {
     match (one, other) {
         (Some(one), Some(other)) if tenants.0 == tenants.1 => {
@@ -128,7 +129,8 @@ fn put_embedded(out: &mut Vec<u8>, text: Option<&Bytes>) -> Result<(), AllocErro
 
 /// Appends the spans, each as a field of a `ScopeSpans`.
 fn put_spans(out: &mut Vec<u8>, spans: &[&StoredSpan]) -> Result<(), AllocError>
-    ensures { OnOk result (out.new.items ≡ out.old.items ++ repeated 2 (λ span. span.now.text) spans.now) }
+    ensures { OnOk result (out.new.items ≡ out.old.items ++ repeated 2 (λ span. span.now.text)
+        spans.now) }
 {
     for span in spans {
         put_bytes_field(out, INNER, span.text().as_slice())?;
@@ -146,7 +148,8 @@ pub trait Level {
         ensures { result ≡ same (span_in texts.now one.now) (span_in texts.now other.now) };
 
     fn put(out: &mut Vec<u8>, texts: &TextPool, spans: &[&StoredSpan]) -> Result<(), AllocError>
-        ensures { OnOk result (out.new.items ≡ out.old.items ++ field (spans_in texts.now spans.now)) };
+        ensures { OnOk result (out.new.items ≡ out.old.items ++ field
+            (spans_in texts.now spans.now)) };
 }
 
 /// A scope, with its schema.
@@ -213,8 +216,8 @@ fn leading<L: Level>(texts: &TextPool, spans: &[&StoredSpan]) -> usize
     requires { 0 < length spans.now }
     ensures not_empty { 0 < result }
     ensures within { result ≤ length spans.now }
-    ensures first { runs L.same (spans_in texts.now spans.now) ≡ take result (spans_in texts.now spans.now)
-        ∷ runs L.same (drop result (spans_in texts.now spans.now)) }
+    ensures first { runs L.same (spans_in texts.now spans.now) ≡ take result
+        (spans_in texts.now spans.now) ∷ runs L.same (drop result (spans_in texts.now spans.now)) }
 {
     let mut last = 0;
     while last + 1 < spans.len() && L::is_same(texts, spans[last], spans[last + 1]) {

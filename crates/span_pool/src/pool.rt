@@ -54,7 +54,8 @@ impl<S: Owned> SpanPool<S> {
     /// The span goes into its owner's part, under a key that was vacant. Where memory is refused, the error has the
     /// span.
     pub fn put(&mut self, span: S) -> Result<usize, AllocFailed<S>>
-        ensures vacant { IfOk result (λ key. (tenant : ℕ) → part S.owner tenant self.old key ≡ None) }
+        ensures vacant { IfOk result (λ key. (tenant : ℕ)
+            → part S.owner tenant self.old key ≡ None) }
         ensures own_part { IfOk result (λ key. part S.owner (S.owner span) self.new ≡
             with_span key (Some span) (part S.owner (S.owner span) self.old)) }
 
@@ -104,7 +105,8 @@ impl<S: Owned> SpanPool<S> {
     /// Takes back a span of the tenant's that was put under this key. Where it owns none there, nothing changes. It
     /// takes no memory.
     pub fn undo_put(&mut self, tenant: u32, key: usize)
-        ensures own_part { part S.owner tenant self.new ≡ with_span key None (part S.owner tenant self.old) }
+        ensures own_part { part S.owner tenant self.new ≡ with_span key None
+            (part S.owner tenant self.old) }
         ensures others_unchanged { (other : ℕ) → other ≢ tenant
             → part S.owner other self.new ≡ part S.owner other self.old }
     {
@@ -119,5 +121,6 @@ pub fn each_span_has_one_owner<S: Owned>()
     ensures owner { (pool : Slots S) (tenant key : ℕ)
         → IfSome (part S.owner tenant pool key) (λ span. S.owner span ≡ tenant) }
     ensures one { (pool : Slots S) (tenant other key : ℕ)
-        → IsSome (part S.owner tenant pool key) → IsSome (part S.owner other pool key) → tenant ≡ other }
+        → IsSome (part S.owner tenant pool key) → IsSome (part S.owner other pool key)
+        → tenant ≡ other }
 {}

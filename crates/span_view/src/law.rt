@@ -15,10 +15,12 @@ pub fn canonical_text_is_viewed()
     ensures facts { (span resource : List ℕ) (s : SpanData) (r : Option ResourceData)
         → IsSpanText span s → IsResourceText resource r → facts_of span resource ≡ facts s r }
     ensures text { (span resource : List ℕ) (s : SpanData) (r : Option ResourceData)
-        → IsSpanText span s → IsResourceText resource r → AreText (facts_of span resource).attributes }
+        → IsSpanText span s → IsResourceText resource r
+        → AreText (facts_of span resource).attributes }
 {}
 
 /// Values are equal where they show the same, wherever their bytes lie.
 pub fn equal_values()
-    ensures { (a b : ValueRef) → (⟦<ValueRef<'static> as PartialEq>⟧.eq a b ≡ true) ↔ (value_shown a ≡ value_shown b) }
+    ensures { (a b : ValueRef) → (⟦<ValueRef<'static> as PartialEq>⟧.eq a b ≡ true) ↔
+        (value_shown a ≡ value_shown b) }
 {}

@@ -48,7 +48,8 @@ impl<'a> Model for SpanFields<'a> {
 /// What a field of a span tells, if anything.
 #[inline(always)]
 fn told_by(field: Field<'_>) -> Option<SpanField<'_>>
-    requires text { AreText (attributes_told (told_and (told_by field.number (datum field.value)) [])) }
+    requires text { AreText (attributes_told
+        (told_and (told_by field.number (datum field.value)) [])) }
     ensures { option_map field_shown result ≡ told_by field.entry.number (datum field.entry.value) }
 {
     match (field.number, field.value) {

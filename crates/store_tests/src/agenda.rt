@@ -27,7 +27,8 @@ fn the_least_moment_and_number_goes_first(rt: HostRuntime) -> Result<(), Fail> {
 
 /// An agenda of the tenants 1 to 5, of whom the higher number is ready first.
 fn five(alloc: Global) -> Result<Agenda, AllocError>
-    ensures { IfOk result (λ agenda. (tenant : ℕ) → 0 < tenant → tenant < 6 → is_member agenda tenant ≡ true) }
+    ensures { IfOk result (λ agenda. (tenant : ℕ) → 0 < tenant → tenant < 6
+        → is_member agenda tenant ≡ true) }
 {
     let mut agenda = Agenda::new(alloc);
     for tenant in 1..6u32 {

@@ -54,11 +54,13 @@ fn note_parts<P: Policy + Sync, R: Threads + Sync>(
         rt,
         || -> Result<Vec<P::Note>, AllocError>
             requires { IsSync R.row × (0 < few) × (few ≤ 16) }
-            ensures { IfOk result (λ notes. notes.items ≡ map (P.note_of policy.entry.now) left.entry.now) }
+            ensures { IfOk result (λ notes. notes.items ≡ map (P.note_of policy.entry.now)
+                left.entry.now) }
         { note_parts(rt, alloc, policy, left, few) },
         || -> Result<Vec<P::Note>, AllocError>
             requires { IsSync R.row × (few < busy) × (busy ≤ 16) }
-            ensures { IfOk result (λ notes. notes.items ≡ map (P.note_of policy.entry.now) right.entry.now) }
+            ensures { IfOk result (λ notes. notes.items ≡ map (P.note_of policy.entry.now)
+                right.entry.now) }
         { note_parts(rt, alloc, policy, right, busy - few) },
     );
     let mut notes = first?;

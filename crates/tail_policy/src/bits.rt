@@ -55,8 +55,10 @@ fn with_bit(is_met: bool, above: u64) -> u64
 
 /// One bit a policy, whether the fact meets it, below the bits of `above`.
 fn leaf_bits(leaves: &[LeafPolicy], fact: Fact<'_>, above: u64) -> u64
-    requires fits { bits_below (fact_meets (fact_view fact)) (map leaf_view leaves.now) above < 2 ^ 64 }
-    ensures { result ≡ bits_below (fact_meets (fact_view fact.entry)) (map leaf_view leaves.now) above }
+    requires fits { bits_below (fact_meets (fact_view fact)) (map leaf_view leaves.now) above < 2 ^
+        64 }
+    ensures { result ≡ bits_below (fact_meets (fact_view fact.entry)) (map leaf_view leaves.now)
+        above }
 {
     let mut bits = above;
     let mut left = leaves;
@@ -70,7 +72,8 @@ fn leaf_bits(leaves: &[LeafPolicy], fact: Fact<'_>, above: u64) -> u64
 /// One bit a policy that holds no other, whether the fact meets it.
 pub fn fact_bits(policies: &[PolicySpec], fact: Fact<'_>) -> u64
     requires leaves_bounded { leaves_of (map policy_view policies.now) ≤ 64 }
-    ensures { result ≡ bits_of (fact_meets (fact_view fact.entry)) (leaves_in (map policy_view policies.now)) }
+    ensures { result ≡ bits_of (fact_meets (fact_view fact.entry))
+        (leaves_in (map policy_view policies.now)) }
 {
     let mut bits = 0;
     let mut left = policies;
@@ -87,7 +90,8 @@ pub fn fact_bits(policies: &[PolicySpec], fact: Fact<'_>) -> u64
 /// The same of an attribute. Where its key has no mark, neither its value nor a policy is looked at.
 pub fn attribute_bits(policies: &[PolicySpec], marks: &[bool], pair: &AttributeRef<'_>) -> u64
     requires ready { IsReady (map policy_view policies.now) marks.now }
-    ensures { result ≡ bits_of (fact_meets (attribute pair.now)) (leaves_in (map policy_view policies.now)) }
+    ensures { result ≡ bits_of (fact_meets (attribute pair.now))
+        (leaves_in (map policy_view policies.now)) }
 {
     let key = pair.key();
     if marks[mark(key)] {

@@ -54,7 +54,8 @@ pub trait PolicyByParts: Policy {
     /// keys and strings that are UTF-8 (`span_view::is_text`).
     fn resource_note(&self, resource: &[u8]) -> Result<Self::ResourceNote, AllocError>
         requires text { AreText (facts_of [] resource.now).attributes }
-        ensures { IfOk result (λ note. note ≡ resource_note_of self.now (facts_of [] resource.now).attributes) };
+        ensures { IfOk result (λ note. note ≡ resource_note_of self.now
+            (facts_of [] resource.now).attributes) };
 
     /// The note of a span with its resource, by the span's note without one.
     fn with_resource(&self, resource: &Self::ResourceNote, note: Self::Note) -> Self::Note
@@ -69,7 +70,8 @@ pub trait PolicyByParts: Policy {
 /// resource; and what it asks of its texts it asks of each by itself.
 pub fn views_of_parts()
     ensures facts { (span resource : List ℕ)
-        → facts_of span resource ≡ with_attributes (facts_of span []) (facts_of [] resource).attributes }
+        → facts_of span resource ≡ with_attributes (facts_of span [])
+        (facts_of [] resource).attributes }
     ensures text { (span resource : List ℕ) → AreText (facts_of span resource).attributes
         ↔ (AreText (facts_of span []).attributes × AreText (facts_of [] resource).attributes) }
 {}

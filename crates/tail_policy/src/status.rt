@@ -22,7 +22,8 @@ fn number_of(code: StatusCode) -> i32
 
 /// Whether a status is one of these. Numbers that no code has match none.
 pub fn is_listed(codes: &[StatusCode], status: i32) -> bool
-    ensures { result ≡ list_any (λ code. int_eq status (number_of code)) (map status_view codes.now) }
+    ensures { result ≡ list_any (λ code. int_eq status (number_of code))
+        (map status_view codes.now) }
 {
     codes.iter().any(|code| status == number_of(*code))
 }

@@ -55,7 +55,8 @@ pub fn resource_bits(policies: &[PolicySpec], marks: &[bool], resource: &[u8]) -
     requires ready { IsReady (map policy_view policies.now) marks.now }
     requires text { AreText (facts_of [] resource.now).attributes }
     ensures { result
-        ≡ bits_of (attributes_meet (facts_of [] resource.now).attributes) (leaves_in (map policy_view policies.now)) }
+        ≡ bits_of (attributes_meet (facts_of [] resource.now).attributes)
+        (leaves_in (map policy_view policies.now)) }
 {
     let SpanFacts { met, .. } = tally(policies, marks, SpanRef::of(&[], resource).fields());
     met

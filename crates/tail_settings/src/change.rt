@@ -52,10 +52,11 @@ impl Settings {
             (admitted (settings_view self.now) text.now) }
         ensures number { IfOk result (λ new. new.1.number ≡ self.now.next) }
         ensures left { IfOk result (λ _. self.now.next < 2 ^ 32) }
-        ensures name { IfOk result (λ new. get_by_text self.now.tenants (string_bytes new.0) ≡ None) }
+        ensures name { IfOk result (λ new. get_by_text self.now.tenants (string_bytes new.0)
+            ≡ None) }
         ensures room { IfOk result (λ _. index_map_len self.now.tenants < 1000) }
-        ensures spans { IfOk result (λ new. sum_by (λ entry. entry.1.section.max_spans) self.now.tenants.entries
-            + new.1.section.max_spans ≤ 2 ^ 31) }
+        ensures spans { IfOk result (λ new. sum_by (λ entry. entry.1.section.max_spans)
+            self.now.tenants.entries + new.1.section.max_spans ≤ 2 ^ 31) }
     {
         let document = document::table(alloc, text)?;
         let table = only_tenant(&document)?;
@@ -89,7 +90,8 @@ impl Settings {
     /// Takes out the tenant with this number, which nobody else gets. The answer is its section, or `None` where there
     /// is no such tenant. It takes no memory, and up to as many steps as there are tenants.
     pub fn strike(&mut self, number: u32) -> Option<Section>
-        ensures section { option_map section_view result ≡ section_at (settings_view self.old) number }
+        ensures section { option_map section_view result ≡ section_at (settings_view self.old)
+            number }
         ensures left { settings_view self.new ≡ struck (settings_view self.old) number }
     {
         let Some(place) = self.place(number) else {

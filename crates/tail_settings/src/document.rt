@@ -87,7 +87,8 @@ fn add_tenant(
 /// The tenants of a document.
 #[tactic(auto, using(crate::proofs::Told::tells_more), unfolding(crate::specs::Settings::tenants_of))]
 fn tenants(alloc: Global, document: &Table) -> Result<IndexMap<String, Tenant>, SettingsFault>
-    ensures meaning { Tells (λ m. map tenant_view m.entries) result (tenants_of (table_view document.now)) }
+    ensures meaning { Tells (λ m. map tenant_view m.entries) result
+        (tenants_of (table_view document.now)) }
     ensures not_empty { IfOk result (λ m. 0 < index_map_len m) }
     ensures at_most_1000 { IfOk result (λ m. index_map_len m ≤ 1000) }
 {

@@ -56,7 +56,8 @@ ghost use Rattle.tail_settings.specs.Fault.{fault_view};
 
 /// Faults are equal where they say the same of the document; refused memory says nothing of it.
 pub fn equal_faults()
-    ensures { (a b : SettingsFault) → (⟦<SettingsFault as PartialEq>⟧.eq a b ≡ true) ↔ (fault_view a ≡ fault_view b) }
+    ensures { (a b : SettingsFault) → (⟦<SettingsFault as PartialEq>⟧.eq a b ≡ true) ↔
+        (fault_view a ≡ fault_view b) }
 {}
 
 impl From<AllocError> for SettingsFault {

@@ -22,7 +22,8 @@ fn get<'a>(table: Option<&'a Table>, key: &str) -> Option<&'a Value>
 
 /// The value at a key that has to be there.
 fn value<'a>(table: Option<&'a Table>, key: &'static str) -> Result<&'a Value, SettingsFault>
-    ensures meaning { Tells (λ v. view v.now) result (required key.now (get_member key.now (keys_of table.entry))) }
+    ensures meaning { Tells (λ v. view v.now) result
+        (required key.now (get_member key.now (keys_of table.entry))) }
     ensures no_memory { IfErr result IsOfDocument }
 {
     match get(table, key) {
@@ -53,7 +54,8 @@ pub fn number(
     default: u64,
 ) -> Result<u64, SettingsFault>
     requires { IsFrom low high default }
-    ensures meaning { Tells (λ n. n) result (number_at key.now low high default (keys_of table.entry)) }
+    ensures meaning { Tells (λ n. n) result
+        (number_at key.now low high default (keys_of table.entry)) }
     ensures range { IfOk result (λ n. IsFrom low high n) }
     ensures no_memory { IfErr result IsOfDocument }
 {
@@ -86,7 +88,8 @@ pub fn required_number(
     low: u64,
     high: u64,
 ) -> Result<u64, SettingsFault>
-    ensures meaning { Tells (λ n. n) result (required_number_at key.now low high (keys_of table.entry)) }
+    ensures meaning { Tells (λ n. n) result
+        (required_number_at key.now low high (keys_of table.entry)) }
     ensures no_memory { IfErr result IsOfDocument }
 {
     let number = integer(table, key)?;
@@ -112,7 +115,8 @@ pub fn text_or<'a>(
     key: &'static str,
     default: &'a str,
 ) -> Result<&'a str, SettingsFault>
-    ensures meaning { Tells (λ s. s.now) result (text_or_at key.now default.now (keys_of table.entry)) }
+    ensures meaning { Tells (λ s. s.now) result
+        (text_or_at key.now default.now (keys_of table.entry)) }
     ensures no_memory { IfErr result IsOfDocument }
 {
     let Some(value) = get(table, key) else {
@@ -157,7 +161,8 @@ fn are_all_tables(values: &[Value]) -> bool
 /// The array of tables at a key that has to be there.
 #[tactic(auto, using(crate::proofs::Told::tells_more), unfolding(crate::specs::Keys::tables_at))]
 pub fn tables<'a>(table: Option<&'a Table>, key: &'static str) -> Result<&'a [Value], SettingsFault>
-    ensures meaning { Tells (λ v. tables_in (items_view v.now)) result (tables_at key.now (keys_of table.entry)) }
+    ensures meaning { Tells (λ v. tables_in (items_view v.now)) result
+        (tables_at key.now (keys_of table.entry)) }
     ensures no_memory { IfErr result IsOfDocument }
 {
     match value(table, key)?.as_array() {
@@ -181,7 +186,8 @@ fn are_all_texts(values: &[Value]) -> bool
 /// The array of texts at a key that has to be there.
 #[tactic(auto, using(crate::proofs::Told::tells_more), unfolding(crate::specs::Keys::texts_at))]
 pub fn texts<'a>(table: Option<&'a Table>, key: &'static str) -> Result<&'a [Value], SettingsFault>
-    ensures meaning { Tells (λ v. texts_in (items_view v.now)) result (texts_at key.now (keys_of table.entry)) }
+    ensures meaning { Tells (λ v. texts_in (items_view v.now)) result
+        (texts_at key.now (keys_of table.entry)) }
     ensures no_memory { IfErr result IsOfDocument }
 {
     match value(table, key)?.as_array() {
@@ -196,7 +202,8 @@ pub fn some_tables<'a>(
     table: Option<&'a Table>,
     key: &'static str,
 ) -> Result<&'a [Value], SettingsFault>
-    ensures meaning { Tells (λ v. tables_in (items_view v.now)) result (some_tables_at key.now (keys_of table.entry)) }
+    ensures meaning { Tells (λ v. tables_in (items_view v.now)) result
+        (some_tables_at key.now (keys_of table.entry)) }
     ensures not_empty { IfOk result (λ v. 0 < length v.now) }
     ensures no_memory { IfErr result IsOfDocument }
 {
@@ -213,7 +220,8 @@ pub fn some_texts<'a>(
     table: Option<&'a Table>,
     key: &'static str,
 ) -> Result<&'a [Value], SettingsFault>
-    ensures meaning { Tells (λ v. texts_in (items_view v.now)) result (some_texts_at key.now (keys_of table.entry)) }
+    ensures meaning { Tells (λ v. texts_in (items_view v.now)) result
+        (some_texts_at key.now (keys_of table.entry)) }
     ensures not_empty { IfOk result (λ v. 0 < length v.now) }
     ensures no_memory { IfErr result IsOfDocument }
 {

@@ -56,11 +56,14 @@ ghost use Rattle.tail_settings.specs.Policy.{status_view, leaf_view, policy_view
 pub fn equal_policies()
     ensures status { (a b : StatusCode) → (⟦<StatusCode as PartialEq>⟧.eq a b ≡ true)
         ↔ (status_view a ≡ status_view b) }
-    ensures leaf { (a b : LeafPolicy) → (⟦<LeafPolicy as PartialEq>⟧.eq a b ≡ true) ↔ (leaf_view a ≡ leaf_view b) }
+    ensures leaf { (a b : LeafPolicy) → (⟦<LeafPolicy as PartialEq>⟧.eq a b ≡ true) ↔
+        (leaf_view a ≡ leaf_view b) }
     ensures policy { (a b : PolicySpec) → (⟦<PolicySpec as PartialEq>⟧.eq a b ≡ true)
         ↔ (policy_view a ≡ policy_view b) }
-    ensures leaf_copy { (a b : LeafPolicy) → ⟦<LeafPolicy as Clone>⟧.is_clone a b → leaf_view b ≡ leaf_view a }
-    ensures policy_copy { (a b : PolicySpec) → ⟦<PolicySpec as Clone>⟧.is_clone a b → policy_view b ≡ policy_view a }
+    ensures leaf_copy { (a b : LeafPolicy) → ⟦<LeafPolicy as Clone>⟧.is_clone a b
+        → leaf_view b ≡ leaf_view a }
+    ensures policy_copy { (a b : PolicySpec) → ⟦<PolicySpec as Clone>⟧.is_clone a b
+        → policy_view b ≡ policy_view a }
 {}
 
 /// Whether two lists of policies say the same, in the same order.

@@ -143,7 +143,8 @@ fn leaf(alloc: Global, table: Option<&Table>) -> Result<LeafPolicy, SettingsFaul
 
 /// The policies of an array of tables, none of which may hold others.
 fn each_leaf(alloc: Global, tables: &[Value]) -> Result<Vec<LeafPolicy>, SettingsFault>
-    ensures { Tells (λ v. map leaf_view v.items) result (each (λ _. leaf_of) [] (tables_in (items_view tables.now))) }
+    ensures { Tells (λ v. map leaf_view v.items) result
+        (each (λ _. leaf_of) [] (tables_in (items_view tables.now))) }
 {
     let mut leaves = Vec::new(alloc);
     for value in tables {
@@ -219,9 +220,11 @@ pub fn policies(
     alloc: Global,
     sampling: Option<&Table>,
 ) -> Result<ArcSlice<PolicySpec>, SettingsFault>
-    ensures meaning { Tells (λ v. map policy_view (arc_slice_items v)) result (policies_of (keys_of sampling.entry)) }
+    ensures meaning { Tells (λ v. map policy_view (arc_slice_items v)) result
+        (policies_of (keys_of sampling.entry)) }
     ensures not_empty { IfOk result (λ v. 0 < length (arc_slice_items v)) }
-    ensures leaves_bounded { IfOk result (λ v. leaves_of (map policy_view (arc_slice_items v)) ≤ 64) }
+    ensures leaves_bounded { IfOk result
+        (λ v. leaves_of (map policy_view (arc_slice_items v)) ≤ 64) }
 {
     let tables = keys::some_tables(sampling, "policy")?;
     let policies = each_policy(alloc, tables)?;

@@ -26,7 +26,8 @@ impl SendingQueue {
     /// The table of a tenant.
     #[tactic(auto, using(crate::proofs::Told::tells_more), unfolding(crate::specs::SendingQueue::sending_queue_of))]
     pub(crate) fn read(tenant: Option<&Table>) -> Result<SendingQueue, SettingsFault>
-        ensures meaning { Tells sending_queue_view result (sending_queue_of (keys_of tenant.entry)) }
+        ensures meaning { Tells sending_queue_view result
+            (sending_queue_of (keys_of tenant.entry)) }
         ensures no_memory { IfErr result IsOfDocument }
     {
         let queue = keys::table(tenant, "sending_queue")?;

@@ -63,7 +63,8 @@ impl Settings {
 
     /// The section of the tenant with this number, or `None` where there is no such tenant.
     pub fn section(&self, number: u32) -> Option<&Section>
-        ensures { option_map (λ s. section_view s.now) result ≡ section_at (settings_view self.now) number }
+        ensures { option_map (λ s. section_view s.now) result ≡ section_at (settings_view self.now)
+            number }
     {
         match self.tenant(number) {
             Some((_, tenant)) => Some(&tenant.section),

@@ -61,7 +61,8 @@ pub fn address(
     key: &'static str,
     default: &str,
 ) -> Result<String, SettingsFault>
-    ensures meaning { Tells string_bytes result (address_at key.now default.now (keys_of table.entry)) }
+    ensures meaning { Tells string_bytes result
+        (address_at key.now default.now (keys_of table.entry)) }
     ensures address { IfOk result (λ s. IsTrue (is_address (string_bytes s))) }
 {
     let text = keys::text_or(table, key, default)?;
@@ -100,7 +101,8 @@ pub fn header(
     key: &'static str,
     default: &str,
 ) -> Result<String, SettingsFault>
-    ensures meaning { Tells string_bytes result (header_at key.now default.now (keys_of table.entry)) }
+    ensures meaning { Tells string_bytes result
+        (header_at key.now default.now (keys_of table.entry)) }
     ensures header { IfOk result (λ s. IsTrue (is_header (string_bytes s))) }
 {
     let text = keys::text_or(table, key, default)?;

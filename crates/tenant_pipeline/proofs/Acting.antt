@@ -1,18 +1,21 @@
--- A step of a tenant that changes its part of the stores as well: a post, and a drain.
-use Rattle.std.proofs.Common.{◌≡◌, ◌≢◌, ◌∙◌, ℕ, [], refl, ap, arith, true}
+-- A step of a tenant, from its timers and what it does then.
+use Rattle.std.proofs.Common.{◌≡◌, ◌∙◌, ℕ, List, [], sym, subst, ap, arith}
+use Rattle.drop_ledger.specs.Ledger.{LedgerData}
 use Rattle.tail_policy.specs.declared.note.TraceNote.{TraceNote}
-use Rattle.tenant_stores.specs.Part.{Part, part}
+use Rattle.tenant_stores.specs.Part.{Part}
 use Rattle.tenant_stores.specs.declared.stores.Stores.{Stores}
 use Rattle.tenant_rules.specs.declared.reply.StepReply.{StepReply}
-use Rattle.tenant_rules.specs.Machine.{acts, drain, effective, next, told, told_at}
-use Rattle.tenant_rules.specs.Own.{Own}
+use Rattle.tenant_rules.specs.declared.reply.StepReply.TheVariants as replies
+use Rattle.tenant_rules.specs.Machine.{acts, effective, next, told, told_at}
+use Rattle.tenant_rules.specs.Own.{Own, Retire}
 use Rattle.tenant_rules.specs.State.{State}
 use Rattle.tenant_rules.specs.Timers.{advanced, enough, ran}
 use Rattle.tenant_pipeline.specs.declared.pipeline.Pipeline.{Pipeline}
 use Rattle.tenant_pipeline.specs.Acts.{ActsAt, at}
-use Rattle.tenant_pipeline.specs.Invariant.{PipelineInvariantAt, PipelineInvariantBy}
-use Rattle.tenant_pipeline.specs.StateIn.{part_in, state_in}
-use Rattle.tenant_pipeline.proofs.Stepping.{Done}
+use Rattle.tenant_pipeline.specs.Invariant.{PipelineInvariantAt, PipelineInvariantBy, HasNonePending}
+use Rattle.tenant_pipeline.specs.StateIn.{part_in, state_in, state_of}
+use Rattle.tenant_pipeline.proofs.Retiring.{none_counted, none_pending}
+use Rattle.tenant_pipeline.proofs.Stepping.{Done, counted_with, within_with}
 
 -- the clock is set to the moment up to which timers ran
 held_now : (moment : ℕ) (own : Pipeline) (q : Part TraceNote) → PipelineInvariantAt moment [] [] own q → PipelineInvariantBy (record own { clock = moment }) q
@@ -24,25 +27,8 @@ held_now moment own q held = record {
   order = held.order;
   due_by = held.due_by;
   timer = held.timer;
-  counted = let counted = held.counted in record {
-    sound = counted.sound;
-    undecided_is = counted.undecided_is;
-    pending_is = counted.pending_is;
-    queued_is = counted.queued_is;
-    active_is = counted.active_is;
-    within_budget = counted.within_budget;
-  };
-  within = let within = held.within in record {
-    rows_are = within.rows_are;
-    queue_size_is = within.queue_size_is;
-    num_consumers_is = within.num_consumers_is;
-    queue_fits = within.queue_fits;
-    active_fit = within.active_fit;
-    sampled_size_is = within.sampled_size_is;
-    other_size_is = within.other_size_is;
-    sampled_fit = within.sampled_fit;
-    others_fit = within.others_fit;
-  };
+  counted = counted_with own.clock moment (state_of own q) held.counted;
+  within = within_with own.clock moment (state_of own q) held.within;
   few = held.few;
   clock_by = omega arith;
   reached_fits = held.reached_fits;
@@ -69,12 +55,12 @@ acted_done step moment s said mid before new after acted said_is =
       held = held_now moment new (part_in new after) acted.holds;
     }
 
--- what a drain makes of a tenant whose timers ran, be it the first or not
-pub record Drains (moment : ℕ) (mid : Pipeline) (before : Stores TraceNote) (new : Pipeline) (after : Stores TraceNote) : Type 0 where
-  pub change : ActsAt moment (drain moment) (state_in mid before) (state_in new after)
-  pub holds : PipelineInvariantAt moment [] [] new (part_in new after)
-  pub others : (other : ℕ) → other ≢ mid.tenant → part other after ≡ part other before
-
--- a second one changes nothing
-pub rests : (moment : ℕ) (mid : Pipeline) (stores : Stores TraceNote) → mid.drained ≡ true → PipelineInvariantAt moment [] [] mid (part_in mid stores) → Drains moment mid stores mid stores
-rests moment mid stores drained held = record { change = rw drained refl; holds = held; others = λ other ne. refl }
+-- a retirement that is told the last report leaves no span that waits for a batch
+pub may_leave : (step : Own) (moment now : ℕ) (s : State) (said : StepReply) (text : List ℕ) (mid : Pipeline) (before : Stores TraceNote) (new : Pipeline) (after : Stores TraceNote) →
+    Acted step moment s mid before new after → said ≡ told_at moment step (at moment (state_in mid before)) → step ≡ Retire now → said ≡ replies.Report text → HasNonePending new
+may_leave step moment now s said text mid before new after acted said_is retires told =
+    let there : ActsAt moment (acts moment (Retire now)) (state_in mid before) (state_in new after) = subst (λ (o : Own). ActsAt moment (acts moment o) (state_in mid before) (state_in new after)) retires acted.change in
+    let says : said ≡ told_at moment (Retire now) (at moment (state_in mid before)) = subst (λ (o : Own). said ≡ told_at moment o (at moment (state_in mid before))) retires said_is in
+    let ledger : new.ledger ≡ mid.ledger = ap (λ (z : State). z.ledger) there in
+    none_pending (record new { clock = moment }) (part_in new after) (held_now moment new (part_in new after) acted.holds)
+    (ap (λ (l : LedgerData). l.places.pending) ledger ∙ none_counted mid.drained mid.ledger text (sym says ∙ told))

@@ -35,7 +35,7 @@ use Rattle.otlp_prepare.specs.declared.noted.NotedSpan.{NotedSpan}
 use Rattle.tenant_pipeline.specs.declared.undo.Undo.{Undo}
 use Rattle.tenant_pipeline.specs.StateIn.{arrival_of, arrivals_of, settled_of, waiting_of, counts_in, policies_of, state_by, state_of}
 use Rattle.tenant_pipeline.specs.Invariant.{IsNoted, PipelineInvariantAt}
-use Rattle.tenant_pipeline.specs.Posts.{arrival_at, Came, IsComing, IsPosting}
+use Rattle.tenant_pipeline.specs.Posts.{arrival_at, Came, IsComing, IsPosting, first_left, ledger_left}
 use Rattle.tenant_pipeline.proofs.Counting.{HasOne, fits_same, opens_fit, opens_in_time}
 use Rattle.tenant_pipeline.proofs.Placing.{IsReady, among_pending}
 
@@ -73,30 +73,22 @@ moved_taken k l few =
 
 -- what the code makes of the tenant's own
 module _ (own : Pipeline) (mid : Part TraceNote) where
-  -- the first row that is present once there is room
-  abbrev pub first_left : ℕ
-  first_left = own.rows.opened + 1 - own.section.tail_sampling.num_traces
-
-  -- the counters then
-  abbrev pub ledger_left : LedgerData
-  ledger_left = cond (nat_lt own.rows.decided first_left) (moved Undecided TooEarly (length (keys_of (mid.rows first_left))) own.ledger) own.ledger
-
-  -- and with one row more
+  -- what is kept once there is room, and with one row more
   abbrev pub opened_own : Pipeline
   opened_own = record own {
-    rows = record own.rows { first = first_left; decided = max own.rows.decided first_left; opened = own.rows.opened + 1 };
-    ledger = taken 1 ledger_left;
+    rows = record own.rows { first = first_left own; decided = max own.rows.decided (first_left own); opened = own.rows.opened + 1 };
+    ledger = taken 1 (ledger_left own mid);
   }
 
-  pub opened_is : (made : Pipeline) (left : LedgerData) → counts_in made ≡ room_made own.section.tail_sampling.num_traces (counts_in own) → made.ledger ≡ ledger_left → made ≡ record own { rows = made.rows; ledger = made.ledger } → left ≡ taken 1 made.ledger →
+  pub opened_is : (made : Pipeline) (left : LedgerData) → counts_in made ≡ room_made own.section.tail_sampling.num_traces (counts_in own) → made.ledger ≡ ledger_left own mid → made ≡ record own { rows = made.rows; ledger = made.ledger } → left ≡ taken 1 made.ledger →
       record made { rows = record made.rows { opened = made.rows.opened + 1 }; ledger = left } ≡ opened_own
   opened_is made left counts ledger_is same left_is =
       let rows : RowCounts = record made.rows { opened = made.rows.opened + 1 } in
-      let rows_are : rows ≡ record own.rows { first = first_left; decided = max own.rows.decided first_left; opened = own.rows.opened + 1 } =
+      let rows_are : rows ≡ record own.rows { first = first_left own; decided = max own.rows.decided (first_left own); opened = own.rows.opened + 1 } =
       λ i. record { swept = (counts i).swept; first = (counts i).first; decided = (counts i).decided; opened = (counts i).opened + 1 } in
       ap (λ (o : Pipeline). let y : Pipeline = record o { rows = rows; ledger = left } in y) same
       ∙ (ap (λ (r : RowCounts). let y : Pipeline = record own { rows = r; ledger = left } in y) rows_are
-      ∙ ap (λ (l : LedgerData). let y : Pipeline = record own { rows = record own.rows { first = first_left; decided = max own.rows.decided first_left; opened = own.rows.opened + 1 }; ledger = l } in y) (left_is ∙ ap (taken 1) ledger_is))
+      ∙ ap (λ (l : LedgerData). let y : Pipeline = record own { rows = record own.rows { first = first_left own; decided = max own.rows.decided (first_left own); opened = own.rows.opened + 1 }; ledger = l } in y) (left_is ∙ ap (taken 1) ledger_is))
 
 module _ (own : Pipeline) (mid : Part TraceNote) (pending others : List ℕ) (sound : StoreInvariant (counts_in own) pending others mid) (some : 0 < own.section.tail_sampling.num_traces)
     (first_is : own.rows.first ≡ own.rows.opened - own.section.tail_sampling.num_traces) (undecided : own.ledger.places.undecided ≡ spans_in (map waiting_of (waiting_in (counts_in own) mid))) where
@@ -104,7 +96,7 @@ module _ (own : Pipeline) (mid : Part TraceNote) (pending others : List ℕ) (so
   most = own.section.tail_sampling.num_traces
 
   abbrev first : ℕ
-  first = first_left own mid
+  first = first_left own
 
   -- where the first row waits, and leaves
   pub record Leaves (row : WaitingRow TraceNote) : Type 0 where
@@ -216,7 +208,7 @@ with_room_noted policies false v all = room_noted policies v.settled v all
 
 -- where a row leaves, its spans are undecided
 pub leaves_few : (own : Pipeline) (p mid : Part TraceNote) (moment : ℕ) (journal : Journal) (keys : TextKeys) (span : NotedSpan) (held : List ℕ) → IsComing moment journal keys span held own p →
-    (kept_span : StoredData) → IsReady own p mid journal keys span.text kept_span → own.rows.decided < first_left own mid → length (keys_of (mid.rows (first_left own mid))) ≤ own.ledger.places.undecided
+    (kept_span : StoredData) → IsReady own p mid journal keys span.text kept_span → own.rows.decided < first_left own → length (keys_of (mid.rows (first_left own))) ≤ own.ledger.places.undecided
 leaves_few own p mid moment journal keys span held coming kept_span ready lt =
     let h = coming.posting.holds in
     let range = own.section.tail_sampling.num_traces_range in
@@ -250,7 +242,7 @@ module _ (own : Pipeline) (p mid q : Part TraceNote) (moment : ℕ) (journal : J
   num = own.section.tail_sampling.num_traces
 
   abbrev gone : ℕ
-  gone = first_left own mid
+  gone = first_left own
 
   num_some : 0 < num
   num_some = let range = own.section.tail_sampling.num_traces_range in omega (arith, range.0)

@@ -1,32 +1,30 @@
 -- A step of a tenant, from its timers and what it does then.
-use Rattle.std.proofs.Common.{◌≡◌, ◌<◌, ◌≤◌, ◌∙◌, ℕ, List, [], ◌∷◌, refl, sym, ap, subst, arith}
+use Rattle.std.proofs.Common.{◌≡◌, ◌<◌, ◌∙◌, ℕ, zero, suc, List, [], ◌∷◌, refl, sym, ap, subst, arith, Bool, false}
+use Rattle.std.specs.Prelude.{if◌then◌else◌, Result, Ok, Err, OnOk, OnErr}
 use Rattle.tail_policy.specs.declared.note.TraceNote.{TraceNote}
 use Rattle.tail_settings.specs.Section.{SectionData}
 use Rattle.drop_ledger.specs.Ledger.{LedgerData}
-use Rattle.drop_ledger.specs.Report.{report_text}
 use Rattle.send_retry.specs.Class.{AnswerData}
 use Rattle.span_batcher.specs.Batches as batches
+use Rattle.span_batcher.specs.Timers.{is_due}
 use Rattle.tenant_stores.specs.Part.{Part, part}
 use Rattle.tenant_stores.specs.declared.stores.Stores.{Stores}
 use Rattle.tenant_rules.specs.declared.reply.StepReply.{StepReply}
-use Rattle.tenant_rules.specs.declared.reply.StepReply.TheVariants as replies
-use Rattle.tenant_rules.specs.Answers.{turn_told, heard}
 use Rattle.tenant_rules.specs.Batching.{rules_of}
 use Rattle.tenant_rules.specs.Limits.{IsWithinLimits}
-use Rattle.tenant_rules.specs.Machine.{all_moved, effective, next, settled, told, turned, turned_by}
-use Rattle.tenant_rules.specs.Own.{Own, Turn, Answer, Report, Retire}
-use Rattle.tenant_rules.specs.Retiring.{retire_told}
+use Rattle.tenant_rules.specs.Machine.{acts, all_moved, effective, next, settled, told, turned, turned_by}
+use Rattle.tenant_rules.specs.Own.{Own, Turn, Answer, asked}
 use Rattle.tenant_rules.specs.Sender.{Choice, Retried, Oldest, NoBatch, choice, in_flight}
 use Rattle.tenant_rules.specs.Sending.{EndedData, ended_in_flight}
 use Rattle.tenant_rules.specs.State.{State, state}
 use Rattle.tenant_rules.specs.Sum.{IsCounted}
-use Rattle.tenant_rules.specs.Timers.{advanced, enough, ran}
+use Rattle.tenant_rules.specs.Timers.{advanced, enough, next_timer, one_run, ran}
 use Rattle.tenant_rules.proofs.AnyStep.{step_follows}
 use Rattle.tenant_rules.proofs.Counted.{steps_count}
 use Rattle.tenant_rules.proofs.Limits.{steps_stay_within}
 use Rattle.tenant_pipeline.specs.declared.pipeline.Pipeline.{Pipeline}
-use Rattle.tenant_pipeline.specs.Acts.{at}
-use Rattle.tenant_pipeline.specs.Invariant.{PipelineInvariant, PipelineInvariantAt, PipelineInvariantBy}
+use Rattle.tenant_pipeline.specs.Acts.{ActsAt, at}
+use Rattle.tenant_pipeline.specs.Invariant.{PipelineInvariant, PipelineInvariantAt}
 use Rattle.tenant_pipeline.specs.Outbox.{Sends}
 use Rattle.tenant_pipeline.specs.StateIn.{part_in, state_in, state_of}
 use Rattle.tenant_pipeline.specs.Steps.{Answers, FollowsFromState}
@@ -49,42 +47,35 @@ answers_of step old new said range goes w past stands =
     let follows = step_follows w own.rows own.wait own.rules past step in
     ((goes.said_is ∙ (ap (told step) stands ∙ sym follows.told_is)), (goes.new_is ∙ (ap (next step) stands ∙ sym follows.state_is)))
 
--- ---- what goes on to hold
+-- ---- where no timer is due
 
--- a change of the sender and the counters leaves all else as the timers left it
-pub held_after : (moment : ℕ) (mid sent : Pipeline) (q : Part TraceNote) → PipelineInvariantAt moment [] [] mid q →
-    sent ≡ record mid { sender = sent.sender; ledger = sent.ledger } → mid.ledger.accepted ≤ sent.ledger.accepted →
-    IsCounted (state_of (record sent { clock = moment }) q) → IsWithinLimits (state_of (record sent { clock = moment }) q) →
-    PipelineInvariantBy (record sent { clock = moment }) q
-held_after moment mid sent q reached same taken counted within =
-    subst (λ (o : Pipeline). PipelineInvariantBy (record o { clock = moment }) q) (sym same) (record {
-      sound = reached.sound;
-      first_is = reached.first_is;
-      noted = reached.noted;
-      rules_are = reached.rules_are;
-      order = reached.order;
-      due_by = reached.due_by;
-      timer = reached.timer;
-      counted = subst (λ (o : Pipeline). IsCounted (state_of (record o { clock = moment }) q)) same counted;
-      within = subst (λ (o : Pipeline). IsWithinLimits (state_of (record o { clock = moment }) q)) same within;
-      few = omega (arith, reached.few, taken);
-      clock_by = omega arith;
-      reached_fits = reached.reached_fits;
-    })
+-- none runs
+ran_none : (n moment : ℕ) (s : State) → is_due (next_timer s) moment ≡ false → ran n moment s ≡ s
+ran_none zero moment s none = refl
+ran_none (suc n) moment s none = ap (λ (b : Bool). if b then ran n moment (one_run s) else s) none
+
+-- a step that takes effect at a moment is what was asked for alone
+next_alone : (step : Own) (moment : ℕ) (s : State) → effective step s ≡ moment → is_due (next_timer s) moment ≡ false → next step s ≡ acts moment step (at moment s)
+unfolding next
+next_alone step moment s now none =
+    ap (λ (m : ℕ). acts m step (advanced m s)) now ∙ ap (λ (z : State). acts moment step (at moment z)) (ran_none (enough s) moment s none)
 
 -- ---- what is sent
 
--- the timers ran, and then the sender and the counters changed as the rules have it
-pub sent_is : (change : State → State) (moment : ℕ) (s : State) (mid sent : Pipeline) (q : Part TraceNote) →
-    state_of mid q ≡ ran (enough s) moment s → Sends change mid sent →
-    state_of (record sent { clock = moment }) q ≡ change (advanced moment s)
-sent_is change moment s mid sent q ok sends =
-    let ready : State = at moment (state_of mid q) in
+-- the sender and the counters change as the rules have it
+pub sent_acts : (change : State → State) (moment : ℕ) (own sent : Pipeline) (p : Part TraceNote) → Sends change own sent → ActsAt moment change (state_of own p) (state_of sent p)
+sent_acts change moment own sent p sends =
+    let ready : State = at moment (state_of own p) in
     let made : change ready ≡ record ready { sender = sent.sender; ledger = sent.ledger } = sends.rules ready refl refl in
-    let own : state_of (record sent { clock = moment }) q ≡ record ready { sender = sent.sender; ledger = sent.ledger } =
-    ap (λ (o : Pipeline). state_of (record o { clock = moment }) q) sends.same in
-    let timers : ready ≡ advanced moment s = ap (at moment) ok in
-    own ∙ (sym made ∙ ap change timers)
+    let same : at moment (state_of sent p) ≡ record ready { sender = sent.sender; ledger = sent.ledger } =
+    ap (λ (o : Pipeline). at moment (state_of o p)) sends.same in
+    same ∙ sym made
+
+-- by a call that was refused memory, nothing
+pub sent_either : {T E : Type 0} (r : Result T E) (change : State → State) (own sent : Pipeline) → OnOk r (Sends change own sent) → OnErr r (sent ≡ own) →
+    sent ≡ record own { sender = sent.sender; ledger = sent.ledger }
+sent_either (Ok x) change own sent sends same = sends.same
+sent_either (Err e) change own sent sends same = subst (λ (o : Pipeline). o ≡ record own { sender = o.sender; ledger = o.ledger }) (sym same) refl
 
 -- spans that go from one place to another are none that come
 turned_taken : (moment : ℕ) (c : Choice) (s : State) → (turned_by moment c s).ledger.accepted ≡ s.ledger.accepted
@@ -96,153 +87,90 @@ moved_taken : (es : List EndedData) (l : LedgerData) → (all_moved es l).accept
 moved_taken [] l = refl
 moved_taken (e ∷ es) l = moved_taken es _
 
--- of a change that takes no span, as many were taken before and after
-taken_same : (change : State → State) (mid sent : Pipeline) (q : Part TraceNote) → Sends change mid sent →
-    (change (state_of mid q)).ledger.accepted ≡ mid.ledger.accepted → mid.ledger.accepted ≤ sent.ledger.accepted
-taken_same change mid sent q sends none =
-    let made : (change (state_of mid q)).ledger.accepted ≡ sent.ledger.accepted = ap (λ (s : State). s.ledger.accepted) (sends.rules (state_of mid q) refl refl) in
-    omega (arith, none, made)
+-- what is counted, and what is limited, doesn't go by the clock
+pub counted_with : (moment clock : ℕ) (s : State) → IsCounted (at moment s) → IsCounted (at clock s)
+counted_with moment clock s counted = record {
+  sound = counted.sound;
+  undecided_is = counted.undecided_is;
+  pending_is = counted.pending_is;
+  queued_is = counted.queued_is;
+  active_is = counted.active_is;
+  within_budget = counted.within_budget;
+}
 
--- ---- the steps
+pub within_with : (moment clock : ℕ) (s : State) → IsWithinLimits (at moment s) → IsWithinLimits (at clock s)
+within_with moment clock s within = record {
+  rows_are = within.rows_are;
+  queue_size_is = within.queue_size_is;
+  num_consumers_is = within.num_consumers_is;
+  queue_fits = within.queue_fits;
+  active_fit = within.active_fit;
+  sampled_size_is = within.sampled_size_is;
+  other_size_is = within.other_size_is;
+  sampled_fit = within.sampled_fit;
+  others_fit = within.others_fit;
+}
 
--- a step that changes the sender and the counters alone: what it leaves, and that this holds
-pub record Stepped (step : Own) (old : State) (new : Pipeline) (q : Part TraceNote) : Type 0 where
-  pub new_is : state_of new q ≡ next step old
-  pub held : PipelineInvariantBy new q
+-- a step asks for its moment, by which no timer is due, and changes the sender and the counters alone: what always holds
+-- goes on to hold
+sent_holds : (step : Own) (moment : ℕ) (own sent : Pipeline) (p : Part TraceNote) → asked step ≡ moment → PipelineInvariantAt moment [] [] own p → is_due (next_timer (state_of own p)) moment ≡ false →
+    Sends (acts moment step) own sent → (acts moment step (state_of own p)).ledger.accepted ≡ own.ledger.accepted → PipelineInvariantAt moment [] [] sent p
+sent_holds step moment own sent p now holds none sends taken =
+    let s : State = state_of own p in
+    let effect : effective step s ≡ moment = omega (arith, now, holds.clock_by, holds.reached_fits) in
+    let after : next step s ≡ at moment (state_of sent p) = next_alone step moment s effect none ∙ sym (sent_acts (acts moment step) moment own sent p sends) in
+    let counted : IsCounted (at moment (state_of sent p)) = subst IsCounted after (steps_count step s holds.counted) in
+    let within : IsWithinLimits (at moment (state_of sent p)) = subst IsWithinLimits after (steps_stay_within step s own.section.tail_sampling.num_traces_range.0 holds.within) in
+    let accepted : (acts moment step s).ledger.accepted ≡ sent.ledger.accepted = ap (λ (z : State). z.ledger.accepted) (sends.rules s refl refl) in
+    subst (λ (o : Pipeline). PipelineInvariantAt moment [] [] o p) (sym sends.same) (record {
+      sound = holds.sound;
+      first_is = holds.first_is;
+      noted = holds.noted;
+      rules_are = holds.rules_are;
+      order = holds.order;
+      due_by = holds.due_by;
+      timer = holds.timer;
+      counted = subst (λ (o : Pipeline). IsCounted (state_of o p)) sends.same (counted_with moment sent.clock (state_of sent p) counted);
+      within = subst (λ (o : Pipeline). IsWithinLimits (state_of o p)) sends.same (within_with moment sent.clock (state_of sent p) within);
+      few = omega (arith, holds.few, taken, accepted);
+      clock_by = holds.clock_by;
+      reached_fits = holds.reached_fits;
+    })
 
-stepped : (step : Own) (change : State → State) (moment : ℕ) (s : State) (mid sent : Pipeline) (q : Part TraceNote) → (next step s ≡ change (advanced moment s)) → 0 < s.section.tail_sampling.num_traces → IsCounted s → IsWithinLimits s →
-    state_of mid q ≡ ran (enough s) moment s → PipelineInvariantAt moment [] [] mid q → Sends change mid sent →
-    (change (state_of mid q)).ledger.accepted ≡ mid.ledger.accepted → Stepped step s (record sent { clock = moment }) q
-stepped step change moment s mid sent q is rows counted within ok reached sends none =
-    let same : state_of (record sent { clock = moment }) q ≡ next step s = sent_is change moment s mid sent q ok sends ∙ sym is in
-    record {
-      new_is = same;
-      held = held_after moment mid sent q reached sends.same (taken_same change mid sent q sends none)
-          (subst IsCounted (sym same) (steps_count step s counted))
-          (subst IsWithinLimits (sym same) (steps_stay_within step s rows within));
-    }
+-- over the stores, of the same tenant
+pub record Sent (step : Own) (moment : ℕ) (own sent : Pipeline) (stores : Stores TraceNote) : Type 0 where
+  pub change : ActsAt moment (acts moment step) (state_in own stores) (state_in sent stores)
+  pub holds : PipelineInvariantAt moment [] [] sent (part_in sent stores)
 
-pub turn_stepped : (now : ℕ) (s : State) (mid sent : Pipeline) (q : Part TraceNote) → 0 < s.section.tail_sampling.num_traces → IsCounted s → IsWithinLimits s →
-    state_of mid q ≡ ran (enough s) (effective (Turn now) s) s → PipelineInvariantAt (effective (Turn now) s) [] [] mid q → Sends (turned (effective (Turn now) s)) mid sent →
-    Stepped (Turn now) s (record sent { clock = effective (Turn now) s }) q
-unfolding next
-turn_stepped now s mid sent q rows counted within ok reached sends =
-    let e = effective (Turn now) s in
-    stepped (Turn now) (turned e) e s mid sent q refl rows counted within ok reached sends (turned_taken e (choice e mid.sender) (state_of mid q))
+sent_over : (step : Own) (moment : ℕ) (own sent : Pipeline) (stores : Stores TraceNote) → sent.tenant ≡ own.tenant → ActsAt moment (acts moment step) (state_in own stores) (state_of sent (part_in own stores)) →
+    PipelineInvariantAt moment [] [] sent (part_in own stores) → Sent step moment own sent stores
+sent_over step moment own sent stores tenant change holds = record {
+  change = subst (λ (t : ℕ). ActsAt moment (acts moment step) (state_in own stores) (state_of sent (part t stores))) (sym tenant) change;
+  holds = subst (λ (t : ℕ). PipelineInvariantAt moment [] [] sent (part t stores)) (sym tenant) holds;
+}
 
-pub answer_stepped : (now ticket word : ℕ) (given : AnswerData) (s : State) (mid sent : Pipeline) (q : Part TraceNote) → 0 < s.section.tail_sampling.num_traces → IsCounted s → IsWithinLimits s →
-    (let step = Answer now ticket word given in state_of mid q ≡ ran (enough s) (effective step s) s) → PipelineInvariantAt (effective (Answer now ticket word given) s) [] [] mid q →
-    Sends (settled ticket (effective (Answer now ticket word given) s) word given) mid sent →
-    Stepped (Answer now ticket word given) s (record sent { clock = effective (Answer now ticket word given) s }) q
-unfolding next
-answer_stepped now ticket word given s mid sent q rows counted within ok reached sends =
-    let step = Answer now ticket word given in
-    let e = effective step s in
-    stepped step (settled ticket e word given) e s mid sent q refl rows counted within ok reached sends
-    (moved_taken (ended_in_flight e word given (in_flight ticket mid.sender)) mid.ledger)
+-- a worker asks for a job
+pub turn_sent : (now moment : ℕ) (own sent : Pipeline) (stores : Stores TraceNote) → PipelineInvariantAt moment [] [] own (part_in own stores) → is_due (next_timer (state_in own stores)) moment ≡ false →
+    Sends (turned moment) own sent → Sent (Turn now) moment own sent stores
+turn_sent now moment own sent stores holds none sends =
+    let p = part_in own stores in
+    sent_over (Turn now) moment own sent stores (ap (λ (o : Pipeline). o.tenant) sends.same) (sent_acts (turned moment) moment own sent p sends)
+    (sent_holds (Turn moment) moment own sent p refl holds none sends (turned_taken moment (choice moment own.sender) (state_of own p)))
 
--- nothing is
-none_sent : (own : Pipeline) → Sends (λ (z : State). z) own own
-none_sent own = record { rules = λ (z : State) sender ledger. λ i. record z { sender = sender i; ledger = ledger i }; same = refl }
+-- a back end answers
+pub answer_sent : (now ticket word moment : ℕ) (given : AnswerData) (own sent : Pipeline) (stores : Stores TraceNote) → PipelineInvariantAt moment [] [] own (part_in own stores) →
+    is_due (next_timer (state_in own stores)) moment ≡ false → Sends (settled ticket moment word given) own sent → Sent (Answer now ticket word given) moment own sent stores
+answer_sent now ticket word moment given own sent stores holds none sends =
+    let p = part_in own stores in
+    sent_over (Answer now ticket word given) moment own sent stores (ap (λ (o : Pipeline). o.tenant) sends.same) (sent_acts (settled ticket moment word given) moment own sent p sends)
+    (sent_holds (Answer moment ticket word given) moment own sent p refl holds none sends (moved_taken (ended_in_flight moment word given (in_flight ticket own.sender)) own.ledger))
 
-pub report_stepped : (now : ℕ) (s : State) (mid : Pipeline) (q : Part TraceNote) → 0 < s.section.tail_sampling.num_traces → IsCounted s → IsWithinLimits s →
-    state_of mid q ≡ ran (enough s) (effective (Report now) s) s → PipelineInvariantAt (effective (Report now) s) [] [] mid q →
-    Stepped (Report now) s (record mid { clock = effective (Report now) s }) q
-unfolding next
-report_stepped now s mid q rows counted within ok reached =
-    let e = effective (Report now) s in
-    stepped (Report now) (λ (z : State). z) e s mid mid q refl rows counted within ok reached (none_sent mid) refl
+-- ---- a step is done
 
-pub retire_stepped : (now : ℕ) (s : State) (mid : Pipeline) (q : Part TraceNote) → 0 < s.section.tail_sampling.num_traces → IsCounted s → IsWithinLimits s →
-    state_of mid q ≡ ran (enough s) (effective (Retire now) s) s → PipelineInvariantAt (effective (Retire now) s) [] [] mid q →
-    Stepped (Retire now) s (record mid { clock = effective (Retire now) s }) q
-unfolding next
-retire_stepped now s mid q rows counted within ok reached =
-    let e = effective (Retire now) s in
-    stepped (Retire now) (λ (z : State). z) e s mid mid q refl rows counted within ok reached (none_sent mid) refl
-
--- ---- over the stores
-
--- a step is done: what is told and left follows from the state before it, and what always holds goes on to hold
+-- what is told and left follows from the state before it, and what always holds goes on to hold
 pub record Done (step : Own) (old : State) (said : StepReply) (new : Pipeline) (stores : Stores TraceNote) : Type 0 where
   pub from_state : FollowsFromState step old said (state_in new stores)
   pub held : PipelineInvariant new stores
-
--- what a step finds: the rules' limits before it, and the timers that ran by the moment at which it takes effect
-pub record Finds (step : Own) (moment : ℕ) (s : State) (mid : Pipeline) (stores : Stores TraceNote) : Type 0 where
-  pub at : moment ≡ effective step s
-  pub rows : 0 < s.section.tail_sampling.num_traces
-  pub counted : IsCounted s
-  pub within : IsWithinLimits s
-  pub ok : state_in mid stores ≡ ran (enough s) moment s
-  pub reached : PipelineInvariantAt moment [] [] mid (part_in mid stores)
-
--- the tenant is the same
-done_over : (step : Own) (s : State) (said : StepReply) (mid new : Pipeline) (stores : Stores TraceNote) → new.tenant ≡ mid.tenant →
-    said ≡ told step s → Stepped step s new (part_in mid stores) → Done step s said new stores
-done_over step s said mid new stores tenant told_is stepped =
-    let there : Stepped step s new (part_in new stores) = subst (λ (t : ℕ). Stepped step s new (part t stores)) (sym tenant) stepped in
-    record { from_state = record { said_is = told_is; new_is = there.new_is }; held = there.held }
-
--- at the moment at which it takes effect
-abbrev TurnDone : ℕ → State → Pipeline → Pipeline → Stores TraceNote → ℕ → Type 0
-TurnDone now s mid sent stores moment = state_in mid stores ≡ ran (enough s) moment s → PipelineInvariantAt moment [] [] mid (part_in mid stores) → Sends (turned moment) mid sent →
-    Done (Turn now) s (turn_told moment mid.sender) (record sent { clock = moment }) stores
-
-pub turn_done : (now moment : ℕ) (s : State) (mid sent : Pipeline) (stores : Stores TraceNote) → Finds (Turn now) moment s mid stores → Sends (turned moment) mid sent →
-    Done (Turn now) s (turn_told moment mid.sender) (record sent { clock = moment }) stores
-unfolding told
-turn_done now moment s mid sent stores finds sends = subst (TurnDone now s mid sent stores) (sym finds.at) then finds.ok finds.reached sends
-  where
-    then : TurnDone now s mid sent stores (effective (Turn now) s)
-    then ok reached sends = done_over (Turn now) s (turn_told (effective (Turn now) s) mid.sender) mid (record sent { clock = effective (Turn now) s }) stores
-        (ap (λ (o : Pipeline). o.tenant) sends.same) (ap (λ (z : State). turn_told (effective (Turn now) s) z.sender) ok)
-        (turn_stepped now s mid sent (part_in mid stores) finds.rows finds.counted finds.within ok reached sends)
-
-abbrev AnswerDone : ℕ → ℕ → ℕ → AnswerData → State → Pipeline → Pipeline → Stores TraceNote → ℕ → Type 0
-AnswerDone now ticket word given s mid sent stores moment = state_in mid stores ≡ ran (enough s) moment s → PipelineInvariantAt moment [] [] mid (part_in mid stores) →
-    Sends (settled ticket moment word given) mid sent →
-    Done (Answer now ticket word given) s (heard (in_flight ticket mid.sender)) (record sent { clock = moment }) stores
-
-pub answer_done : (now ticket word moment : ℕ) (given : AnswerData) (s : State) (mid sent : Pipeline) (stores : Stores TraceNote) →
-    Finds (Answer now ticket word given) moment s mid stores → Sends (settled ticket moment word given) mid sent →
-    Done (Answer now ticket word given) s (heard (in_flight ticket mid.sender)) (record sent { clock = moment }) stores
-unfolding told
-answer_done now ticket word moment given s mid sent stores finds sends =
-    subst (AnswerDone now ticket word given s mid sent stores) (sym finds.at) then finds.ok finds.reached sends
-  where
-    then : AnswerDone now ticket word given s mid sent stores (effective (Answer now ticket word given) s)
-    then ok reached sends = done_over (Answer now ticket word given) s (heard (in_flight ticket mid.sender)) mid (record sent { clock = effective (Answer now ticket word given) s }) stores
-        (ap (λ (o : Pipeline). o.tenant) sends.same) (ap (λ (z : State). heard (in_flight ticket z.sender)) ok)
-        (answer_stepped now ticket word given s mid sent (part_in mid stores) finds.rows finds.counted finds.within ok reached sends)
-
-abbrev ReportDone : ℕ → State → Pipeline → Stores TraceNote → ℕ → Type 0
-ReportDone now s mid stores moment = state_in mid stores ≡ ran (enough s) moment s → PipelineInvariantAt moment [] [] mid (part_in mid stores) →
-    Done (Report now) s (replies.Report (report_text mid.ledger)) (record mid { clock = moment }) stores
-
-pub report_done : (now moment : ℕ) (s : State) (mid : Pipeline) (stores : Stores TraceNote) → Finds (Report now) moment s mid stores →
-    Done (Report now) s (replies.Report (report_text mid.ledger)) (record mid { clock = moment }) stores
-unfolding told
-report_done now moment s mid stores finds = subst (ReportDone now s mid stores) (sym finds.at) then finds.ok finds.reached
-  where
-    then : ReportDone now s mid stores (effective (Report now) s)
-    then ok reached = done_over (Report now) s (replies.Report (report_text mid.ledger)) mid (record mid { clock = effective (Report now) s }) stores refl
-        (ap (λ (z : State). replies.Report (report_text z.ledger)) ok)
-        (report_stepped now s mid (part_in mid stores) finds.rows finds.counted finds.within ok reached)
-
-abbrev RetireDone : ℕ → State → Pipeline → Stores TraceNote → ℕ → Type 0
-RetireDone now s mid stores moment = state_in mid stores ≡ ran (enough s) moment s → PipelineInvariantAt moment [] [] mid (part_in mid stores) →
-    Done (Retire now) s (retire_told mid.drained mid.ledger) (record mid { clock = moment }) stores
-
-pub retire_done : (now moment : ℕ) (s : State) (mid : Pipeline) (stores : Stores TraceNote) → Finds (Retire now) moment s mid stores →
-    Done (Retire now) s (retire_told mid.drained mid.ledger) (record mid { clock = moment }) stores
-unfolding told
-retire_done now moment s mid stores finds = subst (RetireDone now s mid stores) (sym finds.at) then finds.ok finds.reached
-  where
-    then : RetireDone now s mid stores (effective (Retire now) s)
-    then ok reached = done_over (Retire now) s (retire_told mid.drained mid.ledger) mid (record mid { clock = effective (Retire now) s }) stores refl
-        (ap (λ (z : State). retire_told z.drained z.ledger) ok)
-        (retire_stepped now s mid (part_in mid stores) finds.rows finds.counted finds.within ok reached)
 
 -- the settings of a tenant are in their ranges
 pub ranges : (own : Pipeline) (stores : Stores TraceNote) → AreInRange (state_in own stores).section

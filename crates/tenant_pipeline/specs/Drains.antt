@@ -1,5 +1,5 @@
 -- How the rows that wait are decided at once, and all that is pending is sent. This project's own rule.
-use Rattle.std.specs.Prelude.{◌≡◌, ◌++◌, ℕ, true, List, [], ◌∷◌, map, length, Option, None, Some, if◌then◌else◌}
+use Rattle.std.specs.Prelude.{◌≡◌, ◌≤◌, ◌+◌, ◌++◌, ℕ, true, List, [], ◌∷◌, map, length, Option, None, Some, if◌then◌else◌}
 use Rattle.span_batcher.specs.State.{next_due, IsAfter}
 use Rattle.span_batcher.specs.Machine.{fired}
 use Rattle.tail_policy.specs.declared.note.TraceNote.{TraceNote}
@@ -8,7 +8,10 @@ use Rattle.tail_settings.specs.Policy.{PolicyData}
 use Rattle.trace_rows.specs.declared.table.Row.{Row}
 use Rattle.trace_rows.specs.Part.{settled}
 use Rattle.tenant_stores.specs.Part.{Part}
-use Rattle.tenant_stores.specs.View.{SettledRow, WaitingRow}
+use Rattle.tenant_stores.specs.Counts.{Counts, one_decided, waiting_numbers}
+use Rattle.tenant_stores.specs.Invariant.{StoreInvariant}
+use Rattle.tenant_stores.specs.Shows.{row_shown}
+use Rattle.tenant_stores.specs.View.{SettledRow, WaitingRow, View}
 use Rattle.tenant_rules.specs.Fate.{WaitingData, are_sampled}
 use Rattle.tenant_rules.specs.Fronts.{decided_rows}
 use Rattle.tenant_rules.specs.Machine.{all_decided, closed}
@@ -16,8 +19,9 @@ use Rattle.tenant_rules.specs.State.{State}
 use Rattle.tenant_rules.specs.Timers.{sample}
 use Rattle.tenant_pipeline.specs.declared.pipeline.Pipeline.{Pipeline}
 use Rattle.tenant_pipeline.specs.Acts.{at}
-use Rattle.tenant_pipeline.specs.StateIn.{policies_of, state_of}
-use Rattle.tenant_pipeline.specs.Outbox.{pending_at, HasRoom}
+use Rattle.tenant_pipeline.specs.StateIn.{counts_in, policies_of, state_of}
+use Rattle.tenant_pipeline.specs.Invariant.{IsNoted}
+use Rattle.tenant_pipeline.specs.Outbox.{AreThere, pending_at, HasRoom}
 
 -- a state has these own numbers, over a part
 pub record IsStateOf (own : Pipeline) (p : Part TraceNote) (s : State) : Type 0 where
@@ -75,6 +79,14 @@ abbrev pub sampled_keys : List PolicyData → (ℕ → Option (Row TraceNote)) �
 sampled_keys policies rows [] = []
 sampled_keys policies rows (number ∷ numbers) = keys_if policies (rows number) ++ sampled_keys policies rows numbers
 
+-- the keys of the row of this number, where the tenant's policies sample it
+abbrev pub sampled_at : Pipeline → Part TraceNote → ℕ → List ℕ
+sampled_at own p number = keys_if (policies_of own) (p.rows number)
+
+-- those of all rows that wait
+abbrev pub sampled_waiting : Pipeline → Part TraceNote → List ℕ
+sampled_waiting own p = sampled_keys (policies_of own) p.rows (waiting_numbers (counts_in own))
+
 -- rows that wait, once they have their verdicts
 abbrev pub all_settled : List PolicyData → List (WaitingRow TraceNote) → List SettledRow
 all_settled policies rows = map (λ row. record { trace = row.trace; sampled = verdict_of policies row.note }) rows
@@ -83,3 +95,27 @@ all_settled policies rows = map (λ row. record { trace = row.trace; sampled = v
 abbrev pub verdict_given : List PolicyData → Option (Row TraceNote) → Option (Row TraceNote)
 verdict_given policies None = None
 verdict_given policies (Some row) = settled (verdict_of policies row.note) (Some row)
+
+-- what is shown once all rows that wait have their verdicts, and nothing is pending
+abbrev pub closed_view : List PolicyData → View TraceNote → View TraceNote
+closed_view policies old =
+    record { settled = old.settled ++ all_settled policies old.waiting; waiting = []; pending = [] }
+
+-- a row of this number is there, with its spans' note; its spans are counted as undecided, and are there as the pending
+-- ones are
+abbrev pub HasRow : Pipeline → Part TraceNote → ℕ → Type 0
+HasRow own p number = (row : Row TraceNote) × (p.rows number ≡ Some row)
+    × IsNoted (policies_of own) (row_shown p row) × (length row.keys ≤ own.ledger.places.undecided)
+    × AreThere p (own.batcher.spans ++ row.keys)
+
+-- where the part was sound with this row the next to be decided and no texts held, it is sound with the row decided and
+-- these keys pending too
+abbrev pub SettlesSoundly : ℕ → List ℕ → (old new : Part TraceNote) → Type 0
+SettlesSoundly number keys old new = (n : Counts) (pending : List ℕ) → number ≡ n.decided + 1 → number ≤ n.opened
+    → StoreInvariant n pending [] old → StoreInvariant (one_decided n) (pending ++ keys) [] new
+
+-- where the old part was sound by the old counts with no texts held, the new one is so by the new ones, with these keys
+-- pending too
+abbrev pub StaysSoundWith : List ℕ → (n n' : Counts) → (old new : Part TraceNote) → Type 0
+StaysSoundWith keys n n' old new = (pending : List ℕ) → StoreInvariant n pending [] old
+    → StoreInvariant n' (pending ++ keys) [] new

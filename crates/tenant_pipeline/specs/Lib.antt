@@ -1,4 +1,5 @@
 pub mod Prepared
+pub mod OwnStep
 pub mod StateIn
 pub mod Invariant
 pub mod Steps

@@ -1,13 +1,16 @@
 -- How the spans of a post come, one after the other (oTLP/HTTP, "Partial Success", and the Collector's
 -- tailsamplingprocessor, as `tenant_rules` has them).
-use Rattle.std.specs.Prelude.{◌≡◌, ◌<◌, ◌≤◌, ◌+◌, ◌++◌, ℕ, List, [], ◌∷◌, length, map, Bool, true, false, Option, None, Some, slice_index_or}
+use Rattle.std.specs.Prelude.{◌≡◌, ◌<◌, ◌≤◌, ◌+◌, ◌-◌, ◌++◌, ℕ, List, [], ◌∷◌, length, map, Bool, true, false, Option, None, Some, slice_index_or, if◌then◌else◌, nat_lt}
 use Rattle.std.specs.List.{AllByRecursion}
-use Rattle.drop_ledger.specs.Ledger.{counted}
+use Rattle.drop_ledger.specs.Ledger.{LedgerData, counted, moved}
+use Rattle.drop_ledger.specs.declared.places.Place.TheVariants.{Undecided, TooEarly}
 use Rattle.span_batcher.specs.State.{next_due, IsAfter}
 use Rattle.span_pool.specs.Stored.{origin_at}
 use Rattle.span_pool.specs.declared.keys.TextKeys.{TextKeys}
 use Rattle.tail_policy.specs.declared.note.TraceNote.{TraceNote}
 use Rattle.tail_policy.specs.Note.{note_of}
+use Rattle.trace_rows.specs.Part.{keys_of}
+use Rattle.tenant_stores.specs.declared.stores.Stores.{Stores}
 use Rattle.tenant_stores.specs.Part.{Part}
 use Rattle.tenant_stores.specs.View.{text_at, text_keys}
 use Rattle.tenant_stores.specs.Trail.{Trail}
@@ -22,7 +25,7 @@ use Rattle.tenant_pipeline.specs.declared.place.TraceState.{TraceState}
 use Rattle.tenant_pipeline.specs.declared.place.TraceState.TheVariants as states
 use Rattle.otlp_prepare.specs.declared.noted.NotedSpan.{NotedSpan}
 use Rattle.tenant_stores.specs.Shows.{AreAmong}
-use Rattle.tenant_pipeline.specs.StateIn.{arrival_of, policies_of, state_of}
+use Rattle.tenant_pipeline.specs.StateIn.{arrival_of, part_in, policies_of, state_of}
 use Rattle.tenant_pipeline.specs.Invariant.{PipelineInvariantAt}
 use Rattle.tenant_pipeline.specs.Undo.{TakesBack, hits_undone}
 
@@ -65,6 +68,29 @@ pub record Came (change : State → State) (moment : ℕ) (journal journal' : Jo
   pub texts : (held : List ℕ) → IsPosting moment journal held own p → (keys : TextKeys)
       → AreAmong (text_keys keys) held → origin_at (text_at p'.texts) keys ≡ origin_at (text_at p.texts) keys
   pub counted_by : counted own'.ledger ≤ counted own.ledger + 1
+
+-- it came, by what these stores have of the tenant before and after
+abbrev pub CameIn : (State → State) → ℕ → (journal journal' : Journal) → (own own' : Pipeline)
+    → (stores stores' : Stores TraceNote) → Type 0
+CameIn change moment journal journal' own own' stores stores' =
+    Came change moment journal journal' own own' (part_in own stores) (part_in own' stores')
+
+-- what was written down of any start still is, with what has changed since
+abbrev pub StaysWritten : (journal journal' : Journal) → (own own' : Pipeline) → (stores stores' : Stores TraceNote)
+    → Type 0
+StaysWritten journal journal' own own' stores stores' = (start : Pipeline) (first : Part TraceNote)
+    → IsWritten journal start own first (part_in own stores)
+    → IsWritten journal' start own' first (part_in own' stores')
+
+-- the first row that is present once there is room for one more
+abbrev pub first_left : Pipeline → ℕ
+first_left own = own.rows.opened + 1 - own.section.tail_sampling.num_traces
+
+-- the counters then: the spans of a row that waited and left are no longer undecided
+abbrev pub ledger_left : Pipeline → Part TraceNote → LedgerData
+ledger_left own p =
+    if nat_lt own.rows.decided (first_left own)
+    then moved Undecided TooEarly (length (keys_of (p.rows (first_left own)))) own.ledger else own.ledger
 
 -- the tenant is the same, be it as before or not
 pub record IsSameTenant (old new : Pipeline) : Type 0 where

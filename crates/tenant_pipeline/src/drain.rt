@@ -1,12 +1,12 @@
 //! The end of a tenant: its rows are decided at once, and all that is pending is one batch.
 
-ghost use Rattle.std.specs.Prelude.{◌≡◌, ◌≢◌, ◌<◌, ◌≤◌, ◌+◌, ◌++◌, [], false, ◌^◌, ℕ, List, None, Some, OnOk, OnErr, length};
+ghost use Rattle.std.specs.Prelude.{◌≡◌, ◌≢◌, ◌≤◌, ◌+◌, [], false, ◌^◌, ℕ, List, None, Some, OnOk, OnErr, length};
 ghost use Rattle.span_batcher.specs.State.{next_due, IsAfter};
 ghost use Rattle.trace_rows.specs.Part.{with_at};
 ghost use Rattle.trace_rows.specs.declared.table.Row.{Row};
 ghost use Rattle.tail_policy.specs.declared.note.TraceNote.{TraceNote as Note};
 ghost use Rattle.tenant_stores.specs.Part.{part};
-ghost use Rattle.tenant_stores.specs.Counts.{Counts, count, one_decided, waiting_numbers};
+ghost use Rattle.tenant_stores.specs.Counts.{count};
 ghost use Rattle.tenant_stores.specs.Invariant.{StoreInvariant};
 ghost use Rattle.tenant_stores.specs.Shows.{row_shown};
 ghost use Rattle.tenant_stores.specs.View.{view};
@@ -15,11 +15,13 @@ ghost use Rattle.tenant_rules.specs.Batching.{rules_of};
 ghost use Rattle.tenant_rules.specs.Machine.{drain};
 ghost use Rattle.tenant_pipeline.specs.declared.pipeline.Pipeline.{Pipeline as Own};
 ghost use Rattle.tenant_pipeline.specs.Acts.{ActsAt};
-ghost use Rattle.tenant_pipeline.specs.Drains.{SendsRow, SendsRest, SendsAll, keys_if, sampled_keys, all_settled, verdict_given};
+ghost use Rattle.tenant_pipeline.specs.Drains.{HasRow, SendsRow, SendsRest, SendsAll, SettlesSoundly, StaysSoundWith};
+ghost use Rattle.tenant_pipeline.specs.Drains.{closed_view, sampled_at, sampled_waiting, verdict_given};
 ghost use Rattle.tenant_pipeline.specs.Outbox.{AreThere, HasRoom};
 ghost use Rattle.tenant_pipeline.specs.StateIn.{counts_in, part_in, policies_of, state_in, waiting_of};
-ghost use Rattle.tenant_pipeline.specs.Invariant.{PipelineInvariantAt, IsNoted, IsSwept};
+ghost use Rattle.tenant_pipeline.specs.Invariant.{PipelineInvariantAt, IsSwept};
 ghost use Rattle.tenant_pipeline.specs.Undo.{TakesBack};
+ghost use Rattle.tenant_stores.specs.Promises.{OthersUnchanged};
 
 use crate::outbox::encoded;
 use crate::pipeline::Pipeline;
@@ -42,11 +44,12 @@ impl Pipeline {
         requires first { self.old.drained ≡ false }
         ensures on_success { OnOk result (ActsAt moment (drain moment)
             (state_in self.old stores.old) (state_in self.new stores.new)) }
-        ensures holds { OnOk result (PipelineInvariantAt moment [] [] self.new (part_in self.new stores.new)) }
-        ensures others_unchanged { (other : ℕ) → other ≢ self.old.tenant
-            → part other stores.new ≡ part other stores.old }
+        ensures holds { OnOk result (PipelineInvariantAt moment [] [] self.new
+            (part_in self.new stores.new)) }
+        ensures others_unchanged { OthersUnchanged self.old.tenant stores.old stores.new }
         ensures on_refusal { OnErr result (self.new ≡ self.old) }
-        ensures part_on_refusal { OnErr result (part self.old.tenant stores.new ≡ part self.old.tenant stores.old) }
+        ensures part_on_refusal { OnErr result
+            (part self.old.tenant stores.new ≡ part self.old.tenant stores.old) }
         ensures tenant { self.new.tenant ≡ self.old.tenant }
         ensures section { self.new.section ≡ self.old.section }
         ensures clock { self.new.clock ≡ self.old.clock }
@@ -79,11 +82,14 @@ impl Pipeline {
         requires holds { PipelineInvariantAt moment [] [] self.old (part_in self.old stores.now) }
         requires quiet { IsAfter (next_due self.old.batcher) moment }
         requires offers { undo.old.offers ≤ length self.old.sender.queue }
-        ensures on_success { OnOk result (SendsAll moment (part_in self.old stores.now) self.old self.new) }
-        ensures gone { OnOk result ((key : ℕ) → count key undo.new.gone.items ≡ count key undo.old.gone.items
-            + (count key self.old.batcher.spans + count key (sampled_keys (policies_of self.old)
-            (part_in self.old stores.now).rows (waiting_numbers (counts_in self.old))))) }
-        ensures back { (start : Own) → TakesBack undo.old start self.old → TakesBack undo.new start self.new }
+        ensures on_success { OnOk result
+            (SendsAll moment (part_in self.old stores.now) self.old self.new) }
+        ensures gone { OnOk result ((key : ℕ)
+            → count key undo.new.gone.items ≡ count key undo.old.gone.items +
+            (count key self.old.batcher.spans + count key
+            (sampled_waiting self.old (part_in self.old stores.now)))) }
+        ensures back { (start : Own) → TakesBack undo.old start self.old
+            → TakesBack undo.new start self.new }
     {
         let mut number = self.rows.decided;
         while number < self.rows.opened {
@@ -101,23 +107,23 @@ impl Pipeline {
         moment: u64,
         number: u64,
     ) -> Result<(), AllocError>
-        requires there { (row : Row Note) × ((part_in self.old stores.now).rows number ≡ Some row)
-            × IsNoted (policies_of self.old) (row_shown (part_in self.old stores.now) row)
-            × (length row.keys ≤ self.old.ledger.places.undecided)
-            × AreThere (part_in self.old stores.now) (self.old.batcher.spans ++ row.keys) }
+        requires there { HasRow self.old (part_in self.old stores.now) number }
         requires quiet { IsAfter (next_due self.old.batcher) moment }
         requires fits { moment ≤ 2 ^ 62 }
         requires rules { self.old.batcher.rules ≡ rules_of (section_view self.old.section) }
         requires pending { self.old.ledger.places.pending ≡ length self.old.batcher.spans }
         requires room { HasRoom self.old }
         requires offers { undo.old.offers ≤ length self.old.sender.queue }
-        ensures on_success { OnOk result ((row : Row Note) → (part_in self.old stores.now).rows number ≡ Some row →
-            SendsRow moment (waiting_of (row_shown (part_in self.old stores.now) row)) (part_in self.old stores.now)
-            self.old self.new) }
-        ensures gone { OnOk result ((key : ℕ) → count key undo.new.gone.items + count key self.new.batcher.spans ≡
-            count key undo.old.gone.items + (count key self.old.batcher.spans
-            + count key (keys_if (policies_of self.old) ((part_in self.old stores.now).rows number)))) }
-        ensures back { (start : Own) → TakesBack undo.old start self.old → TakesBack undo.new start self.new }
+        ensures on_success { OnOk result
+            ((row : Row Note) → (part_in self.old stores.now).rows number ≡ Some row
+            → SendsRow moment (waiting_of (row_shown (part_in self.old stores.now) row))
+            (part_in self.old stores.now) self.old self.new) }
+        ensures gone { OnOk result ((key : ℕ)
+            → count key undo.new.gone.items + count key self.new.batcher.spans ≡ count key
+            undo.old.gone.items + (count key self.old.batcher.spans + count key
+            (sampled_at self.old (part_in self.old stores.now) number))) }
+        ensures back { (start : Own) → TakesBack undo.old start self.old
+            → TakesBack undo.new start self.new }
         ensures offers { undo.new.offers ≤ length self.new.sender.queue }
     {
         let Some(row) = stores.row(self.tenant, number) else {
@@ -146,10 +152,12 @@ impl Pipeline {
         requires room { HasRoom self.old }
         requires offers { undo.old.offers ≤ length self.old.sender.queue }
         requires there { AreThere (part_in self.old stores.now) self.old.batcher.spans }
-        ensures on_success { OnOk result (SendsRest moment (part_in self.old stores.now) self.old self.new) }
+        ensures on_success { OnOk result
+            (SendsRest moment (part_in self.old stores.now) self.old self.new) }
         ensures gone { OnOk result ((key : ℕ) → count key undo.new.gone.items ≡
             count key undo.old.gone.items + count key self.old.batcher.spans) }
-        ensures back { (start : Own) → TakesBack undo.old start self.old → TakesBack undo.new start self.new }
+        ensures back { (start : Own) → TakesBack undo.old start self.old
+            → TakesBack undo.new start self.new }
     {
         let keys = self.batcher.spans();
         if keys.is_empty() {
@@ -172,26 +180,18 @@ impl Pipeline {
 
     /// All rows that wait have their verdict, and no keys any more.
     fn settle_rows(&mut self, stores: &mut Stores<TraceNote>)
-        requires store_invariant { (pending : List ℕ) × StoreInvariant (counts_in self.old) pending []
-            (part_in self.old stores.old) }
+        requires store_invariant { (pending : List ℕ)
+            × StoreInvariant (counts_in self.old) pending [] (part_in self.old stores.old) }
         requires rows_bounded { self.old.rows.opened ≤ 2 ^ 62 }
         ensures only_decided { self.new ≡ record self.old {
           rows = record self.old.rows { decided = self.old.rows.opened };
         } }
-        ensures store_invariant { (pending : List ℕ) → StoreInvariant (counts_in self.old) pending []
-            (part_in self.old stores.old)
-            → StoreInvariant (counts_in self.new) (pending ++ sampled_keys (policies_of self.old)
-            (part_in self.old stores.old).rows (waiting_numbers (counts_in self.old))) []
-            (part_in self.new stores.new) }
-        ensures shows { view (counts_in self.new) [] (part_in self.new stores.new) ≡ (
-            let old = view (counts_in self.old) [] (part_in self.old stores.old) in
-            record {
-              settled = old.settled ++ all_settled (policies_of self.old) old.waiting;
-              waiting = [];
-              pending = [];
-            }) }
-        ensures others_unchanged { (other : ℕ) → other ≢ self.old.tenant
-            → part other stores.new ≡ part other stores.old }
+        ensures store_invariant { StaysSoundWith
+            (sampled_waiting self.old (part_in self.old stores.old)) (counts_in self.old)
+            (counts_in self.new) (part_in self.old stores.old) (part_in self.new stores.new) }
+        ensures shows { view (counts_in self.new) [] (part_in self.new stores.new) ≡ closed_view
+            (policies_of self.old) (view (counts_in self.old) [] (part_in self.old stores.old)) }
+        ensures others_unchanged { OthersUnchanged self.old.tenant stores.old stores.new }
     {
         let mut number = self.rows.decided;
         while number < self.rows.opened {
@@ -204,15 +204,13 @@ impl Pipeline {
     /// The row has its verdict: where it is sampled its keys are pending, and else its spans leave.
     fn settle_row(&self, stores: &mut Stores<TraceNote>, number: u64)
         requires there { (part_in self.now stores.old).rows number ≢ None }
-        ensures store_invariant { (n : Counts) (pending : List ℕ) → number ≡ n.decided + 1 → number ≤ n.opened
-            → StoreInvariant n pending [] (part_in self.now stores.old)
-            → StoreInvariant (one_decided n) (pending ++ keys_if (policies_of self.now)
-            ((part_in self.now stores.old).rows number)) [] (part_in self.now stores.new) }
+        ensures store_invariant { SettlesSoundly number
+            (sampled_at self.now (part_in self.now stores.old) number) (part_in self.now stores.old)
+            (part_in self.now stores.new) }
         ensures rows { (part_in self.now stores.new).rows ≡ with_at number
             (verdict_given (policies_of self.now) ((part_in self.now stores.old).rows number))
             (part_in self.now stores.old).rows }
-        ensures others_unchanged { (other : ℕ) → other ≢ self.now.tenant
-            → part other stores.new ≡ part other stores.old }
+        ensures others_unchanged { OthersUnchanged self.now.tenant stores.old stores.new }
     {
         let Some(row) = stores.row(self.tenant, number) else {
             unreachable!()

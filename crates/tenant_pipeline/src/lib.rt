@@ -29,8 +29,10 @@ mod place;
 mod post;
 mod reply;
 mod send;
+mod step;
 mod timers;
 mod undo;
 
 pub use law::drained_holds_none;
 pub use pipeline::{LATEST_MOMENT, Pipeline, RowCounts};
+pub use step::OwnStep;

@@ -60,7 +60,10 @@ pub(crate) fn encoded(
     keys: &[usize],
 ) -> Result<Batch, AllocError>
     ensures { IfOk result (λ batch. batch_view batch ≡
-        as_sent (record { moment = moment; spans = arrivals_at (part tenant stores.now) keys.now })) }
+        as_sent (record {
+          moment = moment;
+          spans = arrivals_at (part tenant stores.now) keys.now;
+        })) }
 {
     let spans = spans_by_keys(alloc, stores, tenant, keys)?;
     let payload = encode_batch(alloc, stores.texts(), spans.as_slice())?;
@@ -168,7 +171,8 @@ impl Pipeline {
     fn offer_all(&mut self, mut batches: VecDeque<Batch>) -> Result<usize, AllocError>
         requires pending { sizes (map batch_view batches.items) ≤ self.old.ledger.places.pending }
         requires room { HasRoom self.old }
-        ensures on_success { OnOk result (Sends (all_queued (map batch_view batches.items)) self.old self.new) }
+        ensures on_success { OnOk result
+            (Sends (all_queued (map batch_view batches.items)) self.old self.new) }
         ensures took { IfOk result (λ offers. Took offers self.old.sender self.new.sender) }
         ensures on_refusal { OnErr result (self.new ≡ self.old) }
     {
@@ -191,7 +195,8 @@ impl Pipeline {
     /// is how many the queue took.
     fn offer_group(&mut self, spans: u64, batches: VecDeque<Batch>) -> Result<usize, AllocError>
         requires undecided { spans ≤ self.old.ledger.places.undecided }
-        requires pending { sizes (map batch_view batches.items) ≤ self.old.ledger.places.pending + spans }
+        requires pending { sizes (map batch_view batches.items) ≤ self.old.ledger.places.pending +
+            spans }
         requires room { HasRoom self.old }
         ensures on_success { OnOk result (Sends (λ s. all_queued (map batch_view batches.items)
             (recount Undecided Pending spans s)) self.old self.new) }
@@ -214,9 +219,11 @@ impl Pipeline {
         requires not_empty { 0 < length keys.now }
         requires moment { moment ≤ 2 ^ 62 }
         requires timer { IsAfter (next_due self.old.batcher) moment }
-        requires fills_none { length self.old.batcher.spans + length keys.now < threshold self.old.batcher.rules }
+        requires fills_none { length self.old.batcher.spans + length keys.now < threshold
+            self.old.batcher.rules }
         requires undecided { length keys.now ≤ self.old.ledger.places.undecided }
-        ensures batches { cuts self.old.batcher.rules moment (self.old.batcher.spans ++ keys.now) ≡ [] }
+        ensures batches { cuts self.old.batcher.rules moment (self.old.batcher.spans ++ keys.now)
+            ≡ [] }
         ensures on_success { OnOk result (self.new ≡ record self.old {
           batcher = added moment keys.now self.old.batcher;
           ledger = moved Undecided Pending (length keys.now) self.old.ledger;
@@ -244,17 +251,21 @@ impl Pipeline {
         requires rules { self.old.batcher.rules ≡ rules_of (section_view self.old.section) }
         requires undecided { length keys.now ≤ self.old.ledger.places.undecided }
         requires pending { self.old.ledger.places.pending ≡ length self.old.batcher.spans }
-        requires there { AreThere (part_in self.old stores.now) (self.old.batcher.spans ++ keys.now) }
+        requires there { AreThere (part_in self.old stores.now)
+            (self.old.batcher.spans ++ keys.now) }
         requires room { HasRoom self.old }
         requires offers { undo.old.offers ≤ length self.old.sender.queue }
-        ensures on_success { OnOk result (Groups moment keys.now (part_in self.old stores.now) self.old self.new) }
+        ensures on_success { OnOk result
+            (Groups moment keys.now (part_in self.old stores.now) self.old self.new) }
 
         // Each key is pending or gone, as often as before.
-        ensures gone { OnOk result ((key : ℕ) → count key undo.new.gone.items + count key self.new.batcher.spans ≡
-            count key undo.old.gone.items + (count key self.old.batcher.spans + count key keys.now)) }
+        ensures gone { OnOk result ((key : ℕ)
+            → count key undo.new.gone.items + count key self.new.batcher.spans ≡ count key
+            undo.old.gone.items + (count key self.old.batcher.spans + count key keys.now)) }
 
         // It can be taken back as before.
-        ensures back { (start : Own) → TakesBack undo.old start self.old → TakesBack undo.new start self.new }
+        ensures back { (start : Own) → TakesBack undo.old start self.old
+            → TakesBack undo.new start self.new }
         ensures offers { undo.new.offers ≤ length self.new.sender.queue }
         ensures on_refusal { OnErr result (self.new ≡ self.old) }
         ensures gone_on_refusal { OnErr result (undo.new.gone.items ≡ undo.old.gone.items) }

@@ -1,24 +1,22 @@
 //! A span of a post goes to its trace's row, leaves late, or opens a row.
 
-ghost use Rattle.std.specs.Prelude.{◌≡◌, ◌≢◌, ◌<◌, ◌≤◌, ◌+◌, ◌-◌, ◌++◌, ◌∷◌, [], ◌^◌, ℕ, List, Some, IfOk, OnOk, OnErr, if◌then◌else◌, nat_lt, length, vec_len, vec_capacity};
-ghost use Rattle.drop_ledger.specs.Ledger.{LedgerInvariant, counted, moved, most_counted};
-ghost use Rattle.drop_ledger.specs.declared.places.Place.TheVariants.{Undecided, TooEarly};
-ghost use Rattle.span_pool.specs.Stored.{origin_at};
-ghost use Rattle.tail_policy.specs.declared.note.TraceNote.{TraceNote as Note};
+ghost use Rattle.std.specs.Prelude.{◌≡◌, ◌<◌, ◌≤◌, ◌+◌, ◌++◌, ◌∷◌, [], ◌^◌, ℕ, List, Some, IfOk, OnOk, OnErr, nat_lt, length, vec_len, vec_capacity};
+ghost use Rattle.drop_ledger.specs.Ledger.{LedgerInvariant, counted, most_counted};
+ghost use Rattle.drop_ledger.specs.declared.places.Place.TheVariants.{Undecided};
 ghost use Rattle.trace_rows.specs.Part.{keys_of};
-ghost use Rattle.tenant_stores.specs.Part.{Part, part};
-ghost use Rattle.tenant_stores.specs.Counts.{Counts, room_made};
+ghost use Rattle.tenant_stores.specs.Counts.{room_made};
 ghost use Rattle.tenant_stores.specs.Invariant.{StoreInvariant};
-ghost use Rattle.tenant_stores.specs.View.{view, text_at, text_keys};
+ghost use Rattle.tenant_stores.specs.View.{text_keys};
 ghost use Rattle.tenant_stores.specs.Trail.{HoldsAll};
 ghost use Rattle.tenant_rules.specs.Machine.{come, joins, opens, cached_or_opens, evicted, counted_in};
 ghost use Rattle.tenant_rules.specs.Timers.{grouped};
 ghost use Rattle.decision_cache.specs.Caches.{found, shown};
-ghost use Rattle.tenant_pipeline.specs.declared.pipeline.Pipeline.{Pipeline as Own};
-ghost use Rattle.tenant_stores.specs.Shows.{AreAmong, Stay};
 ghost use Rattle.tenant_pipeline.specs.StateIn.{counts_in, part_in, state_in};
 ghost use Rattle.tenant_pipeline.specs.Invariant.{PipelineInvariantAt};
-ghost use Rattle.tenant_pipeline.specs.Posts.{arrival_at, IsComing, Came, IsWritten, IsSameTenant, IsTraceState, IsTraceStateAt, state_by_cache};
+ghost use Rattle.tenant_pipeline.specs.Posts.{arrival_at, CameIn, IsComing, IsSameTenant, IsTraceState, IsTraceStateAt, StaysWritten};
+ghost use Rattle.tenant_pipeline.specs.Posts.{first_left, ledger_left, state_by_cache};
+ghost use Rattle.tenant_stores.specs.Promises.{OthersUnchanged, TextsStay, WhereInHand, ShowsSameInHand};
+ghost use Rattle.tenant_stores.specs.HeldTexts.{origin_in};
 
 use crate::journal::Journal;
 use crate::pipeline::Pipeline;
@@ -78,8 +76,8 @@ impl Pipeline {
     /// Whether there is room for one more span.
     fn has_room(&self) -> bool
         requires ledger_invariant { LedgerInvariant self.now.ledger }
-        ensures { result ≡ nat_lt (self.now.ledger.places.undecided + self.now.ledger.places.pending)
-            self.now.section.max_spans }
+        ensures { result ≡ nat_lt (self.now.ledger.places.undecided +
+            self.now.ledger.places.pending) self.now.section.max_spans }
     {
         let places = self.ledger.places();
         places.undecided + places.pending < self.section.max_spans as u64
@@ -96,18 +94,17 @@ impl Pipeline {
         span: &NotedSpan,
     ) -> Result<(), AllocError>
         requires coming { (held : List ℕ)
-            × IsComing moment journal.old keys span.now held self.old (part_in self.old stores.old) }
+            × IsComing moment journal.old keys span.now held self.old
+            (part_in self.old stores.old) }
         requires fits { counted self.old.ledger + 1 ≤ most_counted }
-        ensures came { OnOk result (Came (come moment (arrival_at (part_in self.old stores.old) keys span.now.text))
-            moment journal.old journal.new self.old self.new
-            (part_in self.old stores.old) (part_in self.new stores.new)) }
+        ensures came { OnOk result (CameIn
+            (come moment (arrival_at (part_in self.old stores.old) keys span.now.text)) moment
+            journal.old journal.new self.old self.new stores.old stores.new) }
 
         // It can be taken back, on success and where memory is refused.
-        ensures written { (start : Own) (first : Part Note)
-            → IsWritten journal.old start self.old first (part_in self.old stores.old)
-            → IsWritten journal.new start self.new first (part_in self.new stores.new) }
-        ensures others_unchanged { (other : ℕ) → other ≢ self.old.tenant
-            → part other stores.new ≡ part other stores.old }
+        ensures written { StaysWritten journal.old journal.new self.old self.new stores.old
+            stores.new }
+        ensures others_unchanged { OthersUnchanged self.old.tenant stores.old stores.new }
         ensures same { IsSameTenant self.old self.new }
     {
         if !self.has_room() {
@@ -139,21 +136,21 @@ impl Pipeline {
         sampled: bool,
     ) -> Result<(), AllocError>
         requires coming { (held : List ℕ)
-            × IsComing moment journal.old keys span.now held self.old (part_in self.old stores.old) }
+            × IsComing moment journal.old keys span.now held self.old
+            (part_in self.old stores.old) }
         requires fits { counted self.old.ledger + 1 ≤ most_counted }
         requires budget { self.old.ledger.places.undecided + self.old.ledger.places.pending
             < self.old.section.max_spans }
         requires room { vec_len journal.old.placed < vec_capacity journal.old.placed }
         requires known { found span.now.trace (shown self.old.caches) ≡ Some sampled }
-        ensures came { OnOk result (Came (λ s. cached_or_opens moment
-            (arrival_at (part_in self.old stores.old) keys span.now.text) (Some sampled) (counted_in s))
-            moment journal.old journal.new self.old self.new
-            (part_in self.old stores.old) (part_in self.new stores.new)) }
-        ensures written { (start : Own) (first : Part Note)
-            → IsWritten journal.old start self.old first (part_in self.old stores.old)
-            → IsWritten journal.new start self.new first (part_in self.new stores.new) }
-        ensures others_unchanged { (other : ℕ) → other ≢ self.old.tenant
-            → part other stores.new ≡ part other stores.old }
+        ensures came { OnOk result (CameIn
+            (λ s. cached_or_opens moment
+            (arrival_at (part_in self.old stores.old) keys span.now.text) (Some sampled)
+            (counted_in s)) moment journal.old journal.new self.old self.new stores.old
+            stores.new) }
+        ensures written { StaysWritten journal.old journal.new self.old self.new stores.old
+            stores.new }
+        ensures others_unchanged { OthersUnchanged self.old.tenant stores.old stores.new }
         ensures same { IsSameTenant self.old self.new }
     {
         if sampled {
@@ -178,21 +175,22 @@ impl Pipeline {
         span: &NotedSpan,
     ) -> Result<(), AllocError>
         requires coming { (held : List ℕ)
-            × IsComing moment journal.old keys span.now held self.old (part_in self.old stores.old) }
+            × IsComing moment journal.old keys span.now held self.old
+            (part_in self.old stores.old) }
         requires fits { counted self.old.ledger + 1 ≤ most_counted }
-        requires latest_row { (part_in self.old stores.old).latest_rows span.now.trace ≡ Some number }
+        requires latest_row { (part_in self.old stores.old).latest_rows span.now.trace ≡ Some
+            number }
         requires waits { self.old.rows.decided < number }
         requires budget { self.old.ledger.places.undecided + self.old.ledger.places.pending
             < self.old.section.max_spans }
         requires room { vec_len journal.old.placed < vec_capacity journal.old.placed }
-        ensures came { OnOk result (Came (λ s. joins (arrival_at (part_in self.old stores.old) keys span.now.text)
-            (counted_in s)) moment journal.old journal.new self.old self.new
-            (part_in self.old stores.old) (part_in self.new stores.new)) }
-        ensures written { (start : Own) (first : Part Note)
-            → IsWritten journal.old start self.old first (part_in self.old stores.old)
-            → IsWritten journal.new start self.new first (part_in self.new stores.new) }
-        ensures others_unchanged { (other : ℕ) → other ≢ self.old.tenant
-            → part other stores.new ≡ part other stores.old }
+        ensures came { OnOk result (CameIn
+            (λ s. joins (arrival_at (part_in self.old stores.old) keys span.now.text)
+            (counted_in s)) moment journal.old journal.new self.old self.new stores.old
+            stores.new) }
+        ensures written { StaysWritten journal.old journal.new self.old self.new stores.old
+            stores.new }
+        ensures others_unchanged { OthersUnchanged self.old.tenant stores.old stores.new }
         ensures same { IsSameTenant self.old self.new }
     {
         let Some(row) = stores.row(self.tenant, number) else {
@@ -226,21 +224,20 @@ impl Pipeline {
         span: &NotedSpan,
     ) -> Result<(), AllocError>
         requires coming { (held : List ℕ)
-            × IsComing moment journal.old keys span.now held self.old (part_in self.old stores.old) }
+            × IsComing moment journal.old keys span.now held self.old
+            (part_in self.old stores.old) }
         requires fits { counted self.old.ledger + 1 ≤ most_counted }
         requires budget { self.old.ledger.places.undecided + self.old.ledger.places.pending
             < self.old.section.max_spans }
         requires room { vec_len journal.old.placed < vec_capacity journal.old.placed }
         ensures caches { self.new.caches ≡ self.old.caches }
-        ensures came { OnOk result (Came (λ s. grouped Undecided moment
+        ensures came { OnOk result (CameIn
+            (λ s. grouped Undecided moment
             (arrival_at (part_in self.old stores.old) keys span.now.text ∷ []) (counted_in s))
-            moment journal.old journal.new self.old self.new
-            (part_in self.old stores.old) (part_in self.new stores.new)) }
-        ensures written { (start : Own) (first : Part Note)
-            → IsWritten journal.old start self.old first (part_in self.old stores.old)
-            → IsWritten journal.new start self.new first (part_in self.new stores.new) }
-        ensures others_unchanged { (other : ℕ) → other ≢ self.old.tenant
-            → part other stores.new ≡ part other stores.old }
+            moment journal.old journal.new self.old self.new stores.old stores.new) }
+        ensures written { StaysWritten journal.old journal.new self.old self.new stores.old
+            stores.new }
+        ensures others_unchanged { OthersUnchanged self.old.tenant stores.old stores.new }
         ensures same { IsSameTenant self.old self.new }
     {
         let keyed = self.keyed(stores, keys, span)?;
@@ -269,20 +266,19 @@ impl Pipeline {
         span: &NotedSpan,
     ) -> Result<(), AllocError>
         requires coming { (held : List ℕ)
-            × IsComing moment journal.old keys span.now held self.old (part_in self.old stores.old) }
+            × IsComing moment journal.old keys span.now held self.old
+            (part_in self.old stores.old) }
         requires fits { counted self.old.ledger + 1 ≤ most_counted }
         requires budget { self.old.ledger.places.undecided + self.old.ledger.places.pending
             < self.old.section.max_spans }
         requires room { vec_len journal.old.placed < vec_capacity journal.old.placed }
-        ensures came { OnOk result (Came (λ s. opens moment
-            (arrival_at (part_in self.old stores.old) keys span.now.text) (evicted (counted_in s)))
-            moment journal.old journal.new self.old self.new
-            (part_in self.old stores.old) (part_in self.new stores.new)) }
-        ensures written { (start : Own) (first : Part Note)
-            → IsWritten journal.old start self.old first (part_in self.old stores.old)
-            → IsWritten journal.new start self.new first (part_in self.new stores.new) }
-        ensures others_unchanged { (other : ℕ) → other ≢ self.old.tenant
-            → part other stores.new ≡ part other stores.old }
+        ensures came { OnOk result (CameIn
+            (λ s. opens moment (arrival_at (part_in self.old stores.old) keys span.now.text)
+            (evicted (counted_in s))) moment journal.old journal.new self.old self.new stores.old
+            stores.new) }
+        ensures written { StaysWritten journal.old journal.new self.old self.new stores.old
+            stores.new }
+        ensures others_unchanged { OthersUnchanged self.old.tenant stores.old stores.new }
         ensures same { IsSameTenant self.old self.new }
     {
         let keyed = self.keyed(stores, keys, span)?;
@@ -314,16 +310,14 @@ impl Pipeline {
     fn make_room(&mut self, stores: &Stores<TraceNote>)
         requires rows_bounded { self.old.rows.opened < 2 ^ 63 }
         requires most { 0 < self.old.section.tail_sampling.num_traces }
-        requires undecided { let first = self.old.rows.opened + 1 - self.old.section.tail_sampling.num_traces in
-            self.old.rows.decided < first
-            → length (keys_of ((part_in self.old stores.now).rows first)) ≤ self.old.ledger.places.undecided }
+        requires undecided { self.old.rows.decided < first_left self.old
+            → length (keys_of ((part_in self.old stores.now).rows (first_left self.old))) ≤
+            self.old.ledger.places.undecided }
         ensures rows { counts_in self.new ≡
             room_made self.old.section.tail_sampling.num_traces (counts_in self.old) }
-        ensures ledger { let first = self.old.rows.opened + 1 - self.old.section.tail_sampling.num_traces in
-            self.new.ledger ≡ (if nat_lt self.old.rows.decided first
-            then moved Undecided TooEarly (length (keys_of ((part_in self.old stores.now).rows first))) self.old.ledger
-            else self.old.ledger) }
-        ensures same { self.new ≡ record self.old { rows = self.new.rows; ledger = self.new.ledger } }
+        ensures ledger { self.new.ledger ≡ ledger_left self.old (part_in self.old stores.now) }
+        ensures same { self.new ≡ record self.old
+            { rows = self.new.rows; ledger = self.new.ledger } }
     {
         let most = self.section.tail_sampling.num_traces as u64;
         let first = (self.rows.opened + 1).saturating_sub(most);
@@ -347,28 +341,26 @@ impl Pipeline {
     ) -> Result<StoredSpan, AllocError>
         ensures owner { IfOk result (λ keyed. keyed.owner ≡ self.now.tenant) }
         ensures text { IfOk result (λ keyed. keyed.text ≡ span.now.text) }
-        ensures uses_added { IfOk result (λ keyed. (n : Counts) (pending held : List ℕ)
-            → AreAmong (text_keys keys) held → StoreInvariant n pending held (part_in self.now stores.old)
-            → HoldsAll (text_keys keyed.keys) (part_in self.now stores.old) (part_in self.now stores.new)) }
-        ensures store_invariant { IfOk result (λ keyed. (n : Counts) (pending held : List ℕ)
-            → AreAmong (text_keys keys) held → StoreInvariant n pending held (part_in self.now stores.old)
-            → StoreInvariant n pending (text_keys keyed.keys ++ held) (part_in self.now stores.new)) }
-        ensures texts { IfOk result (λ keyed. (n : Counts) (pending held : List ℕ)
-            → AreAmong (text_keys keys) held → StoreInvariant n pending held (part_in self.now stores.old)
-            → origin_at (text_at (part_in self.now stores.new).texts) keyed.keys ≡
-            origin_at (text_at (part_in self.now stores.old).texts) keys) }
-        ensures shows { OnOk result ((n : Counts) (pending held shown : List ℕ)
-            → AreAmong (text_keys keys) held → StoreInvariant n pending held (part_in self.now stores.old)
-            → AreAmong shown pending
-            → view n shown (part_in self.now stores.new) ≡ view n shown (part_in self.now stores.old)) }
-        ensures stay { OnOk result ((n : Counts) (pending held : List ℕ)
-            → AreAmong (text_keys keys) held → StoreInvariant n pending held (part_in self.now stores.old)
-            → Stay held (part_in self.now stores.old).texts (part_in self.now stores.new).texts) }
-        ensures others_unchanged { (other : ℕ) → other ≢ self.now.tenant
-            → part other stores.new ≡ part other stores.old }
-        ensures on_refusal { OnErr result ((n : Counts) (pending held : List ℕ)
-            → AreAmong (text_keys keys) held → StoreInvariant n pending held (part_in self.now stores.old)
-            → part_in self.now stores.new ≡ part_in self.now stores.old) }
+        ensures uses_added { IfOk result
+            (λ keyed. WhereInHand keys (part_in self.now stores.old)
+            (λ n pending held. HoldsAll (text_keys keyed.keys) (part_in self.now stores.old)
+            (part_in self.now stores.new))) }
+        ensures store_invariant { IfOk result
+            (λ keyed. WhereInHand keys (part_in self.now stores.old)
+            (λ n pending held. StoreInvariant n pending (text_keys keyed.keys ++ held)
+            (part_in self.now stores.new))) }
+        ensures texts { IfOk result (λ keyed. WhereInHand keys (part_in self.now stores.old)
+            (λ n pending held. origin_in (part_in self.now stores.new) keyed.keys ≡ origin_in
+            (part_in self.now stores.old) keys)) }
+        ensures shows { OnOk result (ShowsSameInHand keys (part_in self.now stores.old)
+            (part_in self.now stores.new)) }
+        ensures stay { OnOk result (WhereInHand keys (part_in self.now stores.old)
+            (λ n pending held. TextsStay held (part_in self.now stores.old)
+            (part_in self.now stores.new))) }
+        ensures others_unchanged { OthersUnchanged self.now.tenant stores.old stores.new }
+        ensures on_refusal { OnErr result
+            (WhereInHand keys (part_in self.now stores.old)
+            (λ n pending held. part_in self.now stores.new ≡ part_in self.now stores.old)) }
     {
         let text = span.text.clone()?;
         let keys = stores.hold_again(self.tenant, keys)?;

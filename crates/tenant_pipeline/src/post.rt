@@ -1,26 +1,23 @@
 //! The spans of a body come, all of them or none.
 
-ghost use Rattle.std.specs.Prelude.{◌≡◌, ◌≢◌, ◌<◌, ◌≤◌, ◌+◌, ◌-◌, ◌++◌, [], ◌^◌, ℕ, List, IfOk, OnOk, OnErr, length, map};
+ghost use Rattle.std.specs.Prelude.{◌≡◌, ◌≤◌, ◌+◌, ◌-◌, ◌++◌, [], ℕ, List, IfOk, OnOk, OnErr, length, map};
 ghost use Rattle.drop_ledger.specs.Ledger.{counted, most_counted};
 ghost use Rattle.span_batcher.specs.State.{next_due, IsAfter};
-ghost use Rattle.span_pool.specs.Stored.{origin_at};
 ghost use Rattle.tail_policy.specs.declared.note.TraceNote.{TraceNote as Note};
 ghost use Rattle.tenant_stores.specs.Part.{Part, part};
-ghost use Rattle.tenant_stores.specs.Counts.{Counts};
 ghost use Rattle.tenant_stores.specs.Invariant.{StoreInvariant};
-ghost use Rattle.tenant_stores.specs.View.{view, text_at};
 ghost use Rattle.tenant_stores.specs.Trail.{HoldsAll};
 ghost use Rattle.tenant_rules.specs.Answers.{reply_of};
 ghost use Rattle.tenant_rules.specs.Intake.{verdict_of};
 ghost use Rattle.tenant_rules.specs.Machine.{post, post_verdict};
-ghost use Rattle.tenant_pipeline.specs.declared.pipeline.Pipeline.{Pipeline as Own};
-ghost use Rattle.tenant_stores.specs.Shows.{AreAmong};
 ghost use Rattle.otlp_prepare.specs.Arrivals.{origin_view};
 ghost use Rattle.tenant_pipeline.specs.Prepared.{arrivals_of};
 ghost use Rattle.tenant_pipeline.specs.StateIn.{part_in, policies_of, state_in};
 ghost use Rattle.tenant_pipeline.specs.Invariant.{PipelineInvariantAt, IsSwept};
-ghost use Rattle.tenant_pipeline.specs.Posts.{all_text_keys, arrivals_at, AreComing, IsPosting, IsTaken, IsWritten, IsSameTenant, verdict_after};
+ghost use Rattle.tenant_pipeline.specs.Posts.{all_text_keys, arrivals_at, AreComing, IsPosting, IsTaken, IsSameTenant, StaysWritten, verdict_after};
 ghost use Rattle.tenant_pipeline.specs.Acts.{ActsAt, IsPosted, at};
+ghost use Rattle.tenant_stores.specs.Promises.{OthersUnchanged, WhereSound, WhereHeld, ShowsSame, ShowsSameHeld};
+ghost use Rattle.tenant_stores.specs.HeldTexts.{origin_in};
 
 use crate::journal::Journal;
 use crate::pipeline::Pipeline;
@@ -39,21 +36,20 @@ fn hold_origins(
     tenant: u32,
     origins: &[SpanOrigin],
 ) -> Result<Vec<TextKeys>, AllocError>
-    ensures uses_added { IfOk result (λ all. (n : Counts) (pending held : List ℕ)
-        → StoreInvariant n pending held (part tenant stores.old)
-        → HoldsAll (all_text_keys all.items) (part tenant stores.old) (part tenant stores.new)) }
-    ensures store_invariant { IfOk result (λ all. (n : Counts) (pending held : List ℕ)
-        → StoreInvariant n pending held (part tenant stores.old)
-        → StoreInvariant n pending (all_text_keys all.items ++ held) (part tenant stores.new)) }
-    ensures origins { IfOk result (λ all. (n : Counts) (pending held : List ℕ)
-        → StoreInvariant n pending held (part tenant stores.old)
-        → map (origin_at (text_at (part tenant stores.new).texts)) all.items ≡ map origin_view origins.now) }
-    ensures shows { OnOk result ((n : Counts) (pending held shown : List ℕ)
-        → StoreInvariant n pending held (part tenant stores.old) → AreAmong shown pending
-        → view n shown (part tenant stores.new) ≡ view n shown (part tenant stores.old)) }
-    ensures others_unchanged { (other : ℕ) → other ≢ tenant → part other stores.new ≡ part other stores.old }
-    ensures on_refusal { OnErr result ((n : Counts) (pending held : List ℕ)
-        → StoreInvariant n pending held (part tenant stores.old) → part tenant stores.new ≡ part tenant stores.old) }
+    ensures uses_added { IfOk result (λ all. WhereSound (part tenant stores.old)
+        (λ n pending held. HoldsAll (all_text_keys all.items) (part tenant stores.old)
+        (part tenant stores.new))) }
+    ensures store_invariant { IfOk result
+        (λ all. WhereSound (part tenant stores.old)
+        (λ n pending held. StoreInvariant n pending (all_text_keys all.items ++ held)
+        (part tenant stores.new))) }
+    ensures origins { IfOk result (λ all. WhereSound (part tenant stores.old)
+        (λ n pending held. map (origin_in (part tenant stores.new)) all.items ≡ map origin_view
+        origins.now)) }
+    ensures shows { OnOk result (ShowsSame (part tenant stores.old) (part tenant stores.new)) }
+    ensures others_unchanged { OthersUnchanged tenant stores.old stores.new }
+    ensures on_refusal { OnErr result (WhereSound (part tenant stores.old)
+        (λ n pending held. part tenant stores.new ≡ part tenant stores.old)) }
 {
     let mut all = Vec::with_capacity(alloc, origins.len())?;
     for origin in origins {
@@ -76,15 +72,14 @@ fn hold_origins(
 
 /// One use less of the texts of each origin. It takes no memory.
 fn release_origins(stores: &mut Stores<TraceNote>, tenant: u32, all: Vec<TextKeys>)
-    ensures uses_removed { (start : Part Note) → HoldsAll (all_text_keys all.items) start (part tenant stores.old)
+    ensures uses_removed { (start : Part Note)
+        → HoldsAll (all_text_keys all.items) start (part tenant stores.old)
         → part tenant stores.new ≡ start }
-    ensures store_invariant { (n : Counts) (pending held : List ℕ)
-        → StoreInvariant n pending (all_text_keys all.items ++ held) (part tenant stores.old)
-        → StoreInvariant n pending held (part tenant stores.new) }
-    ensures shows { (n : Counts) (pending held shown : List ℕ)
-        → StoreInvariant n pending (all_text_keys all.items ++ held) (part tenant stores.old) → AreAmong shown pending
-        → view n shown (part tenant stores.new) ≡ view n shown (part tenant stores.old) }
-    ensures others_unchanged { (other : ℕ) → other ≢ tenant → part other stores.new ≡ part other stores.old }
+    ensures store_invariant { WhereHeld (all_text_keys all.items) (part tenant stores.old)
+        (λ n pending held. StoreInvariant n pending held (part tenant stores.new)) }
+    ensures shows { ShowsSameHeld (all_text_keys all.items) (part tenant stores.old)
+        (part tenant stores.new) }
+    ensures others_unchanged { OthersUnchanged tenant stores.old stores.new }
 {
     let mut left = all;
     while let Some(keys) = left.pop() {
@@ -107,12 +102,14 @@ impl Pipeline {
         ensures on_success { OnOk result (ActsAt moment (post moment (arrivals_of prepared.now))
             (state_in self.old stores.old) (state_in self.new stores.new)) }
         ensures reply { IfOk result (λ reply. reply ≡
-            reply_of (post_verdict moment (arrivals_of prepared.now) (at moment (state_in self.old stores.old)))) }
-        ensures holds { OnOk result (PipelineInvariantAt moment [] [] self.new (part_in self.new stores.new)) }
-        ensures others_unchanged { (other : ℕ) → other ≢ self.old.tenant
-            → part other stores.new ≡ part other stores.old }
+            reply_of (post_verdict moment (arrivals_of prepared.now)
+            (at moment (state_in self.old stores.old)))) }
+        ensures holds { OnOk result (PipelineInvariantAt moment [] [] self.new
+            (part_in self.new stores.new)) }
+        ensures others_unchanged { OthersUnchanged self.old.tenant stores.old stores.new }
         ensures on_refusal { OnErr result (self.new ≡ self.old) }
-        ensures part_on_refusal { OnErr result (part self.old.tenant stores.new ≡ part self.old.tenant stores.old) }
+        ensures part_on_refusal { OnErr result
+            (part self.old.tenant stores.new ≡ part self.old.tenant stores.old) }
         ensures swept { IsSwept self.old → IsSwept self.new }
         ensures same { IsSameTenant self.old self.new }
     {
@@ -143,22 +140,23 @@ impl Pipeline {
         spans: &[NotedSpan],
         invalid: u64,
     ) -> Result<Reply, AllocError>
-        requires holds { PipelineInvariantAt moment [] (all_text_keys keys.now) self.old (part_in self.old stores.old) }
+        requires holds { PipelineInvariantAt moment [] (all_text_keys keys.now) self.old
+            (part_in self.old stores.old) }
         requires quiet { IsAfter (next_due self.old.batcher) moment }
         requires ready { AreComing keys.now spans.now self.old (part_in self.old stores.old) }
         requires fits { counted self.old.ledger + (length spans.now + invalid) ≤ most_counted }
-        ensures on_success { OnOk result (IsTaken (arrivals_at (part_in self.old stores.old) keys.now spans.now)
-            invalid moment
+        ensures on_success { OnOk result
+            (IsTaken (arrivals_at (part_in self.old stores.old) keys.now spans.now) invalid moment
             (state_in self.old stores.old) (state_in self.new stores.new)) }
         ensures reply { IfOk result (λ reply. reply ≡ reply_of (verdict_after
             (arrivals_at (part_in self.old stores.old) keys.now spans.now) invalid moment
             (state_in self.old stores.old))) }
         ensures holds { OnOk result (PipelineInvariantAt moment [] (all_text_keys keys.now) self.new
             (part_in self.new stores.new)) }
-        ensures others_unchanged { (other : ℕ) → other ≢ self.old.tenant
-            → part other stores.new ≡ part other stores.old }
+        ensures others_unchanged { OthersUnchanged self.old.tenant stores.old stores.new }
         ensures on_refusal { OnErr result (self.new ≡ self.old) }
-        ensures part_on_refusal { OnErr result (part self.old.tenant stores.new ≡ part self.old.tenant stores.old) }
+        ensures part_on_refusal { OnErr result
+            (part self.old.tenant stores.new ≡ part self.old.tenant stores.old) }
         ensures swept { OnOk result (IsSwept self.new) }
         ensures same { IsSameTenant self.old self.new }
     {
@@ -193,19 +191,17 @@ impl Pipeline {
             (part_in self.old stores.old) }
         requires ready { AreComing keys.now spans.now self.old (part_in self.old stores.old) }
         requires fits { counted self.old.ledger + (length spans.now + invalid) ≤ most_counted }
-        ensures on_success { OnOk result (IsTaken (arrivals_at (part_in self.old stores.old) keys.now spans.now)
-            invalid moment
+        ensures on_success { OnOk result
+            (IsTaken (arrivals_at (part_in self.old stores.old) keys.now spans.now) invalid moment
             (state_in self.old stores.old) (state_in self.new stores.new)) }
         ensures reply { IfOk result (λ reply. reply ≡ reply_of (verdict_after
             (arrivals_at (part_in self.old stores.old) keys.now spans.now) invalid moment
             (state_in self.old stores.old))) }
-        ensures posting { OnOk result (IsPosting moment journal.new (all_text_keys keys.now) self.new
-            (part_in self.new stores.new)) }
-        ensures written { (start : Own) (first : Part Note)
-            → IsWritten journal.old start self.old first (part_in self.old stores.old)
-            → IsWritten journal.new start self.new first (part_in self.new stores.new) }
-        ensures others_unchanged { (other : ℕ) → other ≢ self.old.tenant
-            → part other stores.new ≡ part other stores.old }
+        ensures posting { OnOk result (IsPosting moment journal.new (all_text_keys keys.now)
+            self.new (part_in self.new stores.new)) }
+        ensures written { StaysWritten journal.old journal.new self.old self.new stores.old
+            stores.new }
+        ensures others_unchanged { OthersUnchanged self.old.tenant stores.old stores.new }
         ensures same { IsSameTenant self.old self.new }
     {
         let before = self.ledger.accepted();
@@ -224,7 +220,8 @@ impl Pipeline {
         requires within { taken ≤ valid }
         ensures reply { (before : ℕ) → IfOk result (λ reply. reply ≡
             reply_of (verdict_of (valid + invalid) valid before (before + taken))) }
-        ensures on_success { OnOk result (IsPosted (verdict_of (valid + invalid) valid 0 taken) self.old self.new) }
+        ensures on_success { OnOk result
+            (IsPosted (verdict_of (valid + invalid) valid 0 taken) self.old self.new) }
         ensures on_refusal { OnErr result (self.new ≡ self.old) }
     {
         if taken == 0 && valid > 0 {
@@ -243,8 +240,7 @@ impl Pipeline {
         ensures holds { (reached : ℕ) (held : List ℕ)
             → PipelineInvariantAt reached [] held self.old (part_in self.old stores.old)
             → PipelineInvariantAt reached [] held self.new (part_in self.new stores.new) }
-        ensures others_unchanged { (other : ℕ) → other ≢ self.old.tenant
-            → part other stores.new ≡ part other stores.old }
+        ensures others_unchanged { OthersUnchanged self.old.tenant stores.old stores.new }
         ensures swept { self.old.caches.hits ≡ [] → IsSwept self.new }
         ensures same { IsSameTenant self.old self.new }
     {

@@ -26,7 +26,8 @@ pub(crate) fn refusal(alloc: Global, status: u16, message: &str) -> Result<Reply
 /// room.
 pub(crate) fn success(alloc: Global, invalid: u64, over_budget: u64) -> Result<Reply, AllocError>
     requires { invalid + over_budget < 2 ^ 63 }
-    ensures { IfOk result (λ reply. reply ≡ record { status = 200; body = success_text invalid over_budget }) }
+    ensures { IfOk result (λ reply. reply ≡ record
+        { status = 200; body = success_text invalid over_budget }) }
 {
     if invalid == 0 && over_budget == 0 {
         return Ok(Reply {

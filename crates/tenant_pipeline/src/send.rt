@@ -48,7 +48,8 @@ impl Pipeline {
         requires fits { moment ≤ 2 ^ 62 }
         requires active { active_sizes self.old.sender.active ≡ self.old.ledger.places.active }
         ensures step_reply { result ≡ heard (in_flight ticket self.old.sender) }
-        ensures sends { Sends (settled ticket moment word (answer_view answer.now)) self.old self.new }
+        ensures sends { Sends (settled ticket moment word (answer_view answer.now)) self.old
+            self.new }
     {
         match self.sender.settle(ticket, moment, word, answer) {
             Ok(settled) => {
@@ -62,7 +63,8 @@ impl Pipeline {
     /// The spans of an active batch end, by what became of it.
     fn end(&mut self, settled: Settled)
         requires active { spans_ended settled ≤ self.old.ledger.places.active }
-        ensures { self.new ≡ record self.old { ledger = all_moved (ended_by settled) self.old.ledger } }
+        ensures { self.new ≡ record self.old
+            { ledger = all_moved (ended_by settled) self.old.ledger } }
     {
         match settled {
             Settled::Taken { exported, rejected } => {

@@ -1,12 +1,12 @@
 //! A tenant's due timers, which run one at a time: the batch timer, and the decisions of rows.
 
-ghost use Rattle.std.specs.Prelude.{◌≡◌, ◌≢◌, ◌<◌, ◌≤◌, ◌+◌, ◌^◌, ℕ, [], true, false, Some, OnOk, OnErr};
+ghost use Rattle.std.specs.Prelude.{◌≡◌, ◌<◌, ◌≤◌, ◌^◌, ℕ, [], true, false, Some, OnOk, OnErr};
 ghost use Rattle.span_batcher.specs.State.{next_due};
 ghost use Rattle.span_batcher.specs.Timers.{is_due};
-ghost use Rattle.tenant_stores.specs.Part.{part};
 ghost use Rattle.tenant_rules.specs.Timers.{first_due, next_timer, is_batch, flushed, decide, one_run, ran, enough, IsFront};
 ghost use Rattle.tenant_pipeline.specs.StateIn.{part_in, state_in};
 ghost use Rattle.tenant_pipeline.specs.Invariant.{PipelineInvariant, PipelineInvariantAt, IsSwept};
+ghost use Rattle.tenant_stores.specs.Promises.{OthersUnchanged};
 
 use crate::outbox::encoded;
 use crate::pipeline::{Pipeline, lesser};
@@ -63,20 +63,22 @@ impl Pipeline {
     /// The batch timer runs out: all that is pending is one batch.
     fn flush(&mut self, stores: &mut Stores<TraceNote>) -> Result<(), AllocError>
         requires invariant { PipelineInvariant self.old stores.old }
-        requires first { is_batch (next_due self.old.batcher) (first_due (state_in self.old stores.old).waiting)
-            ≡ true }
+        requires first { is_batch (next_due self.old.batcher)
+            (first_due (state_in self.old stores.old).waiting) ≡ true }
         requires fits { (due : ℕ) → next_due self.old.batcher ≡ Some due → due ≤ 2 ^ 62 }
         ensures on_success { OnOk result (state_in self.new stores.new ≡
-            flushed (next_due (state_in self.old stores.old).pending) (state_in self.old stores.old)) }
+            flushed (next_due (state_in self.old stores.old).pending)
+            (state_in self.old stores.old)) }
         ensures invariant { PipelineInvariant self.new stores.new }
-        ensures others_unchanged { (other : ℕ) → other ≢ self.old.tenant
-            → part other stores.new ≡ part other stores.old }
-        ensures on_refusal { OnErr result (state_in self.new stores.new ≡ state_in self.old stores.old) }
+        ensures others_unchanged { OthersUnchanged self.old.tenant stores.old stores.new }
+        ensures on_refusal { OnErr result
+            (state_in self.new stores.new ≡ state_in self.old stores.old) }
         ensures tenant { self.new.tenant ≡ self.old.tenant }
         ensures section { self.new.section ≡ self.old.section }
         ensures swept { IsSwept self.old → IsSwept self.new }
         ensures clock { (moment : ℕ) → self.old.clock ≤ moment
-            → ((due : ℕ) → next_due self.old.batcher ≡ Some due → due ≤ moment) → self.new.clock ≤ moment }
+            → ((due : ℕ) → next_due self.old.batcher ≡ Some due → due ≤ moment)
+            → self.new.clock ≤ moment }
     {
         let Some(due) = self.batcher.next_due() else {
             return Ok(());
@@ -92,7 +94,8 @@ impl Pipeline {
 
     /// The row of this number has its verdict, by a moment.
     fn pass(&mut self, number: u64, moment: u64)
-        ensures { self.new ≡ record self.old { rows = record self.old.rows { decided = number }; clock = moment } }
+        ensures { self.new ≡ record self.old
+            { rows = record self.old.rows { decided = number }; clock = moment } }
     {
         self.rows.decided = number;
         self.clock = moment;
@@ -103,21 +106,23 @@ impl Pipeline {
     fn decide(&mut self, stores: &mut Stores<TraceNote>) -> Result<(), AllocError>
         requires invariant { PipelineInvariant self.old stores.old }
         requires row_undecided { self.old.rows.decided < self.old.rows.opened }
-        requires first { is_batch (next_due self.old.batcher) (first_due (state_in self.old stores.old).waiting)
-            ≡ false }
-        requires fits { (due : ℕ) → first_due (state_in self.old stores.old).waiting ≡ Some due → due ≤ 2 ^ 62 }
+        requires first { is_batch (next_due self.old.batcher)
+            (first_due (state_in self.old stores.old).waiting) ≡ false }
+        requires fits { (due : ℕ) → first_due (state_in self.old stores.old).waiting ≡ Some due
+            → due ≤ 2 ^ 62 }
         requires no_hits { self.old.caches.hits ≡ [] }
         ensures on_success { OnOk result (state_in self.new stores.new ≡
             decide (state_in self.old stores.old).waiting (state_in self.old stores.old)) }
         ensures invariant { PipelineInvariant self.new stores.new }
-        ensures others_unchanged { (other : ℕ) → other ≢ self.old.tenant
-            → part other stores.new ≡ part other stores.old }
-        ensures on_refusal { OnErr result (state_in self.new stores.new ≡ state_in self.old stores.old) }
+        ensures others_unchanged { OthersUnchanged self.old.tenant stores.old stores.new }
+        ensures on_refusal { OnErr result
+            (state_in self.new stores.new ≡ state_in self.old stores.old) }
         ensures tenant { self.new.tenant ≡ self.old.tenant }
         ensures section { self.new.section ≡ self.old.section }
         ensures swept { IsSwept self.old → IsSwept self.new }
         ensures clock { (moment : ℕ) → self.old.clock ≤ moment
-            → ((due : ℕ) → first_due (state_in self.old stores.old).waiting ≡ Some due → due ≤ moment)
+            → ((due : ℕ) → first_due (state_in self.old stores.old).waiting ≡ Some due
+            → due ≤ moment)
             → self.new.clock ≤ moment }
     {
         let tenant = self.tenant;
@@ -165,11 +170,12 @@ impl Pipeline {
         requires decision { decision ≡ first_due (state_in self.old stores.old).waiting }
         requires due { is_due (next_timer (state_in self.old stores.old)) moment ≡ true }
         requires fits { moment ≤ 2 ^ 62 }
-        ensures on_success { OnOk result (state_in self.new stores.new ≡ one_run (state_in self.old stores.old)) }
+        ensures on_success { OnOk result
+            (state_in self.new stores.new ≡ one_run (state_in self.old stores.old)) }
         ensures invariant { PipelineInvariant self.new stores.new }
-        ensures others_unchanged { (other : ℕ) → other ≢ self.old.tenant
-            → part other stores.new ≡ part other stores.old }
-        ensures on_refusal { OnErr result (state_in self.new stores.new ≡ state_in self.old stores.old) }
+        ensures others_unchanged { OthersUnchanged self.old.tenant stores.old stores.new }
+        ensures on_refusal { OnErr result
+            (state_in self.new stores.new ≡ state_in self.old stores.old) }
         ensures tenant { self.new.tenant ≡ self.old.tenant }
         ensures section { self.new.section ≡ self.old.section }
         ensures swept { IsSwept self.old → IsSwept self.new }
@@ -197,14 +203,16 @@ impl Pipeline {
         // All of them have run, or some first ones.
         ensures on_success { OnOk result (state_in self.new stores.new ≡
             ran (enough (state_in self.old stores.old)) moment (state_in self.old stores.old)) }
-        ensures front { IsFront moment (state_in self.old stores.old) (state_in self.new stores.new) }
-        ensures quiet { OnOk result (is_due (next_timer (state_in self.new stores.new)) moment ≡ false) }
+        ensures front { IsFront moment (state_in self.old stores.old)
+            (state_in self.new stores.new) }
+        ensures quiet { OnOk result (is_due (next_timer (state_in self.new stores.new)) moment
+            ≡ false) }
 
         // What always holds goes on to hold, up to the moment where all have run.
         ensures invariant { PipelineInvariant self.new stores.new }
-        ensures reached { OnOk result (PipelineInvariantAt moment [] [] self.new (part_in self.new stores.new)) }
-        ensures others_unchanged { (other : ℕ) → other ≢ self.old.tenant
-            → part other stores.new ≡ part other stores.old }
+        ensures reached { OnOk result (PipelineInvariantAt moment [] [] self.new
+            (part_in self.new stores.new)) }
+        ensures others_unchanged { OthersUnchanged self.old.tenant stores.old stores.new }
         ensures tenant { self.new.tenant ≡ self.old.tenant }
         ensures section { self.new.section ≡ self.old.section }
         ensures swept { IsSwept self.old → IsSwept self.new }

@@ -1,36 +1,50 @@
--- What is asked of a pipeline.
-use Rattle.std.proofs.Common.{◌≡◌, ℕ, List, refl, subst, ap, ◌∙◌, Bool, true, false}
+-- A step that its pipeline takes, and what it tells.
+use Rattle.std.proofs.Common.{◌≡◌, ℕ, List, refl, sym, ap, ◌∙◌, Bool, true, false}
+use Rattle.std.specs.Prelude.{Decides}
+use Rattle.tail_settings.specs.Section.{SectionData}
+use Rattle.otlp_prepare.specs.Equal.{same_policies}
+use Rattle.otlp_prepare.proofs.Equals.{same_policies_decides}
 use Rattle.tenant_rules.specs.declared.reply.StepReply.{StepReply}
+use Rattle.tenant_rules.specs.declared.reply.StepReply.TheVariants as replies
+use Rattle.tenant_rules.specs.Own.{Own, Retire}
+use Rattle.tenant_pipeline.specs.declared.step.OwnStep.{OwnStep as PipelineStep}
+use Rattle.tenant_pipeline.specs.declared.step.OwnStep.TheVariants.{Post}
+use Rattle.tenant_pipeline.specs.OwnStep.{IsMadeFor}
 use Rattle.tenant_shard.specs.View.{View}
-use Rattle.tenant_shard.specs.Outcomes.{OwnStep, Asked, Piped, Comes, Answered, named, reports, has_left}
-use Rattle.tenant_shard.specs.Steps.{IsForPipeline, IfPiped, ends, IsToldOf, IsStepOf, IsDepartureOf}
+use Rattle.tenant_shard.specs.Outcomes.{Answered, named, asked_by, is_taken, reports, has_left}
+use Rattle.tenant_shard.specs.Steps.{ends, IsToldOf, IsStepOf, IsDepartureOf}
 use Rattle.tenant_shard.proofs.Wholes.{reports-named}
 
-pub piped_step : (asked : Asked) → IsForPipeline asked → (step : OwnStep) × (asked ≡ Piped step)
-piped_step (Piped step) is = (step, refl)
-piped_step (Comes section) is = absurd is
+-- a body that comes is taken where it was made ready for the tenant's policies
+pub taken_made : (step : PipelineStep) (section : SectionData) → is_taken section (asked_by step) ≡ true → IsMadeFor section.tail_sampling.policies step
+taken_made (Post now prepared) section taken = (same_policies_decides prepared.now.policies section.tail_sampling.policies).0 taken
+taken_made step section taken = tt
 
-pub with_piped : (asked : Asked) (P : OwnStep → Type 0) → ((step : OwnStep) → asked ≡ Piped step → P step) → IfPiped asked P
-with_piped (Piped step) P holds = holds step refl
-with_piped (Comes section) P holds = tt
+-- two tests of one fact agree
+one_test : {P : Type 0} (a b : Bool) → Decides a P → Decides b P → a ≡ b
+one_test true true d e = refl
+one_test false false d e = refl
+one_test true false d e = sym (e.1 (d.0 refl))
+one_test false true d e = d.1 (e.0 refl)
 
-pub piped_at : (asked : Asked) (P : OwnStep → Type 0) (step : OwnStep) → asked ≡ Piped step → IfPiped asked P → P step
-piped_at asked P step is holds = let there : IfPiped (Piped step) P = rw is at holds in there
+pub takes_is : (step : PipelineStep) (section : SectionData) (takes : Bool) → Decides takes (IsMadeFor section.tail_sampling.policies step) → is_taken section (asked_by step) ≡ takes
+takes_is (Post now prepared) section takes made =
+    let theirs = prepared.now.policies in
+    let mine = section.tail_sampling.policies in
+    one_test (same_policies theirs mine) takes (same_policies_decides theirs mine) made
+takes_is step section takes made = sym (made.1 tt)
 
-piped_in : OwnStep → Asked → OwnStep
-piped_in step (Piped own) = own
-piped_in step (Comes section) = step
-
-pub same_piped : (a b : OwnStep) (P : OwnStep → Type 0) → Piped a ≡ Piped b → P a → P b
-unfolding piped_in
-same_piped a b P is holds = subst P (ap (piped_in a) is) holds
+-- a member goes that retires and is told its last report
+pub ends_is : (step : Own) (told : StepReply) → ends step told ≡ true → (now : ℕ) × (text : List ℕ) × (step ≡ Retire now) × (told ≡ replies.Report text)
+ends_is (Retire now) (replies.Report text) is = (now, text, refl, refl)
+ends_is step told is = absurd (cc)
 
 -- whether a member goes that is told this
-left_is : (t : ℕ) (step : OwnStep) (told : StepReply) (b : Bool) → ends (Piped step) told ≡ b → has_left step.step (reports (named t (Answered told))) ≡ b
-left_is t step told b is = ap (has_left step.step) (reports-named t (Answered told)) ∙ is
+left_is : (t : ℕ) (step : Own) (told : StepReply) (b : Bool) → ends step told ≡ b → has_left step (reports (named t (Answered told))) ≡ b
+left_is t step told b is = ap (has_left step) (reports-named t (Answered told)) ∙ is
 
 -- the member stays
-pub stays_told : (t : ℕ) (step : OwnStep) (old new : List View) (told : StepReply) → ends (Piped step) told ≡ false → IsToldOf t step.step old told new → IsStepOf t step.step old (named t (Answered told)) new
+pub stays_told : (t : ℕ) (step : Own) (old new : List View) (told : StepReply) → ends step told ≡ false → IsToldOf t step old told new → IsStepOf t step old (named t (Answered told)) new
 stays_told t step old new told is tells = record {
   before = tells.before;
   after = tells.after;
@@ -48,7 +62,7 @@ stays_told t step old new told is tells = record {
 }
 
 -- the member goes
-pub leaves_told : (t : ℕ) (step : OwnStep) (old middle new : List View) (told : StepReply) → ends (Piped step) told ≡ true → IsToldOf t step.step old told middle → IsDepartureOf t middle new → IsStepOf t step.step old (named t (Answered told)) new
+pub leaves_told : (t : ℕ) (step : Own) (old middle new : List View) (told : StepReply) → ends step told ≡ true → IsToldOf t step old told middle → IsDepartureOf t middle new → IsStepOf t step old (named t (Answered told)) new
 leaves_told t step old middle new told is tells left = record {
   before = tells.before;
   after = tells.after;

@@ -9,6 +9,8 @@ use Rattle.tenant_rules.specs.Own.{Own}
 use Rattle.tenant_rules.specs.Own as own
 use Rattle.otlp_prepare.specs.Equal.{same_policies}
 use Rattle.otlp_prepare.specs.Prepared.{PreparedData}
+use Rattle.tenant_pipeline.specs.declared.step.OwnStep.{OwnStep as PipelineStep}
+use Rattle.tenant_pipeline.specs.OwnStep.{own_step_of, made_for}
 use Rattle.tenant_pipeline.specs.Prepared.{post_of}
 use Rattle.tenant_shard.specs.declared.step.Step.{Step}
 use Rattle.tenant_shard.specs.declared.step.Step.TheVariants as steps
@@ -27,6 +29,10 @@ plain step = record { step = step; made_for = None }
 -- a body's spans come
 abbrev pub own_post : ℕ → PreparedData → OwnStep
 own_post now prepared = record { step = post_of now prepared; made_for = Some prepared.policies }
+
+-- a step as its pipeline takes it
+abbrev pub asked_by : PipelineStep → OwnStep
+asked_by step = record { step = own_step_of step; made_for = made_for step }
 
 -- what is asked of a tenant: a step of its pipeline, or that it comes with this section
 pub data Asked : Type 0 where

@@ -10,22 +10,16 @@ use Rattle.tenant_pipeline.specs.Steps.{Answers, FollowsFromState}
 use Rattle.tenant_shard.specs.declared.step.Outcome.{Outcome}
 use Rattle.tenant_shard.specs.declared.step.Outcome.TheVariants.{Done, Refused}
 use Rattle.tenant_shard.specs.View.{View, kept_of, was_of, StaysOf}
-use Rattle.tenant_shard.specs.Outcomes.{OwnStep, Asked, Piped, Comes, Answered, named, number_used, is_report, reports, has_left}
+use Rattle.tenant_shard.specs.Outcomes.{Asked, Piped, Comes, Answered, named, number_used, is_report, reports, has_left}
 
 -- a step of a pipeline is asked for
 abbrev pub IsForPipeline : Asked → Type 0
 IsForPipeline (Piped step) = Unit
 IsForPipeline (Comes section) = ⊥
 
--- something holds of the step of a pipeline that is asked for, if one is
-abbrev pub IfPiped : Asked → (OwnStep → Type 0) → Type 0
-IfPiped (Piped step) Holds = Holds step
-IfPiped (Comes section) Holds = Unit
-
--- whether this answer to what is asked ends the tenant's membership
-abbrev pub ends : Asked → StepReply → Bool
-ends (Piped step) told = has_left step.step (is_report (Answered told))
-ends (Comes section) told = false
+-- whether this answer to a step ends the tenant's membership
+abbrev pub ends : Own → StepReply → Bool
+ends step told = has_left step (is_report (Answered told))
 
 -- what is kept of a member that its step left so: nothing where it has gone
 abbrev pub kept_after : Own → Outcome → State → Option State

@@ -35,14 +35,17 @@ pub fn add(
     tenant: u32,
     section: &Section,
 ) -> Result<Outcome, AllocError>
-    requires whole { IsShard stores.now agenda.old members.old.items gone.old.items (vec_capacity gone.old) }
+    requires whole { IsShard stores.now agenda.old members.old.items gone.old.items
+        (vec_capacity gone.old) }
     ensures on_success { IfOk result (λ outcome. IsComingOf tenant (section_view section.now)
         (all_views stores.now members.old.items gone.old.items) outcome
         (all_views stores.now members.new.items gone.new.items)) }
-    ensures on_refusal { OnErr result ((was_of tenant (all_views stores.now members.old.items gone.old.items) ≡ false)
+    ensures on_refusal { OnErr result ((was_of tenant
+        (all_views stores.now members.old.items gone.old.items) ≡ false)
         × (all_views stores.now members.new.items gone.new.items
         ≡ all_views stores.now members.old.items gone.old.items)) }
-    ensures whole { IsShard stores.now agenda.new members.new.items gone.new.items (vec_capacity gone.new) }
+    ensures whole { IsShard stores.now agenda.new members.new.items gone.new.items
+        (vec_capacity gone.new) }
 {
     let Err(at) = place_of(members, tenant) else {
         return Ok(Outcome::Refused(tenant, NUMBER_USED));
@@ -67,13 +70,16 @@ pub fn open_member(
     gone: &mut Vec<u32>,
     tenant: u32,
 ) -> Result<(), AllocError>
-    requires whole { IsShard stores.now agenda.old members.old.items gone.old.items (vec_capacity gone.old) }
+    requires whole { IsShard stores.now agenda.old members.old.items gone.old.items
+        (vec_capacity gone.old) }
     requires nobody_left { gone.old.items ≡ [] }
-    ensures whole { IsShard stores.now agenda.new members.new.items gone.new.items (vec_capacity gone.new) }
+    ensures whole { IsShard stores.now agenda.new members.new.items gone.new.items
+        (vec_capacity gone.new) }
     ensures nobody_left { gone.new.items ≡ [] }
     ensures stands { OnOk result ((earlier : List ℕ) → let table = settings_view settings.now in
         ShardStands (opened table earlier) (all_views stores.now members.old.items []) →
-        ShardStands (opened table (earlier ++ tenant ∷ [])) (all_views stores.now members.new.items [])) }
+        ShardStands (opened table (earlier ++ tenant ∷ []))
+        (all_views stores.now members.new.items [])) }
 {
     let Err(at) = place_of(members, tenant) else {
         return Ok(());
@@ -98,7 +104,8 @@ fn admit(
     tenant: u32,
     section: &Section,
 ) -> Result<(), AllocError>
-    requires whole { IsShard stores.now agenda.old members.old.items gone.old.items (vec_capacity gone.old) }
+    requires whole { IsShard stores.now agenda.old members.old.items gone.old.items
+        (vec_capacity gone.old) }
     requires within { at ≤ length members.old.items }
     requires gap { IsGapFor tenant members.old.items at }
     requires is_new { is_gone tenant gone.old.items ≡ false }
@@ -106,7 +113,8 @@ fn admit(
         (views stores.now members.old.items) (views stores.now members.new.items)) }
     ensures gone { gone.new.items ≡ gone.old.items }
     ensures on_refusal { OnErr result (members.new.items ≡ members.old.items) }
-    ensures whole { IsShard stores.now agenda.new members.new.items gone.new.items (vec_capacity gone.new) }
+    ensures whole { IsShard stores.now agenda.new members.new.items gone.new.items
+        (vec_capacity gone.new) }
 {
     let pipeline = Pipeline::new(alloc, tenant, section, keys)?;
     members.reserve(1)?;
@@ -129,13 +137,15 @@ pub fn let_go(
     i: usize,
     tenant: u32,
 )
-    requires whole { IsShard stores.old agenda.old members.old.items gone.old.items (vec_capacity gone.old) }
+    requires whole { IsShard stores.old agenda.old members.old.items gone.old.items
+        (vec_capacity gone.old) }
     requires within { i < length members.old.items }
     requires place { IsPlaceOf tenant members.old.items i }
     requires may_leave { (d : Pipeline) → HasNonePending (slice_index_or members.old.items i d) }
     ensures left { IsDepartureOf tenant (all_views stores.old members.old.items gone.old.items)
         (all_views stores.new members.new.items gone.new.items) }
-    ensures whole { IsShard stores.new agenda.new members.new.items gone.new.items (vec_capacity gone.new) }
+    ensures whole { IsShard stores.new agenda.new members.new.items gone.new.items
+        (vec_capacity gone.new) }
 {
     let Err(at) = gone.binary_search(&tenant) else {
         unreachable!()

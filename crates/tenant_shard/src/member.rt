@@ -1,23 +1,14 @@
-//! The members, which stand by number, and what a step of one of them does.
+//! The members, which stand by number, and a step of one of them.
 
-ghost use Rattle.std.specs.Prelude.{◌≡◌, ◌≢◌, ℕ, true, ◌<◌, ◌≤◌, IfOk, IfErr, OnErr, length};
-ghost use Rattle.tail_settings.specs.Section.{section_view};
-ghost use Rattle.tenant_rules.specs.Machine.{effective};
-ghost use Rattle.tenant_rules.specs.Timers.{IsFront};
-ghost use Rattle.tenant_stores.specs.Part.{part};
-ghost use Rattle.tenant_pipeline.specs.StateIn.{state_in};
-ghost use Rattle.tenant_pipeline.specs.Invariant.{PipelineInvariant, IsSwept, HasNonePending};
-ghost use Rattle.tenant_pipeline.specs.Steps.{Answers, FollowsFromState};
+ghost use Rattle.std.specs.Prelude.{◌≡◌, ◌<◌, ◌≤◌, IfOk, IfErr, length};
+ghost use Rattle.tenant_pipeline.specs.OwnStep.{own_step_of};
 ghost use Rattle.tenant_shard.specs.Members.{AreInOrder, IsPlaceOf, IsGapFor};
-ghost use Rattle.tenant_shard.specs.Outcomes.{Answered, asked_in, is_taken, named};
-ghost use Rattle.tenant_shard.specs.Steps.{IfPiped, IsForPipeline, ends};
+ghost use Rattle.tenant_shard.specs.Outcomes.{Answered, Piped, asked_by, asked_in, named};
+ghost use Rattle.tenant_shard.specs.Steps.{IsForPipeline, ends};
 
 use crate::step::{Outcome, Step};
-use std::alloc::AllocError;
-use tail_policy::TraceNote;
-use tenant_pipeline::Pipeline;
+use tenant_pipeline::{OwnStep, Pipeline};
 use tenant_rules::StepReply;
-use tenant_stores::Stores;
 
 /// The number of the refusal of an answer to a job that isn't in flight.
 const UNKNOWN_TICKET: u8 = 21;
@@ -49,65 +40,42 @@ pub fn place_of(members: &[Pipeline], tenant: u32) -> Result<usize, usize>
     members.binary_search_by_key(&tenant, |member| member.tenant())
 }
 
-/// Whether a step reaches the member's pipeline: a body does that was prepared for its policies, and any other step.
-pub fn takes(own: &Pipeline, step: &Step) -> bool
-    ensures { IfPiped (asked_in step.now) (λ asked. result ≡ is_taken (section_view own.now.section) asked) }
-{
-    match step {
-        Step::Post { prepared, .. } => own.is_for(prepared),
-        _ => true,
-    }
-}
-
-/// Whether a member goes that was told this.
-pub fn ends(step: &Step, told: &StepReply) -> bool
-    ensures { result ≡ ends (asked_in step.now) told.now }
-{
-    match step {
-        Step::Retire { .. } => matches!(told, StepReply::Report(_)),
-        _ => false,
-    }
-}
-
-/// The member's pipeline does a step that reaches it. A step that names a tenant is taken as this member's.
-pub fn apply_step(
-    own: &mut Pipeline,
-    stores: &mut Stores<TraceNote>,
-    step: &Step,
-) -> Result<StepReply, AllocError>
-    requires invariant { PipelineInvariant own.old stores.old }
+/// A step of a member's pipeline, as that takes it.
+pub fn own_step(step: &Step) -> OwnStep<'_>
     requires piped { IsForPipeline (asked_in step.now) }
-    requires taken { IfPiped (asked_in step.now) (λ asked.
-        is_taken (section_view own.old.section) asked ≡ true) }
-    ensures on_success { IfOk result (λ told. IfPiped (asked_in step.now) (λ asked.
-        Answers asked.step (state_in own.old stores.old) told (state_in own.new stores.new))) }
-    ensures from_state { IfOk result (λ told. IfPiped (asked_in step.now) (λ asked.
-        FollowsFromState asked.step (state_in own.old stores.old) told (state_in own.new stores.new))) }
-    ensures may_leave { IfOk result (λ told. ends (asked_in step.now) told ≡ true → HasNonePending own.new) }
-    ensures on_refusal { OnErr result (IfPiped (asked_in step.now) (λ asked. let old = state_in own.old stores.old in
-        IsFront (effective asked.step old) old (state_in own.new stores.new))) }
-    ensures invariant { PipelineInvariant own.new stores.new }
-    ensures swept { IsSwept own.old → IsSwept own.new }
-    ensures others_unchanged { (other : ℕ) → other ≢ own.old.tenant → part other stores.new ≡ part other stores.old }
-    ensures tenant { own.new.tenant ≡ own.old.tenant }
-    ensures section { own.new.section ≡ own.old.section }
+    ensures { asked_in step.now ≡ Piped (asked_by result) }
 {
     match step {
-        Step::Post { now, prepared } => {
-            let reply = own.post(stores, *now, prepared)?;
-            Ok(StepReply::Reply(reply))
-        }
-        Step::Turn { now } => own.turn(stores, *now),
+        Step::Post { now, prepared } => OwnStep::Post {
+            now: *now,
+            prepared,
+        },
+        Step::Turn { now } => OwnStep::Turn { now: *now },
         Step::Answer {
             now,
             ticket,
             word,
             answer,
             ..
-        } => own.answer(stores, *now, *ticket, *word, answer),
-        Step::Report { now, .. } => own.report(stores, *now),
-        Step::Drain { now, .. } => own.drain(stores, *now),
-        Step::Retire { now, .. } => own.retire(stores, *now),
+        } => OwnStep::Answer {
+            now: *now,
+            ticket: *ticket,
+            word: *word,
+            answer,
+        },
+        Step::Report { now, .. } => OwnStep::Report { now: *now },
+        Step::Drain { now, .. } => OwnStep::Drain { now: *now },
+        Step::Retire { now, .. } => OwnStep::Retire { now: *now },
         Step::Add { .. } => unreachable!(),
+    }
+}
+
+/// Whether a member goes that was told this.
+pub fn ends(step: &OwnStep<'_>, told: &StepReply) -> bool
+    ensures { result ≡ ends (own_step_of step.now) told.now }
+{
+    match step {
+        OwnStep::Retire { .. } => matches!(told, StepReply::Report(_)),
+        _ => false,
     }
 }

@@ -1,22 +1,23 @@
 //! The shard.
 
-ghost use Rattle.std.specs.Prelude.{◌≡◌, ◌<◌, ℕ, true, Some, None, length, slice_index_or, vec_capacity, IfOk, OnErr, IsOk, IfErr};
+ghost use Rattle.std.specs.Prelude.{◌≡◌, ◌<◌, ℕ, true, Some, length, slice_index_or, vec_capacity, IfOk, OnErr, IsOk, IfErr};
 ghost use Rattle.tail_settings.specs.Settings.{settings_view};
-ghost use Rattle.tenant_rules.specs.Own as own;
+ghost use Rattle.tenant_pipeline.specs.OwnStep.{own_step_of};
 ghost use Rattle.tenant_pipeline.specs.Invariant.{HasNonePending};
+ghost use Rattle.tenant_shard.specs.declared.step.Step.TheVariants as steps;
 ghost use Rattle.tenant_shard.specs.View.{View, kept_of};
 ghost use Rattle.tenant_shard.specs.Lives.{ShardStands};
 ghost use Rattle.tenant_shard.specs.Members.{IsPlaceOf, views, all_views};
-ghost use Rattle.tenant_shard.specs.Outcomes.{Piped, plain, asked_in, named_in};
+ghost use Rattle.tenant_shard.specs.Outcomes.{asked_by, asked_in, named_in};
 ghost use Rattle.tenant_shard.specs.Run.{ShardSteps};
 ghost use Rattle.tenant_shard.specs.Refusal.{Reaches, ShardRefuses, IsNobodys};
 ghost use Rattle.tenant_shard.specs.Follows.{ShardFollows};
-ghost use Rattle.tenant_shard.specs.Steps.{IfPiped, IsForPipeline, ends, IsToldOf, IsStepOf, IsLossOf};
+ghost use Rattle.tenant_shard.specs.Steps.{IsForPipeline, ends, IsToldOf, IsStepOf, IsLossOf};
 ghost use Rattle.tenant_shard.specs.Table.{opened};
 ghost use Rattle.tenant_shard.specs.Whole.{IsWhole, IsShard};
 
 use crate::comings::{add, let_go, open_member};
-use crate::member::{apply_step, ends, named, place_of, takes};
+use crate::member::{ends, named, own_step, place_of};
 use crate::step::{Outcome, Step};
 use decision_cache::HashKeys;
 use shard_agenda::Agenda;
@@ -24,7 +25,7 @@ use std::alloc::{AllocError, Global};
 use std::marker::Model;
 use tail_policy::TraceNote;
 use tail_settings::Settings;
-use tenant_pipeline::{LATEST_MOMENT, Pipeline};
+use tenant_pipeline::{LATEST_MOMENT, OwnStep, Pipeline};
 use tenant_rules::StepReply;
 use tenant_stores::Stores;
 use thiserror::Error;
@@ -89,7 +90,8 @@ impl Shard {
     /// the numbers that are used. Other numbers count for nothing, and one that stands there twice counts once. Trace
     /// ids are hashed with keys that anyone knows: strangers' ids are for `open_with_keys`.
     pub fn open(alloc: Global, settings: &Settings, members: &[u32]) -> Result<Self, AllocError>
-        ensures stands { IfOk result (ShardStands (opened (settings_view settings.now) members.now)) }
+        ensures stands { IfOk result (ShardStands
+            (opened (settings_view settings.now) members.now)) }
         ensures counted { IfOk result AllCounted }
     {
         Shard::open_with_keys(alloc, settings, members, FIXED_KEYS)
@@ -103,7 +105,8 @@ impl Shard {
         members: &[u32],
         keys: HashKeys,
     ) -> Result<Self, AllocError>
-        ensures stands { IfOk result (ShardStands (opened (settings_view settings.now) members.now)) }
+        ensures stands { IfOk result (ShardStands
+            (opened (settings_view settings.now) members.now)) }
         ensures counted { IfOk result AllCounted }
     {
         let stores = Stores::new(alloc);
@@ -138,8 +141,10 @@ impl Shard {
     pub fn step(&mut self, step: &Step) -> Result<Outcome, AllocError>
         // The outcome is what the members' own steps say. Where no own steps leave what is kept of the step's tenant,
         // as after refused memory, it follows from that.
-        ensures on_success { IfOk result (λ outcome. ShardSteps step.now self.old outcome self.new) }
-        ensures from_state { IfOk result (λ outcome. ShardFollows step.now self.old outcome self.new) }
+        ensures on_success { IfOk result
+            (λ outcome. ShardSteps step.now self.old outcome self.new) }
+        ensures from_state { IfOk result
+            (λ outcome. ShardFollows step.now self.old outcome self.new) }
 
         // What is left where memory is refused. A step of nobody takes none, and changes nothing.
         ensures on_refusal { OnErr result (ShardRefuses step.now self.old self.new) }
@@ -163,12 +168,15 @@ impl Shard {
     /// answers to the steps that were its own. An error carries the outcomes so far.
     pub fn run(&mut self, steps: &[Step]) -> Result<Vec<Outcome>, Stopped>
         // Each step goes on from what the one before it left, in one chain.
-        ensures on_success { IfOk result (λ outcomes. ShardRuns steps.now self.old outcomes.items self.new) }
+        ensures on_success { IfOk result
+            (λ outcomes. ShardRuns steps.now self.old outcomes.items self.new) }
 
         // What follows from the chain for the own steps that the shard stands for.
         ensures each_alone { IfOk result (λ outcomes. EachAlone steps.now self.old outcomes.items) }
-        ensures by_own_steps { IfOk result (λ outcomes. RunsByOwnSteps steps.now self.old outcomes.items) }
-        ensures stands { IfOk result (λ outcomes. StandsAfter steps.now self.old outcomes.items self.new) }
+        ensures by_own_steps { IfOk result
+            (λ outcomes. RunsByOwnSteps steps.now self.old outcomes.items) }
+        ensures stands { IfOk result (λ outcomes. StandsAfter steps.now self.old outcomes.items
+            self.new) }
 
         // What was done where memory is refused.
         ensures stopped { IfErr result (λ stopped.
@@ -216,7 +224,8 @@ fn step_in(
     gone: &mut Vec<u32>,
     step: &Step,
 ) -> Result<Outcome, AllocError>
-    requires { IsShard stores.old agenda.old members.old.items gone.old.items (vec_capacity gone.old) }
+    requires { IsShard stores.old agenda.old members.old.items gone.old.items
+        (vec_capacity gone.old) }
     ensures on_success { IfOk result (λ outcome. ShardSteps step.now
         (all_views stores.old members.old.items gone.old.items) outcome
         (all_views stores.new members.new.items gone.new.items)) }
@@ -226,16 +235,18 @@ fn step_in(
     ensures on_refusal { OnErr result (ShardRefuses step.now
         (all_views stores.old members.old.items gone.old.items)
         (all_views stores.new members.new.items gone.new.items)) }
-    ensures on_no_member { IsNobodys step.now (all_views stores.old members.old.items gone.old.items) → (IsOk result)
+    ensures on_no_member { IsNobodys step.now
+        (all_views stores.old members.old.items gone.old.items) → (IsOk result)
         × (all_views stores.new members.new.items gone.new.items
         ≡ all_views stores.old members.old.items gone.old.items) }
-    ensures whole { IsShard stores.new agenda.new members.new.items gone.new.items (vec_capacity gone.new) }
+    ensures whole { IsShard stores.new agenda.new members.new.items gone.new.items
+        (vec_capacity gone.new) }
 {
     match step {
         Step::Post { prepared, .. } => {
             step_of(stores, agenda, members, gone, prepared.tenant(), step)
         }
-        Step::Turn { now } => turn(stores, agenda, members, gone, *now, step),
+        Step::Turn { now } => turn(stores, agenda, members, gone, *now),
         Step::Answer { tenant, .. } => step_of(stores, agenda, members, gone, *tenant, step),
         Step::Report { tenant, .. } => step_of(stores, agenda, members, gone, *tenant, step),
         Step::Drain { tenant, .. } => step_of(stores, agenda, members, gone, *tenant, step),
@@ -255,7 +266,8 @@ fn step_of(
     tenant: u32,
     step: &Step,
 ) -> Result<Outcome, AllocError>
-    requires whole { IsShard stores.old agenda.old members.old.items gone.old.items (vec_capacity gone.old) }
+    requires whole { IsShard stores.old agenda.old members.old.items gone.old.items
+        (vec_capacity gone.old) }
     requires whose { named_in step.now ≡ Some tenant }
     requires piped { IsForPipeline (asked_in step.now) }
     ensures on_success { IfOk result (λ outcome. ShardSteps step.now
@@ -267,18 +279,21 @@ fn step_of(
     ensures on_refusal { OnErr result (ShardRefuses step.now
         (all_views stores.old members.old.items gone.old.items)
         (all_views stores.new members.new.items gone.new.items)) }
-    ensures on_no_member { IsNobodys step.now (all_views stores.old members.old.items gone.old.items) → (IsOk result)
+    ensures on_no_member { IsNobodys step.now
+        (all_views stores.old members.old.items gone.old.items) → (IsOk result)
         × (all_views stores.new members.new.items gone.new.items
         ≡ all_views stores.old members.old.items gone.old.items) }
-    ensures whole { IsShard stores.new agenda.new members.new.items gone.new.items (vec_capacity gone.new) }
+    ensures whole { IsShard stores.new agenda.new members.new.items gone.new.items
+        (vec_capacity gone.new) }
 {
+    let own = own_step(step);
     let Ok(i) = place_of(members, tenant) else {
         return Ok(Outcome::Refused(tenant, NOT_MEMBER));
     };
-    if !takes(&members[i], step) {
+    if !members[i].takes(&own) {
         return Ok(Outcome::Refused(tenant, OTHER_POLICIES));
     }
-    let outcome = step_at(stores, agenda, members, gone, i, tenant, step)?;
+    let outcome = step_at(stores, agenda, members, gone, i, tenant, &own)?;
     Ok(outcome)
 }
 
@@ -289,24 +304,24 @@ fn turn(
     members: &mut Vec<Pipeline>,
     gone: &mut Vec<u32>,
     now: u64,
-    step: &Step,
 ) -> Result<Outcome, AllocError>
-    requires whole { IsShard stores.old agenda.old members.old.items gone.old.items (vec_capacity gone.old) }
-    requires whose { named_in step.now ≡ None }
-    requires asked { asked_in step.now ≡ Piped (plain (own.Turn now)) }
-    ensures on_success { IfOk result (λ outcome. ShardSteps step.now
+    requires whole { IsShard stores.old agenda.old members.old.items gone.old.items
+        (vec_capacity gone.old) }
+    ensures on_success { IfOk result (λ outcome. ShardSteps (steps.Turn now)
         (all_views stores.old members.old.items gone.old.items) outcome
         (all_views stores.new members.new.items gone.new.items)) }
-    ensures from_state { IfOk result (λ outcome. ShardFollows step.now
+    ensures from_state { IfOk result (λ outcome. ShardFollows (steps.Turn now)
         (all_views stores.old members.old.items gone.old.items) outcome
         (all_views stores.new members.new.items gone.new.items)) }
-    ensures on_refusal { OnErr result (ShardRefuses step.now
+    ensures on_refusal { OnErr result (ShardRefuses (steps.Turn now)
         (all_views stores.old members.old.items gone.old.items)
         (all_views stores.new members.new.items gone.new.items)) }
-    ensures on_no_member { IsNobodys step.now (all_views stores.old members.old.items gone.old.items) → (IsOk result)
+    ensures on_no_member { IsNobodys (steps.Turn now)
+        (all_views stores.old members.old.items gone.old.items) → (IsOk result)
         × (all_views stores.new members.new.items gone.new.items
         ≡ all_views stores.old members.old.items gone.old.items) }
-    ensures whole { IsShard stores.new agenda.new members.new.items gone.new.items (vec_capacity gone.new) }
+    ensures whole { IsShard stores.new agenda.new members.new.items gone.new.items
+        (vec_capacity gone.new) }
 {
     let Some(tenant) = agenda.first_due(now.min(LATEST_MOMENT)) else {
         return Ok(Outcome::Idle);
@@ -314,7 +329,8 @@ fn turn(
     let Ok(i) = place_of(members, tenant) else {
         unreachable!()
     };
-    let outcome = step_at(stores, agenda, members, gone, i, tenant, step)?;
+    let own = OwnStep::Turn { now };
+    let outcome = step_at(stores, agenda, members, gone, i, tenant, &own)?;
     Ok(outcome)
 }
 
@@ -326,21 +342,22 @@ fn step_at(
     gone: &mut Vec<u32>,
     i: usize,
     tenant: u32,
-    step: &Step,
+    step: &OwnStep<'_>,
 ) -> Result<Outcome, AllocError>
-    requires whole { IsShard stores.old agenda.old members.old.items gone.old.items (vec_capacity gone.old) }
-    requires piped { IsForPipeline (asked_in step.now) }
+    requires whole { IsShard stores.old agenda.old members.old.items gone.old.items
+        (vec_capacity gone.old) }
     requires within { i < length members.old.items }
     requires place { IsPlaceOf tenant members.old.items i }
-    requires taken { IfPiped (asked_in step.now) (λ asked.
-        Reaches asked (kept_of tenant (all_views stores.old members.old.items gone.old.items))) }
-    ensures on_success { IfOk result (λ outcome. IfPiped (asked_in step.now) (λ asked. IsStepOf tenant asked.step
+    requires taken { Reaches (asked_by step.now)
+        (kept_of tenant (all_views stores.old members.old.items gone.old.items)) }
+    ensures on_success { IfOk result (λ outcome. IsStepOf tenant (own_step_of step.now)
         (all_views stores.old members.old.items gone.old.items) outcome
-        (all_views stores.new members.new.items gone.new.items))) }
-    ensures on_refusal { OnErr result (IfPiped (asked_in step.now) (λ asked. IsLossOf tenant asked.step
+        (all_views stores.new members.new.items gone.new.items)) }
+    ensures on_refusal { OnErr result (IsLossOf tenant (own_step_of step.now)
         (all_views stores.old members.old.items gone.old.items)
-        (all_views stores.new members.new.items gone.new.items))) }
-    ensures whole { IsShard stores.new agenda.new members.new.items gone.new.items (vec_capacity gone.new) }
+        (all_views stores.new members.new.items gone.new.items)) }
+    ensures whole { IsShard stores.new agenda.new members.new.items gone.new.items
+        (vec_capacity gone.new) }
 {
     let told = tell(stores, agenda, members, i, tenant, step)?;
     if !ends(step, &told) {
@@ -357,26 +374,25 @@ fn tell(
     members: &mut Vec<Pipeline>,
     i: usize,
     tenant: u32,
-    step: &Step,
+    step: &OwnStep<'_>,
 ) -> Result<StepReply, AllocError>
     requires whole { IsWhole stores.old agenda.old members.old.items }
-    requires piped { IsForPipeline (asked_in step.now) }
     requires within { i < length members.old.items }
     requires place { IsPlaceOf tenant members.old.items i }
-    requires taken { IfPiped (asked_in step.now) (λ asked.
-        Reaches asked (kept_of tenant (views stores.old members.old.items))) }
-    ensures on_success { IfOk result (λ told. IfPiped (asked_in step.now) (λ asked. IsToldOf tenant asked.step
-        (views stores.old members.old.items) told (views stores.new members.new.items))) }
-    ensures may_leave { IfOk result (λ told. ends (asked_in step.now) told ≡ true →
+    requires taken { Reaches (asked_by step.now)
+        (kept_of tenant (views stores.old members.old.items)) }
+    ensures on_success { IfOk result (λ told. IsToldOf tenant (own_step_of step.now)
+        (views stores.old members.old.items) told (views stores.new members.new.items)) }
+    ensures may_leave { IfOk result (λ told. ends (own_step_of step.now) told ≡ true →
         (d : Pipeline) → HasNonePending (slice_index_or members.new.items i d)) }
-    ensures on_refusal { OnErr result (IfPiped (asked_in step.now) (λ asked. IsLossOf tenant asked.step
-        (views stores.old members.old.items) (views stores.new members.new.items))) }
+    ensures on_refusal { OnErr result (IsLossOf tenant (own_step_of step.now)
+        (views stores.old members.old.items) (views stores.new members.new.items)) }
     ensures place { IsPlaceOf tenant members.new.items i }
     ensures count { length members.new.items ≡ length members.old.items }
     ensures whole { IsWhole stores.new agenda.new members.new.items }
 {
     let own = &mut members[i];
-    let result = apply_step(own, stores, step);
+    let result = own.step(stores, step);
     let ready = own.ready(stores);
     agenda.set(tenant, ready);
     let told = result?;

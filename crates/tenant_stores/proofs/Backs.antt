@@ -1,5 +1,5 @@
 -- What takes a change back.
-use Rattle.std.proofs.Common.{◌≡◌, ◌≢◌, ℕ, ◌+◌, ◌-◌, ◌<◌, List, [], ◌∷◌, ◌++◌, refl, sym, ap, ◌∙◌, arith, Bool, true, false, Option, Some, None, eqb, bytes_eq, cond, length, take, subst, length-append}
+use Rattle.std.proofs.Common.{◌≡◌, ◌≢◌, ℕ, ◌+◌, ◌-◌, List, [], ◌∷◌, ◌++◌, refl, sym, ap, ◌∙◌, arith, Bool, true, false, Option, Some, None, eqb, bytes_eq, cond, length, take, subst, length-append}
 use Rattle.std.proofs.lemmas.Bool.Decides.{nat_tests}
 use Rattle.std.proofs.lemmas.List.{take_at}
 use Rattle.std.proofs.lemmas.Slice.Eq.{bytes_eq-Decides}
@@ -7,14 +7,13 @@ use Rattle.std.specs.Cmp.Lexicographic.{nat_list_eq_equiv}
 use Rattle.std.proofs.Math.Path.{fun_ext}
 use Rattle.span_pool.specs.Stored.{StoredData}
 use Rattle.span_pool.specs.Pool.{with_span, without}
-use Rattle.text_pool.specs.declared.pool.CountedText.{CountedText}
 use Rattle.trace_rows.specs.Part.{with_at, with_latest_row, joined, unjoined}
 use Rattle.trace_rows.specs.declared.table.Row.{Row}
 use Rattle.tenant_stores.specs.declared.undo.UndoEntry.{UndoEntry}
 use Rattle.tenant_stores.specs.declared.undo.UndoEntry.TheVariants.{Joined, Opened, Late}
 use Rattle.tenant_stores.specs.Part.{Part}
 use Rattle.tenant_stores.specs.View.{text_keys, text_keys_of}
-use Rattle.tenant_stores.specs.Changes.{all_released, texts_without, Joins, Opens, Leaves, new_row}
+use Rattle.tenant_stores.specs.Changes.{all_released, texts_without, Leaves, new_row}
 use Rattle.tenant_stores.specs.Trail.{HoldsAll, IsUndone, Trail}
 use Rattle.tenant_stores.proofs.Parts.{part_by, span_here, span_restored}
 

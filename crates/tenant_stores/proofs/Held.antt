@@ -1,8 +1,7 @@
 -- Uses of several texts that are held, one list after the other.
-use Rattle.std.proofs.Common.{◌≡◌, ◌≢◌, ℕ, suc, ◌+◌, ◌-◌, ◌<◌, ◌≤◌, List, [], ◌∷◌, ◌++◌, refl, sym, ap, ◌∙◌, arith, append_assoc, Bool, true, false, Option, Some, None, eqb, cond, subst}
+use Rattle.std.proofs.Common.{◌≡◌, ℕ, ◌+◌, ◌-◌, ◌<◌, ◌≤◌, List, [], ◌∷◌, ◌++◌, refl, sym, ap, ◌∙◌, arith, append_assoc, Bool, true, false, Option, Some, None, eqb, cond, subst}
 use Rattle.std.specs.Prelude.{IfSome, option_to_list, Result, Ok, Err, OnErr}
 use Rattle.std.proofs.lemmas.Bool.Decides.{nat_tests}
-use Rattle.span_pool.specs.Stored.{StoredData, bytes_of}
 use Rattle.span_pool.specs.Stored as keyed
 use Rattle.span_pool.specs.declared.keys.TextKeys.{TextKeys}
 use Rattle.text_pool.specs.Part.{with_text, released, held, text_of}

@@ -1,7 +1,6 @@
 -- Keys that are named show a span each.
-use Rattle.std.proofs.Common.{◌≡◌, ℕ, suc, ◌+◌, ◌-◌, ◌<◌, ◌≤◌, List, [], ◌∷◌, ◌++◌, map, refl, ap, sym, ◌∙◌, arith, Option, Some, None}
-use Rattle.span_pool.specs.Stored.{StoredData, SpanTexts}
-use Rattle.trace_rows.specs.declared.table.Row.{Row}
+use Rattle.std.proofs.Common.{◌≡◌, ℕ, suc, ◌-◌, ◌<◌, ◌≤◌, List, [], ◌∷◌, map, refl, ap, sym, ◌∙◌, arith, Option, Some, None}
+use Rattle.span_pool.specs.Stored.{StoredData}
 use Rattle.trace_rows.specs.Part.{keys_of}
 use Rattle.tenant_stores.specs.Part.{Part}
 use Rattle.tenant_stores.specs.Counts.{Counts, in_table, count}

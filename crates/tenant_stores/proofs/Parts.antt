@@ -1,5 +1,5 @@
 -- Parts that are equal, and what changes of functions of keys do one after the other.
-use Rattle.std.proofs.Common.{◌≡◌, ◌≢◌, ℕ, ◌+◌, ◌<◌, List, [], ◌∷◌, ◌++◌, length, drop, get_or, refl, sym, ap, ◌∙◌, arith, append_assoc, Bool, true, false, Option, Some, None, eqb}
+use Rattle.std.proofs.Common.{◌≡◌, ℕ, ◌+◌, ◌<◌, List, [], ◌∷◌, ◌++◌, length, drop, get_or, refl, sym, ap, ◌∙◌, arith, Bool, true, false, Option, Some, None, eqb}
 use Rattle.std.specs.Prelude.{IfSome}
 use Rattle.std.proofs.lemmas.Bool.Decides.{nat_tests}
 use Rattle.std.proofs.lemmas.List.{drop_more}
@@ -11,7 +11,6 @@ use Rattle.text_pool.specs.Part as texts
 use Rattle.text_pool.specs.declared.pool.CountedText.{CountedText}
 use Rattle.trace_rows.specs.declared.table.Row.{Row}
 use Rattle.tenant_stores.specs.Part.{Part}
-use Rattle.tenant_stores.specs.View.{text_keys_of}
 use Rattle.tenant_stores.specs.Changes.{all_released, texts_without, Leaves}
 
 -- a part from its four

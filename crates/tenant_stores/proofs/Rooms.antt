@@ -1,15 +1,14 @@
 -- What numbers of rows say of what is shown: room for one row more, the first row that waits, and how many there are.
-use Rattle.std.proofs.Common.{◌≡◌, ◌≢◌, ℕ, zero, suc, ◌+◌, ◌-◌, ◌<◌, ◌≤◌, max, List, [], ◌∷◌, ◌++◌, length, refl, sym, ap, ◌∙◌, arith, Bool, true, false, Option, Some, None, ltb, cond, subst, add-one}
+use Rattle.std.proofs.Common.{◌≡◌, ◌≢◌, ℕ, zero, suc, ◌+◌, ◌-◌, ◌<◌, ◌≤◌, max, List, [], ◌∷◌, ◌++◌, length, refl, sym, ap, ◌∙◌, arith, Bool, true, false, Option, Some, None, ltb, cond, add-one}
 use Rattle.std.proofs.lemmas.Bool.Decides.{nat_tests}
 use Rattle.span_pool.specs.Stored.{StoredData}
 use Rattle.text_pool.specs.declared.pool.CountedText.{CountedText}
 use Rattle.trace_rows.specs.declared.table.Row.{Row}
-use Rattle.trace_rows.specs.Part.{keys_of}
 use Rattle.tenant_stores.specs.Part.{Part}
-use Rattle.tenant_stores.specs.Counts.{Counts, settled_numbers, waiting_numbers, room_made, range}
-use Rattle.tenant_stores.specs.View.{SettledRow, WaitingRow, View, as_waiting, as_settled, waiting_rows, settled_rows, view}
+use Rattle.tenant_stores.specs.Counts.{Counts, room_made, range}
+use Rattle.tenant_stores.specs.View.{SettledRow, as_waiting, as_settled, waiting_rows, settled_rows, view}
 use Rattle.tenant_stores.specs.Invariant.{StoreInvariant}
-use Rattle.tenant_stores.specs.Shows.{settled_in, waiting_in, row_shown, but_first, evicted_by, with_room, RoomShows, RoomIsMade, FirstShows, FirstIsShown, LengthsAre}
+use Rattle.tenant_stores.specs.Shows.{settled_in, waiting_in, row_shown, but_first, evicted_by, with_room, RoomIsMade, FirstShows, FirstIsShown, LengthsAre}
 use Rattle.tenant_stores.proofs.Lists.{front_of}
 use Rattle.tenant_stores.proofs.Shown.{view_by}
 

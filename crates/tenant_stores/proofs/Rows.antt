@@ -1,5 +1,5 @@
 -- What another row at a number does to keys and latest rows.
-use Rattle.std.proofs.Common.{◌≡◌, ◌≢◌, ℕ, zero, suc, ◌+◌, ◌-◌, ◌<◌, ◌≤◌, List, [], ◌∷◌, ◌++◌, refl, sym, ap, ◌∙◌, arith, append_assoc, append-nil, Bool, true, false, Option, Some, None, eqb, bytes_eq, cond}
+use Rattle.std.proofs.Common.{◌≡◌, ◌≢◌, ℕ, zero, suc, ◌+◌, ◌-◌, ◌<◌, ◌≤◌, List, [], ◌∷◌, ◌++◌, refl, sym, ap, ◌∙◌, arith, append_assoc, Bool, true, false, Option, Some, None, eqb, bytes_eq, cond}
 use Rattle.std.proofs.lemmas.Bool.Decides.{nat_tests}
 use Rattle.std.proofs.lemmas.Slice.Eq.{bytes_eq-Decides}
 use Rattle.std.specs.Cmp.Lexicographic.{nat_list_eq_equiv}
@@ -8,7 +8,7 @@ use Rattle.trace_rows.specs.Part.{with_at, with_latest_row, joined, settled, key
 use Rattle.tenant_stores.specs.Counts.{range, count}
 use Rattle.tenant_stores.specs.View.{keys_in}
 use Rattle.tenant_stores.specs.Invariant.{if_of, last_of, latest_row_in}
-use Rattle.tenant_stores.proofs.Lists.{count-append, range-append, AreOther, range-above, range-below, split}
+use Rattle.tenant_stores.proofs.Lists.{count-append, AreOther, range-above, range-below, split}
 
 last_of-assoc : (a b c : Option ℕ) → last_of (last_of a b) c ≡ last_of a (last_of b c)
 last_of-assoc a b None = refl

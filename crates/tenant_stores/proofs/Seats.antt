@@ -1,20 +1,20 @@
 -- What a trace's latest row says of the rows that are shown.
-use Rattle.std.proofs.Common.{◌≡◌, ◌≢◌, ◌⊎◌, inl, inr, ℕ, zero, suc, ◌+◌, ◌-◌, ◌<◌, ◌≤◌, List, [], ◌∷◌, ◌++◌, refl, sym, ap, ◌∙◌, arith, Bool, true, false, Option, Some, None, bytes_eq, cond, subst}
+use Rattle.std.proofs.Common.{◌≡◌, ◌⊎◌, inl, inr, ℕ, zero, suc, ◌+◌, ◌-◌, ◌<◌, ◌≤◌, List, [], ◌∷◌, ◌++◌, refl, sym, ap, ◌∙◌, arith, Bool, true, false, Option, Some, None, bytes_eq, cond, subst}
 use Rattle.std.specs.Prelude.{is_some, ◌||◌}
 use Rattle.std.proofs.lemmas.Slice.Eq.{bytes_eq-Decides}
 use Rattle.std.specs.Cmp.Lexicographic.{nat_list_eq_equiv}
-use Rattle.span_pool.specs.Stored.{StoredData, SpanTexts, texts_of}
+use Rattle.span_pool.specs.Stored.{StoredData, SpanTexts}
 use Rattle.text_pool.specs.declared.pool.CountedText.{CountedText}
 use Rattle.trace_rows.specs.declared.table.Row.{Row}
 use Rattle.trace_rows.specs.Part.{with_at, joined}
 use Rattle.tenant_stores.specs.Part.{Part}
 use Rattle.tenant_stores.specs.Counts.{Counts, AreInOrder, in_table, settled_numbers, waiting_numbers, range}
-use Rattle.tenant_stores.specs.View.{SettledRow, WaitingRow, text_at, spans_at, as_waiting, as_settled, waiting_rows, settled_rows}
+use Rattle.tenant_stores.specs.View.{WaitingRow, spans_at, as_waiting, as_settled, waiting_rows, settled_rows}
 use Rattle.tenant_stores.specs.Invariant.{if_of, last_of, latest_row_in, StoreInvariant}
-use Rattle.tenant_stores.specs.Shows.{settled_in, waiting_in, row_shown, has_row, row_in, sampled_in, joined_rows, ShowsNone, ShowsDecided, ShowsWaiting, LatestRowShows}
+use Rattle.tenant_stores.specs.Shows.{has_row, row_in, sampled_in, joined_rows, ShowsNone, ShowsDecided, ShowsWaiting, LatestRowShows}
 use Rattle.tenant_stores.proofs.Lists.{range-append, AreOther, range-above}
 use Rattle.tenant_stores.proofs.Rows.{row_here, row_other, seat_in-append, seat_above}
-use Rattle.tenant_stores.proofs.Shown.{table_split, waiting-other}
+use Rattle.tenant_stores.proofs.Shown.{waiting-other}
 
 same_bytes : (a b : List ℕ) → bytes_eq a b ≡ true → a ≡ b
 same_bytes a b e = (bytes_eq-Decides a b).0 e

@@ -1,8 +1,8 @@
 -- What keys and rows show where spans, texts or rows change.
-use Rattle.std.proofs.Common.{◌≡◌, ◌≢◌, ℕ, zero, suc, ◌+◌, ◌-◌, ◌<◌, ◌≤◌, List, [], ◌∷◌, ◌++◌, refl, sym, ap, ◌∙◌, arith, append_assoc, Bool, true, false, Option, Some, None, eqb, cond}
+use Rattle.std.proofs.Common.{◌≡◌, ℕ, ◌+◌, ◌-◌, ◌<◌, ◌≤◌, List, [], ◌∷◌, ◌++◌, refl, sym, ap, ◌∙◌, arith, append_assoc, Bool, true, false, Option, Some, None, eqb, cond}
 use Rattle.std.specs.Prelude.{option_to_list}
 use Rattle.std.proofs.lemmas.Bool.Decides.{nat_tests}
-use Rattle.span_pool.specs.Stored.{StoredData, SpanTexts, texts_of}
+use Rattle.span_pool.specs.Stored.{StoredData, SpanTexts}
 use Rattle.span_pool.specs.Stored as keyed
 use Rattle.span_pool.specs.Pool.{with_span, without}
 use Rattle.text_pool.specs.declared.pool.CountedText.{CountedText}

@@ -1,22 +1,21 @@
 -- What each change makes of what a part shows.
-use Rattle.std.proofs.Common.{◌≡◌, ◌≢◌, ℕ, zero, suc, ◌+◌, ◌-◌, ◌<◌, ◌≤◌, List, [], ◌∷◌, ◌++◌, refl, sym, ap, ◌∙◌, arith, append-nil, Bool, true, false, Option, Some, None, subst, add-one}
+use Rattle.std.proofs.Common.{◌≡◌, ◌≢◌, ℕ, suc, ◌+◌, ◌-◌, ◌<◌, ◌≤◌, List, [], ◌∷◌, ◌++◌, refl, sym, ap, ◌∙◌, arith, Bool, true, false, Option, Some, None, add-one}
 use Rattle.span_pool.specs.Stored.{StoredData, SpanTexts, texts_of}
-use Rattle.span_pool.specs.Pool.{with_span, without}
-use Rattle.text_pool.specs.Part.{with_text, released}
+use Rattle.span_pool.specs.Pool.{with_span}
 use Rattle.text_pool.specs.Part as texts
 use Rattle.text_pool.specs.declared.pool.CountedText.{CountedText}
 use Rattle.trace_rows.specs.declared.table.Row.{Row}
 use Rattle.trace_rows.specs.Part.{with_at, joined, settled, keys_of}
 use Rattle.tenant_stores.specs.Part.{Part}
 use Rattle.tenant_stores.specs.Counts.{Counts, AreInOrder, one_opened, one_decided, one_swept, in_table, settled_numbers, waiting_numbers, range, count}
-use Rattle.tenant_stores.specs.View.{SettledRow, WaitingRow, View, text_at, shown, spans_at, as_waiting, as_settled, waiting_rows, settled_rows, keys_in, text_keys, text_keys_of, text_keys_at, view}
+use Rattle.tenant_stores.specs.View.{SettledRow, WaitingRow, text_at, shown, spans_at, as_waiting, as_settled, waiting_rows, settled_rows, keys_in, text_keys_at, view}
 use Rattle.tenant_stores.specs.Invariant.{one, uses_of, latest_row_in, named_keys, StoreInvariant}
-use Rattle.tenant_stores.specs.Changes.{all_released, texts_without, Joins, Opens, Waits, new_row, Settles, Leaves}
+use Rattle.tenant_stores.specs.Changes.{all_released, Joins, Opens, Waits, new_row, Settles, Leaves}
 use Rattle.tenant_stores.specs.Shows.{AreAmong, Stay, settled_in, waiting_in, row_shown, joined_rows, with_joined, with_opened, with_late, kept_by, first_kept, dropped_by, first_dropped}
 use Rattle.tenant_stores.proofs.Parts.{span_here}
 use Rattle.tenant_stores.proofs.Lists.{count-append, AreOther, range-above, range-below, front_of, last}
 use Rattle.tenant_stores.proofs.Uses.{one_most, names-append, names-by_count}
-use Rattle.tenant_stores.proofs.Rows.{row_here, keys_in-append}
+use Rattle.tenant_stores.proofs.Rows.{row_here}
 use Rattle.tenant_stores.proofs.Shown.{ShowAlike, spans-append, spans-alike, rows-alike, waiting-append, settled-append, waiting-other, settled-other, view_by, waiting_keys, same_view, alike-texts, alike-put, alike-without}
 use Rattle.tenant_stores.proofs.Stays.{all-stays, without-stays}
 use Rattle.tenant_stores.proofs.Seats.{rows_joined, waiting_seat}

@@ -1,10 +1,15 @@
 -- Texts that are held for spans to come, several at once. This project's own rule.
-use Rattle.std.specs.Prelude.{◌≡◌, ◌<◌, ◌+◌, ℕ, List, Option, Some, None, IfSome}
+use Rattle.std.specs.Prelude.{◌≡◌, ◌≢◌, ◌<◌, ◌+◌, ◌∷◌, [], ℕ, List, Option, Some, None, IfSome, option_copied}
+use Rattle.std.specs.Borrow.{Bor}
+use Rattle.span_pool.specs.declared.keys.TextKeys.{TextKeys}
 use Rattle.span_pool.specs.Stored as keyed
 use Rattle.span_pool.specs.Stored.{Origin, bytes_of}
+use Rattle.text_pool.specs.Part as pool
+use Rattle.text_pool.specs.declared.pool.TextPool.{TextPool}
 use Rattle.text_pool.specs.declared.pool.CountedText.{CountedText}
 use Rattle.tenant_stores.specs.declared.texts.TextRequest.{TextRequest}
 use Rattle.tenant_stores.specs.declared.texts.TextRequest.TheVariants.{Nothing, New, Again}
+use Rattle.tenant_stores.specs.Part.{Part}
 use Rattle.tenant_stores.specs.Counts.{count}
 use Rattle.tenant_stores.specs.View.{text_at}
 use Rattle.tenant_stores.specs.Invariant.{uses_of}
@@ -46,3 +51,38 @@ origin_of resource resource_schema_url scope scope_schema_url = record {
   scope = scope;
   scope_schema_url = bytes_of scope_schema_url;
 }
+
+-- the same of texts that are given, where they are
+abbrev pub origin_copied : Option (Bor (List ℕ)) → Option (Bor (List ℕ)) → Option (Bor (List ℕ)) → Option (Bor (List ℕ))
+    → Origin
+origin_copied resource resource_schema_url scope scope_schema_url = origin_of (option_copied resource)
+    (option_copied resource_schema_url) (option_copied scope) (option_copied scope_schema_url)
+
+-- the origin whose texts a part has at these keys
+abbrev pub origin_in : {N : Type 0} → Part N → TextKeys → Origin
+origin_in p keys = keyed.origin_at (text_at p.texts) keys
+
+-- each other tenant's texts are what they were
+abbrev pub OtherTextsUnchanged : ℕ → TextPool → TextPool → Type 0
+OtherTextsUnchanged tenant old new = (other : ℕ) → other ≢ tenant → pool.part other new ≡ pool.part other old
+
+-- where these are known, this holds
+abbrev pub IfAllKnown : List TextRequest → (ℕ → Option CountedText) → Type 0 → Type 0
+IfAllKnown [] texts Holds = Holds
+IfAllKnown (wanted ∷ rest) texts Holds = IsKnown wanted texts → IfAllKnown rest texts Holds
+
+-- wherever each text that is kept is so for one at least, and those of these that are wanted by their keys are there
+abbrev pub WhereKnown : List TextRequest → (ℕ → Option CountedText) → Type 0 → Type 0
+WhereKnown wanted texts Holds = AreKept texts → IfAllKnown wanted texts Holds
+
+-- the text at this key is the one that is wanted
+abbrev pub IsWantedAt : TextRequest → Option ℕ → (old new : ℕ → Option CountedText) → Type 0
+IsWantedAt wanted key old new = keyed.text_at (text_at new) key ≡ wanted_text wanted old
+
+-- wherever these four are known, the origin at these keys is that of the texts that are wanted
+abbrev pub IsWantedOrigin : (resource resource_schema_url scope scope_schema_url : TextRequest) → TextKeys
+    → (old new : ℕ → Option CountedText) → Type 0
+IsWantedOrigin resource resource_schema_url scope scope_schema_url keys old new =
+    WhereKnown (resource ∷ resource_schema_url ∷ scope ∷ scope_schema_url ∷ []) old
+    (keyed.origin_at (text_at new) keys ≡ origin_of (wanted_text resource old) (wanted_text resource_schema_url old)
+    (wanted_text scope old) (wanted_text scope_schema_url old))

@@ -6,3 +6,4 @@ pub mod Changes
 pub mod Trail
 pub mod Shows
 pub mod HeldTexts
+pub mod Promises

@@ -2,7 +2,7 @@
 -- project's own rule.
 use Rattle.std.specs.Prelude.{◌≡◌, ◌<◌, ◌≤◌, ◌+◌, ◌-◌, ◌∷◌, ◌++◌, ◌||◌, ℕ, Bool, true, false, List, [], length, map}
 use Rattle.std.specs.Prelude.{Option, Some, None, if◌then◌else◌, bytes_eq, nat_lt}
-use Rattle.span_pool.specs.Stored.{Origin, StoredData, SpanTexts, texts_of}
+use Rattle.span_pool.specs.Stored.{StoredData, SpanTexts, texts_of}
 use Rattle.text_pool.specs.declared.pool.CountedText.{CountedText}
 use Rattle.trace_rows.specs.declared.table.Row.{Row}
 use Rattle.trace_rows.specs.Part.{keys_of}

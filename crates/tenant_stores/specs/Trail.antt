@@ -1,6 +1,6 @@
 -- What several spans changed in their tenant's part, one after the other, so that it can be taken back. This project's
 -- own rule.
-use Rattle.std.specs.Prelude.{◌≡◌, ℕ, List, [], ◌∷◌, Option, Some, None}
+use Rattle.std.specs.Prelude.{◌≡◌, ℕ, List, [], ◌∷◌, Some, None}
 use Rattle.span_pool.specs.Stored.{StoredData}
 use Rattle.trace_rows.specs.declared.table.Row.{Row}
 use Rattle.tenant_stores.specs.declared.undo.UndoEntry.{UndoEntry}

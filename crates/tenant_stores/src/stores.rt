@@ -1,20 +1,22 @@
 //! The stores that all tenants of a shard share.
 
-ghost use Rattle.std.specs.Prelude.{◌≡◌, ◌≢◌, ◌<◌, ◌≤◌, ◌+◌, ◌++◌, ◌∷◌, [], ℕ, List, length};
-ghost use Rattle.std.specs.Prelude.{None, Some, IfOk, OnOk, OnErr, option_copied, true, false};
-ghost use Rattle.span_pool.specs.Stored.{origin_at, texts_of};
+ghost use Rattle.std.specs.Prelude.{◌≡◌, ◌≢◌, ◌+◌, ◌++◌, ◌∷◌, [], ℕ, length};
+ghost use Rattle.std.specs.Prelude.{None, Some, IfOk, OnOk, OnErr, option_copied, true};
 ghost use Rattle.text_pool.specs.Part as text_part;
 ghost use Rattle.trace_rows.specs.Part.{keys_of, note_of, rows_part, latest_rows_part, with_at, with_latest_row, IsSame};
 ghost use Rattle.tenant_stores.specs.Part.{Part, part};
-ghost use Rattle.tenant_stores.specs.Counts.{Counts, no_rows, one_opened, one_decided, one_swept, count};
-ghost use Rattle.tenant_stores.specs.View.{text_at, text_keys, view};
+ghost use Rattle.tenant_stores.specs.Counts.{Counts, no_rows, one_opened, one_decided, one_swept};
+ghost use Rattle.tenant_stores.specs.View.{text_keys};
 ghost use Rattle.tenant_stores.specs.Invariant.{StoreInvariant};
 ghost use Rattle.tenant_stores.specs.Changes.{new_row, Joins, Opens, Settles};
 ghost use Rattle.tenant_stores.specs.Changes.{ReleasesAll, Waits, Leaves, Drops, Sweeps};
-ghost use Rattle.tenant_stores.specs.Shows.{AreAmong, Stay, LatestRowShows, with_joined, with_opened, with_late};
-ghost use Rattle.tenant_stores.specs.Shows.{first_kept, first_dropped};
-ghost use Rattle.tenant_stores.specs.HeldTexts.{origin_of};
+ghost use Rattle.tenant_stores.specs.Shows.{LatestRowShows};
 ghost use Rattle.tenant_stores.specs.Trail.{HoldsAll, IsUndone, Trail};
+ghost use Rattle.tenant_stores.specs.Promises.{OthersUnchanged, TextsStay, WhereSound, WhereInHand, WhereHeld};
+ghost use Rattle.tenant_stores.specs.Promises.{WhereWaits, WhereOpens, WhereDecides, WhereSweeps, WhereLeave};
+ghost use Rattle.tenant_stores.specs.Promises.{ShowsSame, ShowsSameInHand, ShowsSameHeld, ShowsJoined, ShowsOpened};
+ghost use Rattle.tenant_stores.specs.Promises.{ShowsLate, ShowsKept, ShowsDropped, ShowsLeft, ShowsSwept};
+ghost use Rattle.tenant_stores.specs.HeldTexts.{origin_copied, origin_in};
 
 use crate::texts::{hold_four, release_all, wanted_again, wanted_new};
 use crate::undo::{Joining, Opening, UndoEntry};
@@ -48,8 +50,8 @@ impl<N: Drop> Stores<N> {
     /// The number of the latest row of the tenant's trace, where the table has one.
     pub fn latest_row(&self, tenant: u32, trace: [u8; 16]) -> Option<u64>
         ensures value { result ≡ (part tenant self.now).latest_rows trace }
-        ensures shows { (n : Counts) (pending held : List ℕ) → StoreInvariant n pending held (part tenant self.now)
-            → LatestRowShows n trace (part tenant self.now) }
+        ensures shows { WhereSound (part tenant self.now)
+            (λ n pending held. LatestRowShows n trace (part tenant self.now)) }
     {
         self.rows.latest_row(tenant, trace)
     }
@@ -84,29 +86,26 @@ impl<N: Drop> Stores<N> {
         scope: Option<&SharedBytes>,
         scope_schema_url: Option<&SharedBytes>,
     ) -> Result<TextKeys, AllocError>
-        ensures uses_added { IfOk result (λ keys. (n : Counts) (pending held : List ℕ)
-            → StoreInvariant n pending held (part tenant self.old)
-            → HoldsAll (text_keys keys) (part tenant self.old) (part tenant self.new)) }
-        ensures texts { IfOk result (λ keys. (n : Counts) (pending held : List ℕ)
-            → StoreInvariant n pending held (part tenant self.old)
-            → origin_at (text_at (part tenant self.new).texts) keys ≡ origin_of
-            (option_copied resource.entry) (option_copied resource_schema_url.entry)
-            (option_copied scope.entry) (option_copied scope_schema_url.entry)) }
-        ensures store_invariant { IfOk result (λ keys. (n : Counts) (pending held : List ℕ)
-            → StoreInvariant n pending held (part tenant self.old)
-            → StoreInvariant n pending (text_keys keys ++ held) (part tenant self.new)) }
-        ensures shows { OnOk result ((n : Counts) (pending held keys : List ℕ)
-            → StoreInvariant n pending held (part tenant self.old) → AreAmong keys pending
-            → view n keys (part tenant self.new) ≡ view n keys (part tenant self.old)) }
-        ensures stay { OnOk result ((n : Counts) (pending held : List ℕ)
-            → StoreInvariant n pending held (part tenant self.old)
-            → Stay held (part tenant self.old).texts (part tenant self.new).texts) }
+        ensures uses_added { IfOk result
+            (λ keys. WhereSound (part tenant self.old)
+            (λ n pending held. HoldsAll (text_keys keys) (part tenant self.old)
+            (part tenant self.new))) }
+        ensures texts { IfOk result (λ keys. WhereSound (part tenant self.old)
+            (λ n pending held. origin_in (part tenant self.new) keys ≡ origin_copied resource.entry
+            resource_schema_url.entry scope.entry scope_schema_url.entry)) }
+        ensures store_invariant { IfOk result
+            (λ keys. WhereSound (part tenant self.old)
+            (λ n pending held. StoreInvariant n pending (text_keys keys ++ held)
+            (part tenant self.new))) }
+        ensures shows { OnOk result (ShowsSame (part tenant self.old) (part tenant self.new)) }
+        ensures stay { OnOk result (WhereSound (part tenant self.old)
+            (λ n pending held. TextsStay held (part tenant self.old) (part tenant self.new))) }
 
         // Other tenants' parts stay as they were, and where memory is refused this tenant's too.
-        ensures others_unchanged { (other : ℕ) → other ≢ tenant → part other self.new ≡ part other self.old }
-        ensures on_refusal { OnErr result ((n : Counts) (pending held : List ℕ)
-            → StoreInvariant n pending held (part tenant self.old)
-            → part tenant self.new ≡ part tenant self.old) }
+        ensures others_unchanged { OthersUnchanged tenant self.old self.new }
+        ensures on_refusal { OnErr result
+            (WhereSound (part tenant self.old)
+            (λ n pending held. part tenant self.new ≡ part tenant self.old)) }
     {
         let resource = wanted_new(resource);
         let resource_schema_url = wanted_new(resource_schema_url);
@@ -126,29 +125,27 @@ impl<N: Drop> Stores<N> {
     /// One use more of each of these keys' texts, which are in hand, for a span to come, or of none. The answer is the
     /// keys of these uses.
     pub fn hold_again(&mut self, tenant: u32, keys: TextKeys) -> Result<TextKeys, AllocError>
-        ensures uses_added { IfOk result (λ again. (n : Counts) (pending held : List ℕ)
-            → AreAmong (text_keys keys) held → StoreInvariant n pending held (part tenant self.old)
-            → HoldsAll (text_keys again) (part tenant self.old) (part tenant self.new)) }
-        ensures texts { IfOk result (λ again. (n : Counts) (pending held : List ℕ)
-            → AreAmong (text_keys keys) held → StoreInvariant n pending held (part tenant self.old)
-            → origin_at (text_at (part tenant self.new).texts) again ≡
-            origin_at (text_at (part tenant self.old).texts) keys) }
-        ensures store_invariant { IfOk result (λ again. (n : Counts) (pending held : List ℕ)
-            → AreAmong (text_keys keys) held → StoreInvariant n pending held (part tenant self.old)
-            → StoreInvariant n pending (text_keys again ++ held) (part tenant self.new)) }
-        ensures shows { OnOk result ((n : Counts) (pending held shown : List ℕ)
-            → AreAmong (text_keys keys) held → StoreInvariant n pending held (part tenant self.old)
-            → AreAmong shown pending
-            → view n shown (part tenant self.new) ≡ view n shown (part tenant self.old)) }
-        ensures stay { OnOk result ((n : Counts) (pending held : List ℕ)
-            → AreAmong (text_keys keys) held → StoreInvariant n pending held (part tenant self.old)
-            → Stay held (part tenant self.old).texts (part tenant self.new).texts) }
+        ensures uses_added { IfOk result
+            (λ again. WhereInHand keys (part tenant self.old)
+            (λ n pending held. HoldsAll (text_keys again) (part tenant self.old)
+            (part tenant self.new))) }
+        ensures texts { IfOk result (λ again. WhereInHand keys (part tenant self.old)
+            (λ n pending held. origin_in (part tenant self.new) again ≡ origin_in
+            (part tenant self.old) keys)) }
+        ensures store_invariant { IfOk result
+            (λ again. WhereInHand keys (part tenant self.old)
+            (λ n pending held. StoreInvariant n pending (text_keys again ++ held)
+            (part tenant self.new))) }
+        ensures shows { OnOk result (ShowsSameInHand keys (part tenant self.old)
+            (part tenant self.new)) }
+        ensures stay { OnOk result (WhereInHand keys (part tenant self.old)
+            (λ n pending held. TextsStay held (part tenant self.old) (part tenant self.new))) }
 
         // Other tenants' parts stay as they were, and where memory is refused this tenant's too.
-        ensures others_unchanged { (other : ℕ) → other ≢ tenant → part other self.new ≡ part other self.old }
-        ensures on_refusal { OnErr result ((n : Counts) (pending held : List ℕ)
-            → AreAmong (text_keys keys) held → StoreInvariant n pending held (part tenant self.old)
-            → part tenant self.new ≡ part tenant self.old) }
+        ensures others_unchanged { OthersUnchanged tenant self.old self.new }
+        ensures on_refusal { OnErr result
+            (WhereInHand keys (part tenant self.old)
+            (λ n pending held. part tenant self.new ≡ part tenant self.old)) }
     {
         let resource = wanted_again(keys.resource);
         let resource_schema_url = wanted_again(keys.resource_schema_url);
@@ -167,17 +164,15 @@ impl<N: Drop> Stores<N> {
 
     /// One use less of each of these keys' texts, for which no span came. It takes no memory.
     pub fn release_all(&mut self, tenant: u32, keys: TextKeys)
-        ensures uses_removed { ReleasesAll (text_keys keys) (part tenant self.old) (part tenant self.new) }
-        ensures store_invariant { (n : Counts) (pending held : List ℕ)
-            → StoreInvariant n pending (text_keys keys ++ held) (part tenant self.old)
-            → StoreInvariant n pending held (part tenant self.new) }
-        ensures shows { (n : Counts) (pending held shown : List ℕ)
-            → StoreInvariant n pending (text_keys keys ++ held) (part tenant self.old) → AreAmong shown pending
-            → view n shown (part tenant self.new) ≡ view n shown (part tenant self.old) }
-        ensures stay { (n : Counts) (pending held : List ℕ)
-            → StoreInvariant n pending (text_keys keys ++ held) (part tenant self.old)
-            → Stay held (part tenant self.old).texts (part tenant self.new).texts }
-        ensures others_unchanged { (other : ℕ) → other ≢ tenant → part other self.new ≡ part other self.old }
+        ensures uses_removed { ReleasesAll (text_keys keys) (part tenant self.old)
+            (part tenant self.new) }
+        ensures store_invariant { WhereHeld (text_keys keys) (part tenant self.old)
+            (λ n pending held. StoreInvariant n pending held (part tenant self.new)) }
+        ensures shows { ShowsSameHeld (text_keys keys) (part tenant self.old)
+            (part tenant self.new) }
+        ensures stay { WhereHeld (text_keys keys) (part tenant self.old)
+            (λ n pending held. TextsStay held (part tenant self.old) (part tenant self.new)) }
+        ensures others_unchanged { OthersUnchanged tenant self.old self.new }
     {
         release_all(&mut self.texts, tenant, keys);
     }
@@ -186,22 +181,18 @@ impl<N: Drop> Stores<N> {
     /// the span names were held for it. Where memory is refused, span and note are dropped.
     pub fn join(&mut self, number: u64, span: StoredSpan, note: N) -> Result<Joining<N>, AllocError>
         ensures own_part { IfOk result (λ joining.
-            Joins number joining.key span note (part span.owner self.old) (part span.owner self.new)) }
+            Joins number joining.key span note (part span.owner self.old)
+            (part span.owner self.new)) }
         ensures former { IfOk result (λ joining.
             joining.former ≡ note_of note ((part span.owner self.old).rows number)) }
-        ensures store_invariant { OnOk result ((n : Counts) (pending held : List ℕ) → n.decided < number
-            → number ≤ n.opened
-            → StoreInvariant n pending (text_keys span.keys ++ held) (part span.owner self.old)
-            → StoreInvariant n pending held (part span.owner self.new)) }
-        ensures shows { OnOk result ((n : Counts) (pending held keys trace : List ℕ)
-            → StoreInvariant n pending held (part span.owner self.old) → AreAmong keys pending
-            → (part span.owner self.old).latest_rows trace ≡ Some number → n.decided < number
-            → view n keys (part span.owner self.new) ≡ with_joined trace
-            (texts_of (text_at (part span.owner self.old).texts) span) note
-            (view n keys (part span.owner self.old))) }
+        ensures store_invariant { OnOk result
+            (WhereWaits number (text_keys span.keys) (part span.owner self.old)
+            (λ n pending held. StoreInvariant n pending held (part span.owner self.new))) }
+        ensures shows { OnOk result (ShowsJoined number span note (part span.owner self.old)
+            (part span.owner self.new)) }
 
         // Other tenants' parts stay as they were, and where memory is refused this tenant's too.
-        ensures others_unchanged { (other : ℕ) → other ≢ span.owner → part other self.new ≡ part other self.old }
+        ensures others_unchanged { OthersUnchanged span.owner self.old self.new }
         ensures on_refusal { OnErr result (part span.owner self.new ≡ part span.owner self.old) }
     {
         let tenant = span.owner();
@@ -227,19 +218,19 @@ impl<N: Drop> Stores<N> {
     ) -> Result<Opening, AllocError>
         requires { (part span.owner self.old).rows number ≡ None }
         ensures own_part { IfOk result (λ opening.
-            Opens number opening.key due trace span note (part span.owner self.old) (part span.owner self.new)) }
-        ensures earlier { IfOk result (λ opening. opening.earlier ≡ (part span.owner self.old).latest_rows trace) }
-        ensures store_invariant { OnOk result ((n : Counts) (pending held : List ℕ) → number ≡ n.opened + 1
-            → StoreInvariant n pending (text_keys span.keys ++ held) (part span.owner self.old)
-            → StoreInvariant (one_opened n) pending held (part span.owner self.new)) }
-        ensures shows { OnOk result ((n : Counts) (pending held keys : List ℕ) → number ≡ n.opened + 1
-            → StoreInvariant n pending held (part span.owner self.old) → AreAmong keys pending
-            → view (one_opened n) keys (part span.owner self.new) ≡ with_opened trace due
-            (texts_of (text_at (part span.owner self.old).texts) span) note
-            (view n keys (part span.owner self.old))) }
+            Opens number opening.key due trace span note (part span.owner self.old)
+            (part span.owner self.new)) }
+        ensures earlier { IfOk result (λ opening. opening.earlier
+            ≡ (part span.owner self.old).latest_rows trace) }
+        ensures store_invariant { OnOk result
+            (WhereOpens number (text_keys span.keys) (part span.owner self.old)
+            (λ n pending held. StoreInvariant (one_opened n) pending held
+            (part span.owner self.new))) }
+        ensures shows { OnOk result (ShowsOpened number due trace span note
+            (part span.owner self.old) (part span.owner self.new)) }
 
         // Other tenants' parts stay as they were, and where memory is refused this tenant's too.
-        ensures others_unchanged { (other : ℕ) → other ≢ span.owner → part other self.new ≡ part other self.old }
+        ensures others_unchanged { OthersUnchanged span.owner self.old self.new }
         ensures on_refusal { OnErr result (part span.owner self.new ≡ part span.owner self.old) }
     {
         let tenant = span.owner();
@@ -265,18 +256,17 @@ impl<N: Drop> Stores<N> {
     /// The span is stored, and waits for a batch: its row was decided and sampled before it came. The texts that the
     /// span names were held for it. The answer is its key.
     pub fn keep_late(&mut self, span: StoredSpan) -> Result<usize, AllocError>
-        ensures own_part { IfOk result (λ key. Waits key span (part span.owner self.old) (part span.owner self.new)) }
-        ensures store_invariant { IfOk result (λ key. (n : Counts) (pending held : List ℕ)
-            → StoreInvariant n pending (text_keys span.keys ++ held) (part span.owner self.old)
-            → StoreInvariant n (pending ++ key ∷ []) held (part span.owner self.new)) }
-        ensures shows { IfOk result (λ key. (n : Counts) (pending held keys : List ℕ)
-            → StoreInvariant n pending held (part span.owner self.old) → AreAmong keys pending
-            → view n (keys ++ key ∷ []) (part span.owner self.new) ≡ with_late
-            (texts_of (text_at (part span.owner self.old).texts) span)
-            (view n keys (part span.owner self.old))) }
+        ensures own_part { IfOk result (λ key. Waits key span (part span.owner self.old)
+            (part span.owner self.new)) }
+        ensures store_invariant { IfOk result
+            (λ key. WhereHeld (text_keys span.keys) (part span.owner self.old)
+            (λ n pending held. StoreInvariant n (pending ++ key ∷ []) held
+            (part span.owner self.new))) }
+        ensures shows { IfOk result (λ key. ShowsLate key span (part span.owner self.old)
+            (part span.owner self.new)) }
 
         // Other tenants' parts stay as they were, and where memory is refused this tenant's too.
-        ensures others_unchanged { (other : ℕ) → other ≢ span.owner → part other self.new ≡ part other self.old }
+        ensures others_unchanged { OthersUnchanged span.owner self.old self.new }
         ensures on_refusal { OnErr result (part span.owner self.new ≡ part span.owner self.old) }
     {
         let late = self.spans.put(span)?;
@@ -288,14 +278,11 @@ impl<N: Drop> Stores<N> {
     pub fn keep_row(&mut self, tenant: u32, number: u64) -> Keys
         ensures keys { result ≡ keys_of ((part tenant self.old).rows number) }
         ensures own_part { Settles number true (part tenant self.old) (part tenant self.new) }
-        ensures store_invariant { (n : Counts) (pending held : List ℕ) → number ≡ n.decided + 1 → number ≤ n.opened
-            → StoreInvariant n pending held (part tenant self.old)
-            → StoreInvariant (one_decided n) (pending ++ result) held (part tenant self.new) }
-        ensures shows { (n : Counts) (pending held keys : List ℕ) → number ≡ n.decided + 1 → number ≤ n.opened
-            → StoreInvariant n pending held (part tenant self.old)
-            → view (one_decided n) (keys ++ result) (part tenant self.new) ≡
-            first_kept (view n keys (part tenant self.old)) }
-        ensures others_unchanged { (other : ℕ) → other ≢ tenant → part other self.new ≡ part other self.old }
+        ensures store_invariant { WhereDecides number (part tenant self.old)
+            (λ n pending held. StoreInvariant (one_decided n) (pending ++ result) held
+            (part tenant self.new)) }
+        ensures shows { ShowsKept number result (part tenant self.old) (part tenant self.new) }
+        ensures others_unchanged { OthersUnchanged tenant self.old self.new }
     {
         self.rows.settle(self.alloc, tenant, number, true)
     }
@@ -304,17 +291,12 @@ impl<N: Drop> Stores<N> {
     pub fn drop_row(&mut self, tenant: u32, number: u64) -> usize
         ensures size { result ≡ length (keys_of ((part tenant self.old).rows number)) }
         ensures own_part { Drops number (part tenant self.old) (part tenant self.new) }
-        ensures store_invariant { (n : Counts) (pending held : List ℕ) → number ≡ n.decided + 1 → number ≤ n.opened
-            → StoreInvariant n pending held (part tenant self.old)
-            → StoreInvariant (one_decided n) pending held (part tenant self.new) }
-        ensures shows { (n : Counts) (pending held keys : List ℕ) → number ≡ n.decided + 1 → number ≤ n.opened
-            → StoreInvariant n pending held (part tenant self.old) → AreAmong keys pending
-            → view (one_decided n) keys (part tenant self.new) ≡
-            first_dropped (view n keys (part tenant self.old)) }
-        ensures stay { (n : Counts) (pending held : List ℕ) → number ≡ n.decided + 1 → number ≤ n.opened
-            → StoreInvariant n pending held (part tenant self.old)
-            → Stay held (part tenant self.old).texts (part tenant self.new).texts }
-        ensures others_unchanged { (other : ℕ) → other ≢ tenant → part other self.new ≡ part other self.old }
+        ensures store_invariant { WhereDecides number (part tenant self.old)
+            (λ n pending held. StoreInvariant (one_decided n) pending held (part tenant self.new)) }
+        ensures shows { ShowsDropped number (part tenant self.old) (part tenant self.new) }
+        ensures stay { WhereDecides number (part tenant self.old)
+            (λ n pending held. TextsStay held (part tenant self.old) (part tenant self.new)) }
+        ensures others_unchanged { OthersUnchanged tenant self.old self.new }
     {
         let keys = self.rows.settle(self.alloc, tenant, number, false);
         self.flush(tenant, keys.as_slice());
@@ -324,18 +306,12 @@ impl<N: Drop> Stores<N> {
     /// The tenant's spans at these keys leave, each with its uses of texts. It takes no memory.
     pub fn flush(&mut self, tenant: u32, keys: &[usize])
         ensures own_part { Leaves keys.now (part tenant self.old) (part tenant self.new) }
-        ensures store_invariant { (n : Counts) (pending left held : List ℕ)
-            → ((key : ℕ) → count key keys.now + count key left ≡ count key pending)
-            → StoreInvariant n pending held (part tenant self.old) → StoreInvariant n left held (part tenant self.new) }
-        ensures shows { (n : Counts) (pending left held shown : List ℕ)
-            → ((key : ℕ) → count key keys.now + count key left ≡ count key pending)
-            → StoreInvariant n pending held (part tenant self.old) → AreAmong shown left
-            → view n shown (part tenant self.new) ≡ view n shown (part tenant self.old) }
-        ensures stay { (n : Counts) (pending left held : List ℕ)
-            → ((key : ℕ) → count key keys.now + count key left ≡ count key pending)
-            → StoreInvariant n pending held (part tenant self.old)
-            → Stay held (part tenant self.old).texts (part tenant self.new).texts }
-        ensures others_unchanged { (other : ℕ) → other ≢ tenant → part other self.new ≡ part other self.old }
+        ensures store_invariant { WhereLeave keys.now (part tenant self.old)
+            (λ n left held. StoreInvariant n left held (part tenant self.new)) }
+        ensures shows { ShowsLeft keys.now (part tenant self.old) (part tenant self.new) }
+        ensures stay { WhereLeave keys.now (part tenant self.old)
+            (λ n left held. TextsStay held (part tenant self.old) (part tenant self.new)) }
+        ensures others_unchanged { OthersUnchanged tenant self.old self.new }
     {
         for key in keys {
             self.leave(tenant, *key);
@@ -347,16 +323,12 @@ impl<N: Drop> Stores<N> {
     pub fn sweep(&mut self, tenant: u32, number: u64) -> usize
         ensures size { result ≡ length (keys_of ((part tenant self.old).rows number)) }
         ensures own_part { Sweeps number (part tenant self.old) (part tenant self.new) }
-        ensures store_invariant { (n : Counts) (pending held : List ℕ) → number ≡ n.swept + 1 → number ≤ n.first
-            → StoreInvariant n pending held (part tenant self.old)
-            → StoreInvariant (one_swept n) pending held (part tenant self.new) }
-        ensures shows { (n : Counts) (pending held keys : List ℕ) → number ≡ n.swept + 1 → number ≤ n.first
-            → StoreInvariant n pending held (part tenant self.old) → AreAmong keys pending
-            → view (one_swept n) keys (part tenant self.new) ≡ view n keys (part tenant self.old) }
-        ensures stay { (n : Counts) (pending held : List ℕ) → number ≡ n.swept + 1 → number ≤ n.first
-            → StoreInvariant n pending held (part tenant self.old)
-            → Stay held (part tenant self.old).texts (part tenant self.new).texts }
-        ensures others_unchanged { (other : ℕ) → other ≢ tenant → part other self.new ≡ part other self.old }
+        ensures store_invariant { WhereSweeps number (part tenant self.old)
+            (λ n pending held. StoreInvariant (one_swept n) pending held (part tenant self.new)) }
+        ensures shows { ShowsSwept number (part tenant self.old) (part tenant self.new) }
+        ensures stay { WhereSweeps number (part tenant self.old)
+            (λ n pending held. TextsStay held (part tenant self.old) (part tenant self.new)) }
+        ensures others_unchanged { OthersUnchanged tenant self.old self.new }
     {
         let keys = self.rows.sweep(self.alloc, tenant, number);
         self.flush(tenant, keys.as_slice());
@@ -367,8 +339,9 @@ impl<N: Drop> Stores<N> {
     /// of its spans waits for a batch, nothing of the tenant is left. It takes no memory, and a step for each row.
     pub fn vanish(&mut self, tenant: u32, swept: u64, opened: u64)
         ensures gone { (n : Counts) → swept ≡ n.swept → opened ≡ n.opened
-            → StoreInvariant n [] [] (part tenant self.old) → StoreInvariant no_rows [] [] (part tenant self.new) }
-        ensures others_unchanged { (other : ℕ) → other ≢ tenant → part other self.new ≡ part other self.old }
+            → StoreInvariant n [] [] (part tenant self.old)
+            → StoreInvariant no_rows [] [] (part tenant self.new) }
+        ensures others_unchanged { OthersUnchanged tenant self.old self.new }
     {
         for before in swept..opened {
             self.sweep(tenant, before + 1);
@@ -377,8 +350,9 @@ impl<N: Drop> Stores<N> {
 
     /// Takes back what one span changed, and the texts that were held for it. It takes no memory.
     pub fn take_back(&mut self, tenant: u32, placed: UndoEntry<N>)
-        ensures back { (start : Part N) → IsUndone placed start (part tenant self.old) → part tenant self.new ≡ start }
-        ensures others_unchanged { (other : ℕ) → other ≢ tenant → part other self.new ≡ part other self.old }
+        ensures back { (start : Part N) → IsUndone placed start (part tenant self.old)
+            → part tenant self.new ≡ start }
+        ensures others_unchanged { OthersUnchanged tenant self.old self.new }
     {
         match placed {
             UndoEntry::Left => {}
@@ -401,7 +375,7 @@ impl<N: Drop> Stores<N> {
         ensures back { (start : Part N) → Trail start journal.old.items (part tenant self.old)
             → part tenant self.new ≡ start }
         ensures emptied { journal.new.items ≡ [] }
-        ensures others_unchanged { (other : ℕ) → other ≢ tenant → part other self.new ≡ part other self.old }
+        ensures others_unchanged { OthersUnchanged tenant self.old self.new }
     {
         while let Some(placed) = journal.pop() {
             self.take_back(tenant, placed);
@@ -411,7 +385,7 @@ impl<N: Drop> Stores<N> {
     /// The tenant's span at this key leaves, with its uses of texts.
     fn leave(&mut self, tenant: u32, key: usize)
         ensures own_part { Leaves (key ∷ []) (part tenant self.old) (part tenant self.new) }
-        ensures others_unchanged { (other : ℕ) → other ≢ tenant → part other self.new ≡ part other self.old }
+        ensures others_unchanged { OthersUnchanged tenant self.old self.new }
     {
         let Ok(span) = self.spans.take(tenant, key) else {
             return;

@@ -1,12 +1,11 @@
 //! Uses of several texts at once.
 
-ghost use Rattle.std.specs.Prelude.{◌≡◌, ◌≢◌, ◌++◌, ℕ, Option, IfOk, OnErr, option_to_list, option_copied};
-ghost use Rattle.span_pool.specs.Stored as keyed;
+ghost use Rattle.std.specs.Prelude.{◌≡◌, ◌++◌, ◌∷◌, [], ℕ, Option, IfOk, OnErr, option_to_list, option_copied};
 ghost use Rattle.text_pool.specs.Part.{part};
 ghost use Rattle.text_pool.specs.declared.pool.CountedText.{CountedText};
-ghost use Rattle.tenant_stores.specs.View.{text_at, text_keys};
+ghost use Rattle.tenant_stores.specs.View.{text_keys};
 ghost use Rattle.tenant_stores.specs.Changes.{all_released};
-ghost use Rattle.tenant_stores.specs.HeldTexts.{AreKept, AreHeld, IsKnown, wanted_text, again_of, origin_of};
+ghost use Rattle.tenant_stores.specs.HeldTexts.{AreHeld, IsKnown, wanted_text, again_of, OtherTextsUnchanged, WhereKnown, IsWantedAt, IsWantedOrigin};
 
 use span_pool::TextKeys;
 use std::alloc::AllocError;
@@ -26,7 +25,8 @@ pub(crate) enum TextRequest<'a> {
 /// This text, where there is one.
 pub(crate) fn wanted_new(text: Option<&SharedBytes>) -> TextRequest<'_>
     ensures known { (texts : ℕ → Option CountedText) → IsKnown result texts }
-    ensures text { (texts : ℕ → Option CountedText) → wanted_text result texts ≡ option_copied text.entry }
+    ensures text { (texts : ℕ → Option CountedText)
+        → wanted_text result texts ≡ option_copied text.entry }
 {
     match text {
         Some(text) => TextRequest::New(text),
@@ -50,12 +50,11 @@ fn hold_one(
     tenant: u32,
     wanted: TextRequest<'_>,
 ) -> Result<Option<usize>, AllocError>
-    ensures keys_held { IfOk result (λ key. AreKept (part tenant texts.old)
-        → IsKnown wanted.entry (part tenant texts.old)
-        → AreHeld (option_to_list key) (part tenant texts.old) (part tenant texts.new)) }
-    ensures text { IfOk result (λ key. AreKept (part tenant texts.old) → IsKnown wanted.entry (part tenant texts.old)
-        → keyed.text_at (text_at (part tenant texts.new)) key ≡ wanted_text wanted.entry (part tenant texts.old)) }
-    ensures others_unchanged { (other : ℕ) → other ≢ tenant → part other texts.new ≡ part other texts.old }
+    ensures keys_held { IfOk result (λ key. WhereKnown (wanted.entry ∷ []) (part tenant texts.old)
+        (AreHeld (option_to_list key) (part tenant texts.old) (part tenant texts.new))) }
+    ensures text { IfOk result (λ key. WhereKnown (wanted.entry ∷ []) (part tenant texts.old)
+        (IsWantedAt wanted.entry key (part tenant texts.old) (part tenant texts.new))) }
+    ensures others_unchanged { OtherTextsUnchanged tenant texts.old texts.new }
     ensures on_refusal { OnErr result (part tenant texts.new ≡ part tenant texts.old) }
 {
     match wanted {
@@ -79,18 +78,18 @@ fn hold_two(
     first: TextRequest<'_>,
     second: TextRequest<'_>,
 ) -> Result<(Option<usize>, Option<usize>), AllocError>
-    ensures keys_held { IfOk result (λ keys. AreKept (part tenant texts.old)
-        → IsKnown first.entry (part tenant texts.old) → IsKnown second.entry (part tenant texts.old)
-        → AreHeld (option_to_list keys.0 ++ option_to_list keys.1) (part tenant texts.old) (part tenant texts.new)) }
-    ensures first { IfOk result (λ keys. AreKept (part tenant texts.old)
-        → IsKnown first.entry (part tenant texts.old) → IsKnown second.entry (part tenant texts.old)
-        → keyed.text_at (text_at (part tenant texts.new)) keys.0 ≡ wanted_text first.entry (part tenant texts.old)) }
-    ensures second { IfOk result (λ keys. AreKept (part tenant texts.old)
-        → IsKnown first.entry (part tenant texts.old) → IsKnown second.entry (part tenant texts.old)
-        → keyed.text_at (text_at (part tenant texts.new)) keys.1 ≡ wanted_text second.entry (part tenant texts.old)) }
-    ensures others_unchanged { (other : ℕ) → other ≢ tenant → part other texts.new ≡ part other texts.old }
-    ensures on_refusal { OnErr result (AreKept (part tenant texts.old) → IsKnown second.entry (part tenant texts.old)
-        → part tenant texts.new ≡ part tenant texts.old) }
+    ensures keys_held { IfOk result (λ keys. WhereKnown (first.entry ∷ second.entry ∷ [])
+        (part tenant texts.old) (AreHeld (option_to_list keys.0 ++ option_to_list keys.1)
+        (part tenant texts.old) (part tenant texts.new))) }
+    ensures first { IfOk result (λ keys. WhereKnown (first.entry ∷ second.entry ∷ [])
+        (part tenant texts.old) (IsWantedAt first.entry keys.0 (part tenant texts.old)
+        (part tenant texts.new))) }
+    ensures second { IfOk result (λ keys. WhereKnown (first.entry ∷ second.entry ∷ [])
+        (part tenant texts.old) (IsWantedAt second.entry keys.1 (part tenant texts.old)
+        (part tenant texts.new))) }
+    ensures others_unchanged { OtherTextsUnchanged tenant texts.old texts.new }
+    ensures on_refusal { OnErr result (WhereKnown (second.entry ∷ []) (part tenant texts.old)
+        (part tenant texts.new ≡ part tenant texts.old)) }
 {
     let last = hold_one(texts, tenant, second)?;
     match hold_one(texts, tenant, first) {
@@ -111,23 +110,16 @@ pub(crate) fn hold_four(
     scope: TextRequest<'_>,
     scope_schema_url: TextRequest<'_>,
 ) -> Result<TextKeys, AllocError>
-    ensures keys_held { IfOk result (λ keys. AreKept (part tenant texts.old)
-        → IsKnown resource.entry (part tenant texts.old) → IsKnown resource_schema_url.entry (part tenant texts.old)
-        → IsKnown scope.entry (part tenant texts.old) → IsKnown scope_schema_url.entry (part tenant texts.old)
-        → AreHeld (text_keys keys) (part tenant texts.old) (part tenant texts.new)) }
-    ensures origin { IfOk result (λ keys. AreKept (part tenant texts.old)
-        → IsKnown resource.entry (part tenant texts.old) → IsKnown resource_schema_url.entry (part tenant texts.old)
-        → IsKnown scope.entry (part tenant texts.old) → IsKnown scope_schema_url.entry (part tenant texts.old)
-        → keyed.origin_at (text_at (part tenant texts.new)) keys ≡
-        origin_of (wanted_text resource.entry (part tenant texts.old))
-        (wanted_text resource_schema_url.entry (part tenant texts.old))
-        (wanted_text scope.entry (part tenant texts.old))
-        (wanted_text scope_schema_url.entry (part tenant texts.old))) }
-    ensures others_unchanged { (other : ℕ) → other ≢ tenant → part other texts.new ≡ part other texts.old }
-    ensures on_refusal { OnErr result (AreKept (part tenant texts.old)
-        → IsKnown resource.entry (part tenant texts.old) → IsKnown resource_schema_url.entry (part tenant texts.old)
-        → IsKnown scope.entry (part tenant texts.old) → IsKnown scope_schema_url.entry (part tenant texts.old)
-        → part tenant texts.new ≡ part tenant texts.old) }
+    ensures keys_held { IfOk result (λ keys. WhereKnown
+        (resource.entry ∷ resource_schema_url.entry ∷ scope.entry ∷ scope_schema_url.entry ∷ [])
+        (part tenant texts.old) (AreHeld (text_keys keys) (part tenant texts.old)
+        (part tenant texts.new))) }
+    ensures origin { IfOk result (λ keys. IsWantedOrigin resource.entry resource_schema_url.entry
+        scope.entry scope_schema_url.entry keys (part tenant texts.old) (part tenant texts.new)) }
+    ensures others_unchanged { OtherTextsUnchanged tenant texts.old texts.new }
+    ensures on_refusal { OnErr result (WhereKnown
+        (resource.entry ∷ resource_schema_url.entry ∷ scope.entry ∷ scope_schema_url.entry ∷ [])
+        (part tenant texts.old) (part tenant texts.new ≡ part tenant texts.old)) }
 {
     let lower = hold_two(texts, tenant, scope, scope_schema_url)?;
     match hold_two(texts, tenant, resource, resource_schema_url) {
@@ -147,8 +139,9 @@ pub(crate) fn hold_four(
 
 /// One use less of each of the texts with these keys.
 pub(crate) fn release_all(texts: &mut TextPool, tenant: u32, keys: TextKeys)
-    ensures uses_removed { part tenant texts.new ≡ all_released (text_keys keys) (part tenant texts.old) }
-    ensures others_unchanged { (other : ℕ) → other ≢ tenant → part other texts.new ≡ part other texts.old }
+    ensures uses_removed { part tenant texts.new ≡ all_released (text_keys keys)
+        (part tenant texts.old) }
+    ensures others_unchanged { OtherTextsUnchanged tenant texts.old texts.new }
 {
     release(texts, tenant, keys.resource);
     release(texts, tenant, keys.resource_schema_url);
@@ -158,8 +151,9 @@ pub(crate) fn release_all(texts: &mut TextPool, tenant: u32, keys: TextKeys)
 
 /// One use less of the text with this key, where there is a key.
 fn release(texts: &mut TextPool, tenant: u32, key: Option<usize>)
-    ensures uses_removed { part tenant texts.new ≡ all_released (option_to_list key) (part tenant texts.old) }
-    ensures others_unchanged { (other : ℕ) → other ≢ tenant → part other texts.new ≡ part other texts.old }
+    ensures uses_removed { part tenant texts.new ≡ all_released (option_to_list key)
+        (part tenant texts.old) }
+    ensures others_unchanged { OtherTextsUnchanged tenant texts.old texts.new }
 {
     if let Some(key) = key {
         texts.release(tenant, key);

@@ -55,10 +55,12 @@ impl TextPool {
     pub fn hold(&mut self, tenant: u32, text: SharedBytes) -> Result<usize, AllocError>
         ensures own_part { IfOk result (λ key. part tenant self.new ≡
             with_text key (held tenant text (part tenant self.old key)) (part tenant self.old)) }
-        ensures same { IfOk result (λ key. IfSome (part tenant self.old key) (λ kept. kept.text ≡ text)) }
+        ensures same { IfOk result (λ key. IfSome (part tenant self.old key)
+            (λ kept. kept.text ≡ text)) }
 
         // Other tenants' parts stay as they were, and where memory is refused this tenant's too.
-        ensures others_unchanged { (other : ℕ) → other ≢ tenant → part other self.new ≡ part other self.old }
+        ensures others_unchanged { (other : ℕ) → other ≢ tenant
+            → part other self.new ≡ part other self.old }
         ensures on_refusal { OnErr result (part tenant self.new ≡ part tenant self.old) }
     {
         let Some((key, uses)) = self.known(tenant, &text) else {
@@ -72,15 +74,19 @@ impl TextPool {
     /// that use is kept, another one only where this one's uses can't be counted any more. Where the tenant has no text
     /// there, nothing changes.
     pub fn hold_again(&mut self, tenant: u32, key: usize) -> Result<usize, AllocError>
-        ensures own_part { IfOk result (λ again. IfSome (part tenant self.old key) (λ kept. part tenant self.new ≡
-            with_text again (held tenant kept.text (part tenant self.old again)) (part tenant self.old))) }
+        ensures own_part { IfOk result (λ again. IfSome (part tenant self.old key)
+            (λ kept. part tenant self.new ≡ with_text again
+            (held tenant kept.text (part tenant self.old again)) (part tenant self.old))) }
         ensures same { IfOk result (λ again. IfSome (part tenant self.old again) (λ kept.
             Some kept.text ≡ text_of (part tenant self.old key))) }
-        ensures vacant { part tenant self.old key ≡ None → part tenant self.new ≡ part tenant self.old }
-        ensures room { IfSome (part tenant self.old key) (λ kept. kept.uses + 1 < 2 ^ 64 → result ≡ Ok key) }
+        ensures vacant { part tenant self.old key ≡ None
+            → part tenant self.new ≡ part tenant self.old }
+        ensures room { IfSome (part tenant self.old key)
+            (λ kept. kept.uses + 1 < 2 ^ 64 → result ≡ Ok key) }
 
         // Other tenants' parts stay as they were, and where memory is refused this tenant's too.
-        ensures others_unchanged { (other : ℕ) → other ≢ tenant → part other self.new ≡ part other self.old }
+        ensures others_unchanged { (other : ℕ) → other ≢ tenant
+            → part other self.new ≡ part other self.old }
         ensures on_refusal { OnErr result (part tenant self.new ≡ part tenant self.old) }
     {
         let Some(kept) = self.owned(tenant, key) else {
@@ -113,7 +119,8 @@ impl TextPool {
     /// The text at this key is kept for so many.
     fn set_uses(&mut self, key: usize, uses: u64)
         ensures changed { get self.new key ≡ with_uses uses (get self.old key) }
-        ensures others_unchanged { (other : ℕ) → other ≢ key → get self.new other ≡ get self.old other }
+        ensures others_unchanged { (other : ℕ) → other ≢ key
+            → get self.new other ≡ get self.old other }
     {
         if let Some(kept) = self.texts.get_mut(key) {
             kept.uses = uses;
@@ -125,7 +132,8 @@ impl TextPool {
         ensures vacant { IfOk result (λ key. part tenant self.old key ≡ None) }
         ensures own_part { IfOk result (λ key. part tenant self.new ≡
             with_text key (held tenant text None) (part tenant self.old)) }
-        ensures others_unchanged { (other : ℕ) → other ≢ tenant → part other self.new ≡ part other self.old }
+        ensures others_unchanged { (other : ℕ) → other ≢ tenant
+            → part other self.new ≡ part other self.old }
         ensures on_refusal { OnErr result (part tenant self.new ≡ part tenant self.old) }
     {
         self.texts.reserve(1)?;
@@ -144,7 +152,8 @@ impl TextPool {
     pub fn release(&mut self, tenant: u32, key: usize)
         ensures own_part { part tenant self.new ≡
             with_text key (released (part tenant self.old key)) (part tenant self.old) }
-        ensures others_unchanged { (other : ℕ) → other ≢ tenant → part other self.new ≡ part other self.old }
+        ensures others_unchanged { (other : ℕ) → other ≢ tenant
+            → part other self.new ≡ part other self.old }
     {
         let Some(kept) = self.owned(tenant, key) else {
             return;

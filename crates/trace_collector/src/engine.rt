@@ -51,8 +51,10 @@ pub fn replay<T: Threads + Sync, R: BufRead, W: Write>(
         × Appends (W.contents writer.old) (W.contents writer.new) written
         × TellsEachAlone settings.now script written result) }
     // Where memory was refused, all answers so far were written.
-    ensures so_far { result ≡ Err ReplayFault.OutOfMemory → IfSome (R.remaining reader.old) (λ script.
-        WritesSoFar settings.now script (R.remaining reader.new) (W.contents writer.old) (W.contents writer.new)) }
+    ensures so_far { result ≡ Err ReplayFault.OutOfMemory
+        → IfSome (R.remaining reader.old)
+        (λ script. WritesSoFar settings.now script (R.remaining reader.new) (W.contents writer.old)
+        (W.contents writer.new)) }
 {
     let settings = load(alloc, settings)?;
     let mut shards = Shards::open(alloc, settings)?;

@@ -34,7 +34,8 @@ pub fn put_refused_document(
 
 /// Appends the line of the reply to a body that has no value.
 pub fn put_bad_request(alloc: Global, out: &mut Vec<u8>, name: &str) -> Result<(), AllocError>
-    ensures on_success { OnOk result (out.new.items ≡ out.old.items ++ reply_text name.now 400 bad_protobuf) }
+    ensures on_success { OnOk result (out.new.items ≡ out.old.items ++ reply_text name.now 400
+        bad_protobuf) }
     ensures on_refusal { OnErr result (out.new.items ≡ out.old.items) }
 {
     let mut body = Vec::new(alloc);
@@ -51,7 +52,8 @@ pub fn put_outcome(
     outcome: &Outcome,
 ) -> Result<(), AllocError>
     ensures on_success { OnOk result
-        (out.new.items ≡ out.old.items ++ outcome_text (settings_view settings.now) shard outcome.now) }
+        (out.new.items ≡ out.old.items ++ outcome_text (settings_view settings.now) shard
+        outcome.now) }
     ensures on_refusal { OnErr result (out.new.items ≡ out.old.items) }
 {
     match outcome {

@@ -265,7 +265,8 @@ fn admit(alloc: Global, settings: &mut Settings, document: &[u8]) -> Result<u32,
     ensures number { IfOk result (λ number. number ≡ settings.old.next) }
     ensures fault { IfErr result (λ e. IfSome (fault_view e)
         (λ f. arrived (settings_view settings.old) document.now ≡ Err f)) }
-    ensures on_refusal { IfErr result (λ _. settings_view settings.new ≡ settings_view settings.old) }
+    ensures on_refusal { IfErr result (λ _. settings_view settings.new ≡ settings_view
+        settings.old) }
 {
     match str::from_utf8(document) {
         Ok(text) => settings.admit(alloc, text),

@@ -35,7 +35,8 @@ pub fn step_at(shards: &mut Vec<Shard>, place: usize, step: &Step) -> Result<Out
     requires { place < length shards.old.items }
     ensures on_success { IfOk result (λ outcome. (old : List View) × (new : List View)
         × (slice_get shards.old.items place ≡ Some old)
-        × ShardSteps step.now old outcome new × (shards.new.items ≡ slice_set shards.old.items place new)) }
+        × ShardSteps step.now old outcome new
+        × (shards.new.items ≡ slice_set shards.old.items place new)) }
     ensures len { length shards.new.items ≡ length shards.old.items }
 {
     let shard = &mut shards[place];

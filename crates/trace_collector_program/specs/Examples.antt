@@ -9,6 +9,7 @@ use Rattle.trace_collector_program.specs.Fault.{IsOfFile, IsOfArguments, IsOfTex
 use Rattle.trace_collector_program.specs.Run.{IsRun}
 use Rattle.trace_collector_program.specs.Status.{status_of, end_status}
 use Rattle.trace_collector_program.specs.Task.{OptionsData, TaskData, replay, serve, check, help, version, none_given, task_of}
+use Rattle.trace_collector_program.specs.Token.{is_token}
 use Rattle.trace_collector_program.specs.declared.check.End.TheVariants.{Good, Faulty}
 use Rattle.trace_collector_program.specs.declared.ProgramFault.{ProgramFault}
 use Rattle.trace_collector_program.specs.declared.ProgramFault.TheVariants.{Usage, Replay}
@@ -151,3 +152,19 @@ pub record Runs : Type 0 where
   pub not_replayed : (script written : List ℕ) → (IsReplay (97 ∷ []) script written (Ok tt) → ⊥)
       → IsRun (97 ∷ []) script written (Ok tt) → ⊥
   pub wrong_usage : (script written : List ℕ) → IsRun (97 ∷ []) script written (Err Usage) → ⊥
+
+-- ---- tokens
+
+-- characters that one may have, `=` at its end alone, and no blank anywhere
+pub record Tokens : Type 0 where
+  pub plain : is_token (codes "aZ09-._~+/") ≡ true
+  pub padded : is_token (codes "QUJD==") ≡ true
+  pub empty : is_token [] ≡ false
+  pub padding_alone : is_token (codes "==") ≡ false
+  pub padded_within : is_token (codes "QU=JD") ≡ false
+  pub blank_within : is_token (codes "QU JD") ≡ false
+  pub blank_behind : is_token (codes "QUJD ") ≡ false
+  pub tab_behind : is_token (codes "QUJD\t") ≡ false
+  pub two_lines : is_token (codes "QUJD\nQUJD") ≡ false
+  pub quoted : is_token (codes "\"QUJD\"") ≡ false
+  pub not_ascii : is_token (195 ∷ 169 ∷ []) ≡ false

@@ -1,7 +1,8 @@
 //! Where the service is looked after.
 
-ghost use Rattle.std.specs.Prelude.{IfErr};
+ghost use Rattle.std.specs.Prelude.{◌≡◌, false, IfErr, IfOk, IsTrue};
 ghost use Rattle.trace_collector_program.specs.Fault.{IsOutside};
+ghost use Rattle.trace_collector_program.specs.Token.{is_token_byte, goes_on, is_token};
 
 use crate::reason::Reason;
 use crate::start::listen_at;
@@ -15,6 +16,10 @@ use trace_collector::ReplayFault;
 
 /// A shorter token is guessed sooner than it should be.
 const SHORTEST_TOKEN: usize = 16;
+
+/// What is said of a text that isn't so.
+const TOKEN_MAY_BE: &str =
+    "a token is one line of letters, digits and - . _ ~ + /, with = at its end alone";
 
 /// Where Linux tells a process of itself.
 const STATUS: &str = "/proc/self/status";
@@ -76,13 +81,15 @@ fn is_loopback(listener: &TcpListener) -> bool {
     }
 }
 
-/// The token in a file, without the end of its line.
+/// The token in a file, without the end of its line. What no client could send as one, or would not as it is meant, is
+/// a fault.
 fn token_of_file(
     rt: &(impl Files + AllocGlobal),
     path: &str,
     reason: &mut Reason,
 ) -> Result<Vec<u8>, ProgramFault>
-    ensures { IfErr result IsOutside }
+    ensures token { IfOk result (λ token. IsTrue (is_token token.items)) }
+    ensures fault { IfErr result IsOutside }
 {
     let mut token = read_file(rt, path, reason)?;
     let len = without_end(token.as_slice()).len();
@@ -90,7 +97,41 @@ fn token_of_file(
     if len < SHORTEST_TOKEN {
         return Err(told(reason, path, "a token has at least 16 bytes"));
     }
+    if !is_token(token.as_slice()) {
+        return Err(told(reason, path, TOKEN_MAY_BE));
+    }
     Ok(token)
+}
+
+/// Whether it is a token of letters, digits and a few other bytes.
+fn is_token(text: &[u8]) -> bool
+    ensures { result ≡ is_token text.now }
+{
+    match text {
+        [first, behind @ ..] => is_token_byte(*first) && goes_on(behind),
+        [] => false,
+    }
+}
+
+/// Whether these bytes may stand behind the first one.
+fn goes_on(behind: &[u8]) -> bool
+    ensures { result ≡ goes_on false behind.now }
+{
+    let mut is_padded = false;
+    for byte in behind {
+        if *byte == b'=' {
+            is_padded = true;
+        } else if is_padded || !is_token_byte(*byte) {
+            return false;
+        }
+    }
+    true
+}
+
+fn is_token_byte(byte: u8) -> bool
+    ensures { result ≡ is_token_byte byte }
+{
+    byte.is_ascii_alphanumeric() || matches!(byte, b'-' | b'.' | b'_' | b'~' | b'+' | b'/')
 }
 
 /// A text without the end of its line.

@@ -1,6 +1,6 @@
-//! What the definitions say of arguments, statuses, faults and runs, on examples that were worked out by hand.
+//! What the definitions say of arguments, statuses, faults, runs and tokens, on examples that were worked out by hand.
 
-ghost use Rattle.trace_collector_program.specs.Examples.{Arguments, Statuses, OfFiles, OfArguments, OfTexts, Runs};
+ghost use Rattle.trace_collector_program.specs.Examples.{Arguments, Statuses, OfFiles, OfArguments, OfTexts, Runs, Tokens};
 
 /// The definitions, on small inputs, give what was worked out by hand.
 fn definitions_on_small_inputs()
@@ -10,4 +10,5 @@ fn definitions_on_small_inputs()
     ensures of_arguments { OfArguments }
     ensures of_texts { OfTexts }
     ensures runs { Runs }
+    ensures tokens { Tokens }
 {}

@@ -7,10 +7,11 @@ ghost use Rattle.trace_collector_program.specs.Fault.{IsOfSettings, IsOutside};
 use crate::descriptors::{Crew, too_low};
 use crate::reason::Reason;
 use crate::{ProgramFault, read_file, settings_text};
+use settings_check::address_fault;
 use std::alloc::Global;
-use std::fs;
 use std::net::{Net, TcpListener, TcpStream};
 use std::rt::Files;
+use std::{fs, io};
 use tail_settings::{Settings, load};
 use thiserror::Error;
 use trace_collector::ReplayFault;
@@ -65,7 +66,20 @@ pub fn listen_at<N: Net<Listener = TcpListener, Stream = TcpStream>>(
 {
     match TcpListener::bind(rt, address) {
         Ok(listener) => Ok(listener),
-        Err(error) => Err(reason.of(address, error)),
+        Err(error) => Err(unheard(address, error, reason)),
+    }
+}
+
+/// The fault of an address at which nobody can listen, with what its text lacks, or else with what the system says.
+fn unheard(address: &str, error: io::Error, reason: &mut Reason) -> ProgramFault
+    ensures { IsOutside result }
+{
+    match address_fault(address.as_bytes()) {
+        Some(why) => {
+            reason.put(address, &why);
+            ProgramFault::from(error)
+        }
+        None => reason.of(address, error),
     }
 }
 
@@ -104,7 +118,8 @@ fn short_of(limit: u32, crew: Crew, reason: &mut Reason) -> ProgramFault
 
 /// The settings that a text means.
 fn settings_in(alloc: Global, text: &str) -> Result<Settings, ProgramFault>
-    ensures on_success { IfOk result (λ settings. settings_of text.now ≡ Ok (settings_view settings)) }
+    ensures on_success { IfOk result (λ settings. settings_of text.now ≡ Ok
+        (settings_view settings)) }
     ensures fault { IfErr result (IsOfSettings text.now) }
 {
     match load(alloc, text) {

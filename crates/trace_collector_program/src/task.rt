@@ -11,8 +11,12 @@ pub const HELP: &str =
     "trace_collector is a collector of OTLP traces that many tenants share. It serves, or replays scripts of what
 happens to it.
 
-usage: trace_collector replay SETTINGS | serve SETTINGS [--audit]
+usage: trace_collector replay SETTINGS
        trace_collector check SETTINGS
+       trace_collector serve SETTINGS [--audit] [--verbose] [--connections N] [--senders N]
+                       [--client-timeout MS] [--request-timeout MS] [--back-end-timeout MS]
+                       [--admin HOST:PORT [--admin-token-file FILE]]
+       trace_collector --help | --version
 
   replay SETTINGS  does the script on standard input, a command a line, under the settings in that
                    TOML file, and prints what each command is answered
@@ -46,7 +50,8 @@ Behind `serve SETTINGS`, in any order and each once at most:
                          /tenants and /tenants/NAME, POST /tenants and /drain, DELETE /tenants/NAME;
                          then standard input isn't read, and POST /drain is its end
   --admin-token-file FILE
-                         asks for the token in that file, of 16 bytes or more, as
+                         asks for the token in that file, one line of 16 bytes or more, which are
+                         letters, digits, - . _ ~ + / and at its end =, as
                          `Authorization: Bearer TOKEN`, but at / and /healthz; without it HOST has
                          to be this machine's own loopback
 
@@ -157,7 +162,8 @@ pub fn asked_task(args: &[String]) -> Option<Task<'_>>
 
 /// What a command asks for of the file of this path, with these words behind it.
 fn on_file<'a>(command: &str, path: &'a str, words: &'a [String]) -> Option<Task<'a>>
-    ensures { option_map task_view result ≡ on_file command.now path.now (map string_bytes words.now) }
+    ensures { option_map task_view result ≡ on_file command.now path.now
+        (map string_bytes words.now) }
 {
     if command == "serve" {
         if is_option(path) {
@@ -203,7 +209,8 @@ fn option(word: &str) -> Option<Task<'_>>
 
 /// What is given with all options that these words spell, in any order.
 fn serve_options<'a>(words: &'a [String]) -> Option<ServeOptions<'a>>
-    ensures { option_map options_view result ≡ options_from none_given None (map string_bytes words.entry.now) }
+    ensures { option_map options_view result ≡ options_from none_given None
+        (map string_bytes words.entry.now) }
 {
     let mut given = NONE_GIVEN;
     let mut left = words;
@@ -250,7 +257,8 @@ fn with_flag<'a>(given: ServeOptions<'a>, word: &str) -> Option<ServeOptions<'a>
 
 /// What is given with another option more and its value, which may stand once too.
 fn with_value<'a>(given: ServeOptions<'a>, name: &str, value: &'a str) -> Option<ServeOptions<'a>>
-    ensures { option_map options_view result ≡ with_value (options_view given.entry) name.now value.entry.now }
+    ensures { option_map options_view result ≡ with_value (options_view given.entry) name.now
+        value.entry.now }
 {
     if name == "--connections" {
         let connections = Some(once(given.connections, up_to(MOST_CONNECTIONS, value))?);
@@ -286,7 +294,8 @@ fn with_value<'a>(given: ServeOptions<'a>, name: &str, value: &'a str) -> Option
 
 /// What is given with another option more whose value is any text, which may stand once too.
 fn with_text<'a>(given: ServeOptions<'a>, name: &str, value: &'a str) -> Option<ServeOptions<'a>>
-    ensures { option_map options_view result ≡ with_text (options_view given.entry) name.now value.entry.now }
+    ensures { option_map options_view result ≡ with_text (options_view given.entry) name.now
+        value.entry.now }
 {
     if name == "--admin" && given.admin.is_none() {
         Some(ServeOptions {

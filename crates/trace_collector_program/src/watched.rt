@@ -48,7 +48,8 @@ impl<S> Watched<S> {
     /// Remembers how a call failed.
     fn note(&mut self, error: &io::Error)
         ensures stream { self.new.stream ≡ self.old.stream }
-        ensures fault { error_kind error.now ≢ kinds.Interrupted → self.new.fault ≡ Some (error_kind error.now) }
+        ensures fault { error_kind error.now ≢ kinds.Interrupted
+            → self.new.fault ≡ Some (error_kind error.now) }
     {
         let kind = error.kind();
         if kind != ErrorKind::Interrupted {

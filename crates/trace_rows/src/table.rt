@@ -63,7 +63,8 @@ impl<N: Drop> TraceRows<N> {
     /// now, which `undo_open` wants.
     pub fn open(&mut self, tenant: u32, number: u64, row: Row<N>) -> Result<Option<u64>, AllocError>
         requires { rows_part tenant self.old number ≡ None }
-        ensures earlier { IfOk result (λ earlier. earlier ≡ latest_rows_part tenant self.old row.trace) }
+        ensures earlier { IfOk result (λ earlier. earlier ≡ latest_rows_part tenant self.old
+            row.trace) }
         ensures rows { OnOk result (rows_part tenant self.new ≡
             with_at number (Some row) (rows_part tenant self.old)) }
         ensures latest_rows { OnOk result (latest_rows_part tenant self.new ≡
@@ -87,9 +88,11 @@ impl<N: Drop> TraceRows<N> {
     /// One more key in the row, whose note is this one from now on. The answer is the note that it had. Where there is
     /// no such row, nothing changes, and the answer is the note that came; where memory is refused, that is dropped.
     pub fn join(&mut self, tenant: u32, number: u64, key: usize, note: N) -> Result<N, AllocError>
-        ensures former { IfOk result (λ former. former ≡ note_of note (rows_part tenant self.old number)) }
+        ensures former { IfOk result (λ former. former ≡ note_of note
+            (rows_part tenant self.old number)) }
         ensures rows { OnOk result (rows_part tenant self.new ≡
-            with_at number (joined key note (rows_part tenant self.old number)) (rows_part tenant self.old)) }
+            with_at number (joined key note (rows_part tenant self.old number))
+            (rows_part tenant self.old)) }
         ensures latest_rows { latest_rows_part tenant self.new ≡ latest_rows_part tenant self.old }
 
         // Other tenants' parts stay as they were, and where memory is refused this tenant's too.
@@ -106,7 +109,8 @@ impl<N: Drop> TraceRows<N> {
     /// Takes back the latest key of the row, and its note is the former one again. It takes no memory.
     pub fn undo_join(&mut self, tenant: u32, number: u64, former: N)
         ensures rows { rows_part tenant self.new ≡
-            with_at number (unjoined former (rows_part tenant self.old number)) (rows_part tenant self.old) }
+            with_at number (unjoined former (rows_part tenant self.old number))
+            (rows_part tenant self.old) }
         ensures latest_rows { latest_rows_part tenant self.new ≡ latest_rows_part tenant self.old }
         ensures others_unchanged { (other : ℕ) → other ≢ tenant → IsSame other self.old self.new }
     {
@@ -122,7 +126,8 @@ impl<N: Drop> TraceRows<N> {
     pub fn undo_open(&mut self, tenant: u32, number: u64, trace: [u8; 16], earlier: Option<u64>)
         ensures rows { rows_part tenant self.new ≡ with_at number None (rows_part tenant self.old) }
         ensures latest_rows { latest_rows_part tenant self.old trace ≢ None →
-            latest_rows_part tenant self.new ≡ with_latest_row trace earlier (latest_rows_part tenant self.old) }
+            latest_rows_part tenant self.new ≡ with_latest_row trace earlier
+            (latest_rows_part tenant self.old) }
         ensures others_unchanged { (other : ℕ) → other ≢ tenant → IsSame other self.old self.new }
     {
         self.rows.remove(&(tenant, Reverse(number)));
@@ -133,7 +138,8 @@ impl<N: Drop> TraceRows<N> {
     pub fn settle(&mut self, alloc: Global, tenant: u32, number: u64, sampled: bool) -> Keys
         ensures keys { result ≡ keys_of (rows_part tenant self.old number) }
         ensures rows { rows_part tenant self.new ≡
-            with_at number (settled sampled (rows_part tenant self.old number)) (rows_part tenant self.old) }
+            with_at number (settled sampled (rows_part tenant self.old number))
+            (rows_part tenant self.old) }
         ensures latest_rows { latest_rows_part tenant self.new ≡ latest_rows_part tenant self.old }
         ensures others_unchanged { (other : ℕ) → other ≢ tenant → IsSame other self.old self.new }
     {
@@ -150,7 +156,8 @@ impl<N: Drop> TraceRows<N> {
         ensures keys { result ≡ keys_of (rows_part tenant self.old number) }
         ensures rows { rows_part tenant self.new ≡ with_at number None (rows_part tenant self.old) }
         ensures latest_rows { latest_rows_part tenant self.new ≡
-            without_latest_row number (trace_in (rows_part tenant self.old number)) (latest_rows_part tenant self.old) }
+            without_latest_row number (trace_in (rows_part tenant self.old number))
+            (latest_rows_part tenant self.old) }
         ensures others_unchanged { (other : ℕ) → other ≢ tenant → IsSame other self.old self.new }
     {
         let Some(row) = self.rows.remove(&(tenant, Reverse(number))) else {

@@ -13,6 +13,8 @@ pub mod Put
 pub mod Asked
 pub mod Joined
 pub mod Talked
+pub mod Replies
 pub mod Shown
 pub mod Jobs
 pub mod Given
+pub mod Changed

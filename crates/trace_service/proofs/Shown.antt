@@ -1,10 +1,13 @@
 -- What is shown, and what was asked for it.
-use Rattle.std.proofs.Common.{◌≡◌, ℕ, ◌+◌, ◌%◌, ◌<◌, List, [], ◌∷◌, ◌++◌, length, map, take, get_or, Result, Ok, Err, IfOk, OnOk, OnErr, Option, Some, None, IfSome, option_map, Vec, Global, refl, sym, ap, subst, ◌∙◌, append_assoc, string_bytes}
+use Rattle.std.proofs.Common.{◌≡◌, ℕ, ◌+◌, ◌%◌, ◌<◌, List, [], ◌∷◌, ◌++◌, length, map, take, get_or, true, false, ◌&&◌, Result, Ok, Err, IfOk, OnOk, OnErr, Option, Some, None, IfSome, option_map, Vec, Global, refl, sym, ap, subst, ◌∙◌, append_assoc, string_bytes}
 use Rattle.std.proofs.lemmas.List.{map_more}
 use Rattle.admin_pages.specs.Figures.{TenantData, tenant_of}
 use Rattle.admin_pages.specs.declared.figures.TenantFigures.{TenantFigures}
 use Rattle.drop_ledger.specs.Ledger.{LedgerData, LedgerInvariant, ledger_of}
 use Rattle.drop_ledger.specs.Report.{report_text}
+use Rattle.admin_pages.specs.Route.{RouteData}
+use Rattle.admin_pages.specs.declared.service.ServiceFigures.{ServiceFigures}
+use Rattle.http_edge.specs.Message.{Request, Response}
 use Rattle.http_edge.specs.Seen.{response_of}
 use Rattle.http_edge.specs.declared.message.Reply.{Reply}
 use Rattle.machine_hub.specs.Hub.{IsRefusedOn}
@@ -16,7 +19,9 @@ use Rattle.tenant_shard.specs.declared.step.Outcome.TheVariants as outcomes
 use Rattle.trace_service.specs.Comings.{Present}
 use Rattle.trace_service.specs.InForce.{CameOf}
 use Rattle.trace_service.specs.Roster.{entry_of}
-use Rattle.trace_service.specs.Shown.{AreLooked, no_look, look_more, IsLooked, IsShown, no_figures, OnlyLooks, nothing, looked, refused, Tells, told_of}
+use Rattle.trace_service.specs.Shown.{AreFigures, AreLooked, no_look, look_more, ClerkData, IsLooked, IsOfService, IsShown, let_in, not_let_in, route_in, Shows, OnlyLooks, OnlyLooksIf, is_for_figures, may_look, nothing, looked, refused, Tells, told_of, refused_reply}
+use Rattle.trace_service.specs.Token.{is_let_in}
+use Rattle.trace_service.proofs.Replies.{if_ok, on_err}
 
 -- ---- what was only looked
 
@@ -61,16 +66,58 @@ module _ (shards : ℕ) (old : CallerState) (xs : List Entry) (i : ℕ) (x : Ent
       (subst (λ fs. AreLooked shards old (map entry_of (take i xs) ++ entry_of x ∷ []) fs new) (sym more_is)
       (look_more (map entry_of (take i xs)) figures mid x.number (string_bytes x.name) ledger new before look))
 
--- ---- what shows none
+-- ---- replies
 
-pub shows_none : {E : Type 0} (first : SettingsData) (shards : ℕ) (old new : CallerState) (r : Result Reply E)
-    → OnlyLooks shards old new → IfOk r (λ reply. IsShown first shards old new (response_of reply))
-shows_none first shards old new (Ok reply) looks = no_figures looks
-shows_none first shards old new (Err e) looks = tt
+-- so it is told, and nothing was done
+pub says : {E : Type 0} (r : Result Reply E) (P : Response → Type 0) (old new : CallerState) → new ≡ old
+    → IfOk r (λ reply. P (response_of reply)) → IfOk r (λ reply. P (response_of reply) × (new ≡ old))
+says (Ok reply) P old new same is = (is, same)
+says (Err e) P old new same is = tt
 
-pub on_err : {T E : Type 0} (r : Result T E) (P : Type 0) → P → OnErr r P
-on_err (Ok x) P is = tt
-on_err (Err e) P is = is
+-- the same by a route that is known
+pub shown_at : {E : Type 0} (r : Result Reply E) (first : SettingsData) (shards : ℕ) (clerk : ClerkData) (there route : RouteData)
+    (body : List ℕ) (old new : CallerState) → there ≡ route
+    → IfOk r (λ reply. Shows first shards clerk route body old new (response_of reply))
+    → IfOk r (λ reply. Shows first shards clerk there body old new (response_of reply))
+shown_at r first shards clerk there route body old new same shows =
+    subst (λ x. IfOk r (λ reply. Shows first shards clerk x body old new (response_of reply))) (sym same) shows
+
+pub looked_at : {T E : Type 0} (r : Result T E) (shards : ℕ) (there route : RouteData) (old new : CallerState) → there ≡ route
+    → OnErr r (OnlyLooksIf (is_for_figures route) shards old new) → OnErr r (OnlyLooksIf (is_for_figures there) shards old new)
+looked_at r shards there route old new same looks =
+    subst (λ x. OnErr r (OnlyLooksIf (is_for_figures x) shards old new)) (sym same) looks
+
+module _ {E : Type 0} (first : SettingsData) (shards : ℕ) (clerk : ClerkData) (request : Request) (old new : CallerState)
+    (r : Result Reply E) where
+  pub shown_so : (route : RouteData) → route ≡ route_in request → is_let_in clerk.token request.headers route ≡ true
+      → IfOk r (λ reply. Shows first shards clerk route request.body old new (response_of reply))
+      → IfOk r (λ reply. IsShown first shards clerk request old new (response_of reply))
+  shown_so route same may shows =
+      if_ok r (λ told. Shows first shards clerk route request.body old new told) (λ told. IsShown first shards clerk request old new told)
+      (λ told is. let_in (subst (λ x. is_let_in clerk.token request.headers x ≡ true) same may)
+      (subst (λ x. Shows first shards clerk x request.body old new told) same is)) shows
+
+  pub refused_so : (route : RouteData) → route ≡ route_in request → is_let_in clerk.token request.headers route ≡ false
+      → new ≡ old → IfOk r (λ reply. response_of reply ≡ refused_reply)
+      → IfOk r (λ reply. IsShown first shards clerk request old new (response_of reply))
+  refused_so route same may unchanged says =
+      if_ok r (λ told. told ≡ refused_reply) (λ told. IsShown first shards clerk request old new told)
+      (λ told is. not_let_in (subst (λ x. is_let_in clerk.token request.headers x ≡ false) same may) is unchanged) says
+
+-- what was done where memory was refused
+module _ {T E : Type 0} (shards : ℕ) (clerk : ClerkData) (request : Request) (old new : CallerState) (r : Result T E) where
+  pub looked_so : (route : RouteData) → route ≡ route_in request → is_let_in clerk.token request.headers route ≡ true
+      → OnErr r (OnlyLooksIf (is_for_figures route) shards old new) → OnErr r (OnlyLooksIf (may_look clerk request) shards old new)
+  looked_so route same may looks =
+      subst (λ x. OnErr r (OnlyLooksIf (x && is_for_figures (route_in request)) shards old new))
+      (sym (subst (λ x. is_let_in clerk.token request.headers x ≡ true) same may))
+      (subst (λ x. OnErr r (OnlyLooksIf (is_for_figures x) shards old new)) same looks)
+
+  pub not_looked : (route : RouteData) → route ≡ route_in request → is_let_in clerk.token request.headers route ≡ false
+      → new ≡ old → OnErr r (OnlyLooksIf (may_look clerk request) shards old new)
+  not_looked route same may unchanged =
+      subst (λ x. OnErr r (OnlyLooksIf (x && is_for_figures (route_in request)) shards old new))
+      (sym (subst (λ x. is_let_in clerk.token request.headers x ≡ false) same may)) (on_err r (new ≡ old) unchanged)
 
 -- ---- what an outcome tells
 
@@ -91,13 +138,22 @@ on_ok (Err e) P Q f is = tt
 pub figures_found : {E : Type 0} (first : SettingsData) (shards : ℕ) (old new : CallerState) (now : SettingsData) (xs : List Entry)
     (r : Result (Vec TenantFigures Global) E) → CameOf first now → map entry_of xs ≡ (names_in now).tenants
     → IfOk r (λ fs. AreLooked shards old (map entry_of xs) (map tenant_of fs.items) new)
-    → IfOk r (λ fs. (now : SettingsData) × CameOf first now × AreLooked shards old (names_in now).tenants (map tenant_of fs.items) new)
-figures_found first shards old new now xs (Ok fs) came are look =
-    (now, came, subst (λ ts. AreLooked shards old ts (map tenant_of fs.items) new) are look)
+    → IfOk r (λ fs. AreFigures first shards old new (map tenant_of fs.items))
+figures_found first shards old new now xs (Ok fs) came are look = record {
+  now = now;
+  came = came;
+  looked = subst (λ ts. AreLooked shards old ts (map tenant_of fs.items) new) are look;
+}
 figures_found first shards old new now xs (Err e) came are look = tt
 
--- ---- texts behind others
+-- ---- the service's figures
 
-pub some_behind : {T E : Type 0} (r : Result T E) (a c y : List ℕ) → OnOk r (c ≡ a ++ y) → OnOk r ((y : List ℕ) × (c ≡ a ++ y))
-some_behind (Ok t) a c y is = (y, is)
-some_behind (Err e) a c y is = tt
+pub some_behind : {T E : Type 0} (r : Result T E) (P : ServiceFigures → Type 0) (text : ServiceFigures → List ℕ) (a c : List ℕ)
+    (s : ServiceFigures) → P s → OnOk r (c ≡ a ++ text s)
+    → OnOk r ((service : ServiceFigures) × P service × (c ≡ a ++ text service))
+some_behind (Ok t) P text a c s of is = (s, of, is)
+some_behind (Err e) P text a c s of is = tt
+
+pub of_service : (clerk mid : ClerkData) (n m : ℕ) (s : ServiceFigures) → mid ≡ clerk → n ≡ m → IsOfService mid n s → IsOfService clerk m s
+of_service clerk mid n m s same count of =
+    subst (λ k. IsOfService clerk k s) count (subst (λ c. IsOfService c n s) same of)

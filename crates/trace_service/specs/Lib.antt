@@ -13,6 +13,9 @@ pub mod Roster
 pub mod Audit
 pub mod Fault
 pub mod Receiving
+pub mod Token
 pub mod Notice
+pub mod Changed
 pub mod Shown
 pub mod Whole
+pub mod Control

@@ -1,30 +1,39 @@
--- What whoever looks after a service is shown of its shards. This project's own rule.
-use Rattle.std.specs.Prelude.{◌≡◌, ◌≢◌, ℕ, ◌%◌, List, [], ◌∷◌, ◌++◌, Bool, true, false, Option, Some, None}
+-- What whoever looks after a service is told, route by route, and which steps are made for it. This project's own rule.
+use Rattle.std.specs.Prelude.{◌≡◌, ◌≢◌, ◌⊎◌, ℕ, ◌%◌, Bool, ◌&&◌, List, [], ◌∷◌, ◌++◌, length, true, false, Option, Some, None, option_copied, codes, string_bytes, IsUtf8}
+use Rattle.admin_page.specs.declared.page.TheConstants.{PAGE}
 use Rattle.admin_pages.specs.Figures.{TenantData}
 use Rattle.admin_pages.specs.Json.{tenants_text}
 use Rattle.admin_pages.specs.Metrics.{tenants_text as metrics_text}
-use Rattle.admin_pages.specs.Route.{RouteData, Page, Health}
+use Rattle.admin_pages.specs.Route.{RouteData, Page, Metrics, Health, Readiness, Drain, Tenants, Add, Tenant, Retire, NoSuchPath, OtherMethod, route_of}
+use Rattle.admin_pages.specs.Service.{service_text}
 use Rattle.admin_pages.specs.Settings.{settled_text}
+use Rattle.admin_pages.specs.declared.service.ServiceFigures.{ServiceFigures}
 use Rattle.drop_ledger.specs.Ledger.{LedgerData, LedgerInvariant}
 use Rattle.drop_ledger.specs.Report.{report_text}
-use Rattle.http_edge.specs.Message.{Response}
+use Rattle.http_edge.specs.Message.{Request, Response}
+use Rattle.http_edge.specs.Seen.{response_of}
+use Rattle.http_edge.specs.declared.message.MediaType.TheVariants as media
+use Rattle.http_edge.specs.declared.message.Reply.{Reply}
 use Rattle.machine_hub.specs.declared.receipt.Receipt.{Receipt}
 use Rattle.machine_hub.specs.Hub.{IsRefusedOn}
 use Rattle.otlp_front.specs.Route.{names_in}
+use Rattle.otlp_front.specs.Target.{path_of}
 use Rattle.shared_hub.specs.Logs.{CallerState, IsStepOn}
 use Rattle.tail_settings.specs.Section.{SectionData}
 use Rattle.tail_settings.specs.Settings.{SettingsData, number_of, section_at}
 use Rattle.tenant_shard.specs.declared.step.Step.TheVariants as steps
 use Rattle.tenant_shard.specs.declared.step.Outcome.{Outcome}
 use Rattle.tenant_shard.specs.declared.step.Outcome.TheVariants as outcomes
+use Rattle.trace_service.specs.Changed.{TellsAdding, TellsRetiring}
 use Rattle.trace_service.specs.Comings.{Present}
 use Rattle.trace_service.specs.InForce.{CameOf}
-
--- what is shown to whoever reaches the address, since it tells nothing of any tenant
-abbrev pub is_for_all : RouteData → Bool
-is_for_all Page = true
-is_for_all Health = true
-is_for_all _ = false
+use Rattle.trace_service.specs.Notice.{notice_of, reply_of, not_allowed, unknown_reply}
+use Rattle.trace_service.specs.Post.{no_memory}
+use Rattle.trace_service.specs.Token.{is_let_in}
+use Rattle.trace_service.specs.declared.desk.Asked.{Asked}
+use Rattle.trace_service.specs.declared.office.AdminPort.{AdminPort}
+use Rattle.trace_service.specs.declared.roster.Present.{Present as Entry}
+use Rattle.trace_service.specs.declared.shared.Staff.{Staff}
 
 -- what an outcome tells of a tenant's spans: the counters of this ledger; or none, of one that has gone, or where what
 -- is told is no ledger's line
@@ -48,6 +57,12 @@ abbrev pub told_of : List TenantData → List ℕ → Option LedgerData → List
 told_of figures name (Some ledger) = figures ++ record { name = name; ledger = ledger } ∷ []
 told_of figures name None = figures
 
+-- a tenant was asked for so, and what was told of it, if anything, is behind the figures of others
+abbrev pub LooksMore : ℕ → Entry → CallerState → CallerState → List TenantData → List TenantData → Type 0
+LooksMore shards tenant old new before after =
+    (ledger : Option LedgerData) × IsLooked old new shards tenant.number ledger
+    × (after ≡ told_of before (string_bytes tenant.name) ledger)
+
 -- these tenants were asked for so, one after the other, and this was told of those that hadn't gone
 pub data AreLooked (shards : ℕ) (old : CallerState) : Present → List TenantData → CallerState → Type 0 where
   no_look : AreLooked shards old [] [] old
@@ -64,17 +79,163 @@ pub data OnlyLooks (shards : ℕ) (old : CallerState) : CallerState → Type 0 w
   refused : (mid : CallerState) (tenant : ℕ) (new : CallerState)
       → OnlyLooks shards old mid → IsRefusedOn mid new (tenant % shards) → OnlyLooks shards old new
 
--- What whoever looks after a service is shown: all tenants' figures as metrics, with others behind them, or as JSON;
--- one tenant's, with the settings in force for it; or what shows none. Its tenants are those of settings in force.
-pub data IsShown (first : SettingsData) (shards : ℕ) (old new : CallerState) (told : Response) : Type 0 where
-  metrics : (now : SettingsData) (figures : List TenantData) (rest : List ℕ) → CameOf first now
-      → AreLooked shards old (names_in now).tenants figures new → told.body ≡ metrics_text figures ++ rest
-      → IsShown first shards old new told
-  tenants : (now : SettingsData) (figures : List TenantData) → CameOf first now
-      → AreLooked shards old (names_in now).tenants figures new → told.body ≡ tenants_text figures
-      → IsShown first shards old new told
-  tenant : (now later : SettingsData) (number : ℕ) (section : SectionData) (figures : TenantData) → CameOf first now
-      → number_of now figures.name ≡ Some number → CameOf first later → section_at later number ≡ Some section
-      → IsLooked old new shards number (Some figures.ledger) → told.body ≡ settled_text figures section
-      → IsShown first shards old new told
-  no_figures : OnlyLooks shards old new → IsShown first shards old new told
+-- ---- the tenants' figures
+
+-- these are the figures of the tenants of settings in force
+pub record AreFigures (first : SettingsData) (shards : ℕ) (old new : CallerState) (figures : List TenantData)
+    : Type 0 where
+  pub now : SettingsData
+  pub came : CameOf first now
+  pub looked : AreLooked shards old (names_in now).tenants figures new
+
+-- what stays the same of who serves there: the token that is wanted, if one is, and what is told of the service
+pub record ClerkData : Type 0 where
+  pub token : Option (List ℕ)
+  pub version : List ℕ
+  pub receivers : ℕ
+  pub senders : ℕ
+  pub lane_capacity : ℕ
+
+-- that of who serves at this port for these threads, with a lane of so much room
+abbrev pub clerk_of : AdminPort → Staff → ℕ → ClerkData
+clerk_of port staff lane_capacity = record {
+  token = option_copied port.token;
+  version = port.version.now;
+  receivers = staff.receivers;
+  senders = staff.senders;
+  lane_capacity = lane_capacity;
+}
+
+-- figures of the whole service with so many tenants, of which only uptime, memory and counts, and whether it drains,
+-- are any
+pub record IsOfService (clerk : ClerkData) (tenants : ℕ) (service : ServiceFigures) : Type 0 where
+  pub tenants_are : service.tenants ≡ tenants
+  pub version : service.version.now ≡ clerk.version
+  pub receivers : service.receivers ≡ clerk.receivers
+  pub senders : service.senders ≡ clerk.senders
+  pub lane_capacity : service.lane_capacity ≡ clerk.lane_capacity
+
+-- all tenants' figures as metrics, and those of the service behind them
+pub record ShowsMetrics (first : SettingsData) (shards : ℕ) (clerk : ClerkData) (old new : CallerState)
+    (told : Response) : Type 0 where
+  pub figures : List TenantData
+  pub looked : AreFigures first shards old new figures
+  pub service : ServiceFigures
+  pub of_service : IsOfService clerk (length figures) service
+  pub reply : told ≡ reply_of 200 media.Metrics (metrics_text figures ++ service_text service)
+
+-- all tenants' figures as JSON
+pub record ShowsTenants (first : SettingsData) (shards : ℕ) (old new : CallerState) (told : Response) : Type 0 where
+  pub figures : List TenantData
+  pub looked : AreFigures first shards old new figures
+  pub reply : told ≡ reply_of 200 media.Json (tenants_text figures)
+
+-- ---- one tenant
+
+-- the tenant of this name has this number by settings in force
+pub record IsKnown (first : SettingsData) (name : List ℕ) (number : ℕ) : Type 0 where
+  pub now : SettingsData
+  pub came : CameOf first now
+  pub known : number_of now name ≡ Some number
+
+-- nobody has this name by settings in force, or it is no text
+pub data IsNobody (first : SettingsData) (name : List ℕ) : Type 0 where
+  no_text : (IsUtf8 name → ⊥) → IsNobody first name
+  not_known : (now : SettingsData) → CameOf first now → number_of now name ≡ None → IsNobody first name
+
+-- by settings in force the tenant of this number has this section, or there is no such tenant
+abbrev pub HasSection : SettingsData → ℕ → Option SectionData → Type 0
+HasSection first number section = (now : SettingsData) × CameOf first now × (section_at now number ≡ section)
+
+-- a tenant's figures with its settings in force; or that nobody has its name, or that it has gone meanwhile, as its
+-- settings say or its shard
+pub data ShowsTenant (first : SettingsData) (shards : ℕ) (name : List ℕ) (old new : CallerState) (told : Response)
+    : Type 0 where
+  shown : (number : ℕ) (section : SectionData) (ledger : LedgerData) → IsKnown first name number
+      → HasSection first number (Some section) → IsLooked old new shards number (Some ledger)
+      → told ≡ reply_of 200 media.Json (settled_text (record { name = name; ledger = ledger }) section)
+      → ShowsTenant first shards name old new told
+  nobody : IsNobody first name → new ≡ old → told ≡ unknown_reply → ShowsTenant first shards name old new told
+  left : (number : ℕ) → IsKnown first name number → HasSection first number None → new ≡ old → told ≡ unknown_reply
+      → ShowsTenant first shards name old new told
+  gone : (number : ℕ) (section : SectionData) → IsKnown first name number → HasSection first number (Some section)
+      → IsLooked old new shards number None → told ≡ unknown_reply → ShowsTenant first shards name old new told
+
+-- what became of the question that a tenant of this name goes; or that nobody has it
+pub data TellsGoing (first : SettingsData) (name : List ℕ) (told : Response) : Type 0 where
+  asked : (number : ℕ) (asked : Asked) → IsKnown first name number → TellsRetiring asked name told
+      → TellsGoing first name told
+  not_asked : IsNobody first name → told ≡ unknown_reply → TellsGoing first name told
+
+-- ---- all routes
+
+-- whether spans are taken (503, RFC 9110, section 15.6.4)
+abbrev pub TellsReadiness : Response → Type 0
+TellsReadiness told =
+    (told ≡ notice_of 503 (codes "state") (codes "draining")) ⊎ (told ≡ notice_of 200 (codes "state") (codes "ready"))
+
+-- the page (its bytes are those of admin_page's constant)
+abbrev pub page_reply : Response
+page_reply = reply_of 200 media.Html PAGE.now
+
+-- that no more spans are taken
+abbrev pub drained_reply : Response
+drained_reply = notice_of 200 (codes "state") (codes "draining")
+
+-- who isn't let in (401, RFC 9110, section 15.5.2)
+abbrev pub refused_reply : Response
+refused_reply = notice_of 401 (codes "error") (codes "the token is missing or another")
+
+-- What whoever is let in is told, by what is asked for with this body, and which steps were made meanwhile.
+abbrev pub Shows : SettingsData → ℕ → ClerkData → RouteData → List ℕ → CallerState → CallerState → Response → Type 0
+Shows first shards clerk Page body old new told = (told ≡ page_reply) × (new ≡ old)
+Shows first shards clerk Metrics body old new told = ShowsMetrics first shards clerk old new told
+Shows first shards clerk Health body old new told = (told ≡ notice_of 200 (codes "state") (codes "ok")) × (new ≡ old)
+Shows first shards clerk Readiness body old new told = TellsReadiness told × (new ≡ old)
+Shows first shards clerk Drain body old new told = (told ≡ drained_reply) × (new ≡ old)
+Shows first shards clerk Tenants body old new told = ShowsTenants first shards old new told
+Shows first shards clerk Add body old new told = ((asked : Asked) × TellsAdding asked body told) × (new ≡ old)
+Shows first shards clerk (Tenant name) body old new told = ShowsTenant first shards name old new told
+Shows first shards clerk (Retire name) body old new told = TellsGoing first name told × (new ≡ old)
+Shows first shards clerk NoSuchPath body old new told =
+    (told ≡ notice_of 404 (codes "error") (codes "no such path")) × (new ≡ old)
+Shows first shards clerk (OtherMethod methods) body old new told = (told ≡ not_allowed methods) × (new ≡ old)
+
+-- the same of a reply of the code
+abbrev pub ShowsReply : SettingsData → ℕ → ClerkData → RouteData → List ℕ → CallerState → CallerState → Reply → Type 0
+ShowsReply first shards clerk route body old new reply =
+    Shows first shards clerk route body old new (response_of reply)
+
+-- what a request asks for
+abbrev pub route_in : Request → RouteData
+route_in request = route_of request.method (path_of request.target)
+
+-- whether counters are asked for there
+abbrev pub is_for_figures : RouteData → Bool
+is_for_figures Metrics = true
+is_for_figures Tenants = true
+is_for_figures (Tenant name) = true
+is_for_figures _ = false
+
+-- nothing was done, but that counters were asked for, where they may be
+abbrev pub OnlyLooksIf : Bool → ℕ → CallerState → CallerState → Type 0
+OnlyLooksIf true shards old new = OnlyLooks shards old new
+OnlyLooksIf false shards old new = new ≡ old
+
+-- a request may have counters asked for: it is let in, and asks for figures
+abbrev pub may_look : ClerkData → Request → Bool
+may_look clerk request =
+    is_let_in clerk.token request.headers (route_in request) && is_for_figures (route_in request)
+
+-- A request is answered so: by its route, where it is let in, and else refused; or memory was refused, and nothing was
+-- done but that counters were asked for.
+pub data IsShown (first : SettingsData) (shards : ℕ) (clerk : ClerkData) (request : Request) (old new : CallerState)
+    (told : Response) : Type 0 where
+  let_in : is_let_in clerk.token request.headers (route_in request) ≡ true
+      → Shows first shards clerk (route_in request) request.body old new told
+      → IsShown first shards clerk request old new told
+  not_let_in : is_let_in clerk.token request.headers (route_in request) ≡ false
+      → told ≡ refused_reply → new ≡ old
+      → IsShown first shards clerk request old new told
+  without_memory : OnlyLooksIf (may_look clerk request) shards old new → told ≡ no_memory
+      → IsShown first shards clerk request old new told

@@ -1,6 +1,6 @@
 //! Who works at what.
 
-ghost use Rattle.std.specs.Prelude.{◌≡◌, ◌<◌, ◌≤◌, ◌+◌, ◌∷◌, List, length, map, All, IfOk, vec_len};
+ghost use Rattle.std.specs.Prelude.{◌≡◌, ◌<◌, ◌≤◌, ◌+◌, ◌∷◌, [], List, length, map, All, IfOk, vec_len};
 ghost use Rattle.job_lane.specs.Lane.{new_seat};
 ghost use Rattle.machine_hub.specs.Hub.{AreCallersOf, slots_of};
 ghost use Rattle.shared_hub.specs.Logs.{CallerState};
@@ -30,7 +30,8 @@ pub(crate) fn assign_threads<'h, J: Naming, R: Wait + Clock>(
     requires new { All (λ c. c ≡ J.fresh) callers.items }
     requires enough { vec_len callers ≤ vec_len seats }
     ensures places { IfOk result (λ workers. map (λ w. (w.role, w.context.shard)) workers.items
-        ≡ places (length shared.now.hub.now) shared.now.staff.senders shared.now.staff.admins (vec_len callers)) }
+        ≡ places (length shared.now.hub.now) shared.now.staff.senders shared.now.staff.admins
+        (vec_len callers)) }
     ensures count { IfOk result (λ workers. vec_len workers ≡ vec_len callers) }
     ensures idle { IfOk result (λ workers.
         All (λ w. (w.context.caller ≡ J.fresh) × (w.seat ≡ new_seat J.lane)) workers.items) }
@@ -75,23 +76,27 @@ fn buffer_of(alloc: Global, role: Role) -> Result<Vec<u8>, AllocError> {
     }
 }
 
-/// The callers and the seats of all workers, after their work, and the caller of who read the input.
+/// The callers and the seats of all workers, after their work, and the caller of who read the input, in these lists, in
+/// which there is none yet. No memory is asked for where they have room for all.
 pub(crate) fn collect_callers<'h, J: Naming, R: Wait + Clock>(
-    alloc: Global,
+    mut callers: Vec<Caller>,
+    mut seats: Vec<LaneSeat>,
     mut workers: Vec<Worker<'h, J, R>>,
     own: Caller,
 ) -> Result<(Vec<Caller>, Vec<LaneSeat>), AllocError>
+    requires no_callers { callers.items ≡ [] }
+    requires no_seats { seats.items ≡ [] }
     requires own { slots_of own ≡ J.slots }
-    requires did { All (λ w. IsThread (length J.slots) J.fresh w.context.caller w.seat) workers.items }
+    requires did { All (λ w. IsThread (length J.slots) J.fresh w.context.caller w.seat)
+        workers.items }
     ensures same_hub { IfOk result (λ r. AreCallersOf J.slots r.0.items) }
     ensures all { IfOk result (λ r. vec_len r.0 ≡ 1 + vec_len workers.entry) }
-    ensures own_first { IfOk result (λ r. (others : List CallerState) × (r.0.items ≡ own ∷ others)) }
+    ensures own_first { IfOk result (λ r. (others : List CallerState)
+        × (r.0.items ≡ own ∷ others)) }
     ensures same_lane { IfOk result (λ r. All (λ s. s.lane ≡ J.lane) r.1.items) }
     ensures all_seats { IfOk result (λ r. vec_len r.1 ≡ vec_len workers.entry) }
     ensures threads { IfOk result (λ r. AreThreads (length J.slots) J.fresh r.0.items r.1.items) }
 {
-    let mut callers = Vec::new(alloc);
-    let mut seats = Vec::new(alloc);
     callers.push(own)?;
     while let Some(worker) = workers.pop() {
         let (caller, seat) = worker.into_parts();

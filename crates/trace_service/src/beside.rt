@@ -22,8 +22,8 @@ pub(crate) trait Director {
         observer: &mut L,
         threads: usize,
     ) -> Result<u64, ServiceFault>
-        ensures { IfOk result (λ lost. directs self.old (I.remaining input.old) (O.contents output.old) self.new
-            (O.contents output.new, lost)) };
+        ensures { IfOk result (λ lost. directs self.old (I.remaining input.old)
+            (O.contents output.old) self.new (O.contents output.new, lost)) };
 }
 
 /// The team's work, in a thread of its own, with that of its director beside it: how many answers were lost, or how the
@@ -46,15 +46,16 @@ where
     L: Observer,
     requires { F.pre team.old }
     ensures team { F.step team.old tt team.new }
-    ensures directed { IfOk result (λ lost. D.directs director.old (I.remaining input.old) (O.contents output.old)
-        director.new (O.contents output.new, lost)) }
+    ensures directed { IfOk result (λ lost. D.directs director.old (I.remaining input.old)
+        (O.contents output.old) director.new (O.contents output.new, lost)) }
 {
     let ((), ended) = join_mut(
         rt,
         team,
         &mut ||
-            ensures { IfOk result (λ lost. D.directs director.entry.now (I.remaining input.entry.now)
-                (O.contents output.entry.now) director.exit.now (O.contents output.exit.now, lost)) }
+            ensures { IfOk result (λ lost. D.directs director.entry.now
+                (I.remaining input.entry.now) (O.contents output.entry.now) director.exit.now
+                (O.contents output.exit.now, lost)) }
         { director.direct(input, output, observer, threads) },
     );
     ended

@@ -1,46 +1,105 @@
 //! What whoever asks for a change of the tenants is told.
 
+ghost use Rattle.std.specs.Prelude.{◌≡◌, ◌≢◌, ℕ, List, [], IfOk, IfSome, option_copied, option_map, string_bytes};
+ghost use Rattle.drop_ledger.specs.Ledger.{LedgerData, LedgerInvariant, ledger_of};
+ghost use Rattle.http_edge.specs.Seen.{response_of};
+ghost use Rattle.replay_script.specs.Answer.{report_text};
+ghost use Rattle.trace_service.specs.Changed.{HasWarnings, SaysCame, TellsAdded, TellsAdding, TellsCome, TellsFaulty, TellsRefused, TellsRetired, TellsRetiring, last_line, refused_reply, untold_reply, went_reply};
+
 use crate::desk::Asked;
-use crate::notice::{notice, shown};
+use crate::notice::{came, notice, shown, unknown};
 use crate::post::without_memory;
 use admin_pages::{TenantFigures, put_tenant, read_report};
 use http_edge::{MediaType, Reply};
-use settings_check::check;
+use settings_check::{Report, check};
 use std::alloc::{AllocError, Global};
 use std::str;
 
 /// What is told of the coming of a document's tenant.
-pub(crate) fn added(alloc: Global, asked: Asked, document: &[u8]) -> Result<Reply, AllocError> {
-    let told = match asked {
-        Asked::Told(told) => told,
-        asked => return untold(alloc, &asked),
-    };
-    let told = str::from_utf8(told.as_slice()).unwrap_or("");
-    if let Some(name) = name_added(told) {
-        return notice(alloc, 201, "tenant", name);
+pub(crate) fn added(alloc: Global, asked: Asked, document: &[u8]) -> Result<Reply, AllocError>
+    ensures { IfOk result (λ reply. TellsAdding asked document.now (response_of reply)) }
+{
+    match asked {
+        Asked::Told(line) => match str::from_utf8(line.as_slice()) {
+            Ok(line) => add_answered(alloc, line, document),
+            Err(_) => Ok(without_memory(alloc)),
+        },
+        asked => untold(alloc, &asked),
     }
-    match told.strip_prefix("refused add ") {
-        Some("14\n") => notice(alloc, 409, "error", "a tenant of that name is present"),
-        Some("15\n") => notice(
-            alloc,
-            422,
-            "error",
-            "there would be more tenants, or more spans at a time, than settings allow",
-        ),
-        Some("memory\n") => Ok(without_memory(alloc)),
-        Some(_) => faulty(alloc, document),
+}
+
+/// The same, where this line answered.
+fn add_answered(alloc: Global, line: &str, document: &[u8]) -> Result<Reply, AllocError>
+    ensures { IfOk result (λ reply. TellsAdded document.now line.now (response_of reply)) }
+{
+    if let Some(name) = name_added(line) {
+        return came_with(alloc, name, document);
+    }
+    match line.strip_prefix("refused add ") {
+        Some(why) => not_added(alloc, why, document),
         None => Ok(without_memory(alloc)),
     }
 }
 
 /// The name in a line that says that a tenant came.
-fn name_added(told: &str) -> Option<&str> {
-    let (name, _number) = told.strip_prefix("added ")?.split_once(' ')?;
-    Some(name)
+fn name_added(line: &str) -> Option<&str>
+    ensures says { IfSome result (λ name. SaysCame line.now name.now) }
+    ensures none { result ≡ None → (name : List ℕ) → SaysCame line.now name → ⊥ }
+{
+    let named = line.strip_prefix("added ")?;
+    match named.split_once(' ') {
+        Some((name, _number)) => Some(name),
+        None => None,
+    }
+}
+
+/// A tenant of this name came, with its document.
+fn came_with(alloc: Global, name: &str, document: &[u8]) -> Result<Reply, AllocError>
+    ensures { IfOk result (λ reply. TellsCome document.now name.now (response_of reply)) }
+{
+    let report = check(alloc, document)?;
+    came(alloc, name, warnings(&report))
+}
+
+/// The warnings of a document, which stand before its settings in its report. Doubts aren't among them: these are of
+/// settings that the document doesn't have alone.
+fn warnings(report: &Report) -> &str
+    ensures { HasWarnings (string_bytes report.now.text) report.now.is_good result.now }
+{
+    if !report.is_good {
+        return "";
+    }
+    match report.text.split_once("# the settings in force\n") {
+        Some((warnings, _settings)) => warnings.trim_end(),
+        None => "",
+    }
+}
+
+/// What is told of a tenant that was refused for this.
+fn not_added(alloc: Global, why: &str, document: &[u8]) -> Result<Reply, AllocError>
+    ensures { IfOk result (λ reply. TellsRefused document.now (refused_reply why.now)
+        (response_of reply)) }
+{
+    if why == "14\n" {
+        notice(alloc, 409, "error", "a tenant of that name is present")
+    } else if why == "15\n" {
+        notice(
+            alloc,
+            422,
+            "error",
+            "there would be more tenants, or more spans at a time, than settings allow",
+        )
+    } else if why == "memory\n" {
+        Ok(without_memory(alloc))
+    } else {
+        faulty(alloc, document)
+    }
 }
 
 /// What is wrong with a document, in words.
-fn faulty(alloc: Global, document: &[u8]) -> Result<Reply, AllocError> {
+fn faulty(alloc: Global, document: &[u8]) -> Result<Reply, AllocError>
+    ensures { IfOk result (λ reply. TellsFaulty document.now (response_of reply)) }
+{
     let report = check(alloc, document)?;
     if report.is_good {
         notice(
@@ -55,41 +114,74 @@ fn faulty(alloc: Global, document: &[u8]) -> Result<Reply, AllocError> {
 }
 
 /// What is told of the going of the tenant of this name.
-pub(crate) fn retired(alloc: Global, asked: Asked, name: &str) -> Result<Reply, AllocError> {
-    let told = match asked {
-        Asked::Told(told) => told,
-        asked => return untold(alloc, &asked),
-    };
-    if told.is_empty() {
-        return notice(alloc, 404, "error", "unknown tenant");
+pub(crate) fn retired(alloc: Global, asked: Asked, name: &str) -> Result<Reply, AllocError>
+    ensures { IfOk result (λ reply. TellsRetiring asked name.now (response_of reply)) }
+{
+    match asked {
+        Asked::Told(line) if line.is_empty() => unknown(alloc),
+        Asked::Told(line) => match str::from_utf8(line.as_slice()) {
+            Ok(line) => retire_answered(alloc, line, name),
+            Err(_) => Ok(without_memory(alloc)),
+        },
+        asked => untold(alloc, &asked),
     }
-    match last_counters(told.as_slice(), name) {
-        Some(counters) => {
-            let figures = TenantFigures {
-                name: String::from_str(alloc, name)?,
-                counters,
-            };
-            let mut text = Vec::new(alloc);
-            put_tenant(alloc, &mut text, &figures)?;
-            Ok(shown(200, MediaType::Json, text))
-        }
-        None if told.starts_with(b"refused ") => {
+}
+
+/// The same, where this line answered, which has a byte.
+fn retire_answered(alloc: Global, line: &str, name: &str) -> Result<Reply, AllocError>
+    requires { line.now ≢ [] }
+    ensures { IfOk result (λ reply. TellsRetired name.now line.now (response_of reply)) }
+{
+    match last_counters(line, name) {
+        Some(counters) => went(alloc, name, counters),
+        None if line.starts_with("refused ") => {
             notice(alloc, 409, "error", "the tenant stays: it holds spans")
         }
         None => Ok(without_memory(alloc)),
     }
 }
 
+/// The tenant of this name went with these counters.
+fn went(alloc: Global, name: &str, counters: [u64; 14]) -> Result<Reply, AllocError>
+    ensures { IfOk result (λ reply. response_of reply ≡ went_reply name.now (ledger_of counters)) }
+{
+    let figures = TenantFigures {
+        name: String::from_str(alloc, name)?,
+        counters,
+    };
+    let mut text = Vec::new(alloc);
+    put_tenant(alloc, &mut text, &figures)?;
+    Ok(shown(200, MediaType::Json, text))
+}
+
 /// The counters in the line with which a tenant of this name went.
-fn last_counters(told: &[u8], name: &str) -> Option<[u64; 14]> {
-    let line = told.strip_suffix(b"\n".as_slice())?;
-    let named = line.strip_prefix(b"report ".as_slice())?;
-    let counters = named.strip_prefix(name.as_bytes())?;
-    read_report(counters.strip_prefix(b" ".as_slice())?)
+fn last_counters(line: &str, name: &str) -> Option<[u64; 14]>
+    ensures only { IfSome result (λ counters. line.now ≡ last_line name.now (ledger_of counters)) }
+    ensures each { (ledger : LedgerData) → LedgerInvariant ledger
+        → line.now ≡ last_line name.now ledger → option_map ledger_of result ≡ Some ledger }
+{
+    match counters_in(line, name) {
+        Some(counters) => read_report(counters.as_bytes()),
+        None => None,
+    }
+}
+
+/// What stands for the counters in such a line.
+fn counters_in<'l>(line: &'l str, name: &str) -> Option<&'l str>
+    ensures only { IfSome result (λ text. line.entry.now ≡ report_text name.now text.now) }
+    ensures each { (text : List ℕ) → line.entry.now ≡ report_text name.now text
+        → option_copied result ≡ Some text }
+{
+    let named = line.strip_prefix("report ")?;
+    let behind = named.strip_prefix(name)?;
+    let text = behind.strip_prefix(" ")?;
+    text.strip_suffix("\n")
 }
 
 /// What is told where nothing was answered in time.
-fn untold(alloc: Global, asked: &Asked) -> Result<Reply, AllocError> {
+fn untold(alloc: Global, asked: &Asked) -> Result<Reply, AllocError>
+    ensures { IfOk result (λ reply. response_of reply ≡ untold_reply asked.now) }
+{
     match asked {
         Asked::Late => notice(alloc, 202, "state", "it is being done"),
         Asked::Ended => notice(alloc, 503, "error", "shutting down"),

@@ -1,17 +1,19 @@
 //! Who serves those that look after the service.
 
-ghost use Rattle.std.specs.Prelude.{◌≡◌, ◌%◌, ◌++◌, ℕ, List, Option, Some, length, map, option_map, string_bytes, IfOk, IfSome, OnOk, OnErr};
+ghost use Rattle.std.specs.Prelude.{◌≡◌, ◌%◌, ◌++◌, Option, None, length, map, option_copied, option_map, string_bytes, IfOk, IfSome, OnOk, OnErr};
 ghost use Rattle.admin_pages.specs.Figures.{tenant_of};
 ghost use Rattle.admin_pages.specs.Route.{route_view};
-ghost use Rattle.drop_ledger.specs.Ledger.{LedgerData, ledger_of};
-ghost use Rattle.http_edge.specs.Seen.{response_of};
-ghost use Rattle.otlp_front.specs.Route.{names_in};
-ghost use Rattle.tail_settings.specs.Settings.{SettingsData, number_of};
-ghost use Rattle.trace_service.specs.InForce.{CameOf};
+ghost use Rattle.admin_pages.specs.Service.{service_text};
+ghost use Rattle.admin_pages.specs.declared.service.ServiceFigures.{ServiceFigures};
+ghost use Rattle.drop_ledger.specs.Ledger.{ledger_of};
+ghost use Rattle.http_edge.specs.Seen.{header_of, response_of, seen};
 ghost use Rattle.machine_hub.specs.Hub.{IsRefusedOn};
+ghost use Rattle.trace_service.specs.Changed.{TellsAdding};
 ghost use Rattle.trace_service.specs.Receiving.{IsTalk};
 ghost use Rattle.trace_service.specs.Roster.{entry_of};
-ghost use Rattle.trace_service.specs.Shown.{AreLooked, IsLooked, IsShown, OnlyLooks, Tells, is_for_all, told_of};
+ghost use Rattle.trace_service.specs.Shown.{AreFigures, AreLooked, IsKnown, IsLooked, IsNobody, IsOfService, IsShown, OnlyLooks, LooksMore, OnlyLooksIf, ShowsMetrics, ShowsReply, ShowsTenant, ShowsTenants, Tells, TellsGoing, TellsReadiness, clerk_of, drained_reply, is_for_figures, may_look, page_reply, refused_reply, told_of};
+ghost use Rattle.trace_service.specs.Token.{bearer, is_for_all, is_let_in, is_wanted, token_of};
+ghost use Rattle.trace_service.specs.declared.desk.Asked.{Asked as AskedCode};
 
 use crate::beat::Signals;
 use crate::changes::{added, retired};
@@ -20,7 +22,7 @@ use crate::entrance::Entrance;
 use crate::lingering::linger;
 use crate::memory::resident_bytes;
 use crate::naming::Naming;
-use crate::notice::{notice, other_method, shown};
+use crate::notice::{notice, other_method, shown, unknown};
 use crate::office::AdminPort;
 use crate::post::without_memory;
 use crate::roster::Present;
@@ -34,6 +36,7 @@ use admin_pages::{
 use export_edge::Beat;
 use http_edge::{EdgeFault, Handler, Header, HttpMessage, MediaType, Reply, only_value, serve};
 use http_line::StreamLine;
+use http1::text::eq_ignore_case;
 use otlp_front::path;
 use shared_hub::HubFault;
 use std::alloc::{AllocError, Global};
@@ -57,11 +60,15 @@ pub(crate) struct Clerk<'c, 'h, J: Naming, R> {
 }
 
 impl<'c, 'h, J: Naming, R: Wait + Clock> Handler for Clerk<'c, 'h, J, R> {
-    ghost use Rattle.std.specs.Prelude.{length};
-    ghost use Rattle.trace_service.specs.Shown.{IsShown};
+    ghost use Rattle.std.specs.Prelude.{◌≡◌, length};
+    ghost use Rattle.trace_service.specs.Shown.{IsShown, clerk_of};
 
-    ghost answers = { λ old _ told new. IsShown J.first (length old.context.now.hub.now) old.context.now.caller
-        new.context.now.caller told };
+    ghost answers = { λ old request told new.
+        IsShown J.first (length old.context.now.hub.now)
+        (clerk_of old.port old.staff old.lane_capacity) request old.context.now.caller
+        new.context.now.caller told
+        × (clerk_of new.port new.staff new.lane_capacity
+        ≡ clerk_of old.port old.staff old.lane_capacity) };
 
     fn handle<T: Threads + Sync>(&mut self, _rt: &T, message: HttpMessage) -> Reply {
         match self.answer(message) {
@@ -100,9 +107,14 @@ impl<'c, 'h, J: Naming, R: Wait + Clock> Clerk<'c, 'h, J, R> {
     /// The answer to a message.
     fn answer(&mut self, message: HttpMessage) -> Result<Reply, AllocError>
         ensures shown { IfOk result (λ reply. IsShown J.first (length self.old.context.now.hub.now)
+            (clerk_of self.old.port self.old.staff self.old.lane_capacity) (seen message)
             self.old.context.now.caller self.new.context.now.caller (response_of reply)) }
-        ensures looks { OnErr result (OnlyLooks (length self.old.context.now.hub.now) self.old.context.now.caller
+        ensures looks { OnErr result (OnlyLooksIf (may_look
+            (clerk_of self.old.port self.old.staff self.old.lane_capacity) (seen message))
+            (length self.old.context.now.hub.now) self.old.context.now.caller
             self.new.context.now.caller) }
+        ensures same { clerk_of self.new.port self.new.staff self.new.lane_capacity
+            ≡ clerk_of self.old.port self.old.staff self.old.lane_capacity }
     {
         let HttpMessage {
             method,
@@ -111,58 +123,51 @@ impl<'c, 'h, J: Naming, R: Wait + Clock> Clerk<'c, 'h, J, R> {
             body,
         } = message;
         let asked = admin_route(method.as_str(), path(target.as_slice()));
-        if !is_for_all(&asked) && !self.is_let_in(headers.as_slice()) {
-            return notice(
-                self.context.alloc(),
-                401,
-                "error",
-                "the token is missing or another",
-            );
-        }
-        match asked {
-            AdminRoute::Add => self.add(body),
-            AdminRoute::Retire(name) => self.retire(name),
-            AdminRoute::Drain => self.drain(),
-            _ => self.show(asked),
+        if self.is_let_in(headers.as_slice(), &asked) {
+            self.show(asked, body)
+        } else {
+            not_let_in(self.context.alloc())
         }
     }
 
-    /// Whether a message with these fields has the token that is wanted, if one is.
-    fn is_let_in(&self, headers: &[Header]) -> bool {
-        let Some(wanted) = self.port.token else {
-            return true;
-        };
-        match token_in(headers) {
-            Some(given) => same_token(wanted, given),
-            None => false,
-        }
-    }
-
-    /// What is asked to be seen.
-    fn show(&mut self, asked: AdminRoute<'_>) -> Result<Reply, AllocError>
-        ensures shown { IfOk result (λ reply. IsShown J.first (length self.old.context.now.hub.now)
-            self.old.context.now.caller self.new.context.now.caller (response_of reply)) }
-        ensures looks { OnErr result (OnlyLooks (length self.old.context.now.hub.now) self.old.context.now.caller
-            self.new.context.now.caller) }
+    /// Whether a message with these fields is let in there: it has the token that is wanted, if one is.
+    fn is_let_in(&self, headers: &[Header], asked: &AdminRoute<'_>) -> bool
+        ensures { result ≡ is_let_in (option_copied self.now.port.token)
+            (map header_of headers.now) (route_view asked.now) }
     {
-        let alloc = self.context.alloc();
+        is_for_all(asked) || is_wanted(self.port.token, token_in(headers))
+    }
+
+    /// What is asked for, of who is let in. A tenant that is to come has this document.
+    fn show(&mut self, asked: AdminRoute<'_>, document: Vec<u8>) -> Result<Reply, AllocError>
+        ensures shown { IfOk result (ShowsReply J.first (length self.old.context.now.hub.now)
+            (clerk_of self.old.port self.old.staff self.old.lane_capacity) (route_view asked.entry)
+            document.items self.old.context.now.caller self.new.context.now.caller) }
+        ensures looks { OnErr result (OnlyLooksIf (is_for_figures (route_view asked.entry))
+            (length self.old.context.now.hub.now) self.old.context.now.caller
+            self.new.context.now.caller) }
+        ensures same { clerk_of self.new.port self.new.staff self.new.lane_capacity
+            ≡ clerk_of self.old.port self.old.staff self.old.lane_capacity }
+    {
         match asked {
-            AdminRoute::Page => {
-                let page = Vec::from_slice(alloc, PAGE.as_bytes())?;
-                Ok(shown(200, MediaType::Html, page))
-            }
+            AdminRoute::Page => page(self.context.alloc()),
             AdminRoute::Metrics => self.metrics(),
-            AdminRoute::Health => notice(alloc, 200, "state", "ok"),
+            AdminRoute::Health => notice(self.context.alloc(), 200, "state", "ok"),
             AdminRoute::Readiness => self.readiness(),
+            AdminRoute::Drain => self.drain(),
             AdminRoute::Tenants => self.tenants(),
+            AdminRoute::Add => self.add(document),
             AdminRoute::Tenant(name) => self.tenant(name),
-            AdminRoute::OtherMethod(methods) => other_method(alloc, methods),
-            _ => notice(alloc, 404, "error", "no such path"),
+            AdminRoute::Retire(name) => self.retire(name),
+            AdminRoute::NoSuchPath => notice(self.context.alloc(), 404, "error", "no such path"),
+            AdminRoute::OtherMethod(methods) => other_method(self.context.alloc(), methods),
         }
     }
 
     /// Whether spans are taken.
-    fn readiness(&self) -> Result<Reply, AllocError> {
+    fn readiness(&self) -> Result<Reply, AllocError>
+        ensures { IfOk result (λ reply. TellsReadiness (response_of reply)) }
+    {
         let alloc = self.context.alloc();
         if self.is_draining() {
             notice(alloc, 503, "state", "draining")
@@ -178,11 +183,13 @@ impl<'c, 'h, J: Naming, R: Wait + Clock> Clerk<'c, 'h, J, R> {
     /// All figures of the tenants that are present, in the order of their numbers. Of a tenant that goes meanwhile
     /// there are none.
     fn figures(&mut self) -> Result<Vec<TenantFigures>, AllocError>
-        ensures looked { IfOk result (λ figures. (now : SettingsData) × CameOf J.first now
-            × AreLooked (length self.old.context.now.hub.now) self.old.context.now.caller (names_in now).tenants
-            (map tenant_of figures.items) self.new.context.now.caller) }
-        ensures looks { OnErr result (OnlyLooks (length self.old.context.now.hub.now) self.old.context.now.caller
-            self.new.context.now.caller) }
+        ensures looked { IfOk result (λ figures.
+            AreFigures J.first (length self.old.context.now.hub.now) self.old.context.now.caller
+            self.new.context.now.caller (map tenant_of figures.items)) }
+        ensures looks { OnErr result (OnlyLooks (length self.old.context.now.hub.now)
+            self.old.context.now.caller self.new.context.now.caller) }
+        ensures same { clerk_of self.new.port self.new.staff self.new.lane_capacity
+            ≡ clerk_of self.old.port self.old.staff self.old.lane_capacity }
     {
         let tenants = self.context.tenants()?;
         self.figures_of(tenants.as_slice())
@@ -193,8 +200,10 @@ impl<'c, 'h, J: Naming, R: Wait + Clock> Clerk<'c, 'h, J, R> {
         ensures looked { IfOk result (λ figures. AreLooked (length self.old.context.now.hub.now)
             self.old.context.now.caller (map entry_of tenants.now) (map tenant_of figures.items)
             self.new.context.now.caller) }
-        ensures looks { OnErr result (OnlyLooks (length self.old.context.now.hub.now) self.old.context.now.caller
-            self.new.context.now.caller) }
+        ensures looks { OnErr result (OnlyLooks (length self.old.context.now.hub.now)
+            self.old.context.now.caller self.new.context.now.caller) }
+        ensures same { clerk_of self.new.port self.new.staff self.new.lane_capacity
+            ≡ clerk_of self.old.port self.old.staff self.old.lane_capacity }
     {
         let mut figures = Vec::new(self.context.alloc());
         for tenant in tenants {
@@ -209,13 +218,14 @@ impl<'c, 'h, J: Naming, R: Wait + Clock> Clerk<'c, 'h, J, R> {
         tenant: &Present,
         figures: &mut Vec<TenantFigures>,
     ) -> Result<(), AllocError>
-        ensures looked { OnOk result ((ledger : Option LedgerData) × IsLooked self.old.context.now.caller
-            self.new.context.now.caller (length self.old.context.now.hub.now) tenant.now.number ledger
-            × (map tenant_of figures.new.items
-            ≡ told_of (map tenant_of figures.old.items) (string_bytes tenant.now.name) ledger)) }
-        ensures looks { OnErr result (OnlyLooks (length self.old.context.now.hub.now) self.old.context.now.caller
-            self.new.context.now.caller) }
+        ensures looked { OnOk result (LooksMore (length self.old.context.now.hub.now) tenant.now
+            self.old.context.now.caller self.new.context.now.caller
+            (map tenant_of figures.old.items) (map tenant_of figures.new.items)) }
+        ensures looks { OnErr result (OnlyLooks (length self.old.context.now.hub.now)
+            self.old.context.now.caller self.new.context.now.caller) }
         ensures hub { self.new.context.now.hub ≡ self.old.context.now.hub }
+        ensures same { clerk_of self.new.port self.new.staff self.new.lane_capacity
+            ≡ clerk_of self.old.port self.old.staff self.old.lane_capacity }
     {
         let counters = self.counters(tenant.number)?;
         push_figures(figures, tenant, counters)
@@ -223,11 +233,14 @@ impl<'c, 'h, J: Naming, R: Wait + Clock> Clerk<'c, 'h, J, R> {
 
     /// The counters of the tenant of this number. None where it has gone.
     fn counters(&mut self, tenant: u32) -> Result<Option<[u64; 14]>, AllocError>
-        ensures looked { IfOk result (λ counters. IsLooked self.old.context.now.caller self.new.context.now.caller
-            (length self.old.context.now.hub.now) tenant (option_map ledger_of counters)) }
-        ensures refused { OnErr result (IsRefusedOn self.old.context.now.caller self.new.context.now.caller
-            (tenant % length self.old.context.now.hub.now)) }
+        ensures looked { IfOk result (λ counters. IsLooked self.old.context.now.caller
+            self.new.context.now.caller (length self.old.context.now.hub.now) tenant
+            (option_map ledger_of counters)) }
+        ensures refused { OnErr result (IsRefusedOn self.old.context.now.caller
+            self.new.context.now.caller (tenant % length self.old.context.now.hub.now)) }
         ensures hub { self.new.context.now.hub ≡ self.old.context.now.hub }
+        ensures same { clerk_of self.new.port self.new.staff self.new.lane_capacity
+            ≡ clerk_of self.old.port self.old.staff self.old.lane_capacity }
     {
         match self.context.look(tenant) {
             Ok(outcome) => Ok(told_counters(&outcome)),
@@ -238,10 +251,14 @@ impl<'c, 'h, J: Naming, R: Wait + Clock> Clerk<'c, 'h, J, R> {
 
     /// All figures, for a scraper.
     fn metrics(&mut self) -> Result<Reply, AllocError>
-        ensures shown { IfOk result (λ reply. IsShown J.first (length self.old.context.now.hub.now)
+        ensures shown { IfOk result (λ reply. ShowsMetrics J.first
+            (length self.old.context.now.hub.now)
+            (clerk_of self.old.port self.old.staff self.old.lane_capacity)
             self.old.context.now.caller self.new.context.now.caller (response_of reply)) }
-        ensures looks { OnErr result (OnlyLooks (length self.old.context.now.hub.now) self.old.context.now.caller
-            self.new.context.now.caller) }
+        ensures looks { OnErr result (OnlyLooks (length self.old.context.now.hub.now)
+            self.old.context.now.caller self.new.context.now.caller) }
+        ensures same { clerk_of self.new.port self.new.staff self.new.lane_capacity
+            ≡ clerk_of self.old.port self.old.staff self.old.lane_capacity }
     {
         let alloc = self.context.alloc();
         let figures = self.figures()?;
@@ -253,8 +270,12 @@ impl<'c, 'h, J: Naming, R: Wait + Clock> Clerk<'c, 'h, J, R> {
 
     /// Appends the figures of the whole service.
     fn put_service(&mut self, text: &mut Vec<u8>, tenants: u64) -> Result<(), AllocError>
-        ensures behind { OnOk result ((rest : List ℕ) × (text.new.items ≡ text.old.items ++ rest)) }
+        ensures behind { OnOk result ((service : ServiceFigures)
+            × IsOfService (clerk_of self.old.port self.old.staff self.old.lane_capacity) tenants
+            service × (text.new.items ≡ text.old.items ++ service_text service)) }
         ensures caller { self.new.context.now.caller ≡ self.old.context.now.caller }
+        ensures same { clerk_of self.new.port self.new.staff self.new.lane_capacity
+            ≡ clerk_of self.old.port self.old.staff self.old.lane_capacity }
     {
         let figures = self.service_figures(tenants);
         put_service(self.context.alloc(), text, &figures)
@@ -262,7 +283,11 @@ impl<'c, 'h, J: Naming, R: Wait + Clock> Clerk<'c, 'h, J, R> {
 
     /// The figures of the whole service, where so many tenants are present.
     fn service_figures(&mut self, tenants: u64) -> ServiceFigures
-        ensures { self.new.context.now.caller ≡ self.old.context.now.caller }
+        ensures of_service { IsOfService (clerk_of self.old.port self.old.staff
+            self.old.lane_capacity) tenants result }
+        ensures caller { self.new.context.now.caller ≡ self.old.context.now.caller }
+        ensures same { clerk_of self.new.port self.new.staff self.new.lane_capacity
+            ≡ clerk_of self.old.port self.old.staff self.old.lane_capacity }
     {
         let uptime = self.context.uptime() / 1000;
         let resident_bytes = match self.port.status {
@@ -284,10 +309,13 @@ impl<'c, 'h, J: Naming, R: Wait + Clock> Clerk<'c, 'h, J, R> {
 
     /// All tenants' figures.
     fn tenants(&mut self) -> Result<Reply, AllocError>
-        ensures shown { IfOk result (λ reply. IsShown J.first (length self.old.context.now.hub.now)
-            self.old.context.now.caller self.new.context.now.caller (response_of reply)) }
-        ensures looks { OnErr result (OnlyLooks (length self.old.context.now.hub.now) self.old.context.now.caller
-            self.new.context.now.caller) }
+        ensures shown { IfOk result (λ reply. ShowsTenants J.first
+            (length self.old.context.now.hub.now) self.old.context.now.caller
+            self.new.context.now.caller (response_of reply)) }
+        ensures looks { OnErr result (OnlyLooks (length self.old.context.now.hub.now)
+            self.old.context.now.caller self.new.context.now.caller) }
+        ensures same { clerk_of self.new.port self.new.staff self.new.lane_capacity
+            ≡ clerk_of self.old.port self.old.staff self.old.lane_capacity }
     {
         let alloc = self.context.alloc();
         let figures = self.figures()?;
@@ -298,10 +326,13 @@ impl<'c, 'h, J: Naming, R: Wait + Clock> Clerk<'c, 'h, J, R> {
 
     /// The figures of the tenant of this name, and its settings.
     fn tenant(&mut self, name: &[u8]) -> Result<Reply, AllocError>
-        ensures shown { IfOk result (λ reply. IsShown J.first (length self.old.context.now.hub.now)
-            self.old.context.now.caller self.new.context.now.caller (response_of reply)) }
-        ensures looks { OnErr result (OnlyLooks (length self.old.context.now.hub.now) self.old.context.now.caller
-            self.new.context.now.caller) }
+        ensures shown { IfOk result (λ reply. ShowsTenant J.first
+            (length self.old.context.now.hub.now) name.now self.old.context.now.caller
+            self.new.context.now.caller (response_of reply)) }
+        ensures looks { OnErr result (OnlyLooks (length self.old.context.now.hub.now)
+            self.old.context.now.caller self.new.context.now.caller) }
+        ensures same { clerk_of self.new.port self.new.staff self.new.lane_capacity
+            ≡ clerk_of self.old.port self.old.staff self.old.lane_capacity }
     {
         let alloc = self.context.alloc();
         let Some((name, number)) = self.find(name) else {
@@ -325,25 +356,30 @@ impl<'c, 'h, J: Naming, R: Wait + Clock> Clerk<'c, 'h, J, R> {
     /// The number of the tenant of this name, and its name as a text.
     fn find<'n>(&self, name: &'n [u8]) -> Option<(&'n str, u32)>
         ensures name { IfSome result (λ found. found.0.now ≡ name.entry.now) }
-        ensures known { IfSome result (λ found. (now : SettingsData) × CameOf J.first now
-            × (number_of now found.0.now ≡ Some found.1)) }
+        ensures known { IfSome result (λ found. IsKnown J.first name.entry.now found.1) }
+        ensures nobody { result ≡ None → IsNobody J.first name.entry.now }
     {
-        let name = str::from_utf8(name).ok()?;
-        let number = self.context.number(name)?;
-        Some((name, number))
+        match str::from_utf8(name) {
+            Ok(name) => {
+                let number = self.context.number(name)?;
+                Some((name, number))
+            }
+            Err(_) => None,
+        }
     }
 
     /// Ends the input.
-    fn drain(&mut self) -> Result<Reply, AllocError>
-        ensures { self.new.context.now.caller ≡ self.old.context.now.caller }
+    fn drain(&self) -> Result<Reply, AllocError>
+        ensures { IfOk result (λ reply. response_of reply ≡ drained_reply) }
     {
         self.port.desk.end(self.context.rt());
         notice(self.context.alloc(), 200, "state", "draining")
     }
 
     /// Asks that the tenant of a document comes.
-    fn add(&mut self, document: Vec<u8>) -> Result<Reply, AllocError>
-        ensures { self.new.context.now.caller ≡ self.old.context.now.caller }
+    fn add(&self, document: Vec<u8>) -> Result<Reply, AllocError>
+        ensures { IfOk result (λ reply. (asked : AskedCode) × TellsAdding asked document.items
+            (response_of reply)) }
     {
         let alloc = self.context.alloc();
         let line = Vec::from_slice(alloc, b"add posted\n")?;
@@ -358,8 +394,8 @@ impl<'c, 'h, J: Naming, R: Wait + Clock> Clerk<'c, 'h, J, R> {
     }
 
     /// Asks that the tenant of this name goes.
-    fn retire(&mut self, name: &[u8]) -> Result<Reply, AllocError>
-        ensures { self.new.context.now.caller ≡ self.old.context.now.caller }
+    fn retire(&self, name: &[u8]) -> Result<Reply, AllocError>
+        ensures { IfOk result (λ reply. TellsGoing J.first name.now (response_of reply)) }
     {
         let alloc = self.context.alloc();
         let Some((name, _)) = self.find(name) else {
@@ -413,8 +449,9 @@ fn push_figures(
     tenant: &Present,
     counters: Option<[u64; 14]>,
 ) -> Result<(), AllocError>
-    ensures { OnOk result (map tenant_of figures.new.items ≡ told_of (map tenant_of figures.old.items)
-        (string_bytes tenant.now.name) (option_map ledger_of counters)) }
+    ensures { OnOk result (map tenant_of figures.new.items ≡ told_of
+        (map tenant_of figures.old.items) (string_bytes tenant.now.name)
+        (option_map ledger_of counters)) }
 {
     let Some(counters) = counters else {
         return Ok(());
@@ -424,9 +461,19 @@ fn push_figures(
     Ok(())
 }
 
-/// Nobody has this name.
-fn unknown(alloc: Global) -> Result<Reply, AllocError> {
-    notice(alloc, 404, "error", "unknown tenant")
+/// The page to look at.
+fn page(alloc: Global) -> Result<Reply, AllocError>
+    ensures { IfOk result (λ reply. response_of reply ≡ page_reply) }
+{
+    let page = Vec::from_slice(alloc, PAGE.as_bytes())?;
+    Ok(shown(200, MediaType::Html, page))
+}
+
+/// The reply to who isn't let in.
+fn not_let_in(alloc: Global) -> Result<Reply, AllocError>
+    ensures { IfOk result (λ reply. response_of reply ≡ refused_reply) }
+{
+    notice(alloc, 401, "error", "the token is missing or another")
 }
 
 /// Whether it is shown to whoever reaches the address: it tells nothing of any tenant.
@@ -436,12 +483,32 @@ fn is_for_all(asked: &AdminRoute<'_>) -> bool
     matches!(asked, AdminRoute::Page | AdminRoute::Health)
 }
 
-/// The token of a message, if it has one (RFC 6750, section 2.1).
-fn token_in(headers: &[Header]) -> Option<&[u8]> {
-    let value = only_value(headers, b"authorization")?;
-    let (scheme, token) = value.split_at_checked(7)?;
-    if scheme.eq_ignore_ascii_case(b"bearer ") {
-        Some(token)
+/// Whether this token is the one that is wanted, if one is.
+fn is_wanted(wanted: Option<&[u8]>, given: Option<&[u8]>) -> bool
+    ensures { result ≡ is_wanted (option_copied wanted.entry) (option_copied given.entry) }
+{
+    let Some(wanted) = wanted else {
+        return true;
+    };
+    match given {
+        Some(given) => same_token(wanted, given),
+        None => false,
+    }
+}
+
+/// The token of a message, if it has one.
+fn token_in(headers: &[Header]) -> Option<&[u8]>
+    ensures { option_copied result ≡ token_of (map header_of headers.now) }
+{
+    bearer(only_value(headers, b"authorization")?)
+}
+
+/// The token of credentials, if their scheme is the one for tokens.
+fn bearer(credentials: &[u8]) -> Option<&[u8]>
+    ensures { option_copied result ≡ bearer credentials.now }
+{
+    if credentials.len() >= 7 && eq_ignore_case(&credentials[..7], b"bearer ") {
+        Some(&credentials[7..])
     } else {
         None
     }

@@ -1,15 +1,14 @@
 //! Tenants that come and go while the service runs, as lines of the input ask.
 
-ghost use Rattle.std.specs.Prelude.{◌≡◌, ◌<◌, ◌%◌, ℕ, List, Ok, length, string_bytes, vec_len, vec_capacity, true, IfOk, IfErr};
+ghost use Rattle.std.specs.Prelude.{◌≡◌, ◌<◌, ◌%◌, Ok, length, string_bytes, vec_len, vec_capacity, true, IfOk, IfErr};
 ghost use Rattle.std.specs.IoError.{error_kind};
-ghost use Rattle.otlp_front.specs.Route.{number_of};
 ghost use Rattle.shared_hub.specs.Logs.{IsEmptyOn};
 ghost use Rattle.tail_settings.specs.Fault.{fault_view};
 ghost use Rattle.tail_settings.specs.Settings.{SettingsData};
 ghost use Rattle.trace_service.specs.Comings.{IsAdded, IsJoined, IsNotJoined, not_added_text, why_not};
-ghost use Rattle.trace_service.specs.Commands.{IsRetiredOf, left_by, stays};
+ghost use Rattle.trace_service.specs.Commands.{left_by, stays};
+ghost use Rattle.trace_service.specs.Control.{Adds, RetiresNamed};
 ghost use Rattle.trace_service.specs.Documents.{IsOfReading, IsUnread};
-ghost use Rattle.trace_service.specs.Output.{IsPut};
 ghost use Rattle.trace_service.specs.InForce.{CameOf, IsNewcomer, IsTurnedAway};
 ghost use Rattle.trace_service.specs.Roster.{present_in};
 ghost use Rattle.trace_service.specs.declared.comings.NotAdded.TheVariants as why;
@@ -93,9 +92,9 @@ where
         lost: &mut u64,
         path: &[u8],
     )
-        ensures added { (line : List ℕ) × IsAdded D.reads J.first (length self.old.context.hub.now)
-            path.now (present_in roster.old) self.old.context.caller (present_in roster.new) self.new.context.caller
-            line × IsPut (O.contents output.old, lost.old) (O.contents output.new, lost.new) line }
+        ensures added { Adds D.reads J.first path.now self.old roster.old
+            (O.contents output.old, lost.old) self.new roster.new
+            (O.contents output.new, lost.new) }
         ensures last { self.new.beat.last ≡ self.old.beat.last }
         ensures hub { self.new.context.hub ≡ self.old.context.hub }
     {
@@ -113,12 +112,13 @@ where
 
     /// The line of the tenant that came whose document is in the file at this path.
     fn let_in(&mut self, roster: &mut Roster, path: &[u8]) -> Result<Vec<u8>, NotAdded>
-        ensures added { IfOk result (λ line. IsAdded D.reads J.first (length self.old.context.hub.now) path.now
-            (present_in roster.old) self.old.context.caller (present_in roster.new) self.new.context.caller
-            line.items) }
-        ensures not_added { IfErr result (λ why. IsAdded D.reads J.first (length self.old.context.hub.now) path.now
-            (present_in roster.old) self.old.context.caller (present_in roster.new) self.new.context.caller
-            (not_added_text why)) }
+        ensures added { IfOk result (λ line. IsAdded D.reads J.first
+            (length self.old.context.hub.now) path.now (present_in roster.old)
+            self.old.context.caller (present_in roster.new) self.new.context.caller line.items) }
+        ensures not_added { IfErr result
+            (λ why. IsAdded D.reads J.first (length self.old.context.hub.now) path.now
+            (present_in roster.old) self.old.context.caller (present_in roster.new)
+            self.new.context.caller (not_added_text why)) }
         ensures last { self.new.beat.last ≡ self.old.beat.last }
         ensures hub { self.new.context.hub ≡ self.old.context.hub }
     {
@@ -147,7 +147,8 @@ where
     fn newcomer(&self, text: &str) -> Result<Newcomer, SettingsFault>
         ensures on_success { IfOk result (λ newcomer. (now : SettingsData) × CameOf J.first now
             × IsNewcomer now text.now newcomer) }
-        ensures fault { IfErr result (λ e. (now left : SettingsData) × CameOf J.first now × CameOf J.first left
+        ensures fault { IfErr result (λ e. (now left : SettingsData) × CameOf J.first now
+            × CameOf J.first left
             × IsTurnedAway now text.now (fault_view e) left) }
     {
         self.settings.lock(self.rt).admit(self.alloc, text)
@@ -157,10 +158,11 @@ where
     fn join(&mut self, roster: &mut Roster, newcomer: Newcomer) -> Result<Vec<u8>, NotAdded>
         requires { vec_len roster.old.tenants < vec_capacity roster.old.tenants }
         ensures joined { IfOk result (λ line. IsJoined (length self.old.context.hub.now) newcomer
-            (present_in roster.old) self.old.context.caller (present_in roster.new) self.new.context.caller
-            line.items) }
-        ensures not_joined { IfErr result (λ why. IsNotJoined (length self.old.context.hub.now) newcomer
-            self.old.context.caller self.new.context.caller why
+            (present_in roster.old) self.old.context.caller (present_in roster.new)
+            self.new.context.caller line.items) }
+        ensures not_joined { IfErr result
+            (λ why. IsNotJoined (length self.old.context.hub.now) newcomer self.old.context.caller
+            self.new.context.caller why
             × (present_in roster.new ≡ present_in roster.old)) }
         ensures last { self.new.beat.last ≡ self.old.beat.last }
         ensures hub { self.new.context.hub ≡ self.old.context.hub }
@@ -204,10 +206,9 @@ where
         lost: &mut u64,
         name: &[u8],
     )
-        ensures retired { IsRetiredOf (length self.old.context.hub.now) name.now
-            (number_of (present_in roster.old) name.now) (present_in roster.old) self.old.context.caller
-            self.old.beat.last (O.contents output.old, lost.old) (present_in roster.new) self.new.context.caller
-            self.new.beat.last (O.contents output.new, lost.new) }
+        ensures retired { RetiresNamed name.now self.old roster.old
+            (O.contents output.old, lost.old) self.new roster.new
+            (O.contents output.new, lost.new) }
         ensures hub { self.new.context.hub ≡ self.old.context.hub }
     {
         let Some(tenant) = roster.find(name) else {
@@ -227,7 +228,8 @@ where
 
     /// Waits until this tenant holds no span.
     fn await_tenant(&mut self, tenant: u32)
-        ensures empty { IsEmptyOn self.old.context.caller (tenant % length self.old.context.hub.now) tenant true }
+        ensures empty { IsEmptyOn self.old.context.caller (tenant % length self.old.context.hub.now)
+            tenant true }
         ensures caller { self.new.context.caller ≡ self.old.context.caller }
         ensures last { self.new.beat.last ≡ self.old.beat.last }
         ensures hub { self.new.context.hub ≡ self.old.context.hub }

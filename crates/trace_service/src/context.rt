@@ -130,7 +130,8 @@ impl<'h, J: Naming, R: Wait + Clock> WorkerContext<'h, J, R> {
     /// Makes one step at this tenant's shard.
     pub fn step(&mut self, tenant: u32, step: Step) -> Result<Outcome, HubFault>
         ensures call { IfOk result (λ outcome. (receipt : Option Receipt)
-            × IsStepOn self.old.caller self.new.caller (tenant % length self.old.hub.now) step outcome receipt) }
+            × IsStepOn self.old.caller self.new.caller (tenant % length self.old.hub.now) step
+            outcome receipt) }
         ensures on_refusal { OnErr result (IsRefusedOn self.old.caller self.new.caller
             (tenant % length self.old.hub.now)) }
         ensures fault { IfErr result (λ fault. fault ≡ faults.OutOfMemory) }
@@ -151,8 +152,8 @@ impl<'h, J: Naming, R: Wait + Clock> WorkerContext<'h, J, R> {
     /// turner looks for that by itself.
     pub fn look(&mut self, tenant: u32) -> Result<Outcome, HubFault>
         ensures call { IfOk result (λ outcome. (now : ℕ) × (receipt : Option Receipt)
-            × IsStepOn self.old.caller self.new.caller (tenant % length self.old.hub.now) (steps.Report tenant now)
-            outcome receipt) }
+            × IsStepOn self.old.caller self.new.caller (tenant % length self.old.hub.now)
+            (steps.Report tenant now) outcome receipt) }
         ensures on_refusal { OnErr result (IsRefusedOn self.old.caller self.new.caller
             (tenant % length self.old.hub.now)) }
         ensures fault { IfErr result (λ fault. fault ≡ faults.OutOfMemory) }
@@ -348,8 +349,9 @@ impl<'h, J: Naming, R: Wait + Clock> WorkerContext<'h, J, R> {
         section: &Section,
         body: Vec<u8>,
     ) -> Reply
-        ensures { IsSent (Some (section_view section.now)) self.old.beat.last self.new.beat.last self.old.caller
-            self.new.caller (length self.old.hub.now) tenant body.items (response_of result) }
+        ensures { IsSent (Some (section_view section.now)) self.old.beat.last self.new.beat.last
+            self.old.caller self.new.caller (length self.old.hub.now) tenant body.items
+            (response_of result) }
     {
         let bytes = body.len();
         let large_bodies = self.signals().large_bodies();
@@ -367,8 +369,9 @@ impl<'h, J: Naming, R: Wait + Clock> WorkerContext<'h, J, R> {
         section: &Section,
         body: Vec<u8>,
     ) -> Reply
-        ensures { IsSent (Some (section_view section.now)) self.old.beat.last self.new.beat.last self.old.caller
-            self.new.caller (length self.old.hub.now) tenant body.items (response_of result) }
+        ensures { IsSent (Some (section_view section.now)) self.old.beat.last self.new.beat.last
+            self.old.caller self.new.caller (length self.old.hub.now) tenant body.items
+            (response_of result) }
     {
         let now = self.beat.now();
         if !self.signals().reserve().is_there() {

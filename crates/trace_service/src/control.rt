@@ -1,10 +1,9 @@
 //! Who reads the input, and ends the service.
 
-ghost use Rattle.std.specs.Prelude.{◌≡◌, length, map, string_bytes, IfOk, OnOk, IfNone};
+ghost use Rattle.std.specs.Prelude.{◌≡◌, length, map, IfOk, OnOk, IfNone};
 ghost use Rattle.std.specs.Bool.{OnTrue};
-ghost use Rattle.trace_service.specs.Whole.{IsDirected};
-ghost use Rattle.trace_service.specs.Commands.{AreDrained, AreEmptyOn, AreReported, IsAnswered, AreCommandsRead, IsMade, IsReported, IsReportedOf, AsksNothing, step_of};
-ghost use Rattle.otlp_front.specs.Route.{number_of};
+ghost use Rattle.trace_service.specs.Control.{Answers, Directs, ReadsCommands, Reports, ReportsNamed};
+ghost use Rattle.trace_service.specs.Commands.{AreDrained, AreEmptyOn, AreReported, IsMade, AsksNothing, step_of};
 ghost use Rattle.trace_service.specs.Roster.{entry_of, present_in};
 ghost use Rattle.trace_service.specs.Told.{told_text};
 
@@ -62,9 +61,8 @@ where
         observer: &mut L,
         threads: usize,
     ) -> Result<u64, ServiceFault>
-        ensures { IfOk result (λ lost. IsDirected D.reads J.first (present_in self.old.roster)
-            (length self.old.context.hub.now) (I.remaining input.old) self.old.context.caller self.old.beat.last
-            (O.contents output.old, 0) self.new.context.caller self.new.beat.last (O.contents output.new, lost)) }
+        ensures { IfOk result (λ lost. Directs D.reads J.first (I.remaining input.old) self.old
+            (O.contents output.old, 0) self.new (O.contents output.new, lost)) }
     {
         if !all_arrive(&self.beat, threads) {
             return Err(ServiceFault::NoThread);
@@ -103,9 +101,9 @@ where
         lost: &mut u64,
         observer: &mut L,
     ) -> Result<(), ServiceFault>
-        ensures commands_read { OnOk result (AreCommandsRead D.reads J.first (length self.old.context.hub.now)
-            (I.remaining input.old) (present_in roster.old) self.old.context.caller self.old.beat.last
-            (O.contents output.old, lost.old) (present_in roster.new) self.new.context.caller self.new.beat.last
+        ensures commands_read { OnOk result
+            (ReadsCommands D.reads J.first (I.remaining input.old) self.old roster.old
+            (O.contents output.old, lost.old) self.new roster.new
             (O.contents output.new, lost.new)) }
         ensures hub { self.new.context.hub ≡ self.old.context.hub }
     {
@@ -131,10 +129,9 @@ where
         lost: &mut u64,
         line: &[u8],
     )
-        ensures answered { IsAnswered D.reads J.first (length self.old.context.hub.now)
-            line.now (present_in roster.old) self.old.context.caller self.old.beat.last
-            (O.contents output.old, lost.old) (present_in roster.new)
-            self.new.context.caller self.new.beat.last (O.contents output.new, lost.new) }
+        ensures answered { Answers D.reads J.first line.now self.old roster.old
+            (O.contents output.old, lost.old) self.new roster.new
+            (O.contents output.new, lost.new) }
         ensures hub { self.new.context.hub ≡ self.old.context.hub }
     {
         if let Some(name) = line.strip_prefix(b"report ".as_slice()) {
@@ -150,10 +147,8 @@ where
 
     /// Prints the report of the tenant of this name, where there is one.
     fn report<O: Write>(&mut self, roster: &Roster, output: &mut O, lost: &mut u64, name: &[u8])
-        ensures reported { IsReportedOf (length self.old.context.hub.now) name.now
-            (number_of (present_in roster.now) name.now) self.old.context.caller self.old.beat.last
-            (O.contents output.old, lost.old) self.new.context.caller self.new.beat.last
-            (O.contents output.new, lost.new) }
+        ensures reported { ReportsNamed name.now roster.now self.old
+            (O.contents output.old, lost.old) self.new (O.contents output.new, lost.new) }
         ensures hub { self.new.context.hub ≡ self.old.context.hub }
     {
         if let Some(tenant) = roster.find(name) {
@@ -163,9 +158,8 @@ where
 
     /// Prints a tenant's report.
     fn print_report<O: Write>(&mut self, output: &mut O, lost: &mut u64, tenant: &Present)
-        ensures reported { IsReported (string_bytes tenant.now.name) self.old.context.caller
-            self.new.context.caller (length self.old.context.hub.now) tenant.now.number self.old.beat.last
-            self.new.beat.last (O.contents output.old, lost.old) (O.contents output.new, lost.new) }
+        ensures reported { Reports tenant.now self.old (O.contents output.old, lost.old) self.new
+            (O.contents output.new, lost.new) }
         ensures hub { self.new.context.hub ≡ self.old.context.hub }
     {
         let outcome = self.make(tenant.number, Chore::Report);
@@ -179,8 +173,8 @@ where
     /// Prints the reports of these tenants, in their order.
     fn print_reports<O: Write>(&mut self, tenants: &[Present], output: &mut O, lost: &mut u64)
         ensures reported { AreReported (length self.old.context.hub.now) self.old.context.caller
-            self.old.beat.last (O.contents output.old, lost.old) (map entry_of tenants.now) self.new.context.caller
-            self.new.beat.last (O.contents output.new, lost.new) }
+            self.old.beat.last (O.contents output.old, lost.old) (map entry_of tenants.now)
+            self.new.context.caller self.new.beat.last (O.contents output.new, lost.new) }
     {
         for tenant in tenants {
             self.print_report(output, lost, tenant);
@@ -189,8 +183,9 @@ where
 
     /// These tenants take no spans any more, and all send what they hold.
     fn drain_all(&mut self, tenants: &[Present])
-        ensures drained { AreDrained (length self.old.context.hub.now) self.old.context.caller self.old.beat.last
-            (map (λ tenant. tenant.number) tenants.now) self.new.context.caller self.new.beat.last }
+        ensures drained { AreDrained (length self.old.context.hub.now) self.old.context.caller
+            self.old.beat.last (map (λ tenant. tenant.number) tenants.now) self.new.context.caller
+            self.new.beat.last }
         ensures hub { self.new.context.hub ≡ self.old.context.hub }
     {
         for tenant in tenants {
@@ -200,8 +195,9 @@ where
 
     /// Makes a step of a tenant, at the moment that it now is: again, after a pause, where memory was refused.
     pub fn make(&mut self, tenant: u32, chore: Chore) -> Outcome
-        ensures made { IsMade self.old.context.caller self.new.context.caller (length self.old.context.hub.now)
-            tenant self.old.beat.last self.new.beat.last (step_of chore tenant) result }
+        ensures made { IsMade self.old.context.caller self.new.context.caller
+            (length self.old.context.hub.now) tenant self.old.beat.last self.new.beat.last
+            (step_of chore tenant) result }
         ensures hub { self.new.context.hub ≡ self.old.context.hub }
     {
         'attempts: for _ in self.rt.forever() {
@@ -265,8 +261,8 @@ where
 
     /// The first of these tenants that holds a span, or None where none does.
     fn first_held<'t>(&mut self, tenants: &'t [Present]) -> Option<&'t Present>
-        ensures none { IfNone result (AreEmptyOn self.old.context.caller (length self.old.context.hub.now)
-            (map (λ tenant. tenant.number) tenants.entry.now)) }
+        ensures none { IfNone result (AreEmptyOn self.old.context.caller
+            (length self.old.context.hub.now) (map (λ tenant. tenant.number) tenants.entry.now)) }
         ensures caller { self.new.context.caller ≡ self.old.context.caller }
         ensures hub { self.new.context.hub ≡ self.old.context.hub }
         ensures last { self.new.beat.last ≡ self.old.beat.last }
@@ -299,13 +295,10 @@ where
     R: Net<Listener = TcpListener, Stream = TcpStream> + Wait + Clock,
     D: Documents,
 {
-    ghost use Rattle.std.specs.Prelude.{length};
-    ghost use Rattle.trace_service.specs.Roster.{present_in};
-    ghost use Rattle.trace_service.specs.Whole.{IsDirected};
+    ghost use Rattle.trace_service.specs.Control.{Directs};
 
-    ghost directs = { λ old input so_far new written. IsDirected D.reads J.first (present_in old.roster)
-        (length old.context.hub.now) input old.context.caller old.beat.last (so_far, 0) new.context.caller
-        new.beat.last written };
+    ghost directs = { λ old input so_far new written.
+        Directs D.reads J.first input old (so_far, 0) new written };
 
     fn direct<I: BufRead, O: Write, L: Observer>(
         &mut self,

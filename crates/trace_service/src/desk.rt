@@ -11,6 +11,9 @@ use std::{io, mem};
 /// Who waits looks again after so many milliseconds at most.
 const LOOK: u64 = 1_000;
 
+/// So many bytes have room for each answer: the longest is a report, with a name of 64 bytes and fourteen counters.
+const ANSWER_ROOM: usize = 1_024;
+
 /// What is asked. It is one thing at a time.
 #[derive(Drop)]
 enum Matter {
@@ -173,7 +176,8 @@ impl AdminDesk {
         }
     }
 
-    /// The next line's length, once it is there; 0 at the end. A line has room.
+    /// The next line's length, once it is there, and memory for its answer, which is not to be lost; 0 at the end. A
+    /// line has room.
     fn take_line<R: Wait>(&self, rt: &R, room: &mut [u8]) -> Option<usize>
         ensures { IfSome result (λ count. count ≤ length room.old) }
     {
@@ -183,11 +187,15 @@ impl AdminDesk {
         }
         match mem::replace(&mut state.matter, Matter::Nothing) {
             Matter::Asked { line, document } => {
+                let Ok(told) = Vec::with_capacity(self.alloc, ANSWER_ROOM) else {
+                    state.matter = Matter::Asked { line, document };
+                    return None;
+                };
                 let count = line.len().min(room.len());
                 room[..count].copy_from_slice(&line[..count]);
                 state.matter = Matter::Heard {
                     document,
-                    told: Vec::new(self.alloc),
+                    told,
                     is_awaited: true,
                 };
                 Some(count)
@@ -199,7 +207,7 @@ impl AdminDesk {
         }
     }
 
-    /// This is written for an answer. Where memory is refused the answer is none that anybody knows.
+    /// This is written for an answer, which has room.
     fn note<R: Wait>(&self, rt: &R, bytes: &[u8]) {
         let mut state = self.state.lock(rt);
         if let Matter::Heard { told, .. } = &mut state.matter {

@@ -59,13 +59,13 @@ impl<'h> Entrance<'h> {
     }
 
     /// Waits for the next client. None where the end has come meanwhile, or where none can be taken now.
-    pub fn admit<R: Wait + Clock>(&self, rt: &R, signals: &Signals) -> Option<Client> {
+    pub fn admit<'s, R: Wait + Clock>(&self, rt: &R, signals: &'s Signals) -> Option<Client<'s>> {
         let _turn = self.turn.lock(rt);
         if self.is_shut(signals) {
             return None;
         }
         match self.listener.accept() {
-            Ok((stream, _peer)) => self.limited(stream),
+            Ok((stream, _peer)) => self.limited(stream, signals),
             Err(error) => {
                 // One client that has gone again says nothing of the next. Else descriptors or memory are wanting, of
                 // all receivers.
@@ -78,13 +78,17 @@ impl<'h> Entrance<'h> {
     }
 
     /// The client of a stream, with the limit for its reads and writes. None where it doesn't take that.
-    fn limited(&self, stream: TcpStream) -> Option<Client> {
+    fn limited<'s>(&self, stream: TcpStream, signals: &'s Signals) -> Option<Client<'s>> {
         let patience = self.patience;
         if patience.rest.is_some() {
             stream.set_read_timeout(patience.rest).ok()?;
             stream.set_write_timeout(patience.rest).ok()?;
         }
-        Some(Client { stream, patience })
+        Some(Client {
+            stream,
+            patience,
+            signals,
+        })
     }
 }
 

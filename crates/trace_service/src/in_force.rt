@@ -97,7 +97,8 @@ impl<J: Naming> InForce<J> {
 
     /// Where a message goes, with a copy of its tenant's section, which shares the policies.
     pub fn destination(&self, message: &HttpMessage) -> Result<Destination, AllocError>
-        ensures { IfOk result (λ d. IsWhere (route_of (names_in (settings_view self.now.settings)) (seen message.now))
+        ensures { IfOk result (λ d. IsWhere
+            (route_of (names_in (settings_view self.now.settings)) (seen message.now))
             (settings_view self.now.settings) d) }
     {
         match route(&self.settings, message) {
@@ -108,7 +109,8 @@ impl<J: Naming> InForce<J> {
 
     /// The tenant with this number, with a copy of its section.
     fn tenant(&self, tenant: u32) -> Result<Destination, AllocError>
-        ensures { IfOk result (λ d. IsTenant (section_at (settings_view self.now.settings) tenant) tenant d) }
+        ensures { IfOk result (λ d. IsTenant (section_at (settings_view self.now.settings) tenant)
+            tenant d) }
     {
         match self.settings.section(tenant) {
             Some(section) => Ok(Destination::To {
@@ -126,8 +128,8 @@ impl<J: Naming> InForce<J> {
             IsNewcomer (settings_view self.old.settings) text.now newcomer) }
         ensures grown { OnOk result (admitted (settings_view self.old.settings) text.now
             ≡ Ok (settings_view self.new.settings)) }
-        ensures fault { IfErr result (λ e. IsTurnedAway (settings_view self.old.settings) text.now (fault_view e)
-            (settings_view self.new.settings)) }
+        ensures fault { IfErr result (λ e. IsTurnedAway (settings_view self.old.settings) text.now
+            (fault_view e) (settings_view self.new.settings)) }
     {
         let number = self.settings.admit(alloc, text)?;
         match self.newcomer(alloc, number) {
@@ -143,8 +145,8 @@ impl<J: Naming> InForce<J> {
     fn newcomer(&self, alloc: Global, number: u32) -> Result<Newcomer, AllocError>
         requires { IsSome (tenant_at (settings_view self.now.settings) number) }
         ensures number { IfOk result (λ n. n.number ≡ number) }
-        ensures name { IfOk result (λ n. option_map (λ t. t.name) (tenant_at (settings_view self.now.settings) number)
-            ≡ Some (string_bytes n.name)) }
+        ensures name { IfOk result (λ n. option_map (λ t. t.name)
+            (tenant_at (settings_view self.now.settings) number) ≡ Some (string_bytes n.name)) }
         ensures section { IfOk result (λ n. section_at (settings_view self.now.settings) number
             ≡ Some (section_view n.section)) }
     {
@@ -163,7 +165,8 @@ impl<J: Naming> InForce<J> {
 
     /// Takes out the tenant with this number, where there is one. Nobody else gets the number.
     pub fn strike(&mut self, number: u32)
-        ensures { settings_view self.new.settings ≡ struck (settings_view self.old.settings) number }
+        ensures { settings_view self.new.settings ≡ struck (settings_view self.old.settings)
+            number }
     {
         self.settings.strike(number);
     }

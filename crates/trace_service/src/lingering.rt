@@ -31,7 +31,8 @@ pub(crate) fn linger<B: Beat>(stream: &TcpStream, beat: &mut B) {
 
 /// Reads what comes and lets it go, until the peer has closed its side too, or one of the bounds is met.
 fn read_off<L: Line, B: Beat>(line: &mut L, beat: &mut B)
-    ensures { (read : List ℕ) × Moves L.gives L.takes line.old line.new read [] × (length read ≤ 33_554_432) }
+    ensures { (read : List ℕ) × Moves L.gives L.takes line.old line.new read []
+        × (length read ≤ 33_554_432) }
 {
     let until = beat.now().saturating_add(LONGEST);
     let mut room = [0; ROOM];

@@ -1,8 +1,8 @@
 //! What whoever looks after a service is told.
 
-ghost use Rattle.std.specs.Prelude.{◌≡◌, IfOk};
+ghost use Rattle.std.specs.Prelude.{◌≡◌, ◌++◌, IfOk, OnOk};
 ghost use Rattle.http_edge.specs.Seen.{response_of};
-ghost use Rattle.trace_service.specs.Notice.{allow_of, member_text, notice_of, reply_of};
+ghost use Rattle.trace_service.specs.Notice.{allow_of, came_reply, member_text, not_allowed, notice_of, pair_text, reply_of, unknown_reply, warned_reply};
 
 use admin_pages::put_string;
 use http_edge::{Allow, MediaType, Reply};
@@ -10,8 +10,7 @@ use std::alloc::{AllocError, Global};
 
 /// A reply with this content.
 pub(crate) fn shown(status: u16, media: MediaType, body: Vec<u8>) -> Reply
-    ensures reply { response_of result ≡ reply_of status media body.items }
-    ensures body { (response_of result).body ≡ body.items }
+    ensures { response_of result ≡ reply_of status media body.items }
 {
     Reply {
         status,
@@ -34,6 +33,45 @@ pub(crate) fn notice(
     Ok(shown(status, MediaType::Json, body))
 }
 
+/// Nobody has this name.
+pub(crate) fn unknown(alloc: Global) -> Result<Reply, AllocError>
+    ensures { IfOk result (λ reply. response_of reply ≡ unknown_reply) }
+{
+    notice(alloc, 404, "error", "unknown tenant")
+}
+
+/// A tenant of this name came, whose document has these warnings.
+pub(crate) fn came(alloc: Global, name: &str, warnings: &str) -> Result<Reply, AllocError>
+    ensures { IfOk result (λ reply. response_of reply ≡ came_reply name.now warnings.now) }
+{
+    if warnings.is_empty() {
+        notice(alloc, 201, "tenant", name)
+    } else {
+        warned(alloc, name, warnings)
+    }
+}
+
+/// The same with its warnings.
+fn warned(alloc: Global, name: &str, warnings: &str) -> Result<Reply, AllocError>
+    ensures { IfOk result (λ reply. response_of reply ≡ warned_reply name.now warnings.now) }
+{
+    let mut body = Vec::from_slice(alloc, b"{")?;
+    put_pair(&mut body, "tenant", name)?;
+    body.extend_from_slice(b",")?;
+    put_pair(&mut body, "warnings", warnings)?;
+    body.extend_from_slice(b"}")?;
+    Ok(shown(201, MediaType::Json, body))
+}
+
+/// Appends a member, whose value is this text.
+fn put_pair(out: &mut Vec<u8>, member: &str, text: &str) -> Result<(), AllocError>
+    ensures { OnOk result (out.new.items ≡ out.old.items ++ pair_text member.now text.now) }
+{
+    put_string(out, member)?;
+    out.extend_from_slice(b":")?;
+    put_string(out, text)
+}
+
 /// An object of one member, whose value is this text.
 fn member_text(alloc: Global, member: &str, text: &str) -> Result<Vec<u8>, AllocError>
     ensures { IfOk result (λ body. body.items ≡ member_text member.now text.now) }
@@ -47,10 +85,15 @@ fn member_text(alloc: Global, member: &str, text: &str) -> Result<Vec<u8>, Alloc
 }
 
 /// The reply to a method that the path doesn't take, which takes these.
-pub(crate) fn other_method(alloc: Global, methods: &[u8]) -> Result<Reply, AllocError> {
-    let mut reply = notice(alloc, 405, "error", "method not allowed")?;
-    reply.allow = allow_of(methods);
-    Ok(reply)
+pub(crate) fn other_method(alloc: Global, methods: &[u8]) -> Result<Reply, AllocError>
+    ensures { IfOk result (λ reply. response_of reply ≡ not_allowed methods.now) }
+{
+    Ok(Reply {
+        status: 405,
+        media: MediaType::Json,
+        allow: allow_of(methods),
+        body: member_text(alloc, "error", "method not allowed")?,
+    })
 }
 
 /// Methods that are written as in the field `Allow`. None but these four are.

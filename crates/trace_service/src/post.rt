@@ -39,8 +39,8 @@ pub fn post_body<T: Threads + Sync, R: Wait>(
     requires parts { (0 < parts) × (parts ≤ 16) }
     requires same_hub { slots_of me.old ≡ hub.now }
     ensures same_hub { slots_of me.new ≡ hub.now }
-    ensures posted { IsPosted me.old me.new (length hub.now) now tenant (section_view section.now) body
-        (response_of result) }
+    ensures posted { IsPosted me.old me.new (length hub.now) now tenant (section_view section.now)
+        body (response_of result) }
 {
     match prepare(threads, alloc, tenant, section, body, parts) {
         Ok(prepared) => post_prepared(rt, alloc, hub, me, now, tenant, prepared, gates),
@@ -62,7 +62,8 @@ fn post_prepared<R: Wait>(
 ) -> Reply
     requires same_hub { slots_of me.old ≡ hub.now }
     ensures same_hub { slots_of me.new ≡ hub.now }
-    ensures stepped { IsStepped me.old me.new (tenant % length hub.now) now prepared (response_of result) }
+    ensures stepped { IsStepped me.old me.new (tenant % length hub.now) now prepared
+        (response_of result) }
 {
     let shard = tenant as usize % hub.shards();
     let _gate = gates.pass(rt, tenant);

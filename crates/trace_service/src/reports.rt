@@ -110,8 +110,8 @@ pub(crate) fn write_audit<W: Write>(
     audit: bool,
     lost: &mut u64,
 ) -> Result<(), AllocError>
-    ensures { OnOk result (IsFollowed audit (audit_text shards.now) (W.contents output.old, lost.old)
-        (W.contents output.new, lost.new)) }
+    ensures { OnOk result (IsFollowed audit (audit_text shards.now)
+        (W.contents output.old, lost.old) (W.contents output.new, lost.new)) }
 {
     if audit {
         let mut text = Vec::new(alloc);

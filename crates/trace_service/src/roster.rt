@@ -17,7 +17,8 @@ pub(crate) struct Present {
 
 /// The tenants of settings, in the order of their numbers.
 pub(crate) fn tenants_of(alloc: Global, settings: &Settings) -> Result<Vec<Present>, AllocError>
-    ensures { IfOk result (λ tenants. map entry_of tenants.items ≡ (names_in (settings_view settings.now)).tenants) }
+    ensures { IfOk result (λ tenants. map entry_of tenants.items
+        ≡ (names_in (settings_view settings.now)).tenants) }
 {
     let mut tenants = Vec::new(alloc);
     'tenants: for (name, tenant) in settings.tenants.iter() {
@@ -47,7 +48,8 @@ impl Roster {
 
     /// The tenants of the settings.
     pub fn of(alloc: Global, settings: &Settings) -> Result<Roster, AllocError>
-        ensures { IfOk result (λ roster. present_in roster ≡ (names_in (settings_view settings.now)).tenants) }
+        ensures { IfOk result (λ roster. present_in roster
+            ≡ (names_in (settings_view settings.now)).tenants) }
     {
         Ok(Roster {
             tenants: tenants_of(alloc, settings)?,
@@ -81,14 +83,16 @@ impl Roster {
 
     /// Without the tenant of this number.
     pub fn remove(&mut self, number: u32)
-        ensures { present_in self.new ≡ filter (λ other. not (other.0 == number)) (present_in self.old) }
+        ensures { present_in self.new ≡ filter (λ other. not (other.0 == number))
+            (present_in self.old) }
     {
         self.tenants.retain(|tenant| tenant.number != number);
     }
 
     /// The tenant of this name.
     pub fn find(&self, name: &[u8]) -> Option<&Present>
-        ensures number { option_map (λ p. p.now.number) result ≡ number_of (present_in self.now) name.now }
+        ensures number { option_map (λ p. p.now.number) result ≡ number_of (present_in self.now)
+            name.now }
         ensures name { IfSome result (λ p. string_bytes p.now.name ≡ name.now) }
     {
         for present in self.tenants.iter() {

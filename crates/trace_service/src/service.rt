@@ -10,10 +10,11 @@ ghost use Rattle.shared_hub.specs.Shards.{AreOpened, kept};
 ghost use Rattle.tail_settings.specs.Settings.{SettingsData, settings_view};
 ghost use Rattle.shard_machine.specs.MachineState.{MachineDoes};
 ghost use Rattle.shared_hub.specs.declared.fault.HubFault.TheVariants as hub_faults;
+ghost use Rattle.trace_service.specs.Control.{Directs};
 ghost use Rattle.trace_service.specs.Fault.{IsOfLine};
 ghost use Rattle.trace_service.specs.Jobs.{AreThreads, IsThread};
 ghost use Rattle.trace_service.specs.Roster.{present_in};
-ghost use Rattle.trace_service.specs.Whole.{IsCourse, IsDirected, IsServed};
+ghost use Rattle.trace_service.specs.Whole.{IsCourse, IsServed};
 ghost use Rattle.trace_service.specs.declared.service.ServiceFault.TheVariants as faults;
 
 use crate::assignment::{assign_threads, collect_callers};
@@ -114,8 +115,8 @@ where
     I: BufRead,
     O: Write,
     L: Observer,
-    ensures { IfOk result (IsServed D.reads (settings_view settings) options.audit (I.remaining input.old)
-        (O.contents output.old) (O.contents output.new)) }
+    ensures { IfOk result (IsServed D.reads (settings_view settings) options.audit
+        (I.remaining input.old) (O.contents output.old) (O.contents output.new)) }
 {
     let global = &settings.global;
     let staff = Staff::of(global, &options, outside.admin.is_some());
@@ -217,8 +218,10 @@ fn end_hub<R: Wait>(
     requires callers { AreCallersOf hub callers.items }
     requires all { vec_len callers ≡ keeper.callers }
     ensures calls { AreShardRuns MachineDoes keeper.homes callers.items result.items }
-    ensures logged { (table : SettingsData) → AreOpened table keeper.homes → AreLogged table result.items }
-    ensures one_run { (table : SettingsData) → AreOpened table keeper.homes → AreOneRun table callers.items }
+    ensures logged { (table : SettingsData) → AreOpened table keeper.homes
+        → AreLogged table result.items }
+    ensures one_run { (table : SettingsData) → AreOpened table keeper.homes
+        → AreOneRun table callers.items }
     ensures one_history { (table : SettingsData) → AreOpened table keeper.homes
         → AreOneHistory table callers.items result.items }
 {
@@ -263,8 +266,9 @@ where
     ensures same_lane { IfOk result (λ r. All (λ s. s.lane ≡ J.lane) r.1.items) }
     ensures all_seats { IfOk result (λ r. vec_len r.1 ≡ vec_len seats) }
     ensures threads { IfOk result (λ r. AreThreads (length J.slots) J.fresh r.0.items r.1.items) }
-    ensures course { IfOk result (λ r. IfOk r.2 (λ lost. IsCourse D.reads J.first (present_in roster)
-        (length J.slots) (I.remaining input.old) J.fresh (O.contents output.old, 0) r.0.items
+    ensures course { IfOk result (λ r. IfOk r.2
+        (λ lost. IsCourse D.reads J.first (present_in roster) (length J.slots)
+        (I.remaining input.old) J.fresh (O.contents output.old, 0) r.0.items
         (O.contents output.new, lost))) }
 {
     let longest_wait = settings.lock(rt).longest_wait();
@@ -311,8 +315,9 @@ where
     ensures same_lane { IfOk result (λ r. All (λ s. s.lane ≡ J.lane) r.1.items) }
     ensures all_seats { IfOk result (λ r. vec_len r.1 ≡ vec_len seats) }
     ensures threads { IfOk result (λ r. AreThreads (length J.slots) J.fresh r.0.items r.1.items) }
-    ensures course { IfOk result (λ r. IfOk r.2 (λ lost. IsCourse D.reads J.first (present_in roster)
-        (length J.slots) (I.remaining input.old) J.fresh (O.contents output.old, 0) r.0.items
+    ensures course { IfOk result (λ r. IfOk r.2
+        (λ lost. IsCourse D.reads J.first (present_in roster) (length J.slots)
+        (I.remaining input.old) J.fresh (O.contents output.old, 0) r.0.items
         (O.contents output.new, lost))) }
 {
     let start = Instant::now(rt)?;
@@ -370,12 +375,16 @@ where
     ensures same_lane { IfOk result (λ r. All (λ s. s.lane ≡ J.lane) r.1.items) }
     ensures all_seats { IfOk result (λ r. vec_len r.1 ≡ vec_len seats) }
     ensures threads { IfOk result (λ r. AreThreads (length J.slots) J.fresh r.0.items r.1.items) }
-    ensures course { IfOk result (λ r. IfOk r.2 (λ lost. IsCourse D.reads J.first (present_in roster)
-        (length J.slots) (I.remaining input.old) J.fresh (O.contents output.old, 0) r.0.items
+    ensures course { IfOk result (λ r. IfOk r.2
+        (λ lost. IsCourse D.reads J.first (present_in roster) (length J.slots)
+        (I.remaining input.old) J.fresh (O.contents output.old, 0) r.0.items
         (O.contents output.new, lost))) }
 {
     let shards = shared.hub.shards();
     prove!(0 < shards);
+    // Who has served to the end says so, whatever memory there is by then.
+    let all_callers = Vec::with_capacity(shared.alloc, shared.threads)?;
+    let all_seats = Vec::with_capacity(shared.alloc, shared.threads)?;
     let Some(own) = callers.pop() else {
         unreachable!()
     };
@@ -400,7 +409,7 @@ where
         observer,
     );
     let own = control.context.into_caller();
-    let (callers, seats) = collect_callers(shared.alloc, workers, own)?;
+    let (callers, seats) = collect_callers(all_callers, all_seats, workers, own)?;
     Ok((callers, seats, ended))
 }
 
@@ -421,18 +430,19 @@ where
     O: Write,
     L: Observer,
     requires lane { shared.now.lane.now.name ≡ J.lane }
-    requires idle { All (λ w. (w.context.caller ≡ J.fresh) × (w.seat ≡ new_seat J.lane)) workers.old }
+    requires idle { All (λ w. (w.context.caller ≡ J.fresh) × (w.seat ≡ new_seat J.lane))
+        workers.old }
     ensures did { All (λ w. IsThread (length J.slots) J.fresh w.context.caller w.seat) workers.new }
-    ensures directed { IfOk result (λ lost. IsDirected D.reads J.first (present_in control.old.roster)
-        (length control.old.context.hub.now) (I.remaining input.old) control.old.context.caller control.old.beat.last
-        (O.contents output.old, 0) control.new.context.caller control.new.beat.last (O.contents output.new, lost)) }
+    ensures directed { IfOk result (λ lost. Directs D.reads J.first (I.remaining input.old)
+        control.old (O.contents output.old, 0) control.new (O.contents output.new, lost)) }
 {
     work_beside(
         shared.rt,
         &mut ||
             requires { IsSync R.row × (shared.now.lane.now.name ≡ J.lane)
                 × All (λ w. (w.context.caller ≡ J.fresh) × (w.seat ≡ new_seat J.lane)) workers.now }
-            ensures { All (λ w. IsThread (length J.slots) J.fresh w.context.caller w.seat) workers.exit.now }
+            ensures { All (λ w. IsThread (length J.slots) J.fresh w.context.caller w.seat)
+                workers.exit.now }
         { work_all(shared, workers) },
         control,
         input,

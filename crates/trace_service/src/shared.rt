@@ -39,7 +39,8 @@ impl Staff {
     /// As the options say, and else the settings.
     pub fn of(global: &GlobalSettings, options: &ServiceOptions, is_looked_after: bool) -> Staff
         ensures senders { result.senders ≡ unwrap_or options.now.senders global.now.senders }
-        ensures receivers { result.receivers ≡ unwrap_or options.now.connections global.now.receivers }
+        ensures receivers { result.receivers ≡ unwrap_or options.now.connections
+            global.now.receivers }
         ensures admins { result.admins ≡ (if is_looked_after then ADMINS else 0) }
         ensures few_admins { result.admins ≤ ADMINS }
         ensures parts { result.parts ≡ global.now.parts }

@@ -1,6 +1,7 @@
 //! What threads count of what they do, for whoever looks after the service.
 
 use admin_pages::{ServiceCounts, StatusCounts};
+use export_edge::TurnResult;
 use send_retry::{Answer, Verdict, classify};
 use std::sync::atomic::{AtomicU64, Ordering};
 
@@ -75,6 +76,9 @@ pub(crate) struct Tally {
     received_bytes: Count,
     sent_bytes: Count,
     requests: StatusTally,
+    // Turns that weren't refused memory, and those of them that found nothing ready.
+    turns: Count,
+    idle_turns: Count,
     // Jobs that turns gave, those of them that a sender took, and those of these whose answer was handed in.
     jobs: Count,
     jobs_taken: Count,
@@ -94,6 +98,8 @@ impl Tally {
             received_bytes: Count::new(),
             sent_bytes: Count::new(),
             requests: StatusTally::new(),
+            turns: Count::new(),
+            idle_turns: Count::new(),
             jobs: Count::new(),
             jobs_taken: Count::new(),
             jobs_answered: Count::new(),
@@ -133,9 +139,14 @@ impl Tally {
         self.requests.note(status);
     }
 
-    /// A turn gave a job.
-    pub fn begin_job(&self) {
-        self.jobs.add(1);
+    /// A turn came to this.
+    pub fn end_turn(&self, turned: &TurnResult) {
+        self.turns.add(1);
+        match turned {
+            TurnResult::Job(_) => self.jobs.add(1),
+            TurnResult::Worked => {}
+            TurnResult::Idle => self.idle_turns.add(1),
+        }
     }
 
     /// A sender took a job.
@@ -161,6 +172,7 @@ impl Tally {
         let taken = self.jobs_taken.get();
         let ended = self.connections_ended.get();
         let connections = self.connections.get();
+        let idle_turns = self.idle_turns.get();
         ServiceCounts {
             memory_refusals: self.memory_refusals.get(),
             connections_open: connections.saturating_sub(ended),
@@ -168,6 +180,8 @@ impl Tally {
             received_bytes: self.received_bytes.get(),
             sent_bytes: self.sent_bytes.get(),
             requests: self.requests.counts(),
+            turns: self.turns.get(),
+            idle_turns,
             lane_jobs: self.jobs.get().saturating_sub(taken),
             senders_busy: taken.saturating_sub(answered),
             retries: self.retries.get(),

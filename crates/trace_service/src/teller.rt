@@ -51,10 +51,10 @@ impl<'h, R: Wait> Teller<'h, R> {
     /// A turn of this shard came to this. Where it did something, another may be worth while.
     pub fn end_turn(&mut self, shard: usize, turned: &TurnResult) {
         self.note(shard, false);
+        self.signals.tally().end_turn(turned);
         match turned {
             TurnResult::Job(_) => {
                 self.gave = true;
-                self.signals.tally().begin_job();
                 if let Some(pace) = self.signals.paces().shard(shard) {
                     pace.begin_job();
                 }

@@ -1,5 +1,6 @@
 //! A client's connection, and how long it may take.
 
+use crate::beat::Signals;
 use std::io;
 use std::io::{ErrorKind, Read, Write};
 use std::net::TcpStream;
@@ -16,18 +17,26 @@ pub(crate) struct Patience {
 
 /// Who came in.
 #[derive(Drop)]
-pub(crate) struct Client {
+pub(crate) struct Client<'h> {
     pub stream: TcpStream,
     pub patience: Patience,
+    pub signals: &'h Signals,
 }
 
+/// What an answer that is no reply begins with, as the leave to send a body (RFC 9110, 15.2).
+const INTERIM: &[u8] = b"HTTP/1.1 1";
+
 /// A client's connection as it is served. What is read from a reply on, or from the start, is a request until the next
-/// reply is begun: a read of it that would end later than it may fails.
+/// reply is begun: a read of it that would end later than it may fails. Once the work is over the connection ends where
+/// a request would begin: so who asks again and again doesn't keep the service from ending.
 #[derive(Drop)]
 pub(crate) struct Visit<'v, R> {
     rt: &'v R,
     stream: &'v TcpStream,
     patience: Patience,
+    signals: &'v Signals,
+    // Whether some of a request was read.
+    is_asked: bool,
     // When the request began of which some was read.
     began: Option<Instant>,
     // Whether the last read had what was left to a request as its limit.
@@ -36,11 +45,13 @@ pub(crate) struct Visit<'v, R> {
 
 impl<'v, R: Clock> Visit<'v, R> {
     /// That of a client of whom nothing was read.
-    pub fn new(rt: &'v R, client: &'v Client) -> Visit<'v, R> {
+    pub fn new(rt: &'v R, client: &'v Client<'v>) -> Visit<'v, R> {
         Visit {
             rt,
             stream: &client.stream,
             patience: client.patience,
+            signals: client.signals,
+            is_asked: false,
             began: None,
             is_cut: false,
         }
@@ -70,8 +81,12 @@ impl<'v, R: Clock> Visit<'v, R> {
 
 impl<R: Clock> Read for Visit<'_, R> {
     fn read(&mut self, buf: &mut [u8]) -> io::Result<usize> {
+        if !self.is_asked && self.signals.is_over() {
+            return Ok(0);
+        }
         self.limit_read()?;
         let count = self.stream.read(buf)?;
+        self.is_asked = true;
         if self.began.is_none() && self.patience.request.is_some() {
             self.began = Instant::now(self.rt).ok();
         }
@@ -82,6 +97,7 @@ impl<R: Clock> Read for Visit<'_, R> {
 impl<R: Clock> Write for Visit<'_, R> {
     fn write(&mut self, buf: &[u8]) -> io::Result<usize> {
         self.began = None;
+        self.is_asked = buf.starts_with(INTERIM);
         self.stream.write(buf)
     }
 

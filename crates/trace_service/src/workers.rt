@@ -97,7 +97,8 @@ where
     J: Naming + Send + Sync,
     R: Net<Listener = TcpListener, Stream = TcpStream> + Threads + Wait + Clock + Sync,
     requires lane { shared.now.lane.now.name ≡ J.lane }
-    requires idle { All (λ w. (w.context.caller ≡ J.fresh) × (w.seat ≡ new_seat J.lane)) workers.old }
+    requires idle { All (λ w. (w.context.caller ≡ J.fresh) × (w.seat ≡ new_seat J.lane))
+        workers.old }
     ensures did { All (λ w. IsThread (length J.slots) J.fresh w.context.caller w.seat) workers.new }
 {
     let threads = workers.len();
@@ -227,7 +228,7 @@ fn more_arrive<C: Wait + Clock>(waiting: &mut ServiceBeat<'_, C>, here: usize) -
 }
 
 impl<'h, J: Naming, R: Wait + Clock> Reception for WorkerContext<'h, J, R> {
-    type Guest = Client;
+    type Guest = Client<'h>;
 
     type Door = Entrance<'h>;
 
@@ -247,12 +248,12 @@ impl<'h, J: Naming, R: Wait + Clock> Reception for WorkerContext<'h, J, R> {
         self.signals().is_closing()
     }
 
-    fn next(&mut self, door: &Entrance<'h>) -> Option<Client> {
+    fn next(&mut self, door: &Entrance<'h>) -> Option<Client<'h>> {
         door.admit(self.rt(), self.signals())
     }
 
     /// Its faults are nobody's but its own: a connection that failed is given up, and what was posted over it stands.
-    fn serve<T: Threads + Sync>(&mut self, rt: &T, guest: Client, buffer: &mut Vec<u8>) {
+    fn serve<T: Threads + Sync>(&mut self, rt: &T, guest: Client<'h>, buffer: &mut Vec<u8>) {
         let mut beat = self.beat();
         let tally = self.signals().tally();
         tally.begin_connection();

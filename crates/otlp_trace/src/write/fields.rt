@@ -21,11 +21,13 @@ pub fn put_number_field(out: &mut Vec<u8>, number: u32, value: u64) -> Result<()
 pub fn put_bytes_field(out: &mut Vec<u8>, number: u32, bytes: &[u8]) -> Result<(), AllocError>
     requires number_not_zero { 0 < number }
     requires fits { number < 2 ^ 29 }
-    ensures on_success { OnOk result (out.new.items ≡ out.old.items ++ bytes_field number bytes.now) }
+    ensures on_success { OnOk result (out.new.items ≡ out.old.items ++ bytes_field number
+        bytes.now) }
     ensures on_refusal { OnErr result (out.new.items ≡ out.old.items) }
 
     // Memory is refused only where the vector had too little room.
-    ensures full { OnErr result (vec_capacity out.old < vec_len out.old + length (bytes_field number bytes.now)) }
+    ensures full { OnErr result (vec_capacity out.old < vec_len out.old + length
+        (bytes_field number bytes.now)) }
 {
     let before = out.len();
     put_tag(out, number, WireType::Bytes)?;
@@ -51,11 +53,13 @@ pub fn put_eight_field(out: &mut Vec<u8>, number: u32, bytes: [u8; 8]) -> Result
 pub fn put_some_bytes(out: &mut Vec<u8>, number: u32, bytes: &[u8]) -> Result<(), AllocError>
     requires number_not_zero { 0 < number }
     requires fits { number < 2 ^ 29 }
-    ensures on_success { OnOk result (out.new.items ≡ out.old.items ++ some_bytes number bytes.now) }
+    ensures on_success { OnOk result (out.new.items ≡ out.old.items ++ some_bytes number
+        bytes.now) }
     ensures on_refusal { OnErr result (out.new.items ≡ out.old.items) }
 
     // Memory is refused only where the vector had too little room, so never for no bytes.
-    ensures full { OnErr result (vec_capacity out.old < vec_len out.old + length (some_bytes number bytes.now)) }
+    ensures full { OnErr result (vec_capacity out.old < vec_len out.old + length
+        (some_bytes number bytes.now)) }
 {
     if bytes.len() == 0 {
         return Ok(());

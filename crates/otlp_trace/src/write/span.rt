@@ -62,7 +62,8 @@ impl Message for Link {
 
 /// A span's ids and names.
 fn put_names(out: &mut Vec<u8>, span: &Span) -> Result<(), AllocError>
-    ensures on_success { OnOk result (out.new.items ≡ out.old.items ++ span_names_text (span_view span.now)) }
+    ensures on_success { OnOk result (out.new.items ≡ out.old.items ++ span_names_text
+        (span_view span.now)) }
 {
     put_some_bytes(out, 1, span.trace_id.as_slice())?;
     put_some_bytes(out, 2, span.span_id.as_slice())?;
@@ -73,7 +74,8 @@ fn put_names(out: &mut Vec<u8>, span: &Span) -> Result<(), AllocError>
 
 /// Its kind and times.
 fn put_times(out: &mut Vec<u8>, span: &Span) -> Result<(), AllocError>
-    ensures on_success { OnOk result (out.new.items ≡ out.old.items ++ span_times_text (span_view span.now)) }
+    ensures on_success { OnOk result (out.new.items ≡ out.old.items ++ span_times_text
+        (span_view span.now)) }
 {
     put_some_signed(out, 6, i64::from(span.kind))?;
     put_some_eight(out, 7, span.start_time_unix_nano)?;
@@ -82,7 +84,8 @@ fn put_times(out: &mut Vec<u8>, span: &Span) -> Result<(), AllocError>
 
 /// Its attributes, events and links, with how many were left out.
 fn put_lists(out: &mut Vec<u8>, span: &Span) -> Result<(), AllocError>
-    ensures on_success { OnOk result (out.new.items ≡ out.old.items ++ span_lists_text (span_view span.now)) }
+    ensures on_success { OnOk result (out.new.items ≡ out.old.items ++ span_lists_text
+        (span_view span.now)) }
 {
     put_each(out, 9, span.attributes.as_slice())?;
     put_some_number(out, 10, u64::from(span.dropped_attributes_count))?;
@@ -94,7 +97,8 @@ fn put_lists(out: &mut Vec<u8>, span: &Span) -> Result<(), AllocError>
 
 /// Its status, its flags and what isn't known.
 fn put_end(out: &mut Vec<u8>, span: &Span) -> Result<(), AllocError>
-    ensures on_success { OnOk result (out.new.items ≡ out.old.items ++ span_end_text (span_view span.now)) }
+    ensures on_success { OnOk result (out.new.items ≡ out.old.items ++ span_end_text
+        (span_view span.now)) }
 {
     put_embedded(out, 15, &span.status)?;
     put_some_four(out, 16, span.flags)?;

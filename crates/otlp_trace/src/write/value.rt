@@ -14,7 +14,8 @@ use std::alloc::AllocError;
 
 #[cycle(put)]
 fn put_any(out: &mut Vec<u8>, value: &AnyValue) -> Result<(), AllocError>
-    ensures on_success { OnOk result (out.new.items ≡ out.old.items ++ any_text (any_view value.now)) }
+    ensures on_success { OnOk result (out.new.items ≡ out.old.items ++ any_text
+        (any_view value.now)) }
 {
     put_kind(out, &value.kind)?;
     out.extend_from_slice(value.unknown.as_slice())
@@ -23,7 +24,8 @@ fn put_any(out: &mut Vec<u8>, value: &AnyValue) -> Result<(), AllocError>
 /// The member of the oneof that is chosen, also at its default.
 #[cycle(put)]
 fn put_kind(out: &mut Vec<u8>, kind: &AnyValueKind) -> Result<(), AllocError>
-    ensures on_success { OnOk result (out.new.items ≡ out.old.items ++ kind_text (kind_view kind.now)) }
+    ensures on_success { OnOk result (out.new.items ≡ out.old.items ++ kind_text
+        (kind_view kind.now)) }
 {
     match kind {
         AnyValueKind::Unset => Ok(()),
@@ -47,7 +49,8 @@ fn put_kind(out: &mut Vec<u8>, kind: &AnyValueKind) -> Result<(), AllocError>
 
 #[cycle(put)]
 fn put_array(out: &mut Vec<u8>, array: &ArrayValue) -> Result<(), AllocError>
-    ensures on_success { OnOk result (out.new.items ≡ out.old.items ++ array_text (array_view array.now)) }
+    ensures on_success { OnOk result (out.new.items ≡ out.old.items ++ array_text
+        (array_view array.now)) }
 {
     'values: for value in &array.values {
         let start = out.len();
@@ -59,7 +62,8 @@ fn put_array(out: &mut Vec<u8>, array: &ArrayValue) -> Result<(), AllocError>
 
 #[cycle(put)]
 fn put_list(out: &mut Vec<u8>, list: &KeyValueList) -> Result<(), AllocError>
-    ensures on_success { OnOk result (out.new.items ≡ out.old.items ++ list_text (list_view list.now)) }
+    ensures on_success { OnOk result (out.new.items ≡ out.old.items ++ list_text
+        (list_view list.now)) }
 {
     'values: for value in &list.values {
         let start = out.len();
@@ -71,7 +75,8 @@ fn put_list(out: &mut Vec<u8>, list: &KeyValueList) -> Result<(), AllocError>
 
 #[cycle(put)]
 fn put_key_value(out: &mut Vec<u8>, pair: &KeyValue) -> Result<(), AllocError>
-    ensures on_success { OnOk result (out.new.items ≡ out.old.items ++ key_value_text (key_value_view pair.now)) }
+    ensures on_success { OnOk result (out.new.items ≡ out.old.items ++ key_value_text
+        (key_value_view pair.now)) }
 {
     put_some_bytes(out, 1, pair.key.as_bytes())?;
     if let Some(value) = &pair.value {

@@ -1,4 +1,4 @@
-use Rattle.std.proofs.Common.{rules, ◌≡◌, ◌-◌, Ok, Some, false, is_some, ◌∙◌}
+use Rattle.std.proofs.Common.{rules, ◌≡◌, ◌-◌, Ok, Some, false, ◌∙◌}
 use Rattle.pb_wire.specs.Grammar.{entry, Begins}
 use Rattle.pb_wire.specs.Reading.{next_at}
 use Rattle.pb_wire.proofs.Again.{next_takes}

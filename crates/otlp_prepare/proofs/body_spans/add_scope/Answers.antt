@@ -1,12 +1,13 @@
 use Rattle.std.proofs.Common.{◌≡◌, length, arith}
 use Rattle.span_pool.specs.Stored.{Origin, bytes_of}
+use Rattle.otlp_parts.specs.Parts.{spans_in}
 use Rattle.otlp_prepare.proofs.Adding.{added}
 use Rattle.otlp_prepare.proofs.body_spans.add_scope.Goals as goal
 
 pub returns : goal.returns
 returns c = λ policies resource found.
     let outer = c.args.outer.now in
-    let around : Origin = record { resource = outer.resource; resource_schema_url = bytes_of outer.schema_url; scope = c.args.scope.scope; scope_schema_url = c.args.scope.schema_url } in
+    let around : Origin = record { resource = outer.resource; resource_schema_url = bytes_of outer.schema_url; scope = c.args.scope.scope; scope_schema_url = bytes_of c.args.scope.schema_url } in
     let origins = c.args.found.now.origins in
     let index : c.len-index.result ≡ length origins.items = omega (arith, c.len-index.ensures, origins.ok.0) in
-    added c.read_spans_are_viewed.ensures.facts policies origins.items c.push.new.self.items c.in_ok-origin.origin around outer.bits c.len-index.result c.in_ok-origin.ensures resource c.args.scope.spans.items c.requires c.in_ok-add_spans.ensures.short c.args.found.now.parts.items c.add_spans.new.parts.items found c.in_ok-push.ensures.items index c.in_ok-add_spans.ensures.parts
+    added c.read_spans_are_viewed.ensures.facts policies origins.items c.push.new.self.items c.in_ok-origin.origin around outer.bits c.len-index.result c.in_ok-origin.ensures resource (spans_in c.args.scope.spans) c.requires.read c.in_ok-add_spans.ensures.short c.args.found.now.parts.items c.add_spans.new.parts.items found c.in_ok-push.ensures.items index c.in_ok-add_spans.ensures.parts

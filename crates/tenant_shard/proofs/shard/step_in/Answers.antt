@@ -52,3 +52,15 @@ returns-in-Add-clause-on_no_member c = λ nobody.
     let names : named_in s ≡ Some t = ap named_in c.in-Add.is in
     let comes : asked_in s ≡ Comes section = ap asked_in c.in-Add.is in
     comes_again t s section old new c.add.result names comes nobody c.add.ensures.on_success c.add.ensures.on_refusal
+
+pub returns-in-Turn-clause-on_success : goal.returns-in-Turn-clause-on_success
+returns-in-Turn-clause-on_success c = rw c.in-Turn.is c.turn.ensures.on_success
+
+pub returns-in-Turn-clause-from_state : goal.returns-in-Turn-clause-from_state
+returns-in-Turn-clause-from_state c = rw c.in-Turn.is c.turn.ensures.from_state
+
+pub returns-in-Turn-clause-on_refusal : goal.returns-in-Turn-clause-on_refusal
+returns-in-Turn-clause-on_refusal c = rw c.in-Turn.is c.turn.ensures.on_refusal
+
+pub returns-in-Turn-clause-on_no_member : goal.returns-in-Turn-clause-on_no_member
+returns-in-Turn-clause-on_no_member c = rw c.in-Turn.is c.turn.ensures.on_no_member

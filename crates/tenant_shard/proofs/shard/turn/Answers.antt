@@ -1,15 +1,12 @@
-use Rattle.std.proofs.Common.{◌∙◌, sym, Some, None}
+use Rattle.std.proofs.Common.{◌∙◌, refl, Some, None}
 use Rattle.shard_agenda.specs.Agenda.{ready_of}
 use Rattle.tenant_rules.specs.Own as own
-use Rattle.tenant_shard.specs.View.{kept_of}
+use Rattle.tenant_shard.specs.declared.step.Step.TheVariants as steps
 use Rattle.tenant_shard.specs.Members.{views, all_views}
-use Rattle.tenant_shard.specs.Outcomes.{OwnStep, plain, asked_in}
-use Rattle.tenant_shard.specs.Refusal.{Reaches}
-use Rattle.tenant_shard.specs.Steps.{IsStepOf, IsLossOf}
+use Rattle.tenant_shard.specs.Outcomes.{plain}
 use Rattle.tenant_shard.proofs.Places.{on_err}
 use Rattle.tenant_shard.proofs.Frame.{kept_gap}
 use Rattle.tenant_shard.proofs.Gones.{kept_behind, ready_all}
-use Rattle.tenant_shard.proofs.Piped.{with_piped, piped_at, same_piped}
 use Rattle.tenant_shard.proofs.Runs.{picked_is, turn_reaches, pick_is_kept, turn_steps, idle_steps, idle_goes_on, own_goes_on, turn_for, not_idle, loss_refuses}
 use Rattle.tenant_shard.proofs.shard.turn.Goals as goal
 
@@ -21,9 +18,9 @@ returns-in_default-clause-on_success c =
     let gs = c.args.gone.now.items in
     let all = all_views stores ms gs in
     let now = c.args.now in
-    let s = c.args.step.now in
+    let s = steps.Turn now in
     let pick = picked_is (ready_of c.args.agenda.now) all now c.min.result c.first_due.result None (ready_all stores c.args.agenda.now ms gs c.requires.whole.whole) c.min.ensures c.first_due.ensures c.in_default.is in
-    idle_steps now s all c.requires.whose c.requires.asked pick
+    idle_steps now s all refl refl pick
 
 pub returns-in_default-clause-from_state : goal.returns-in_default-clause-from_state
 returns-in_default-clause-from_state c =
@@ -33,9 +30,9 @@ returns-in_default-clause-from_state c =
     let gs = c.args.gone.now.items in
     let all = all_views stores ms gs in
     let now = c.args.now in
-    let s = c.args.step.now in
+    let s = steps.Turn now in
     let pick = picked_is (ready_of c.args.agenda.now) all now c.min.result c.first_due.result None (ready_all stores c.args.agenda.now ms gs c.requires.whole.whole) c.min.ensures c.first_due.ensures c.in_default.is in
-    idle_goes_on now s all c.requires.whose c.requires.asked pick
+    idle_goes_on now s all refl refl pick
 
 pub unreachable-requires : goal.unreachable-requires
 unreachable-requires c =
@@ -45,7 +42,7 @@ unreachable-requires c =
     let gs = c.args.gone.now.items in
     let all = all_views stores ms gs in
     let now = c.args.now in
-    let s = c.args.step.now in
+    let s = steps.Turn now in
     let t = c.in-Some.tenant in
     let pick = picked_is (ready_of c.args.agenda.now) all now c.min.result c.first_due.result (Some t) (ready_all stores c.args.agenda.now ms gs c.requires.whole.whole) c.min.ensures c.first_due.ensures c.in-Some.is in
     let gap = rw c.deref.ensures.value at c.in_default-place_of.ensures.absent in
@@ -59,11 +56,10 @@ step_at-requires-clause-taken c =
     let gs = c.args.gone.now.items in
     let all = all_views stores ms gs in
     let now = c.args.now in
-    let s = c.args.step.now in
+    let s = steps.Turn now in
     let t = c.in-Some.tenant in
     let pick = picked_is (ready_of c.args.agenda.now) all now c.min.result c.first_due.result (Some t) (ready_all stores c.args.agenda.now ms gs c.requires.whole.whole) c.min.ensures c.first_due.ensures c.in-Some.is in
-    let reaches = turn_reaches t now all (pick_is_kept all t pick.0 pick.1) in
-    with_piped (asked_in s) (λ (w : OwnStep). Reaches w (kept_of t all)) (λ w is. same_piped (plain (own.Turn now)) w (λ (v : OwnStep). Reaches v (kept_of t all)) (sym c.requires.asked ∙ is) reaches)
+    turn_reaches t now all (pick_is_kept all t pick.0 pick.1)
 
 pub returns-in_err-outcome-clause-on_refusal : goal.returns-in_err-outcome-clause-on_refusal
 returns-in_err-outcome-clause-on_refusal c =
@@ -73,11 +69,10 @@ returns-in_err-outcome-clause-on_refusal c =
     let gs = c.args.gone.now.items in
     let all = all_views stores ms gs in
     let now = c.args.now in
-    let s = c.args.step.now in
+    let s = steps.Turn now in
     let t = c.in-Some.tenant in
     let pick = picked_is (ready_of c.args.agenda.now) all now c.min.result c.first_due.result (Some t) (ready_all stores c.args.agenda.now ms gs c.requires.whole.whole) c.min.ensures c.first_due.ensures c.in-Some.is in
-    let lost = piped_at (asked_in s) (λ (w : OwnStep). IsLossOf t w.step all (all_views c.step_at.new.stores c.step_at.new.members.items c.step_at.new.gone.items)) (plain (own.Turn now)) c.requires.asked c.in_err-outcome.ensures.on_refusal in
-    on_err c.from_residual.result (loss_refuses t s (plain (own.Turn now)) all _ c.requires.asked (turn_for t now s all c.requires.whose c.requires.asked pick) lost)
+    on_err c.from_residual.result (loss_refuses t s (plain (own.Turn now)) all _ refl (turn_for t now s all refl refl pick) c.in_err-outcome.ensures.on_refusal)
 
 pub returns-in_err-outcome-clause-on_no_member : goal.returns-in_err-outcome-clause-on_no_member
 returns-in_err-outcome-clause-on_no_member c = λ nobody.
@@ -87,10 +82,10 @@ returns-in_err-outcome-clause-on_no_member c = λ nobody.
     let gs = c.args.gone.now.items in
     let all = all_views stores ms gs in
     let now = c.args.now in
-    let s = c.args.step.now in
+    let s = steps.Turn now in
     let t = c.in-Some.tenant in
     let pick = picked_is (ready_of c.args.agenda.now) all now c.min.result c.first_due.result (Some t) (ready_all stores c.args.agenda.now ms gs c.requires.whole.whole) c.min.ensures c.first_due.ensures c.in-Some.is in
-    absurd (not_idle t now s all c.requires.whose c.requires.asked pick nobody)
+    absurd (not_idle t now s all refl refl pick nobody)
 
 pub returns-clause-on_success : goal.returns-clause-on_success
 returns-clause-on_success c =
@@ -100,12 +95,11 @@ returns-clause-on_success c =
     let gs = c.args.gone.now.items in
     let all = all_views stores ms gs in
     let now = c.args.now in
-    let s = c.args.step.now in
+    let s = steps.Turn now in
     let t = c.in-Some.tenant in
     let pick = picked_is (ready_of c.args.agenda.now) all now c.min.result c.first_due.result (Some t) (ready_all stores c.args.agenda.now ms gs c.requires.whole.whole) c.min.ensures c.first_due.ensures c.in-Some.is in
     let reaches = turn_reaches t now all (pick_is_kept all t pick.0 pick.1) in
-    let did = piped_at (asked_in s) (λ (w : OwnStep). IsStepOf t w.step all c.in_ok-outcome.outcome (all_views c.step_at.new.stores c.step_at.new.members.items c.step_at.new.gone.items)) (plain (own.Turn now)) c.requires.asked c.in_ok-outcome.ensures.on_success in
-    turn_steps t now s all _ c.in_ok-outcome.outcome c.requires.whose c.requires.asked reaches pick did
+    turn_steps t now s all _ c.in_ok-outcome.outcome refl refl reaches pick c.in_ok-outcome.ensures.on_success
 
 pub returns-clause-from_state : goal.returns-clause-from_state
 returns-clause-from_state c =
@@ -115,11 +109,10 @@ returns-clause-from_state c =
     let gs = c.args.gone.now.items in
     let all = all_views stores ms gs in
     let now = c.args.now in
-    let s = c.args.step.now in
+    let s = steps.Turn now in
     let t = c.in-Some.tenant in
     let pick = picked_is (ready_of c.args.agenda.now) all now c.min.result c.first_due.result (Some t) (ready_all stores c.args.agenda.now ms gs c.requires.whole.whole) c.min.ensures c.first_due.ensures c.in-Some.is in
-    let did = piped_at (asked_in s) (λ (w : OwnStep). IsStepOf t w.step all c.in_ok-outcome.outcome (all_views c.step_at.new.stores c.step_at.new.members.items c.step_at.new.gone.items)) (plain (own.Turn now)) c.requires.asked c.in_ok-outcome.ensures.on_success in
-    own_goes_on t s (plain (own.Turn now)) all _ c.in_ok-outcome.outcome c.requires.asked (turn_for t now s all c.requires.whose c.requires.asked pick) did
+    own_goes_on t s (plain (own.Turn now)) all _ c.in_ok-outcome.outcome refl (turn_for t now s all refl refl pick) c.in_ok-outcome.ensures.on_success
 
 pub returns-clause-on_no_member : goal.returns-clause-on_no_member
 returns-clause-on_no_member c = λ nobody.
@@ -129,7 +122,7 @@ returns-clause-on_no_member c = λ nobody.
     let gs = c.args.gone.now.items in
     let all = all_views stores ms gs in
     let now = c.args.now in
-    let s = c.args.step.now in
+    let s = steps.Turn now in
     let t = c.in-Some.tenant in
     let pick = picked_is (ready_of c.args.agenda.now) all now c.min.result c.first_due.result (Some t) (ready_all stores c.args.agenda.now ms gs c.requires.whole.whole) c.min.ensures c.first_due.ensures c.in-Some.is in
-    absurd (not_idle t now s all c.requires.whose c.requires.asked pick nobody)
+    absurd (not_idle t now s all refl refl pick nobody)

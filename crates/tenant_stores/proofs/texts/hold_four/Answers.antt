@@ -1,8 +1,6 @@
-use Rattle.std.proofs.Common.{◌≡◌, ◌≢◌, ◌∙◌, ap, sym, subst, refl, ℕ, List, ◌++◌, Option, Some}
-use Rattle.std.specs.Prelude.{option_to_list}
+use Rattle.std.proofs.Common.{◌≡◌, ◌∙◌}
 use Rattle.span_pool.specs.declared.keys.TextKeys.{TextKeys}
 use Rattle.text_pool.specs.Part.{part}
-use Rattle.text_pool.specs.declared.pool.CountedText.{CountedText}
 use Rattle.tenant_stores.specs.HeldTexts.{AreKept, IsKnown}
 use Rattle.tenant_stores.proofs.Held.{on_err, four_held, four_origin, four_refused}
 use Rattle.tenant_stores.proofs.texts.hold_four.Goals as goal

@@ -1,6 +1,5 @@
-use Rattle.std.proofs.Common.{◌≡◌, ◌∙◌, ap, sym, subst, refl, ℕ, List, Option, Some}
+use Rattle.std.proofs.Common.{◌∙◌, ap, sym, subst, ℕ, List, Some}
 use Rattle.text_pool.specs.Part.{part}
-use Rattle.text_pool.specs.declared.pool.CountedText.{CountedText}
 use Rattle.tenant_stores.specs.HeldTexts.{IsKnown, wanted_text}
 use Rattle.tenant_stores.specs.declared.texts.TextRequest.{TextRequest}
 use Rattle.tenant_stores.proofs.Held.{none_is_held, new_is_held, again_is_held}

@@ -1,7 +1,6 @@
-use Rattle.std.proofs.Common.{◌≡◌, ◌≢◌, ◌∙◌, ap, sym, subst, refl, ℕ, List, Option, Some}
+use Rattle.std.proofs.Common.{◌≡◌, ◌∙◌, ap}
 use Rattle.std.specs.Prelude.{option_to_list}
 use Rattle.text_pool.specs.Part.{part}
-use Rattle.text_pool.specs.declared.pool.CountedText.{CountedText}
 use Rattle.tenant_stores.specs.Changes.{all_released}
 use Rattle.tenant_stores.specs.HeldTexts.{AreKept, IsKnown}
 use Rattle.tenant_stores.proofs.Held.{on_err, two_held, two_first, two_last}

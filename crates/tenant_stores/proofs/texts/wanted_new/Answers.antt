@@ -1,4 +1,4 @@
-use Rattle.std.proofs.Common.{◌≡◌, ap, sym}
+use Rattle.std.proofs.Common.{ap, sym}
 use Rattle.std.specs.Prelude.{option_copied}
 use Rattle.tenant_stores.proofs.texts.wanted_new.Goals as goal
 

@@ -124,3 +124,18 @@ returns-clause-runs c = record {
   not_replayed = λ script written never is. never (is.spelled a_text);
   wrong_usage = λ script written is. is.spelled a_text;
 }
+
+pub returns-clause-tokens : goal.returns-clause-tokens
+returns-clause-tokens c = record {
+  plain = refl;
+  padded = refl;
+  empty = refl;
+  padding_alone = refl;
+  padded_within = refl;
+  blank_within = refl;
+  blank_behind = refl;
+  tab_behind = refl;
+  two_lines = refl;
+  quoted = refl;
+  not_ascii = refl;
+}

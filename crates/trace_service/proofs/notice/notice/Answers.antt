@@ -4,4 +4,4 @@ use Rattle.trace_service.specs.Notice.{reply_of}
 use Rattle.trace_service.proofs.notice.notice.Goals as goal
 
 pub returns : goal.returns
-returns c = c.shown.ensures.reply ∙ ap (reply_of c.args.status Json) c.in_ok-body.ensures
+returns c = c.shown.ensures ∙ ap (reply_of c.args.status Json) c.in_ok-body.ensures

@@ -1,4 +1,4 @@
-use Rattle.std.proofs.Common.{◌≡◌, ◌≢◌, ◌∙◌, ap, sym, subst, refl, arith, ℕ, suc, ◌+◌, List, ◌++◌, false}
+use Rattle.std.proofs.Common.{◌≡◌, ◌∙◌, ap, subst, refl, arith, ℕ, suc, ◌+◌, ◌++◌, false}
 use Rattle.trace_rows.specs.Part.{keys_of}
 use Rattle.tenant_stores.specs.Part.{part}
 use Rattle.tenant_stores.specs.Counts.{one_decided, count}
@@ -6,8 +6,6 @@ use Rattle.tenant_stores.specs.Changes.{Settles}
 use Rattle.tenant_stores.proofs.Lists.{count-append}
 use Rattle.tenant_stores.proofs.Sounds.{settles_sound}
 use Rattle.tenant_stores.proofs.Parts.{part_by}
-use Rattle.tenant_stores.specs.Counts.{Counts}
-use Rattle.tenant_stores.specs.Invariant.{StoreInvariant}
 use Rattle.tenant_stores.proofs.Shows.{drops_shows}
 use Rattle.tenant_stores.proofs.stores.Stores.drop_row.Goals as goal
 

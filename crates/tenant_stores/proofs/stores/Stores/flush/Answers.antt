@@ -1,12 +1,10 @@
-use Rattle.std.proofs.Common.{◌≡◌, ◌≢◌, ◌∙◌, ap, sym, refl, arith, ℕ, List, [], ◌+◌, ◌<◌, length, drop, get_or}
+use Rattle.std.proofs.Common.{◌≡◌, ◌∙◌, ap, sym, arith, ℕ, List, [], drop}
 use Rattle.std.proofs.lemmas.List.{drop_all}
 use Rattle.span_pool.specs.Pool.{without}
 use Rattle.tenant_stores.specs.Changes.{texts_without}
 use Rattle.tenant_stores.proofs.Sounds.{leaves_sound}
 use Rattle.tenant_stores.specs.Part.{part}
 use Rattle.tenant_stores.proofs.Parts.{leave_more}
-use Rattle.tenant_stores.specs.Part.{Part}
-use Rattle.tenant_stores.specs.Changes.{Leaves}
 use Rattle.tenant_stores.proofs.Shows.{leaves_shows, leaves_stays}
 use Rattle.tenant_stores.proofs.stores.Stores.flush.Goals as goal
 

@@ -1,8 +1,6 @@
-use Rattle.std.proofs.Common.{◌≡◌, ◌≢◌, ◌∙◌, ap, sym, subst, refl, ℕ, List, ◌++◌, Option}
-use Rattle.span_pool.specs.declared.keys.TextKeys.{TextKeys}
+use Rattle.std.proofs.Common.{◌≡◌, ◌∙◌, refl, ℕ, List}
 use Rattle.text_pool.specs.Part as texts
-use Rattle.text_pool.specs.declared.pool.CountedText.{CountedText}
-use Rattle.tenant_stores.specs.Part.{Part, part}
+use Rattle.tenant_stores.specs.Part.{part}
 use Rattle.tenant_stores.specs.View.{text_keys}
 use Rattle.tenant_stores.specs.Counts.{Counts}
 use Rattle.tenant_stores.specs.Invariant.{StoreInvariant}

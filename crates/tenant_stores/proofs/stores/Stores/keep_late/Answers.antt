@@ -1,6 +1,5 @@
-use Rattle.std.proofs.Common.{◌≡◌, ◌≢◌, ◌∙◌, ap, sym, refl, ℕ}
+use Rattle.std.proofs.Common.{refl}
 use Rattle.tenant_stores.specs.Part.{part}
-use Rattle.tenant_stores.specs.Changes.{Waits}
 use Rattle.tenant_stores.proofs.Parts.{part_by}
 use Rattle.tenant_stores.proofs.Sounds.{waits_sound}
 use Rattle.tenant_stores.proofs.Shows.{waits_shows}

@@ -1,4 +1,4 @@
-use Rattle.std.proofs.Common.{◌≡◌, ◌≢◌, ◌∙◌, ap, sym, subst, refl, arith, ℕ, suc, ◌+◌, List, ◌++◌, true}
+use Rattle.std.proofs.Common.{◌≡◌, ◌∙◌, ap, sym, subst, refl, arith, ℕ, suc, ◌+◌, List, ◌++◌, true}
 use Rattle.trace_rows.specs.Part.{keys_of}
 use Rattle.tenant_stores.specs.Part.{part}
 use Rattle.tenant_stores.specs.Counts.{one_decided}
@@ -7,7 +7,6 @@ use Rattle.tenant_stores.specs.Changes.{Settles}
 use Rattle.tenant_stores.proofs.Sounds.{settles_sound}
 use Rattle.tenant_stores.proofs.Parts.{part_by}
 use Rattle.tenant_stores.specs.View.{view}
-use Rattle.tenant_stores.specs.Shows.{first_kept}
 use Rattle.tenant_stores.proofs.Shows.{keeps_shows}
 use Rattle.tenant_stores.proofs.stores.Stores.keep_row.Goals as goal
 

@@ -1,14 +1,12 @@
-use Rattle.std.proofs.Common.{◌≡◌, ◌≢◌, ◌∙◌, ap, sym, subst, refl, arith, ℕ, suc, ◌+◌, ◌-◌, Option, Some, None}
-use Rattle.span_pool.specs.Stored.{StoredData}
+use Rattle.std.proofs.Common.{◌≡◌, ◌∙◌, ap, sym, subst, refl, arith, ℕ, suc, ◌-◌, Some, None}
 use Rattle.span_pool.specs.Pool.{with_span}
 use Rattle.span_pool.specs.Pool as pool
 use Rattle.tenant_stores.specs.Part.{part, owner_of}
-use Rattle.trace_rows.specs.Part.{with_at, with_latest_row, joined, rows_part, latest_rows_part}
-use Rattle.tenant_stores.specs.Changes.{Joins, Opens, new_row}
-use Rattle.tenant_stores.proofs.Sounds.{joins_sound, opens_sound}
+use Rattle.trace_rows.specs.Part.{with_at, with_latest_row, rows_part, latest_rows_part}
+use Rattle.tenant_stores.specs.Changes.{Opens, new_row}
+use Rattle.tenant_stores.proofs.Sounds.{opens_sound}
 use Rattle.tenant_stores.proofs.Parts.{part_by, span_restored}
 use Rattle.tenant_stores.proofs.Shows.{opens_shows}
-use Rattle.tenant_stores.specs.View.{view}
 use Rattle.tenant_stores.proofs.stores.Stores.open.Goals as goal
 
 pub returns-in_err-key-clause-others_unchanged : goal.returns-in_err-key-clause-others_unchanged

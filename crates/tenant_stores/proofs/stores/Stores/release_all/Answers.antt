@@ -1,4 +1,4 @@
-use Rattle.std.proofs.Common.{◌≡◌, ◌≢◌, ◌∙◌, ap, refl, ℕ}
+use Rattle.std.proofs.Common.{refl}
 use Rattle.tenant_stores.specs.Part.{part}
 use Rattle.tenant_stores.specs.View.{text_keys}
 use Rattle.tenant_stores.proofs.Parts.{part_by}

@@ -1,7 +1,7 @@
-use Rattle.std.proofs.Common.{◌≡◌, ◌≢◌, ◌∙◌, ap, sym, subst, refl, List, ◌++◌, ◌∷◌, []}
+use Rattle.std.proofs.Common.{◌≡◌, ◌∙◌, sym, subst, List, ◌++◌, ◌∷◌, []}
 use Rattle.tenant_stores.specs.declared.undo.UndoEntry.{UndoEntry}
 use Rattle.tenant_stores.specs.Part.{Part, part}
-use Rattle.tenant_stores.specs.Trail.{IsUndone, Trail}
+use Rattle.tenant_stores.specs.Trail.{Trail}
 use Rattle.tenant_stores.proofs.Backs.{Trail_pop}
 use Rattle.tenant_stores.proofs.stores.Stores.take_all_back.Goals as goal
 

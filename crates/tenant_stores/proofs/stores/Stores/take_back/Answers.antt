@@ -1,6 +1,6 @@
-use Rattle.std.proofs.Common.{◌≡◌, ◌≢◌, ◌∙◌, ap, sym, subst, refl}
+use Rattle.std.proofs.Common.{◌∙◌, subst, refl}
 use Rattle.tenant_stores.specs.declared.undo.UndoEntry.{UndoEntry}
-use Rattle.tenant_stores.specs.Part.{Part, part}
+use Rattle.tenant_stores.specs.Part.{part}
 use Rattle.tenant_stores.specs.Trail.{IsUndone}
 use Rattle.tenant_stores.proofs.Parts.{part_by}
 use Rattle.tenant_stores.proofs.Backs.{back_joined, back_opened, back_late}

@@ -1,7 +1,8 @@
 use Rattle.std.proofs.Common.{◌≡◌, map, length, option_map, string_bytes}
 use Rattle.admin_pages.specs.Figures.{tenant_of}
 use Rattle.drop_ledger.specs.Ledger.{ledger_of}
-use Rattle.trace_service.proofs.Shown.{on_ok, on_err, one_looked, one_refused}
+use Rattle.trace_service.proofs.Replies.{on_err}
+use Rattle.trace_service.proofs.Shown.{on_ok, one_looked, one_refused}
 use Rattle.trace_service.proofs.clerk.Clerk.add_figures.Goals as goal
 
 pub returns-in_err-counters-clause-looks : goal.returns-in_err-counters-clause-looks
@@ -16,4 +17,5 @@ returns g c =
       looked = on_ok c.push_figures.result _ _ (λ (more : map tenant_of c.push_figures.new.figures.items ≡ _). (_, look, more)) c.push_figures.ensures;
       looks = on_err c.push_figures.result _ (one_looked _ _ c.args.tenant.now.number _ _ look);
       hub = c.counters.ensures.hub;
+      same = c.counters.ensures.same;
     }

@@ -1,24 +1,27 @@
-use Rattle.trace_service.specs.Shown.{nothing}
-use Rattle.trace_service.proofs.Shown.{on_err, shows_none, unchanged}
+use Rattle.std.proofs.Common.{◌≡◌, true, false, option_copied, refl, rules}
+use Rattle.admin_pages.specs.Route.{route_view}
+use Rattle.http_edge.specs.Seen.{seen}
+use Rattle.trace_service.specs.Shown.{clerk_of, route_in}
+use Rattle.trace_service.specs.Token.{is_let_in}
+use Rattle.trace_service.proofs.Shown.{looked_so, not_looked, refused_so, shown_so}
 use Rattle.trace_service.proofs.clerk.Clerk.answer.Goals as goal
 
-pub returns-then-not-is_let_in-clause-shown : goal.returns-then-not-is_let_in-clause-shown
-returns-then-not-is_let_in-clause-shown g c = shows_none _ _ _ _ c.notice.result nothing
+pub returns-then-is_let_in : goal.returns-then-is_let_in
+returns-then-is_let_in g c =
+    let route : route_view c.admin_route-asked.result ≡ route_in (seen c.args.message) = first_of (cc, search rules) in
+    let may : is_let_in (option_copied c.args.self.now.port.token) (seen c.args.message).headers (route_view c.admin_route-asked.result) ≡ true = first_of (cc, search rules) in
+    record {
+      shown = shown_so _ _ _ (seen c.args.message) _ _ c.show.result _ route may c.show.ensures.shown;
+      looks = looked_so _ (clerk_of c.args.self.now.port c.args.self.now.staff c.args.self.now.lane_capacity) (seen c.args.message) _ _ c.show.result _ route may c.show.ensures.looks;
+      same = c.show.ensures.same;
+    }
 
-pub returns-then-not-is_let_in-clause-looks : goal.returns-then-not-is_let_in-clause-looks
-returns-then-not-is_let_in-clause-looks g c = on_err c.notice.result _ nothing
-
-pub returns-in-Add : goal.returns-in-Add
-returns-in-Add g c =
-    let looks = unchanged _ _ _ c.add.ensures in
-    record { shown = shows_none _ _ _ _ c.add.result looks; looks = on_err c.add.result _ looks }
-
-pub returns-in-Retire : goal.returns-in-Retire
-returns-in-Retire g c =
-    let looks = unchanged _ _ _ c.retire.ensures in
-    record { shown = shows_none _ _ _ _ c.retire.result looks; looks = on_err c.retire.result _ looks }
-
-pub returns-in-Drain : goal.returns-in-Drain
-returns-in-Drain g c =
-    let looks = unchanged _ _ _ c.drain.ensures in
-    record { shown = shows_none _ _ _ _ c.drain.result looks; looks = on_err c.drain.result _ looks }
+pub returns : goal.returns
+returns g c =
+    let route : route_view c.admin_route-asked.result ≡ route_in (seen c.args.message) = first_of (cc, search rules) in
+    let may : is_let_in (option_copied c.args.self.now.port.token) (seen c.args.message).headers (route_view c.admin_route-asked.result) ≡ false = first_of (cc, search rules) in
+    record {
+      shown = refused_so _ _ _ (seen c.args.message) _ _ c.not_let_in.result _ route may refl c.not_let_in.ensures;
+      looks = not_looked _ (clerk_of c.args.self.now.port c.args.self.now.staff c.args.self.now.lane_capacity) (seen c.args.message) _ _ c.not_let_in.result _ route may refl;
+      same = refl;
+    }

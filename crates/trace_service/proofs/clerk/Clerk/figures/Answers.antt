@@ -1,5 +1,6 @@
 use Rattle.trace_service.specs.Shown.{nothing}
-use Rattle.trace_service.proofs.Shown.{figures_found, on_err}
+use Rattle.trace_service.proofs.Replies.{on_err}
+use Rattle.trace_service.proofs.Shown.{figures_found}
 use Rattle.trace_service.proofs.clerk.Clerk.figures.Goals as goal
 
 pub returns-in_err-tenants-clause-looks : goal.returns-in_err-tenants-clause-looks

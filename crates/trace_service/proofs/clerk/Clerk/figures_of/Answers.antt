@@ -3,17 +3,19 @@ use Rattle.std.proofs.lemmas.List.{take_all}
 use Rattle.admin_pages.specs.Figures.{tenant_of}
 use Rattle.trace_service.specs.Roster.{entry_of}
 use Rattle.trace_service.specs.Shown.{AreLooked, no_look}
-use Rattle.trace_service.proofs.Shown.{all_looked, looked_more, looks_then, on_err}
+use Rattle.trace_service.proofs.Replies.{on_err}
+use Rattle.trace_service.proofs.Shown.{all_looked, looked_more, looks_then}
 use Rattle.trace_service.proofs.clerk.Clerk.figures_of.Goals as goal
 
 pub loop-tenant-init : goal.loop-tenant-init
-loop-tenant-init g c = record { hub = refl; looked = rw c.new-figures.ensures.items no_look }
+loop-tenant-init g c = record { same = refl; hub = refl; looked = rw c.new-figures.ensures.items no_look }
 
 pub loop-tenant-preserved : goal.loop-tenant-preserved
 loop-tenant-preserved g c =
     let before = c.loop-tenant.invariant in
     let told = c.in_ok-add_figures.ensures.looked in
     record {
+      same = c.add_figures.ensures.same ∙ before.same;
       hub = c.add_figures.ensures.hub ∙ before.hub;
       looked = looked_more _ _ c.args.tenants.now c.loop-tenant.tenant-index c.tenant-item.result _ _ _ told.0 _
           c.loop-tenant-test.true c.tenant-item.is before.looked (rw before.hub at told.1) told.2;

@@ -1,11 +1,12 @@
 use Rattle.std.proofs.Common.{◌≡◌, length, map, take}
 use Rattle.admin_pages.specs.Figures.{tenant_of}
 use Rattle.trace_service.specs.Roster.{entry_of}
-use Rattle.trace_service.specs.Shown.{AreLooked}
+use Rattle.trace_service.specs.Shown.{AreLooked, clerk_of}
 use Rattle.trace_service.proofs.clerk.Clerk.figures_of.Given as goal
 
 abbrev pub invariant-loop-tenant : goal.invariant-loop-tenant
 invariant-loop-tenant g l = record {
+  same : clerk_of l.self.port l.self.staff l.self.lane_capacity ≡ clerk_of l.fn.self.port l.fn.self.staff l.fn.self.lane_capacity;
   hub : l.self.context.now.hub ≡ l.fn.self.context.now.hub;
   looked : AreLooked (length l.fn.self.context.now.hub.now) l.fn.self.context.now.caller (map entry_of (take l.tenant-index l.tenants))
       (map tenant_of l.figures.items) l.self.context.now.caller;

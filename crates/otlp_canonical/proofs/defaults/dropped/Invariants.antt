@@ -1,0 +1,9 @@
+use Rattle.std.proofs.Common.{length}
+use Rattle.otlp_canonical.proofs.Dropped.{Going}
+use Rattle.otlp_canonical.proofs.defaults.dropped.Given as goal
+
+abbrev pub invariant-fields : goal.invariant-fields
+invariant-fields l = Going l.room l.text l.copy.items l.from l.left l.most
+
+abbrev pub decreases-fields : goal.decreases-fields
+decreases-fields l = length l.left

@@ -1,0 +1,213 @@
+//! A tenant's own steps, one at a time.
+
+ghost use Rattle.std.specs.Prelude.{◌≡◌, ◌≤◌, ◌^◌, ◌↔◌, ℕ, List, [], false, max, IsTrue, IfOk, OnOk, OnErr};
+ghost use Rattle.span_batcher.specs.Timers.{is_due};
+ghost use Rattle.tenant_stores.specs.Part.{part};
+ghost use Rattle.tenant_stores.specs.Promises.{OthersUnchanged};
+ghost use Rattle.tenant_rules.specs.Own.{asked, moment_of, Retire};
+ghost use Rattle.tenant_rules.specs.Machine.{acts, drain, effective, told_at};
+ghost use Rattle.tenant_rules.specs.Timers.{next_timer, IsFront};
+ghost use Rattle.tenant_rules.specs.declared.reply.StepReply.TheVariants as replies;
+ghost use Rattle.tenant_pipeline.specs.Acts.{ActsAt, at};
+ghost use Rattle.tenant_pipeline.specs.StateIn.{part_in, policies_of, state_in};
+ghost use Rattle.tenant_pipeline.specs.Invariant.{PipelineInvariant, PipelineInvariantAt, IsSwept, HasNonePending};
+ghost use Rattle.tenant_pipeline.specs.OwnStep.{own_step_of, IsMadeFor};
+ghost use Rattle.tenant_pipeline.specs.Steps.{Answers, FollowsFromState};
+
+use crate::pipeline::{LATEST_MOMENT, Pipeline};
+use otlp_prepare::Prepared;
+use send_retry::Answer;
+use std::alloc::AllocError;
+use tail_policy::TraceNote;
+use tenant_rules::StepReply;
+use tenant_stores::Stores;
+
+/// One step of a tenant's own. Moments are in milliseconds, and one above [`LATEST_MOMENT`] is taken as that one.
+#[derive(Clone, Copy)]
+pub enum OwnStep<'a> {
+    /// A body's spans come. It was made ready for the tenant's policies.
+    Post {
+        now: u64,
+        prepared: &'a Prepared,
+    },
+    /// A worker asks for a job.
+    Turn {
+        now: u64,
+    },
+    /// A back end answers the job of a ticket. The word, any 32 bits, picks the delay before another attempt.
+    Answer {
+        now: u64,
+        ticket: u64,
+        word: u32,
+        answer: &'a Answer,
+    },
+    /// The counters are asked for.
+    Report {
+        now: u64,
+    },
+    /// The tenant takes no more spans, and sends all it holds.
+    Drain {
+        now: u64,
+    },
+    /// The tenant is to retire. It is told its last report where it was drained and holds no span, and else that it has
+    /// to wait.
+    Retire {
+        now: u64,
+    },
+}
+
+impl OwnStep<'_> {
+    /// The moment that it asks for, in milliseconds.
+    fn asked(&self) -> u64
+        ensures { result ≡ asked (own_step_of self.now) }
+    {
+        match self {
+            OwnStep::Post { now, .. } => *now,
+            OwnStep::Turn { now } => *now,
+            OwnStep::Answer { now, .. } => *now,
+            OwnStep::Report { now } => *now,
+            OwnStep::Drain { now } => *now,
+            OwnStep::Retire { now } => *now,
+        }
+    }
+}
+
+impl Pipeline {
+    /// Does one step: the timers that are due by its moment run, each at its own, and then what was asked for is done.
+    /// Where memory is refused, some of these timers may have run, and nothing else has happened: no span of a post has
+    /// come, no ticket is used up, an answer hasn't come, and a tenant that is to be drained goes on as before.
+    pub fn step(
+        &mut self,
+        stores: &mut Stores<TraceNote>,
+        step: &OwnStep<'_>,
+    ) -> Result<StepReply, AllocError>
+        requires invariant { PipelineInvariant self.old stores.old }
+        requires policies { IsMadeFor (policies_of self.old) step.now }
+
+        // What is told is what the settings and the own steps say, and the state is what they and this step give. Where
+        // no own steps leave the old state, as after refused memory, both follow from that state.
+        ensures on_success { IfOk result (λ told. Answers (own_step_of step.now)
+            (state_in self.old stores.old) told (state_in self.new stores.new)) }
+        ensures from_state { IfOk result (λ told. FollowsFromState (own_step_of step.now)
+            (state_in self.old stores.old) told (state_in self.new stores.new)) }
+
+        // Some first due timers have run, and all else is as before.
+        ensures on_refusal { OnErr result (let old = state_in self.old stores.old in
+            IsFront (effective (own_step_of step.now) old) old (state_in self.new stores.new)) }
+
+        // What always holds goes on to hold, and nothing of other tenants changes.
+        ensures invariant { PipelineInvariant self.new stores.new }
+        ensures swept { IsSwept self.old → IsSwept self.new }
+        ensures others_unchanged { OthersUnchanged self.old.tenant stores.old stores.new }
+        ensures tenant { self.new.tenant ≡ self.old.tenant }
+        ensures section { self.new.section ≡ self.old.section }
+
+        // Where its retirement is told the last report, it may leave the stores.
+        ensures may_leave { IfOk result (λ told. (now : ℕ) (text : List ℕ)
+            → own_step_of step.now ≡ Retire now → told ≡ replies.Report text
+            → HasNonePending self.new) }
+    {
+        let moment = self.effective(step);
+        self.run_due(stores, moment)?;
+        let told = self.take(stores, moment, step)?;
+        self.clock = moment;
+        Ok(told)
+    }
+
+    /// Whether a step's body, where it brings one, was made ready for this tenant's policies. `step` asks for that.
+    pub fn takes(&self, step: &OwnStep<'_>) -> bool
+        ensures { IsTrue result ↔ IsMadeFor (policies_of self.now) step.now }
+    {
+        match step {
+            OwnStep::Post { prepared, .. } => {
+                prepared.has_policies(self.section.tail_sampling.policies.as_slice())
+            }
+            _ => true,
+        }
+    }
+
+    /// When a step takes effect, in milliseconds: moments never fall.
+    fn effective(&self, step: &OwnStep<'_>) -> u64
+        ensures at { result ≡ max self.now.clock (moment_of (own_step_of step.now)) }
+        ensures later { self.now.clock ≤ result }
+        ensures fits { self.now.clock ≤ 2 ^ 62 → result ≤ 2 ^ 62 }
+    {
+        self.clock.max(step.asked().min(LATEST_MOMENT))
+    }
+
+    /// What was asked for is done at a moment, in milliseconds, by which no timer is due. Where memory is refused,
+    /// nothing has changed.
+    fn take(
+        &mut self,
+        stores: &mut Stores<TraceNote>,
+        moment: u64,
+        step: &OwnStep<'_>,
+    ) -> Result<StepReply, AllocError>
+        requires holds { PipelineInvariantAt moment [] [] self.old (part_in self.old stores.old) }
+        requires quiet { is_due (next_timer (state_in self.old stores.old)) moment ≡ false }
+        requires policies { IsMadeFor (policies_of self.old) step.now }
+
+        ensures on_success { OnOk result (ActsAt moment (acts moment (own_step_of step.now))
+            (state_in self.old stores.old) (state_in self.new stores.new)) }
+        ensures told { IfOk result (λ told. told ≡
+            told_at moment (own_step_of step.now) (at moment (state_in self.old stores.old))) }
+        ensures on_refusal { OnErr result (self.new ≡ self.old) }
+        ensures part_on_refusal { OnErr result
+            (part self.old.tenant stores.new ≡ part self.old.tenant stores.old) }
+
+        ensures holds { OnOk result (PipelineInvariantAt moment [] [] self.new
+            (part_in self.new stores.new)) }
+        ensures swept { IsSwept self.old → IsSwept self.new }
+        ensures others_unchanged { OthersUnchanged self.old.tenant stores.old stores.new }
+        ensures tenant { self.new.tenant ≡ self.old.tenant }
+        ensures section { self.new.section ≡ self.old.section }
+    {
+        match step {
+            OwnStep::Post { prepared, .. } => {
+                let reply = self.take_post(stores, moment, prepared)?;
+                Ok(StepReply::Reply(reply))
+            }
+            OwnStep::Turn { .. } => self.hand_out(moment),
+            OwnStep::Answer {
+                ticket,
+                word,
+                answer,
+                ..
+            } => Ok(self.settle(moment, *ticket, *word, answer)),
+            OwnStep::Report { .. } => self.report_told(),
+            OwnStep::Drain { .. } => self.drain(stores, moment),
+            OwnStep::Retire { .. } => self.retire_told(),
+        }
+    }
+
+    /// A drain, the first or another, at a moment, in milliseconds, by which no timer is due. Where memory is refused,
+    /// nothing has changed.
+    fn drain(
+        &mut self,
+        stores: &mut Stores<TraceNote>,
+        moment: u64,
+    ) -> Result<StepReply, AllocError>
+        requires holds { PipelineInvariantAt moment [] [] self.old (part_in self.old stores.old) }
+        requires quiet { is_due (next_timer (state_in self.old stores.old)) moment ≡ false }
+
+        ensures on_success { OnOk result (ActsAt moment (drain moment)
+            (state_in self.old stores.old) (state_in self.new stores.new)) }
+        ensures told { IfOk result (λ told. told ≡ replies.Done) }
+        ensures on_refusal { OnErr result (self.new ≡ self.old) }
+        ensures part_on_refusal { OnErr result
+            (part self.old.tenant stores.new ≡ part self.old.tenant stores.old) }
+
+        ensures holds { OnOk result (PipelineInvariantAt moment [] [] self.new
+            (part_in self.new stores.new)) }
+        ensures swept { IsSwept self.old → IsSwept self.new }
+        ensures others_unchanged { OthersUnchanged self.old.tenant stores.old stores.new }
+        ensures tenant { self.new.tenant ≡ self.old.tenant }
+        ensures section { self.new.section ≡ self.old.section }
+    {
+        if self.drained {
+            return Ok(StepReply::Done);
+        }
+        self.close(stores, moment)?;
+        Ok(StepReply::Done)
+    }
+}

@@ -1,0 +1,20 @@
+-- The token that whoever looks after a service has to have. A bearer token is of few characters, with `=` at its end
+-- alone (RFC 6750, 2.1, `b64token`): so each client can send it, and no other text can be meant.
+use Rattle.std.specs.Prelude.{ℕ, List, [], ◌∷◌, length, Bool, true, false, ◌&&◌, ◌||◌, not, ◌==◌, nat_le, if◌then◌else◌}
+use Rattle.std.specs.Char.{is_ascii_alphanumeric}
+
+-- a letter, a digit, or one of - . _ ~ + /
+abbrev pub is_token_byte : ℕ → Bool
+is_token_byte byte =
+    is_ascii_alphanumeric byte || byte == 45 || byte == 46 || byte == 95 || byte == 126 || byte == 43 || byte == 47
+
+-- what may stand behind the first byte, and behind the first `=`, where there was one
+abbrev pub goes_on : Bool → List ℕ → Bool
+goes_on padded [] = true
+goes_on padded (byte ∷ bytes) =
+    if byte == 61 then goes_on true bytes else not padded && is_token_byte byte && goes_on padded bytes
+
+-- a token
+abbrev pub is_token : List ℕ → Bool
+is_token [] = false
+is_token (byte ∷ bytes) = is_token_byte byte && goes_on false bytes

@@ -1,0 +1,123 @@
+-- What whoever asks for a tenant to come or to go is told. This project's own rule.
+use Rattle.std.specs.Prelude.{◌≡◌, ◌≢◌, ℕ, ◌<◌, ◌≤◌, Bool, true, false, List, [], ◌++◌, length, get_or, Option, Some, None, if◌then◌else◌, codes, bytes_eq, IsUtf8}
+use Rattle.std.specs.Str.{trim_end}
+use Rattle.admin_pages.specs.Json.{tenant_text}
+use Rattle.drop_ledger.specs.Ledger.{LedgerData, LedgerInvariant}
+use Rattle.drop_ledger.specs.Report.{report_text as counters_text}
+use Rattle.http_edge.specs.Message.{Response}
+use Rattle.http_edge.specs.declared.message.MediaType.TheVariants.{Json}
+use Rattle.replay_script.specs.Answer.{report_text}
+use Rattle.settings_check.specs.Report.{IsFileReport}
+use Rattle.trace_service.specs.Notice.{came_reply, notice_of, reply_of, unknown_reply}
+use Rattle.trace_service.specs.Post.{no_memory}
+use Rattle.trace_service.specs.declared.desk.Asked.{Asked}
+use Rattle.trace_service.specs.declared.desk.Asked.TheVariants.{Told, Late, Busy, Ended}
+
+-- what is told where nothing was answered in time: it goes on (202, RFC 9110, section 15.3.3), or it isn't begun since
+-- the input has ended or another tenant is coming or going (503, section 15.6.4)
+abbrev pub untold_reply : Asked → Response
+untold_reply Late = notice_of 202 (codes "state") (codes "it is being done")
+untold_reply Ended = notice_of 503 (codes "error") (codes "shutting down")
+untold_reply _ = notice_of 503 (codes "error") (codes "another tenant is coming or going: try again")
+
+-- the line behind which the report on a good document has its settings
+abbrev pub settings_line : List ℕ
+settings_line = codes "# the settings in force\n"
+
+-- no line of the report is that one
+abbrev pub HasNoSettings : List ℕ → Type 0
+HasNoSettings report = (before after : List ℕ) → report ≢ before ++ (settings_line ++ after)
+
+-- the warnings of a report: what stands before the settings of a good one, without the white space at its end
+pub data HasWarnings (report : List ℕ) : Bool → List ℕ → Type 0 where
+  good : (before after : List ℕ) → report ≡ before ++ (settings_line ++ after)
+      → ((other rest : List ℕ) → report ≡ other ++ (settings_line ++ rest) → length before ≤ length other)
+      → HasWarnings report true (trim_end before)
+  all_else : HasNoSettings report → HasWarnings report true []
+  bad : HasWarnings report false []
+
+-- the tenant of a document came, and its warnings are told with it
+pub record TellsCome (document name : List ℕ) (told : Response) : Type 0 where
+  pub is_good : Bool
+  pub report : List ℕ
+  pub doubts : List ℕ
+  pub checked : IsFileReport document is_good report doubts
+  pub warnings : List ℕ
+  pub warned : HasWarnings report is_good warnings
+  pub reply : told ≡ came_reply name warnings
+
+-- nobody could come with a document: it gives no settings, and its report is told, or it hasn't one tenant (422, RFC
+-- 9110, section 15.5.21)
+pub data TellsFaulty (document : List ℕ) (told : Response) : Type 0 where
+  no_settings : (report doubts : List ℕ) → IsFileReport document false report doubts
+      → told ≡ notice_of 422 (codes "error") (trim_end report) → TellsFaulty document told
+  not_one : (report doubts : List ℕ) → IsFileReport document true report doubts
+      → told ≡ notice_of 422 (codes "error") (codes "the document doesn't have exactly one tenant")
+      → TellsFaulty document told
+
+-- what is told of a tenant that was refused for this (docs/FAULTS.md), unless its document is at fault: its name is
+-- taken (409, RFC 9110, section 15.5.10), or there would be too many (422)
+abbrev pub refused_reply : List ℕ → Option Response
+refused_reply why =
+    if bytes_eq why (codes "14\n") then Some (notice_of 409 (codes "error") (codes "a tenant of that name is present"))
+    else if bytes_eq why (codes "15\n") then Some (notice_of 422 (codes "error")
+    (codes "there would be more tenants, or more spans at a time, than settings allow"))
+    else if bytes_eq why (codes "memory\n") then Some no_memory else None
+
+-- the reply is that one, or else what is told of a faulty document
+abbrev pub TellsRefused : List ℕ → Option Response → Response → Type 0
+TellsRefused document (Some due) told = told ≡ due
+TellsRefused document None told = TellsFaulty document told
+
+-- a name as it stands in a line
+abbrev pub HasNoSpace : List ℕ → Type 0
+HasNoSpace name = (i : ℕ) → i < length name → get_or name i 0 ≢ 32
+
+-- the line that answers says that the tenant of this name came
+abbrev pub SaysCame : List ℕ → List ℕ → Type 0
+SaysCame line name =
+    (number : List ℕ) × (line ≡ codes "added " ++ name ++ codes " " ++ number) × HasNoSpace name
+
+-- it says why none did
+abbrev pub SaysRefused : List ℕ → List ℕ → Type 0
+SaysRefused line why = line ≡ codes "refused add " ++ why
+
+-- what whoever posted a document is told, where this line answered
+pub data TellsAdded (document line : List ℕ) (told : Response) : Type 0 where
+  came : (name : List ℕ) → SaysCame line name → TellsCome document name told → TellsAdded document line told
+  refused : (why : List ℕ) → SaysRefused line why → TellsRefused document (refused_reply why) told
+      → TellsAdded document line told
+  -- no such line: memory was refused for its bytes
+  no_word : (IsUtf8 line → ((name : List ℕ) → SaysCame line name → ⊥) × ((why : List ℕ) → SaysRefused line why → ⊥))
+      → told ≡ no_memory → TellsAdded document line told
+
+-- the line with which a tenant of this name goes that had this ledger
+abbrev pub last_line : List ℕ → LedgerData → List ℕ
+last_line name ledger = report_text name (counters_text ledger)
+
+-- a tenant of this name went with this ledger
+abbrev pub went_reply : List ℕ → LedgerData → Response
+went_reply name ledger = reply_of 200 Json (tenant_text (record { name = name; ledger = ledger }))
+
+-- what whoever asked that the tenant of this name goes is told, where this line answered
+pub data TellsRetired (name line : List ℕ) (told : Response) : Type 0 where
+  -- nobody of that name was there any more
+  nobody : line ≡ [] → told ≡ unknown_reply → TellsRetired name line told
+  went : (ledger : LedgerData) → line ≡ last_line name ledger
+      → told ≡ went_reply name ledger → TellsRetired name line told
+  -- (409, RFC 9110, section 15.5.10)
+  stays : (why : List ℕ) → line ≡ codes "refused " ++ why
+      → told ≡ notice_of 409 (codes "error") (codes "the tenant stays: it holds spans") → TellsRetired name line told
+  -- no such line: memory was refused for its bytes
+  no_line : line ≢ [] → (IsUtf8 line → ((ledger : LedgerData) → LedgerInvariant ledger → line ≢ last_line name ledger)
+      × ((why : List ℕ) → line ≢ codes "refused " ++ why)) → told ≡ no_memory → TellsRetired name line told
+
+-- what whoever posted a document is told, by what came of the question
+abbrev pub TellsAdding : Asked → List ℕ → Response → Type 0
+TellsAdding (Told line) document told = TellsAdded document line.items told
+TellsAdding asked document told = told ≡ untold_reply asked
+
+-- the same of whoever asked that the tenant of this name goes
+abbrev pub TellsRetiring : Asked → List ℕ → Response → Type 0
+TellsRetiring (Told line) name told = TellsRetired name line.items told
+TellsRetiring asked name told = told ≡ untold_reply asked

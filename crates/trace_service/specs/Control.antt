@@ -1,0 +1,62 @@
+-- What who reads the input does, in the code's terms: where it works, its list of tenants, and what its output got,
+-- before it and then. This project's own rule.
+use Rattle.std.specs.Prelude.{ℕ, List, length, string_bytes, Option}
+use Rattle.otlp_front.specs.Route.{number_of}
+use Rattle.tail_settings.specs.Settings.{SettingsData}
+use Rattle.trace_service.specs.declared.control.Control.{Control}
+use Rattle.trace_service.specs.declared.naming.Naming.{Ghosts}
+use Rattle.trace_service.specs.declared.roster.Present.{Present as Entry}
+use Rattle.trace_service.specs.declared.roster.Roster.{Roster}
+use Rattle.trace_service.specs.Comings.{IsAdded}
+use Rattle.trace_service.specs.Commands.{AreCommandsRead, IsAnswered, IsReported, IsReportedOf, IsRetiredOf}
+use Rattle.trace_service.specs.Documents.{Reads}
+use Rattle.trace_service.specs.Output.{Output, IsPut}
+use Rattle.trace_service.specs.Roster.{present_in}
+use Rattle.trace_service.specs.Whole.{IsDirected}
+
+module _ {J R D : Type 0} {n : Ghosts J} where
+  -- all lines of the input were answered, all tenants sent what they held, and each one's report was written
+  abbrev pub Directs : Reads → SettingsData → Option (List ℕ) → Control J R D n → Output → Control J R D n → Output
+      → Type 0
+  Directs reads first input old so_far new written =
+      IsDirected reads first (present_in old.roster) (length old.context.hub.now) input old.context.caller
+      old.beat.last so_far new.context.caller new.beat.last written
+
+  -- all lines of the input were answered
+  abbrev pub ReadsCommands : Reads → SettingsData → Option (List ℕ) → Control J R D n → Roster → Output
+      → Control J R D n → Roster → Output → Type 0
+  ReadsCommands reads first input old known so_far new left written =
+      AreCommandsRead reads first (length old.context.hub.now) input (present_in known) old.context.caller
+      old.beat.last so_far (present_in left) new.context.caller new.beat.last written
+
+  -- this line was answered
+  abbrev pub Answers : Reads → SettingsData → List ℕ → Control J R D n → Roster → Output → Control J R D n → Roster
+      → Output → Type 0
+  Answers reads first line old known so_far new left written =
+      IsAnswered reads first (length old.context.hub.now) line (present_in known) old.context.caller old.beat.last
+      so_far (present_in left) new.context.caller new.beat.last written
+
+  -- one report of this tenant was made and written
+  abbrev pub Reports : Entry → Control J R D n → Output → Control J R D n → Output → Type 0
+  Reports tenant old so_far new written =
+      IsReported (string_bytes tenant.name) old.context.caller new.context.caller (length old.context.hub.now)
+      tenant.number old.beat.last new.beat.last so_far written
+
+  -- so it was with the tenant of this name, where there is one, and else nothing was done
+  abbrev pub ReportsNamed : List ℕ → Roster → Control J R D n → Output → Control J R D n → Output → Type 0
+  ReportsNamed name known old so_far new written =
+      IsReportedOf (length old.context.hub.now) name (number_of (present_in known) name) old.context.caller
+      old.beat.last so_far new.context.caller new.beat.last written
+
+  -- a tenant was to come whose document is at this path, and the line that says what came of it was written
+  abbrev pub Adds : Reads → SettingsData → List ℕ → Control J R D n → Roster → Output → Control J R D n → Roster
+      → Output → Type 0
+  Adds reads first path old known so_far new left written =
+      (line : List ℕ) × IsAdded reads first (length old.context.hub.now) path (present_in known) old.context.caller
+      (present_in left) new.context.caller line × IsPut so_far written line
+
+  -- the tenant of this name was to go, and what came of it was written; or there is none, and nothing was done
+  abbrev pub RetiresNamed : List ℕ → Control J R D n → Roster → Output → Control J R D n → Roster → Output → Type 0
+  RetiresNamed name old known so_far new left written =
+      IsRetiredOf (length old.context.hub.now) name (number_of (present_in known) name) (present_in known)
+      old.context.caller old.beat.last so_far (present_in left) new.context.caller new.beat.last written
