@@ -8,8 +8,8 @@ Takes the program's path, `./trace_collector` if there is none. The gate doesn't
 installed, prints what is wrong, and ends with 1 where something is.
 """
 
+import json
 import os
-import subprocess
 import sys
 import tempfile
 import threading
@@ -33,6 +33,42 @@ STATE = "document.getElementById('state').textContent"
 ACCEPTED = "[...document.querySelectorAll('details')].map(it => it.querySelector('dd').textContent)"
 ROW = "document.activeElement.querySelector('.name').textContent"
 FOCUSED = "document.activeElement.id || document.activeElement.tagName"
+ASKED = "performance.getEntriesByType('resource').filter(it => /tenants$/.test(it.name)).map(it => it.startTime)"
+ORDERS = ("loss", "held", "rate", "name")
+# The counters of four tenants, and those that they have two seconds later.
+EARLIER = ({"tenant": "calm", "accepted": 100, "exported": 100},
+           {"tenant": "loud", "accepted": 600, "exported": 500, "not_sampled": 6, "too_early": 94},
+           {"tenant": "<b>bold</b>", "accepted": 10, "undecided": 10},
+           {"tenant": "old", "accepted": 16, "retry_exhausted": 7, "back_end_rejected": 9})
+LATER = ({"tenant": "calm", "accepted": 140, "undecided": 5, "pending": 10, "queued": 5, "active": 20, "exported": 100},
+         {"tenant": "loud", "accepted": 1000, "exported": 750, "not_sampled": 100, "too_early": 100, "queue_full": 50},
+         {"tenant": "<b>bold</b>", "accepted": 10, "undecided": 8, "queue_full": 2, "invalid": 30},
+         {"tenant": "old", "accepted": 16, "retry_exhausted": 7, "back_end_rejected": 9})
+# Gives the page both, as if it had asked for them, and reads what it shows.
+SHOWN = """
+(() => {
+  window.fetch = () => new Promise(() => {});
+  let now = 1000;
+  performance.now = () => now;
+  take(%s);
+  now = 3000;
+  take(%s);
+  const texts = (name) => [...document.querySelectorAll(name)].map((it) => it.textContent);
+  const orders = %s.map((order) => {
+    document.getElementById('order').value = order;
+    showRows();
+    return texts('.name');
+  });
+  const bars = [...document.querySelectorAll('#rows .bar')];
+  const found = { orders, sums: texts('#sums dd'), first: texts('#first li'), rates: texts('#rows .rates') };
+  found.widths = bars.map((bar) => [...bar.children].map((it) => it.style.width).filter((it) => it !== '0%%'));
+  found.said = bars.map((bar) => bar.getAttribute('aria-label'));
+  found.all = texts('#rows details:nth-child(1) dd').slice(28, 42);
+  take(last.slice(0, 3).map((it) => ({ ...it })));
+  found.stay = texts('.name');
+  return found;
+})()
+"""
 # The contrast of two colours, by WCAG 2.1's definition, of each text that is seen and what lies behind it.
 CONTRAST = """
 (() => {
@@ -218,6 +254,39 @@ def with_token(folder):
         is_sound(page, service)
 
 
+def figures(folder):
+    """Figures that were worked out by hand: sums, what was lost first, rates, bars, and each order; a name is text, and a
+    tenant that went has no row. It asks two seconds after each answer."""
+    with BackEnd() as back_end, LookedAfter(folder, [tenant("a", back_end)]) as service, Browser() as page:
+        page.goes(f"http://127.0.0.1:{service.admin}/")
+        is_told(page)
+        times = page.value(ASKED)
+        gaps = [after - before for before, after in zip(times, times[1:])]
+        check(f"it asks two seconds after an answer: {gaps} ms", gaps and all(1_900 < gap < 5_000 for gap in gaps), True)
+        given = [json.dumps([dict.fromkeys(talk.NAMES, 0) | them for them in some]) for some in (EARLIER, LATER)]
+        shown = page.value(SHOWN % (*given, json.dumps(ORDERS)))
+        check("sums", shown["sums"], ["4", "235", "125", "44", "48", "198"])
+        check("losses", shown["first"], [
+            "loud queue full: 50, now 25 a second", "<b>bold</b> invalid: 30, now 15 a second",
+            "loud pushed out too early: 100, now 3.0 a second", "<b>bold</b> queue full: 2, now 1.0 a second",
+            "old rejected by the back end: 9, none now"])
+        check("orders", dict(zip(ORDERS, shown["orders"])), {
+            "loss": ["loud", "<b>bold</b>", "old", "calm"], "held": ["calm", "<b>bold</b>", "loud", "old"],
+            "rate": ["loud", "calm", "<b>bold</b>", "old"], "name": ["<b>bold</b>", "calm", "loud", "old"]})
+        check("rates", shown["rates"], ["15 in, 0 out, 16 lost", "20 in, 0 out, 0 lost", "200 in, 125 out, 28 lost",
+                                        "0 in, 0 out, 0 lost"])
+        check("bars", shown["widths"], [
+            ["20%"], ["6.25%", "93.75%"], ["12.5%", "25%", "12.5%", "50%"], ["100%"], [], ["75%", "10%", "10%", "5%"],
+            [], ["43.75%", "56.25%"]])
+        check("bars in words", shown["said"], [
+            "8 undecided", "2 queue full, 30 invalid", "5 undecided, 10 pending, 5 queued, 20 active", "100 exported",
+            "no spans", "750 exported, 100 not sampled, 100 pushed out too early, 50 queue full", "no spans",
+            "7 retries exhausted, 9 rejected by the back end"])
+        check("all of loud", shown["all"], ["1,000", "0", "0", "0", "0", "750", "100", "100", "50", "0", "0", "0", "0", "0"])
+        check("those that stay", shown["stay"], ["<b>bold</b>", "calm", "loud"])
+        is_sound(page, service)
+
+
 def pictures(folder, to):
     """What the README shows: three tenants under load, one of which loses spans."""
     with BackEnd() as back_end, BackEnd(lambda n: TAKEN if n % 8 == 0 else BUSY) as slow, \
@@ -232,7 +301,7 @@ def pictures(folder, to):
                 page.picture(Path(to, f"admin-{name}.png"))
 
 
-TESTS = {test.__name__: test for test in (by_keyboard, thousand, with_token)}
+TESTS = {test.__name__: test for test in (by_keyboard, thousand, with_token, figures)}
 
 
 def main():

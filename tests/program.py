@@ -1,12 +1,14 @@
 #!/usr/bin/env python3
 """Checks what the built program prints and ends with, from outside: `make trace_collector && python3 tests/program.py`.
 
-Takes the program's path, `./trace_collector` if there is none. Each expected text is spelled here by hand.
+Takes the program's path, `./trace_collector` if there is none. Each expected text is spelled here by hand. Threads are
+counted where there is a C compiler.
 """
 
 import os
 import re
 import select
+import shutil
 import subprocess
 import sys
 import tempfile
@@ -544,6 +546,26 @@ def course():
         os.close(writer)
 
 
+def threads():
+    """The notes of a body are made in as many threads as the settings have parts, the replay's own among them, or as there
+    are spans, of 4,096 at a time. No clause says so."""
+    compiler = shutil.which("cc") or shutil.which("clang") or shutil.which("gcc")
+    if not compiler:
+        print("no C compiler: threads weren't counted")
+        return
+    with tempfile.TemporaryDirectory() as folder:
+        shim, settings, started = Path(folder, "started.so"), Path(folder, "settings.toml"), Path(folder, "started")
+        subprocess.run([compiler, "-shared", "-fPIC", "-O2", "-o", shim, HERE / "tests/started.c", "-ldl"], check=True)
+        for parts, spans, wanted in ((1, 5, 0), (2, 5, 1), (4, 8, 3), (4, 3, 2), (4, 1, 0), (16, 5, 4), (16, 4_097, 15),
+                                     (16, 4_098, 16)):
+            settings.write_text(f"[global]\nparts = {parts}\n{TENANT}")
+            started.write_bytes(b"")
+            under = dict(os.environ, LD_PRELOAD=str(shim), STARTED=str(started))
+            post = f"post a 0 {SPAN * spans}\n".encode()
+            check(f"{spans} spans in {parts} parts", ended(["replay", settings], post, env=under), (0, b"reply a 200 -\n", b""))
+            check(f"threads for {spans} spans in {parts} parts", len(started.read_bytes()), wanted)
+
+
 usage()
 faults()
 course()
@@ -552,5 +574,6 @@ page_of_faults()
 tables_of_settings()
 answers_at_once()
 late_spans()
+threads()
 print("the program prints and ends as it has to" if not failed else f"{failed} wrong")
 sys.exit(min(failed, 1))

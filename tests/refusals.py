@@ -31,7 +31,7 @@ KNOWN = [
     ("trace_collector_program/src/serve.rt", "from", 1, "a thread wasn't started for want of what one is started with"),
     ("tenant_shard/src/shard.rt", "run", 2, "room for the outcomes was refused, or a step was"),
     ("trace_service/src/post.rt", "without_memory", 1, "the reply itself"),
-    ("trace_service/src/context.rt", "post_now", 1, "memory was refused, so the reserve was given up, and isn't there again"),
+    ("trace_service/src/context.rt", "admitted", 1, "memory was refused, and not all is done yet that was put off for it"),
     ("trace_service/src/changes.rt", "added", 1, "there was no memory to hear what is answered: it is no text"),
     ("trace_service/src/changes.rt", "add_answered", 1, "there was no memory to hear what is answered"),
     ("trace_service/src/changes.rt", "not_added", 1, "the line that is answered says so"),

@@ -5,9 +5,10 @@
     python3 tests/service.py PROGRAM SECONDS          # `agreement` alone, for so long
     python3 tests/service.py PROGRAM comings TENANTS  # how much memory so many leave behind that come and go
 
-Takes the program's path, `./trace_collector` if there is none. `leaves_with_an_audit` runs where it is named alone. Each test of tests/serving/ starts the program at a free
-port with back ends made of Python's standard library, posts bodies, and looks at what comes out. What is expected was
-worked out by hand. It prints what is wrong, and ends with 1 where something is.
+Takes the program's path, `./trace_collector` if there is none. `leaves_with_an_audit` and `scraped_often` run where they
+are named alone. Each test of tests/serving/ starts the program at a free port with back ends made of Python's standard
+library, posts bodies, and looks at what comes out. What is expected was worked out by hand. It prints what is wrong, and
+ends with 1 where something is.
 """
 
 import os
@@ -35,7 +36,7 @@ TESTS = {test.__name__: test
          for test in (*loopback.TESTS, *clients.TESTS, *back_ends.TESTS, *comings.TESTS, *limits.TESTS, *rest.TESTS,
                       *ending.TESTS, *memory.TESTS, *admin.TESTS, *short.TESTS, agree)}
 # Those of these names alone.
-BY_HAND = {test.__name__: test for test in short.BY_HAND}
+BY_HAND = {test.__name__: test for test in (*short.BY_HAND, *admin.BY_HAND)}
 
 
 def run(name, test):

@@ -414,7 +414,7 @@ class Looked(Case):
 
     KIND, TARGET = LookedAfter, "/"
     # Figures that change by themselves.
-    OTHER = re.compile(rb"(?m)^(nimchaes_(memory|connections|re|sent)|otelcol_process)\S* .*$")
+    OTHER = re.compile(rb"(?m)^(nimchaes_(memory|connections|received|sent|requests|turns|idle)_|otelcol_process_)\S* .*$")
 
     def begin(self):
         for name in "ab":

@@ -18,7 +18,7 @@ MOST = 120
 MOST_OF_A_LINE = 100
 MOST_OF_A_CLAUSE = 250
 # crates that still have longer clauses, and how many
-LONG = {"export_edge": 2, "http_edge": 4, "replay_script": 1, "tenant_shard": 1}
+LONG = {}
 QUOTED = re.compile(r'"(\\.|[^"\\])*"')
 PASSED = re.compile(r"\s*((pub |ghost )*use |#!?\[)")
 CLAUSE = re.compile(r"\s*(pub )?((requires|ensures)\b\*?|ghost \w+:)")

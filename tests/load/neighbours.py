@@ -83,8 +83,9 @@ def loaded(words, service, tenants, connections, rate, spans=SPANS, first=0):
                 wait=words.seconds + ANSWERED)
 
 
-def settle(service, told, came, what):
-    """Waits until as many spans have come as were taken, ends the service, and compares: all reports."""
+def settle(service, told, came, what, again=False):
+    """Waits until as many spans have come as were taken, ends the service, and compares: all reports. Whose back end lets
+    an answer wait too long is posted the same again."""
     try:
         wait_for(lambda: came() >= told, "all spans are sent")
         reports, status = service.reports()
@@ -92,7 +93,7 @@ def settle(service, told, came, what):
         faults.append(f"{what}: {fault}")
         return
     sums = [sum(counts.get(name, 0) for counts in reports.values()) for name in ("accepted", "exported")]
-    if (*sums, came(), status) != (told, told, told, 0):
+    if (*sums, status) != (told, told, 0) or came() < told or came() > told and not again:
         faults.append(f"{what}: {told} spans were taken; accepted, exported: {sums}; {came()} came; status {status}")
 
 
@@ -159,7 +160,7 @@ def beside_hanging(words, folder, options, kind):
         late = good.asked("ages")
         found.update(late_half=late["half"], late_99=late["most_99"], late_most=late["most"])
         settle(service, taken + others, lambda: good.spans() + b"".join(bad.bodies()).count(NAME),
-               f"back_ends {options} {kind}")
+               f"back_ends {options} {kind}", hang and "--back-end-timeout" in options)
         return found
 
 

@@ -41,9 +41,9 @@ def sections(back_end):
         "[tenant.tail_sampling]", "[tenant.tail_sampling]\nnum_traces = 1000000") for name in "ab"]
 
 
-def needed(folder, back_end, heaps):
+def needed(folder, back_end, heaps, *options):
     """How many bytes of addresses it needs at rest."""
-    with Service(folder, sections(back_end), under=heaps, **HOW) as service:
+    with Service(folder, sections(back_end), *options, under=heaps, **HOW) as service:
         check("a post", service.post("a", body(1, 1))[0], 200)
         status = Path(f"/proc/{service.run.pid}/status").read_text()
         return 1024 * int(re.search(r"VmPeak:\s*(\d+)", status)[1])
@@ -140,7 +140,7 @@ def leaves_by_itself(folder, *options):
     works = []
     for name, heaps in HEAPS.items():
         with BackEnd() as back_end:
-            least = needed(folder, back_end, heaps)
+            least = needed(folder, back_end, heaps, *options)
         works += [lambda heaps=heaps, most=least + (room << 20), what=f"{name}, {room} MB more":
                   under(heaps, most, what, text, *options) for room in ROOM]
     for at in range(0, len(works), AT_A_TIME):
@@ -148,8 +148,7 @@ def leaves_by_itself(folder, *options):
 
 
 def leaves_with_an_audit(folder):
-    """The same of a service that keeps a log, which takes what memory there is and is stopped where there is none. It may
-    stand still for good then (docs/OPERATING.md, "The audit")."""
+    """The same of a service that keeps a log, which takes memory for good, and is stopped while there is some."""
     leaves_by_itself(folder, "--audit")
 
 

@@ -1,5 +1,5 @@
 -- What a function appended as a whole, where it gives what its last call gave.
-use Rattle.std.proofs.Common.{◌≡◌, ℕ, List, ◌++◌, cond, Result, Ok, Err, OnOk, sym, ◌∙◌, ap, append_assoc}
+use Rattle.std.proofs.Common.{◌≡◌, ℕ, List, ◌++◌, cond, Result, Ok, Err, IfOk, OnOk, sym, ◌∙◌, ap, append_assoc}
 use Rattle.std.specs.Prelude.{is_ok}
 use Rattle.admin_pages.proofs.Joined.{more}
 
@@ -20,6 +20,12 @@ pub shown : {T E : Type 0} (r : Result T E) (before new piece other : List ℕ) 
     → OnOk r (new ≡ before ++ other)
 shown (Ok t) before new piece other is e = e ∙ ap (λ (text : List ℕ). before ++ text) is
 shown (Err x) before new piece other is e = tt
+
+-- the same of a text that is made, where it is
+pub written : {T E : Type 0} (r : Result T E) (text : T → List ℕ) (piece other : List ℕ) → piece ≡ other
+    → IfOk r (λ t. text t ≡ piece) → IfOk r (λ t. text t ≡ other)
+written (Ok t) text piece other is e = e ∙ is
+written (Err x) text piece other is e = tt
 
 -- texts one behind another, from the bracketing of a format to that of a definition
 three : (a b c : List ℕ) → a ++ (b ++ c) ≡ a ++ b ++ c

@@ -1,5 +1,5 @@
 -- Figures as JSON (RFC 8259).
-use Rattle.std.specs.Prelude.{ℕ, ◌==◌, ◌+◌, ◌/◌, ◌%◌, nat_lt, List, [], ◌∷◌, ◌++◌, flat_map, if◌then◌else◌, codes, decimal}
+use Rattle.std.specs.Prelude.{ℕ, ◌==◌, ◌+◌, ◌/◌, ◌%◌, nat_lt, List, [], ◌∷◌, ◌++◌, flat_map, Option, Some, None, if◌then◌else◌, codes, decimal}
 use Rattle.admin_pages.specs.Counter.{all_counters, value_of, word_of}
 use Rattle.admin_pages.specs.Figures.{TenantData}
 use Rattle.admin_pages.specs.declared.counter.SpanCounter.{SpanCounter}
@@ -31,9 +31,21 @@ unfoldable pub counters_text : TenantData → List SpanCounter → List ℕ
 counters_text tenant [] = []
 counters_text tenant (counter ∷ counters) = counter_text tenant counter ++ counters_text tenant counters
 
--- a tenant's figures, as an object: its name, and its counters under the words of a report
+-- a moment in milliseconds, or that there is none
+abbrev pub moment_text : Option ℕ → List ℕ
+moment_text (Some moment) = decimal moment
+moment_text None = codes "null"
+
+-- a tenant's figures, without the end of their object: its name, its counters under the words of a report, and when
+-- something of it is due next, in milliseconds since the start
+unfoldable pub figures_text : TenantData → List ℕ
+figures_text tenant =
+    codes "{\"tenant\":" ++ string_text tenant.name ++ counters_text tenant all_counters
+    ++ codes ",\"ready_at_ms\":" ++ moment_text tenant.ready
+
+-- a tenant's figures, as an object
 unfoldable pub tenant_text : TenantData → List ℕ
-tenant_text tenant = codes "{\"tenant\":" ++ string_text tenant.name ++ counters_text tenant all_counters ++ codes "}"
+tenant_text tenant = figures_text tenant ++ codes "}"
 
 -- the further members of an array
 abbrev pub further_text : List TenantData → List ℕ

@@ -1,8 +1,9 @@
 -- Figures as a scraper reads them: Prometheus' text format 0.0.4.
-use Rattle.std.specs.Prelude.{ℕ, ◌==◌, List, [], ◌∷◌, ◌++◌, flat_map, if◌then◌else◌, codes, decimal}
+use Rattle.std.specs.Prelude.{ℕ, ◌==◌, ◌/◌, ◌%◌, List, [], ◌∷◌, ◌++◌, flat_map, Option, Some, None, if◌then◌else◌, codes, decimal}
 use Rattle.admin_pages.specs.Counter.{all_counters, value_of, metric_of, help_of, kind_of, kind_word}
 use Rattle.admin_pages.specs.Figures.{TenantData}
 use Rattle.admin_pages.specs.declared.counter.MetricKind.{MetricKind}
+use Rattle.admin_pages.specs.declared.counter.MetricKind.TheVariants.{Gauge}
 use Rattle.admin_pages.specs.declared.counter.SpanCounter.{SpanCounter}
 use Rattle.admin_pages.specs.declared.metrics.Sample.{Sample}
 
@@ -26,10 +27,10 @@ head_text name help kind =
 abbrev pub sample_text : List ℕ → ℕ → List ℕ
 sample_text name value = name ++ codes " " ++ decimal value ++ codes "\n"
 
--- a sample under one label
-abbrev pub labelled_text : List ℕ → List ℕ → List ℕ → ℕ → List ℕ
+-- a sample under one label, whose value is this text
+abbrev pub labelled_text : List ℕ → List ℕ → List ℕ → List ℕ → List ℕ
 labelled_text name label labelled value =
-    name ++ codes "{" ++ label ++ codes "=\"" ++ label_text labelled ++ codes "\"} " ++ decimal value ++ codes "\n"
+    name ++ codes "{" ++ label ++ codes "=\"" ++ label_text labelled ++ codes "\"} " ++ value ++ codes "\n"
 
 -- a family of one sample
 abbrev pub measure_text : List ℕ → List ℕ → MetricKind → ℕ → List ℕ
@@ -42,7 +43,8 @@ sample_of sample = (sample.labelled.now, sample.value)
 -- samples under one label
 abbrev pub labels_text : List ℕ → List ℕ → List (List ℕ × ℕ) → List ℕ
 labels_text name label [] = []
-labels_text name label (sample ∷ samples) = labelled_text name label sample.0 sample.1 ++ labels_text name label samples
+labels_text name label (sample ∷ samples) =
+    labelled_text name label sample.0 (decimal sample.1) ++ labels_text name label samples
 
 -- a family of samples under one label
 abbrev pub measures_text : List ℕ → List ℕ → MetricKind → List ℕ → List (List ℕ × ℕ) → List ℕ
@@ -52,7 +54,7 @@ measures_text name help kind label samples = head_text name help kind ++ labels_
 abbrev pub samples_text : SpanCounter → List TenantData → List ℕ
 samples_text counter [] = []
 samples_text counter (tenant ∷ tenants) =
-    labelled_text (metric_of counter) (codes "tenant") tenant.name (value_of counter tenant.ledger)
+    labelled_text (metric_of counter) (codes "tenant") tenant.name (decimal (value_of counter tenant.ledger))
     ++ samples_text counter tenants
 
 -- the family of one counter
@@ -65,6 +67,32 @@ abbrev pub families_text : List TenantData → List SpanCounter → List ℕ
 families_text tenants [] = []
 families_text tenants (counter ∷ counters) = family_text tenants counter ++ families_text tenants counters
 
--- all counters of all tenants
+-- milliseconds as seconds, the base unit of time, with three digits behind the point
+abbrev pub seconds_text : ℕ → List ℕ
+seconds_text milliseconds =
+    decimal (milliseconds / 1000) ++ codes "." ++ decimal (milliseconds / 100 % 10) ++ decimal (milliseconds / 10 % 10)
+    ++ decimal (milliseconds % 10)
+
+-- the metric of when something of a tenant is due
+abbrev pub ready_metric : List ℕ
+ready_metric = codes "nimchaes_ready_uptime_seconds"
+
+-- when something of the tenant of this name is due; no sample where nothing waits
+abbrev pub ready_sample : List ℕ → Option ℕ → List ℕ
+ready_sample name (Some moment) = labelled_text ready_metric (codes "tenant") name (seconds_text moment)
+ready_sample name None = []
+
+-- the same of these tenants
+abbrev pub ready_samples : List TenantData → List ℕ
+ready_samples [] = []
+ready_samples (tenant ∷ tenants) = ready_sample tenant.name tenant.ready ++ ready_samples tenants
+
+-- the family of when something of these tenants is due
+abbrev pub ready_text : List TenantData → List ℕ
+ready_text tenants =
+    head_text ready_metric (codes "Seconds after the start at which something of the tenant is due next") Gauge
+    ++ ready_samples tenants
+
+-- all counters of all tenants, and when something of them is due
 abbrev pub tenants_text : List TenantData → List ℕ
-tenants_text tenants = families_text tenants all_counters
+tenants_text tenants = families_text tenants all_counters ++ ready_text tenants

@@ -8,9 +8,8 @@ use Rattle.tail_settings.specs.RetryOnFailure.{RetryData}
 use Rattle.tail_settings.specs.Section.{SectionData}
 use Rattle.tail_settings.specs.SendingQueue.{SendingQueueData}
 use Rattle.tail_settings.specs.TailSampling.{TailSamplingData}
-use Rattle.admin_pages.specs.Counter.{all_counters}
 use Rattle.admin_pages.specs.Figures.{TenantData}
-use Rattle.admin_pages.specs.Json.{string_text, counters_text}
+use Rattle.admin_pages.specs.Json.{string_text, figures_text}
 
 -- the code of a status
 abbrev pub status_text : StatusData → List ℕ
@@ -104,8 +103,6 @@ tables_text s =
 unfoldable pub section_text : SectionData → List ℕ
 section_text s = codes "{" ++ plain_text s ++ tables_text s ++ codes "}"
 
--- a tenant's figures, with its settings behind its counters, as an object
+-- a tenant's figures, with its settings behind them, as an object
 unfoldable pub settled_text : TenantData → SectionData → List ℕ
-settled_text tenant section =
-    codes "{\"tenant\":" ++ string_text tenant.name ++ counters_text tenant all_counters
-    ++ codes ",\"settings\":" ++ section_text section ++ codes "}"
+settled_text tenant section = figures_text tenant ++ codes ",\"settings\":" ++ section_text section ++ codes "}"

@@ -2,7 +2,7 @@
 
 ghost use Rattle.std.specs.Prelude.{◌≡◌, ◌++◌, ◌<◌, map, flat_map, OnOk};
 ghost use Rattle.admin_pages.specs.Figures.{tenant_of};
-ghost use Rattle.admin_pages.specs.Json.{hex_digit, string_byte, string_text, counter_text, counters_text, tenant_text, further_text, array_text, tenants_text};
+ghost use Rattle.admin_pages.specs.Json.{hex_digit, string_byte, string_text, counter_text, counters_text, moment_text, figures_text, tenant_text, further_text, array_text, tenants_text};
 
 use crate::counter::SpanCounter;
 use crate::figures::TenantFigures;
@@ -24,6 +24,7 @@ pub fn put_tenants(
 }
 
 /// Appends the object of a tenant.
+#[tactic(auto, using(crate::proofs::Joined::more), unfolding(crate::specs::Json::tenant_text))]
 pub fn put_tenant(
     alloc: Global,
     out: &mut Vec<u8>,
@@ -31,12 +32,36 @@ pub fn put_tenant(
 ) -> Result<(), AllocError>
     ensures { OnOk result (out.new.items ≡ out.old.items ++ tenant_text (tenant_of tenant.now)) }
 {
+    put_figures(alloc, out, tenant)?;
+    out.extend_from_slice(b"}")
+}
+
+/// Appends the object of a tenant without its end.
+pub(crate) fn put_figures(
+    alloc: Global,
+    out: &mut Vec<u8>,
+    tenant: &TenantFigures,
+) -> Result<(), AllocError>
+    ensures { OnOk result (out.new.items ≡ out.old.items ++ figures_text (tenant_of tenant.now)) }
+{
     out.extend_from_slice(b"{\"tenant\":")?;
     put_string(out, tenant.name.as_str())?;
-    let counters = SpanCounter::all();
-    put_counters(alloc, out, tenant, &counters)?;
-    out.extend_from_slice(b"}")?;
-    Ok(())
+    put_counters(alloc, out, tenant, &SpanCounter::all())?;
+    out.extend_from_slice(b",\"ready_at_ms\":")?;
+    put_moment(alloc, out, tenant.ready)
+}
+
+/// Appends a moment, or that there is none.
+fn put_moment(alloc: Global, out: &mut Vec<u8>, moment: Option<u64>) -> Result<(), AllocError>
+    ensures { OnOk result (out.new.items ≡ out.old.items ++ moment_text moment) }
+{
+    match moment {
+        Some(moment) => {
+            let moment = format!(in alloc; "{moment}")?;
+            out.extend_from_slice(moment.as_bytes())
+        }
+        None => out.extend_from_slice(b"null"),
+    }
 }
 
 /// Appends an array of tenants.
@@ -73,7 +98,7 @@ fn put_further(
 
 /// Appends these counters of a tenant as members.
 #[tactic(auto, unfolding(crate::specs::Json::counters_text))]
-pub(crate) fn put_counters(
+fn put_counters(
     alloc: Global,
     out: &mut Vec<u8>,
     tenant: &TenantFigures,

@@ -1,14 +1,19 @@
 //! Figures as a scraper reads them.
 
-ghost use Rattle.std.specs.Prelude.{◌≡◌, ◌++◌, map, OnOk};
+ghost use Rattle.std.specs.Prelude.{◌≡◌, ◌++◌, map, decimal, string_bytes, IfOk, OnOk};
 ghost use Rattle.admin_pages.specs.Figures.{tenant_of};
-ghost use Rattle.admin_pages.specs.Metrics.{label_byte, label_text, head_text, sample_text, labelled_text, measure_text, sample_of, labels_text, measures_text, samples_text, family_text, families_text, tenants_text};
+ghost use Rattle.admin_pages.specs.Metrics.{label_byte, label_text, head_text, sample_text, labelled_text, measure_text, sample_of, labels_text, measures_text, samples_text, family_text, families_text, seconds_text, ready_metric, ready_sample, ready_samples, ready_text, tenants_text};
 
 use crate::counter::{MetricKind, SpanCounter};
 use crate::figures::TenantFigures;
 use std::alloc::{AllocError, Global};
 
-/// Appends the families of all counters, with a sample for each tenant under its name.
+/// The metric of when something of a tenant is due.
+const READY: &str = "nimchaes_ready_uptime_seconds";
+
+/// Appends the families of all counters, with a sample for each tenant under its name, and behind them that of when
+/// something of the tenants is due, with a sample for each of which something waits.
+#[tactic(auto, using(crate::proofs::Joined::more))]
 pub fn put_tenant_metrics(
     alloc: Global,
     out: &mut Vec<u8>,
@@ -18,7 +23,8 @@ pub fn put_tenant_metrics(
         (map tenant_of tenants.now)) }
 {
     let counters = SpanCounter::all();
-    put_families(alloc, out, tenants, &counters)
+    put_families(alloc, out, tenants, &counters)?;
+    put_ready(alloc, out, tenants)
 }
 
 /// Appends a family of one sample without a label. Its help has no backslash and no line feed.
@@ -77,7 +83,7 @@ fn put_labels(
         ≡ out.old.items ++ labels_text name.now label.now (map sample_of samples.entry.now)) }
 {
     while let [first, rest @ ..] = samples {
-        put_labelled(alloc, out, name, label, first.labelled, first.value)?;
+        put_figure(alloc, out, name, label, first.labelled, first.value)?;
         samples = rest;
     }
     Ok(())
@@ -128,7 +134,7 @@ fn put_samples(
 {
     while let [first, rest @ ..] = tenants {
         let value = counter.value(&first.counters);
-        put_labelled(
+        put_figure(
             alloc,
             out,
             counter.metric(),
@@ -156,9 +162,64 @@ fn put_head(
     out.extend_from_slice(head.as_bytes())
 }
 
-/// Appends a sample under one label.
+/// Appends the family of when something of these tenants is due.
 #[tactic(auto, using(crate::proofs::Joined::more))]
-fn put_labelled(
+fn put_ready(alloc: Global, out: &mut Vec<u8>, tenants: &[TenantFigures]) -> Result<(), AllocError>
+    ensures { OnOk result (out.new.items ≡ out.old.items ++ ready_text
+        (map tenant_of tenants.now)) }
+{
+    let help = "Seconds after the start at which something of the tenant is due next";
+    put_head(alloc, out, READY, help, MetricKind::Gauge)?;
+    put_moments(alloc, out, tenants)
+}
+
+/// Appends a sample of each tenant of which something waits.
+fn put_moments(
+    alloc: Global,
+    out: &mut Vec<u8>,
+    mut tenants: &[TenantFigures],
+) -> Result<(), AllocError>
+    ensures { OnOk result (out.new.items
+        ≡ out.old.items ++ ready_samples (map tenant_of tenants.entry.now)) }
+{
+    while let [first, rest @ ..] = tenants {
+        put_moment(alloc, out, first.name.as_str(), first.ready)?;
+        tenants = rest;
+    }
+    Ok(())
+}
+
+/// Appends the sample of when something of the tenant of this name is due, if anything waits.
+fn put_moment(
+    alloc: Global,
+    out: &mut Vec<u8>,
+    tenant: &str,
+    ready: Option<u64>,
+) -> Result<(), AllocError>
+    ensures { OnOk result (out.new.items ≡ out.old.items ++ ready_sample tenant.now ready) }
+{
+    match ready {
+        Some(moment) => {
+            let seconds = seconds_of(alloc, moment)?;
+            put_labelled(out, READY, "tenant", tenant, seconds.as_bytes())
+        }
+        None => Ok(()),
+    }
+}
+
+/// A moment of this many milliseconds, in seconds.
+fn seconds_of(alloc: Global, milliseconds: u64) -> Result<String, AllocError>
+    ensures { IfOk result (λ text. string_bytes text ≡ seconds_text milliseconds) }
+{
+    let seconds = milliseconds / 1000;
+    let tenths = milliseconds / 100 % 10;
+    let hundredths = milliseconds / 10 % 10;
+    let thousandths = milliseconds % 10;
+    format!(in alloc; "{seconds}.{tenths}{hundredths}{thousandths}")
+}
+
+/// Appends a figure under one label.
+fn put_figure(
     alloc: Global,
     out: &mut Vec<u8>,
     name: &str,
@@ -167,7 +228,23 @@ fn put_labelled(
     value: u64,
 ) -> Result<(), AllocError>
     ensures { OnOk result (out.new.items
-        ≡ out.old.items ++ labelled_text name.now label.now labelled.now value) }
+        ≡ out.old.items ++ labelled_text name.now label.now labelled.now (decimal value)) }
+{
+    let value = format!(in alloc; "{value}")?;
+    put_labelled(out, name, label, labelled, value.as_bytes())
+}
+
+/// Appends a sample under one label, whose value is this text.
+#[tactic(auto, using(crate::proofs::Joined::more))]
+fn put_labelled(
+    out: &mut Vec<u8>,
+    name: &str,
+    label: &str,
+    labelled: &str,
+    value: &[u8],
+) -> Result<(), AllocError>
+    ensures { OnOk result (out.new.items
+        ≡ out.old.items ++ labelled_text name.now label.now labelled.now value.now) }
 {
     out.extend_from_slice(name.as_bytes())?;
     out.extend_from_slice(b"{")?;
@@ -175,8 +252,7 @@ fn put_labelled(
     out.extend_from_slice(b"=\"")?;
     put_label(out, labelled.as_bytes())?;
     out.extend_from_slice(b"\"} ")?;
-    let value = format!(in alloc; "{value}")?;
-    out.extend_from_slice(value.as_bytes())?;
+    out.extend_from_slice(value)?;
     out.extend_from_slice(b"\n")
 }
 

@@ -11,15 +11,14 @@ ghost use Rattle.admin_pages.specs.Figures.{tenant_of};
 ghost use Rattle.admin_pages.specs.Json.{string_text};
 ghost use Rattle.admin_pages.specs.Settings.{status_text, statuses_behind, strings_behind, leaf_text, leaves_behind, policy_text, policies_behind, sampling_text, batch_text, queue_text, retry_text, plain_text, tables_text, section_text, settled_text};
 
-use crate::counter::SpanCounter;
 use crate::figures::TenantFigures;
-use crate::json::{put_counters, put_string};
+use crate::json::{put_figures, put_string};
 use std::alloc::{AllocError, Global};
 use tail_settings::{
     Batch, LeafPolicy, PolicySpec, RetryOnFailure, Section, SendingQueue, StatusCode, TailSampling,
 };
 
-/// Appends the object of a tenant, with its settings behind its counters.
+/// Appends the object of a tenant, with its settings behind its figures.
 #[tactic(auto, using(crate::proofs::Joined::more), unfolding(crate::specs::Settings::settled_text))]
 pub fn put_settled_tenant(
     alloc: Global,
@@ -30,9 +29,7 @@ pub fn put_settled_tenant(
     ensures { OnOk result (out.new.items
         ≡ out.old.items ++ settled_text (tenant_of tenant.now) (section_view section.now)) }
 {
-    out.extend_from_slice(b"{\"tenant\":")?;
-    put_string(out, tenant.name.as_str())?;
-    put_counters(alloc, out, tenant, &SpanCounter::all())?;
+    put_figures(alloc, out, tenant)?;
     out.extend_from_slice(b",\"settings\":")?;
     put_section(alloc, out, section)?;
     out.extend_from_slice(b"}")

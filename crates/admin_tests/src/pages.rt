@@ -1,6 +1,6 @@
 //! Figures as a scraper and a page read them.
 
-use crate::figures::{EACH, tenant};
+use crate::figures::{EACH, due, tenant};
 use admin_pages::{
     MetricKind, put_measure, put_string, put_tenant, put_tenant_metrics, put_tenants,
 };
@@ -25,10 +25,43 @@ nimchaes_undecided_spans{tenant=\"a\"} 2\n"
     assert!(rt; text.starts_with(begins));
     let ends = b"# TYPE nimchaes_over_budget_spans_total counter\n\
 nimchaes_over_budget_spans_total{tenant=\"a\"} 14\n\
-nimchaes_over_budget_spans_total{tenant=\"b\\\\c\\\"d\\ne\"} 0\n"
+nimchaes_over_budget_spans_total{tenant=\"b\\\\c\\\"d\\ne\"} 0\n\
+# HELP nimchaes_ready_uptime_seconds Seconds after the start at which something of the tenant is due next\n\
+# TYPE nimchaes_ready_uptime_seconds gauge\n"
         .as_slice();
     assert!(rt; text.ends_with(ends));
-    assert_eq!(rt; text.iter().filter(|byte| **byte == b'\n').count(), 14 * 4);
+    assert_eq!(rt;
+        text.iter().filter(|byte| **byte == b'\n').count(),
+        14 * 4 + 2
+    );
+    Ok(())
+}
+
+#[test]
+fn who_waits_has_a_moment_in_seconds(rt: HostRuntime) -> Result<(), Fail> {
+    let alloc = rt.alloc();
+    let tenants = [
+        due(alloc, "a", 0)?,
+        tenant(alloc, "nothing", EACH)?,
+        due(alloc, "b", 7)?,
+        due(alloc, "c", 10)?,
+        due(alloc, "d", 999)?,
+        due(alloc, "e", 1000)?,
+        due(alloc, "f\"", 3_600_120)?,
+        due(alloc, "g", u64::MAX)?,
+    ];
+    let mut text = Vec::new(alloc);
+    put_tenant_metrics(alloc, &mut text, &tenants)?;
+    let ends = b"# TYPE nimchaes_ready_uptime_seconds gauge\n\
+nimchaes_ready_uptime_seconds{tenant=\"a\"} 0.000\n\
+nimchaes_ready_uptime_seconds{tenant=\"b\"} 0.007\n\
+nimchaes_ready_uptime_seconds{tenant=\"c\"} 0.010\n\
+nimchaes_ready_uptime_seconds{tenant=\"d\"} 0.999\n\
+nimchaes_ready_uptime_seconds{tenant=\"e\"} 1.000\n\
+nimchaes_ready_uptime_seconds{tenant=\"f\\\"\"} 3600.120\n\
+nimchaes_ready_uptime_seconds{tenant=\"g\"} 18446744073709551.615\n"
+        .as_slice();
+    assert!(rt; text.ends_with(ends));
     Ok(())
 }
 
@@ -56,7 +89,7 @@ nimchaes_lane_jobs 3\n"
 const EACH_MEMBERS: &str =
     ",\"accepted\":77,\"undecided\":2,\"pending\":3,\"queued\":4,\"active\":5,\"exported\":6,\
 \"not_sampled\":7,\"too_early\":8,\"queue_full\":9,\"retry_exhausted\":10,\"back_end_refused\":11,\
-\"back_end_rejected\":12,\"invalid\":13,\"over_budget\":14}";
+\"back_end_rejected\":12,\"invalid\":13,\"over_budget\":14,\"ready_at_ms\":null}";
 
 #[test]
 fn a_tenant_is_an_object(rt: HostRuntime) -> Result<(), Fail> {
@@ -65,6 +98,23 @@ fn a_tenant_is_an_object(rt: HostRuntime) -> Result<(), Fail> {
     put_tenant(alloc, &mut text, &tenant(alloc, "shop", EACH)?)?;
     let wanted = format!(in alloc; "{{\"tenant\":\"shop\"{EACH_MEMBERS}")?;
     assert!(rt; text.as_slice() == wanted.as_bytes());
+    Ok(())
+}
+
+#[test]
+fn who_waits_has_a_moment_in_milliseconds(rt: HostRuntime) -> Result<(), Fail> {
+    for (moment, ends) in [
+        (0, ",\"over_budget\":0,\"ready_at_ms\":0}"),
+        (61_005, ",\"over_budget\":0,\"ready_at_ms\":61005}"),
+        (
+            u64::MAX,
+            ",\"over_budget\":0,\"ready_at_ms\":18446744073709551615}",
+        ),
+    ] {
+        let mut text = Vec::new(rt.alloc());
+        put_tenant(rt.alloc(), &mut text, &due(rt.alloc(), "a", moment)?)?;
+        assert!(rt; text.ends_with(ends.as_bytes()));
+    }
     Ok(())
 }
 

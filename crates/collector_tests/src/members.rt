@@ -1,5 +1,5 @@
-//! Stories of one shard that no script of `replay` can tell: bodies for other policies, strangers, and when a member is
-//! empty.
+//! Stories of one shard that no script of `replay` can tell: bodies for other policies, strangers, and what members
+//! wait for.
 
 use crate::lines::{answers_of, is_told, parts_of, put_all, step_of, steps_of};
 use crate::sections::{BASE, ERRORS, settings_of};
@@ -116,31 +116,61 @@ fn members_are_told_their_own(rt: HostRuntime) -> Result<(), Fail> {
     Ok(())
 }
 
-/// Whether a member alone holds spans after each step. A moment that is past counts as the latest one, so that the span
-/// waits from 100 on; a batch that failed is sent again after half of the first interval.
-const HELD: &str = "empty post a.b 0 11.21 = refused a 23
-empty report a 100 = report a accepted=0 undecided=0 pending=0 queued=0 active=0 \
+/// What a member alone waits for after each step: whether it is empty, when it is ready, when the second tenant is,
+/// which is no member, and when the shard is. A moment that is past counts as the latest one, so that the span waits
+/// from 100 on; a batch that failed is sent again after half of the first interval.
+const HELD: &str = "empty - - - post a.b 0 11.21 = refused a 23
+empty - - - report a 100 = report a accepted=0 undecided=0 pending=0 queued=0 active=0 \
 exported=0 not_sampled=0 too_early=0 queue_full=0 \
 retry_exhausted=0 back_end_refused=0 back_end_rejected=0 invalid=0 over_budget=0
-holds post a 0 11.21 = reply a 200 -
-holds turn 0 1099 = idle 0
-holds turn 0 1100 = job a 1 11.21
-holds answer a 1100 1 0 failed - - = done a
-holds report a 0 = report a accepted=1 undecided=0 pending=0 queued=0 active=1 \
+holds 1100 - 1100 post a 0 11.21 = reply a 200 -
+holds 1100 - 1100 turn 0 1099 = idle 0
+holds - - - turn 0 1100 = job a 1 11.21
+holds 3600 - 3600 answer a 1100 1 0 failed - - = done a
+holds 3600 - 3600 report a 0 = report a accepted=1 undecided=0 pending=0 queued=0 active=1 \
 exported=0 not_sampled=0 too_early=0 queue_full=0 \
 retry_exhausted=0 back_end_refused=0 back_end_rejected=0 invalid=0 over_budget=0
-holds turn 0 3599 = idle 0
-holds turn 0 3600 = job a 2 11.21
-holds answer a 3600 1 0 200 - - = refused a 21
-empty answer a 3600 2 0 200 - - = done a
-empty drain a 3600 = done a
-empty turn 0 3600 = idle 0
-empty report a 3600 = report a accepted=1 undecided=0 pending=0 queued=0 active=0 \
+holds 3600 - 3600 turn 0 3599 = idle 0
+holds - - - turn 0 3600 = job a 2 11.21
+holds - - - answer a 3600 1 0 200 - - = refused a 21
+empty - - - answer a 3600 2 0 200 - - = done a
+empty - - - drain a 3600 = done a
+empty - - - turn 0 3600 = idle 0
+empty - - - report a 3600 = report a accepted=1 undecided=0 pending=0 queued=0 active=0 \
 exported=1 not_sampled=0 too_early=0 queue_full=0 \
 retry_exhausted=0 back_end_refused=0 back_end_rejected=0 invalid=0 over_budget=0";
 
-/// Whether the step of a line gives what the line says, and leaves the member with spans or without. The second tenant
-/// is no member.
+/// The same of two members. The second's error waits a second for its trace, and another one for a batch, which its
+/// drain makes at once. The first's second batch waits for the answer to the one before it.
+const BOTH_WAIT: &str = "empty - 1050 1050 post b 50 11.21.7a021802 = reply b 200 -
+holds 1100 1050 1050 post a 100 11.21 = reply a 200 -
+holds 1100 2050 1100 turn 0 1050 = worked b
+holds - 2050 2050 turn 0 1100 = job a 1 11.21
+holds 2102 2050 2050 post a 1102 12.22 = reply a 200 -
+holds 2102 1103 1103 drain b 1103 = done b
+holds 2102 1103 1103 turn 0 1102 = idle 0
+holds 2102 - 2102 turn 0 1103 = job b 1 11.21.7a021802
+holds 2102 - 2102 answer b 1103 1 0 200 - - = done b
+holds 2102 - 2102 retire b 1103 = report b accepted=1 undecided=0 pending=0 queued=0 active=0 \
+exported=1 not_sampled=0 too_early=0 queue_full=0 \
+retry_exhausted=0 back_end_refused=0 back_end_rejected=0 invalid=0 over_budget=0
+holds - - - turn 0 2102 = worked a
+holds 2102 - 2102 answer a 2102 1 0 200 - - = done a
+holds - - - turn 0 2102 = job a 2 12.22
+empty - - - answer a 2102 2 0 200 - - = done a";
+
+/// A line's first column, and the rest.
+fn column_of(line: &str) -> Result<(&str, &str), Fail> {
+    Ok(line.split_once(' ').ok_or("a line of one word")?)
+}
+
+/// The moment in a column, or none where a dash stands there.
+fn moment_in(column: &str) -> Option<u64> {
+    column.parse().ok()
+}
+
+/// Whether the step of a line gives what the line says, and leaves the first two tenants and the shard waiting for what
+/// its columns say.
 fn is_left<R: Threads + Sync>(
     rt: &R,
     alloc: Global,
@@ -149,11 +179,25 @@ fn is_left<R: Threads + Sync>(
     line: &str,
 ) -> Result<bool, Fail> {
     let (step, wanted) = parts_of(line)?;
-    let (holds, step) = step.split_once(' ').ok_or("a line of one word")?;
+    let (holds, step) = column_of(step)?;
+    let (first_ready, step) = column_of(step)?;
+    let (second_ready, step) = column_of(step)?;
+    let (shard_ready, step) = column_of(step)?;
     let step = step_of(rt, alloc, settings, step)?;
     let outcome = shard.step(&step)?;
+    let first = shard.waiting(0);
+    let second = shard.waiting(1);
     let is_empty = holds == "empty";
-    Ok(shard.is_empty(0) == is_empty && !shard.is_empty(1) && is_told(alloc, &outcome, wanted)?)
+    Ok(
+        first.is_empty == is_empty
+            && shard.is_empty(0) == is_empty
+            && second.is_empty == shard.is_empty(1)
+            && first.tenant_ready == moment_in(first_ready)
+            && second.tenant_ready == moment_in(second_ready)
+            && first.shard_ready == moment_in(shard_ready)
+            && second.shard_ready == moment_in(shard_ready)
+            && is_told(alloc, &outcome, wanted)?,
+    )
 }
 
 #[test]
@@ -165,9 +209,24 @@ fn a_member_is_empty_once_its_batches_are_answered(rt: HostRuntime) -> Result<()
     assert!(rt; members_of(rt.alloc(), &settings, 1)?.is_empty());
     for line in HELD.lines() {
         assert!(rt;
+            is_left(&rt, rt.alloc(), &settings, &mut shard, line)? && !shard.is_empty(1),
+            "{line}"
+        );
+    }
+    Ok(())
+}
+
+#[test]
+fn a_shard_waits_for_the_first_of_its_members(rt: HostRuntime) -> Result<(), Fail> {
+    let settings = settings_of(rt.alloc(), &[BASE, ERRORS])?;
+    let mut shard = Shard::open(rt.alloc(), &settings, &[1, 0])?;
+    assert!(rt; shard.waiting(0).shard_ready == None);
+    for line in BOTH_WAIT.lines() {
+        assert!(rt;
             is_left(&rt, rt.alloc(), &settings, &mut shard, line)?,
             "{line}"
         );
     }
+    assert!(rt; shard.waiting(0).is_empty && !shard.waiting(1).is_empty);
     Ok(())
 }

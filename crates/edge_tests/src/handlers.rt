@@ -83,6 +83,22 @@ impl Handler for Lacking {
     }
 }
 
+/// Answers that there was no memory, and notes how much room the last body had beside its bytes.
+#[derive(Drop)]
+pub struct Measuring {
+    pub alloc: Global,
+    pub spare: Option<usize>,
+}
+
+impl Handler for Measuring {
+    ghost answers = { λ _ _ _ _. Unit {0} };
+
+    fn handle<T: Threads + Sync>(&mut self, _rt: &T, message: HttpMessage) -> Reply {
+        self.spare = Some(message.body.capacity().saturating_sub(message.body.len()));
+        no_memory(self.alloc)
+    }
+}
+
 /// The reply that takes no memory.
 fn no_memory(alloc: Global) -> Reply {
     Reply {

@@ -1,7 +1,7 @@
 //! Talks and connections, in each way.
 
 use crate::connections::CONNECTIONS;
-use crate::handlers::{Echo, Front, Lacking};
+use crate::handlers::{Echo, Front, Lacking, Measuring};
 use crate::names::NAMES;
 use crate::notation::names_of;
 use crate::talks::{LONG_TALKS, TALKS};
@@ -118,6 +118,32 @@ fn is_told_of_memory<R: Threads + Sync>(rt: &R, alloc: Global) -> Result<bool, A
 #[test]
 fn a_reply_that_tells_of_memory_needs_none(rt: HostRuntime) -> Result<(), Fail> {
     assert!(rt; is_told_of_memory(&rt, rt.alloc())?);
+    Ok(())
+}
+
+/// How much room the body of a message has beside its bytes, where the message comes to the handler.
+fn spare_room<R: Threads + Sync>(
+    rt: &R,
+    alloc: Global,
+    message: &[u8],
+) -> Result<Option<usize>, AllocError> {
+    let input = Vec::from_slice(alloc, message)?;
+    let mut line = MemoryLine::new(input, Vec::new(alloc), Vec::new(alloc), 0);
+    let mut handler = Measuring { alloc, spare: None };
+    let mut buffer = connection_buffer(alloc)?;
+    match serve(rt, alloc, &mut line, &mut handler, &mut buffer) {
+        Ok(()) => Ok(handler.spare),
+        Err(_) => Ok(None),
+    }
+}
+
+#[test]
+fn bodies_have_no_room_that_they_leave_empty(rt: HostRuntime) -> Result<(), Fail> {
+    let sized = b"POST / HTTP/1.1\r\nHost: c\r\nContent-Length: 4\r\n\r\nabcd";
+    assert_eq!(rt; spare_room(&rt, rt.alloc(), sized)?, Some(0));
+    let chunked = b"POST / HTTP/1.1\r\nHost: c\r\nTransfer-Encoding: chunked\r\n\r\n\
+3\r\nabc\r\n1\r\nd\r\n0\r\n\r\n";
+    assert_eq!(rt; spare_room(&rt, rt.alloc(), chunked)?, Some(0));
     Ok(())
 }
 

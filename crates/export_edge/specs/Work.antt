@@ -123,3 +123,22 @@ pub record Sending {B S T : Type 0} (posts : B → Posted → B → Type 0) (tak
   pub popped : List NumberedJob
   pub pops : after ≡ before ++ popped
   pub jobs : map (λ h. h.post.job) sent ≡ items_of popped
+
+-- whatever was sent before, this was sent behind it
+abbrev pub SendsBehind : {B S T : Type 0} → (B → Posted → B → Type 0) → (takes refuses : S → Given → S → Type 0)
+    → (T → ℕ → T → Type 0) → (T → T → Type 0) → (back_end back_end' : B) → (sink sink' : S) → (beat beat' : T)
+    → (popped popped' : List NumberedJob) → Type 0
+SendsBehind {B} {S} {T} posts takes refuses gives rests back_end back_end' sink sink' beat beat' popped popped' =
+    (b : B) (s : S) (t : T) (before : List NumberedJob)
+    → Sending posts takes refuses gives rests b back_end s sink t beat before popped
+    → Sending posts takes refuses gives rests b back_end' s sink' t beat' before popped'
+
+-- the job was posted, and the answer to it handed in, each time at the moment that the beat then gave
+abbrev pub SendsJob : {B S T : Type 0} → (B → Posted → B → Type 0) → (takes refuses : S → Given → S → Type 0)
+    → (T → ℕ → T → Type 0) → (T → T → Type 0) → Job → (back_end back_end' : B) → (sink sink' : S) → (beat beat' : T)
+    → Type 0
+SendsJob posts takes refuses gives rests job back_end back_end' sink sink' beat beat' =
+    (answer : AnswerData) × (refusals : List ℕ) × (now : ℕ)
+    × posts back_end (posted job answer) back_end'
+    × Hands takes refuses sink (handed (posted job answer) refusals now) sink'
+    × Ticks gives rests beat (refusals ++ now ∷ []) beat'

@@ -1,8 +1,7 @@
 //! Who takes jobs from the lane, posts them and hands in the answers.
 ghost use Rattle.std.specs.Prelude.{◌≡◌, ℕ, List, [], ◌∷◌, ◌++◌};
-ghost use Rattle.job_lane.specs.Lane.{NumberedJob};
-ghost use Rattle.send_retry.specs.Class.{AnswerData, answer_view};
-ghost use Rattle.export_edge.specs.Work.{posted, handed, Hands, Sending, Ticks};
+ghost use Rattle.send_retry.specs.Class.{answer_view};
+ghost use Rattle.export_edge.specs.Work.{posted, handed, Hands, Sending, Ticks, SendsBehind, SendsJob};
 
 use crate::back_end::BackEnd;
 use crate::work::{AnswerRefused, AnswerSink, Beat};
@@ -46,11 +45,8 @@ fn send_once<B: BackEnd, S: AnswerSink, T: Beat, R: Wait>(
     requires { seat.old.lane ≡ lane.now.name }
     ensures same { (seat.new.lane ≡ seat.old.lane) × (seat.new.pushes ≡ seat.old.pushes) }
     // Whatever was done before.
-    ensures work { (b : B) (s : S) (t : T) (before : List NumberedJob)
-        → Sending B.posts S.takes S.refuses T.gives T.rests b back_end.old s sink.old t beat.old
-        before seat.old.pops
-        → Sending B.posts S.takes S.refuses T.gives T.rests b back_end.new s sink.new t beat.new
-        before seat.new.pops }
+    ensures work { SendsBehind B.posts S.takes S.refuses T.gives T.rests back_end.old back_end.new
+        sink.old sink.new beat.old beat.new seat.old.pops seat.new.pops }
 {
     match lane.pop(rt, seat) {
         Some(job) => send(rt, back_end, sink, beat, &job),
@@ -66,10 +62,8 @@ fn send<B: BackEnd, S: AnswerSink, T: Beat, R: Wait>(
     beat: &mut T,
     job: &Job,
 )
-    ensures { (answer : AnswerData) × (refusals : List ℕ) × (now : ℕ)
-        × B.posts back_end.old (posted job.now answer) back_end.new
-        × Hands S.takes S.refuses sink.old (handed (posted job.now answer) refusals now) sink.new
-        × Ticks T.gives T.rests beat.old (refusals ++ now ∷ []) beat.new }
+    ensures { SendsJob B.posts S.takes S.refuses T.gives T.rests job.now back_end.old back_end.new
+        sink.old sink.new beat.old beat.new }
 {
     let answer = back_end.post(job);
     hand_in(rt, sink, beat, job, &answer);

@@ -8,11 +8,12 @@ use Rattle.http1.specs.Body.{Body, body_of, ReadsBody}
 use Rattle.http1.specs.Decoder.{decoder_for, Completes, with_front}
 use Rattle.http1.specs.declared.framing.Framing.TheVariants as Framed
 use Rattle.http1.specs.declared.decode.Decoder.TheVariants.{UntilClose}
+use Rattle.http_line.specs.Line.{Moves}
 use Rattle.http_edge.specs.Message.{max_fields}
 use Rattle.http_edge.specs.Chunks.{HasChunkedBody}
 use Rattle.http_edge.specs.Stages.{IsAt}
 use Rattle.httparse.specs.Grammar.{Field, ResponseHead, print_response, HasNoResponse, status_code}
-use Rattle.send_retry.specs.Class.{Failed}
+use Rattle.send_retry.specs.Class.{AnswerData, Failed}
 use Rattle.http_edge.specs.Post.{HasAnswerHead, HasAnswerBody, HasFinalHead, RefusesAnswerHead, Tells, answer_framing_of, retry_after_of, kept_of, max_kept}
 use Rattle.http_edge.specs.declared.chunks.ChunkedState.{ChunkedState as PartCode}
 use Rattle.http_edge.specs.declared.answer_head.AnswerHead.{AnswerHead}
@@ -90,6 +91,13 @@ pub record IsAnswerHead (bytes : List ℕ) (head : AnswerHead) (h : ResponseHead
   pub status : head.status ≡ status_code h
   pub framing : head.framing ≡ answer_framing_of h
   pub retry_after : head.retry_after ≡ retry_after_of h
+
+-- whatever head of the grammar stands so at the front of the buffer: what was read behind it tells this answer
+abbrev pub TellsBehind : {L : Type 0} → (gives takes : L → L → List ℕ → Type 0) → (first last : L) → Bool
+    → List ℕ → AnswerHead → AnswerData → Type 0
+TellsBehind gives takes first last ended buffer head answer = (h : ResponseHead) → IsAnswerHead buffer head h
+    → (read : List ℕ) × Moves gives takes first last read []
+    × ((before : List ℕ) → HasFinalHead before h (drop head.len buffer) → Tells (before ++ read) ended answer)
 
 -- what the bytes of an answer begin with
 abbrev pub IsAnswerHeadProgress : List ℕ → AnswerHeadProgress → Type 0

@@ -13,6 +13,14 @@ max_head = 65536
 abbrev pub max_part : ℕ
 max_part = 65536
 
+-- room for so many bytes of a body is made before they come
+abbrev pub first_room : ℕ
+first_room = 1048576
+
+-- so many bytes of one read of a head, of a chunk or of an answer at most
+abbrev pub part_room : ℕ
+part_room = 4096
+
 -- so many bytes of one read at most
 abbrev pub max_read : ℕ
 max_read = 65536

@@ -1,6 +1,6 @@
 -- What the private functions find at the front of the buffer, and how far they get. The messages are those of RFC 9112,
 -- as Message has them; the stages are this project's own.
-use Rattle.std.specs.Prelude.{◌≡◌, ◌≢◌, ℕ, ◌+◌, ◌<◌, ◌≤◌, ◌++◌, Bool, true, false, List, map, take, drop, length, Some, None, Option, ⊤}
+use Rattle.std.specs.Prelude.{◌≡◌, ◌≢◌, ℕ, ◌+◌, ◌<◌, ◌≤◌, ◌++◌, Bool, true, false, not, List, [], map, take, drop, length, Some, None, Option, ⊤}
 use Rattle.httparse.specs.Grammar.{RequestHead, HasNoRequest, MayBecomeRequest, print_request}
 use Rattle.httparse.specs.declared.Error.{Error}
 use Rattle.httparse.specs.declared.Error.TheVariants.{TooManyHeaders}
@@ -24,8 +24,8 @@ use Rattle.http_edge.specs.declared.chunks.Piece.{Piece as PieceCode}
 use Rattle.http_edge.specs.declared.chunks.Piece.TheVariants as Found
 use Rattle.http_edge.specs.Chunks.{line_part, bytes_part, trailer_part, Reaches, FailsAt, LacksAt, HasChunkedBody, StopsAt}
 use Rattle.http_edge.specs.Message.{Request, Response, Message, Frame, sized, chunked, headers_of, framing_of, max_fields, max_body, HasHead, HasBody, IsTooLong, IsBroken, LacksBody, HasMessage, request_of, expects, closes, is_bodiless}
-use Rattle.http_edge.specs.Talk.{RefusesHead, head_lines, Exchange, exchange_text, Ends, Due, Lacks}
-use Rattle.http_edge.specs.Reply.{reply_text, refusal_text}
+use Rattle.http_edge.specs.Talk.{RefusesHead, head_lines, Exchange, exchange_text, Ends, Due, Lacks, Talks}
+use Rattle.http_edge.specs.Reply.{reply_text, refusal_text, is_for_no_memory}
 use Rattle.http_line.specs.Line.{Moves}
 use Rattle.http_edge.specs.Seen.{header_of}
 
@@ -148,6 +148,18 @@ pub record Replies {H : Type 0} (answers : H → Request → Response → H
   pub answered : answers old (request_of m) reply new
   pub text : reply_text (is_bodiless m.head) (closes m.head) reply ≡ written ++ missing
 
+-- the message was answered, the reply is written whole, and the connection goes on or not
+abbrev pub RepliesWhole : {H : Type 0} → (H → Request → Response → H → Type 0) → (old new : H)
+    → {L : Type 0} → (gives takes : L → L → List ℕ → Type 0) → (first last : L) → Message → Bool → Type 0
+RepliesWhole answers old new gives takes first last m goes = (text : List ℕ)
+    × Moves gives takes first last [] text × Replies answers old new m text [] × (goes ≡ not (closes m.head))
+
+-- the message was answered, by no reply for want of memory, and nothing is written of the reply
+abbrev pub RepliesUnwritten : {H : Type 0} → (H → Request → Response → H → Type 0) → (old new : H)
+    → {L : Type 0} → (gives takes : L → L → List ℕ → Type 0) → (first last : L) → Message → Type 0
+RepliesUnwritten answers old new gives takes first last m = Moves gives takes first last [] []
+    × (missing : List ℕ) × (told : Replies answers old new m [] missing) × (is_for_no_memory told.reply ≡ false)
+
 -- a message was answered, and the connection goes on
 pub record StaysOpen {H : Type 0} (answers : H → Request → Response → H
     → Type 0) (old new : H) {L : Type 0} (gives takes : L → L → List ℕ → Type 0) (first last : L)
@@ -179,6 +191,13 @@ pub record IsBrokenOff {H : Type 0} (answers : H → Request → Response → H
   pub moves : Moves gives takes first last read written
   pub missing : List ℕ
   pub due : Due answers old (before ++ read) new (written ++ missing)
+
+-- the same of a whole talk
+abbrev pub BreaksOff : {H : Type 0} → (H → Request → Response → H → Type 0) → (old new : H)
+    → {L : Type 0} → (gives takes : L → L → List ℕ → Type 0) → (first last : L) → Type 0
+BreaksOff answers old new gives takes first last = (read : List ℕ) × (written : List ℕ)
+    × Moves gives takes first last read written
+    × (missing : List ℕ) × Talks answers (Due answers) old read new (written ++ missing)
 
 -- want of memory ended it, and nothing was said of that
 pub record IsShort {H : Type 0} (answers : H → Request → Response → H

@@ -1,15 +1,14 @@
 //! Answers of a back end.
-ghost use Rattle.std.specs.Prelude.{◌≡◌, ◌≢◌, ℕ, ◌/◌, ◌<◌, ◌≤◌, ◌==◌, ◌&&◌, nat_lt, not, List, [], ◌++◌, drop, length, IfOk, OnOk, OnErr, Ok, Err};
-ghost use Rattle.httparse.specs.Grammar.{ResponseHead};
+ghost use Rattle.std.specs.Prelude.{◌≡◌, ◌≢◌, ℕ, ◌/◌, ◌≤◌, ◌==◌, ◌&&◌, nat_lt, not, List, [], length, IfOk, OnOk, OnErr, Err};
 ghost use Rattle.send_retry.specs.Class.{answer_view};
 ghost use Rattle.http_line.specs.Line.{Moves};
 ghost use Rattle.http_edge.specs.Steps.{HasFailed};
-ghost use Rattle.http_edge.specs.Post.{Tells, OneAnswer, HasFinalHead};
-ghost use Rattle.http_edge.specs.AnswerBody.{IsFinal, IsAnswerHead};
+ghost use Rattle.http_edge.specs.Post.{Tells, OneAnswer};
+ghost use Rattle.http_edge.specs.AnswerBody.{IsFinal, TellsBehind};
 
 use crate::answer_body::read_answer_body;
 use crate::answer_head::{AnswerHead, AnswerHeadProgress, read_answer_head};
-use crate::wire::{EdgeFault, drop_front};
+use crate::wire::{EdgeFault, PartRoom, drop_front};
 use http_line::Line;
 use send_retry::Answer;
 use std::alloc::Global;
@@ -28,11 +27,12 @@ pub fn read_answer<L: Line>(alloc: Global, line: &mut L) -> Result<Answer, EdgeF
         → HasFailed (L.failed line.old) (L.failed line.new) }
     ensures no_write { result ≢ Err EdgeFault.WriteFailed }
 {
+    let mut room: PartRoom = [0u8; 4096];
     let mut buffer = Vec::new(alloc);
-    match read_final_head(line, &mut buffer)? {
+    match read_final_head(line, &mut room, &mut buffer)? {
         None => Ok(Answer::Failed),
         Some(head) => {
-            let answer = read_after(alloc, line, &mut buffer, head)?;
+            let answer = read_after(alloc, line, &mut room, &mut buffer, head)?;
             Ok(answer)
         }
     }
@@ -41,6 +41,7 @@ pub fn read_answer<L: Line>(alloc: Global, line: &mut L) -> Result<Answer, EdgeF
 /// Reads the head that no other head follows, after at most so many interim ones. None: none comes.
 fn read_final_head<L: Line>(
     line: &mut L,
+    room: &mut PartRoom,
     buffer: &mut Vec<u8>,
 ) -> Result<Option<AnswerHead>, EdgeFault>
     requires { buffer.old.items ≡ [] }
@@ -57,7 +58,7 @@ fn read_final_head<L: Line>(
 {
     let mut interims = 0;
     'heads: loop {
-        match read_answer_head(line, buffer)? {
+        match read_answer_head(line, room, buffer)? {
             AnswerHeadProgress::More => return Ok(None),
             AnswerHeadProgress::Bad => return Ok(None),
             AnswerHeadProgress::Whole(head) => {
@@ -85,17 +86,13 @@ fn is_interim(status: u16) -> bool
 fn read_after<L: Line>(
     alloc: Global,
     line: &mut L,
+    room: &mut PartRoom,
     buffer: &mut Vec<u8>,
     head: AnswerHead,
 ) -> Result<Answer, EdgeFault>
     requires { head.len ≤ length buffer.old.items }
-    ensures on_success { IfOk result (λ answer. (h : ResponseHead)
-        → IsAnswerHead buffer.old.items head h
-        → (read : List ℕ)
-        × Moves L.gives L.takes line.old line.new read []
-        × ((before : List ℕ) → HasFinalHead before h (drop head.len buffer.old.items)
-        → Tells (before ++ read) (nat_lt (L.ends line.old) (L.ends line.new))
-        (answer_view answer))) }
+    ensures on_success { IfOk result (λ answer. TellsBehind L.gives L.takes line.old line.new
+        (nat_lt (L.ends line.old) (L.ends line.new)) buffer.old.items head (answer_view answer)) }
     ensures on_error { OnErr result ((read : List ℕ)
         × Moves L.gives L.takes line.old line.new read []) }
     ensures ends { L.ends line.old ≤ L.ends line.new }
@@ -107,7 +104,7 @@ fn read_after<L: Line>(
         None => Ok(Answer::Failed),
         Some(framing) => {
             drop_front(buffer, head.len);
-            match read_answer_body(alloc, line, buffer, framing)? {
+            match read_answer_body(alloc, line, room, buffer, framing)? {
                 None => Ok(Answer::Failed),
                 Some(body) => Ok(Answer::Http {
                     status: head.status,

@@ -6,7 +6,7 @@ ghost use Rattle.http_edge.specs.Stages.{IsAt};
 ghost use Rattle.http_edge.specs.AnswerBody.{Keeps, HasCome, IsPlainPieces, IsChunkPieces, IsPlainBody, IsAnswerBody};
 
 use crate::chunks::{ChunkedState, Piece, next_piece};
-use crate::wire::{EdgeFault, PART_ROOM, Watch, drop_front, fill};
+use crate::wire::{EdgeFault, PartRoom, Watch, drop_front, fill};
 use http_line::Line;
 use http1::Limits;
 use http1::decode::{Decoded, Decoder};
@@ -57,6 +57,7 @@ pub(crate) enum AnswerPieces {
 pub(crate) fn read_answer_body<L: Line>(
     alloc: Global,
     line: &mut L,
+    room: &mut PartRoom,
     buffer: &mut Vec<u8>,
     framing: Framing,
 ) -> Result<Option<Vec<u8>>, EdgeFault>
@@ -73,10 +74,10 @@ pub(crate) fn read_answer_body<L: Line>(
     ensures no_write { result ≢ Err EdgeFault.WriteFailed }
 {
     if is_chunked(framing) {
-        let chunks = read_answer_chunks(alloc, line, buffer)?;
+        let chunks = read_answer_chunks(alloc, line, room, buffer)?;
         return Ok(chunks);
     }
-    let plain = read_plain_body(alloc, line, buffer, framing)?;
+    let plain = read_plain_body(alloc, line, room, buffer, framing)?;
     Ok(plain)
 }
 
@@ -96,6 +97,7 @@ fn is_chunked(framing: Framing) -> bool
 fn read_answer_chunks<L: Line>(
     alloc: Global,
     line: &mut L,
+    room: &mut PartRoom,
     buffer: &mut Vec<u8>,
 ) -> Result<Option<Vec<u8>>, EdgeFault>
     ensures on_success { IfOk result (λ found. (read : List ℕ)
@@ -129,7 +131,7 @@ fn read_answer_chunks<L: Line>(
             },
         }
         watch.drop_front(taken);
-        let more = fill(line, buffer, &mut [0u8; PART_ROOM])?;
+        let more = fill(line, buffer, room)?;
         ended = !more;
     }
 }
@@ -202,6 +204,7 @@ fn take_plain(
 fn read_plain_body<L: Line>(
     alloc: Global,
     line: &mut L,
+    room: &mut PartRoom,
     buffer: &mut Vec<u8>,
     framing: Framing,
 ) -> Result<Option<Vec<u8>>, EdgeFault>
@@ -235,7 +238,7 @@ fn read_plain_body<L: Line>(
             AnswerPieces::Bad => return Ok(None),
             AnswerPieces::More => {}
         }
-        if !fill(line, buffer, &mut [0u8; PART_ROOM])? {
+        if !fill(line, buffer, room)? {
             match framing {
                 Framing::UntilClose => return Ok(Some(kept.bytes)),
                 Framing::NoBody => return Ok(None),

@@ -9,7 +9,7 @@ ghost use Rattle.http_edge.specs.AnswerBody.{IsAnswerHeadProgress};
 
 use crate::fields::{field, framing_in, number};
 use crate::single::Single;
-use crate::wire::{EdgeFault, PART_ROOM, Watch, fill};
+use crate::wire::{EdgeFault, PartRoom, Watch, fill};
 use http_line::Line;
 use http1::framing::Framing;
 use httparse::Status;
@@ -42,6 +42,7 @@ pub(crate) enum AnswerHeadProgress {
 /// Reads until a head is there, a bad one, or the end.
 pub(crate) fn read_answer_head<L: Line>(
     line: &mut L,
+    room: &mut PartRoom,
     buffer: &mut Vec<u8>,
 ) -> Result<AnswerHeadProgress, EdgeFault>
     ensures on_success { IfOk result (λ begin. (read : List ℕ)
@@ -65,7 +66,7 @@ pub(crate) fn read_answer_head<L: Line>(
                 begin => return Ok(begin),
             }
         }
-        if !fill(line, buffer, &mut [0u8; PART_ROOM])? {
+        if !fill(line, buffer, room)? {
             return Ok(answer_head_at(buffer));
         }
     }

@@ -1,6 +1,7 @@
 //! The body of a message.
-ghost use Rattle.std.specs.Prelude.{◌≡◌, ◌≢◌, ℕ, ◌+◌, ◌<◌, ◌≤◌, List, [], ◌++◌, length, drop, IfOk, OnOk, OnErr, true, false, Err, Ok};
+ghost use Rattle.std.specs.Prelude.{◌≡◌, ◌≢◌, ℕ, ◌+◌, ◌<◌, ◌≤◌, min, List, [], ◌++◌, length, drop, vec_capacity, IfOk, OnOk, OnErr, true, false, Err, Ok};
 ghost use Rattle.http_edge.specs.Message.{sized, chunked, max_body};
+ghost use Rattle.http_edge.specs.Limits.{first_room};
 ghost use Rattle.http_line.specs.Line.{Moves};
 ghost use Rattle.http_edge.specs.Steps.{work, HasFailed};
 ghost use Rattle.http_edge.specs.Stages.{frame_by, bytes_due, IsAt, IsPieces, IsRead};
@@ -124,13 +125,22 @@ fn take_front(
         buffer.old.items) }
     ensures within { IfOk result (λ body. length body.items ≤ len) }
     ensures all { IfOk result (λ body. length body.items < len → buffer.new.items ≡ []) }
+    ensures room { IfOk result (λ body. min len first_room ≤ vec_capacity body) }
     ensures shorter { OnOk result (length buffer.new.items + from ≤ length buffer.old.items) }
 {
     let end = from + len.min(buffer.len() - from);
-    let mut body = Vec::with_capacity(alloc, len.min(FIRST_ROOM))?;
+    let mut body = first_room(alloc, len)?;
     body.extend_from_slice(&buffer[from..end])?;
     drop_front(buffer, end);
     Ok(body)
+}
+
+/// Room for the first part of a body of so many bytes.
+fn first_room(alloc: Global, len: usize) -> Result<Vec<u8>, AllocError>
+    ensures empty { IfOk result (λ body. body.items ≡ []) }
+    ensures room { IfOk result (λ body. vec_capacity body ≡ min len first_room) }
+{
+    Vec::with_capacity(alloc, len.min(FIRST_ROOM))
 }
 
 /// For how many bytes of a body there is to be room where so many have come: once the first part has, for all of it.
@@ -138,6 +148,7 @@ fn next_stage(come: usize, len: usize) -> usize
     requires { come < len }
     ensures more { come < result }
     ensures within { result ≤ len }
+    ensures first { come < first_room → result ≤ first_room }
 {
     if come < FIRST_ROOM {
         len.min(FIRST_ROOM)

@@ -21,6 +21,8 @@ pub fn write_post<L: Line>(
     ensures on_error { OnErr result ((front : List ℕ) × (missing : List ℕ)
         × (post_text host.now payload.now ≡ front ++ missing)
         × Moves L.gives L.takes line.old line.new [] front) }
+    ensures quiet { result ≡ Err EdgeFault.OutOfMemory
+        → Moves L.gives L.takes line.old line.new [] [] }
     ensures failed { result ≡ Err EdgeFault.WriteFailed
         → HasFailed (L.failed line.old) (L.failed line.new) }
     ensures no_read { result ≢ Err EdgeFault.ReadFailed }

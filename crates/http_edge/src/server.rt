@@ -1,13 +1,14 @@
 //! The loop over messages.
-ghost use Rattle.std.specs.Prelude.{◌≡◌, ◌≢◌, ℕ, ◌+◌, ◌<◌, ◌≤◌, ◌⊎◌, Bool, not, List, [], ◌++◌, length, map, take, drop, if◌then◌else◌, IfOk, IfErr, IfSome, OnOk, OnErr, Some, None, true, false, Ok, Err};
+ghost use Rattle.std.specs.Prelude.{◌≡◌, ◌≢◌, ℕ, ◌+◌, ◌<◌, ◌≤◌, Bool, List, [], ◌++◌, length, map, if◌then◌else◌, IfOk, IfErr, IfSome, OnOk, OnErr, Some, None, true, false, Ok, Err, vec_capacity};
 ghost use Rattle.httparse.specs.Grammar.{RequestHead};
-ghost use Rattle.http_edge.specs.Talk.{Talk, Talks, Begins, Due, Lacks, head_lines};
+ghost use Rattle.http_edge.specs.Talk.{Talk, Talks, Begins, Lacks, head_lines};
 ghost use Rattle.http_edge.specs.Reply.{refusal_text, reply_text, continue_text, is_for_no_memory};
 ghost use Rattle.http_edge.specs.Message.{closes, max_fields, max_head};
+ghost use Rattle.http_edge.specs.Limits.{part_room};
 ghost use Rattle.http_line.specs.Line.{Moves};
 ghost use Rattle.http_edge.specs.Steps.{work, HasFailed};
 ghost use Rattle.http_edge.specs.Seen.{seen, header_of, response_of};
-ghost use Rattle.http_edge.specs.Stages.{IsHeadProgress, IsHeadOf, message_with, Replies, StaysOpen, IsOver, IsCut};
+ghost use Rattle.http_edge.specs.Stages.{IsHeadProgress, IsHeadOf, message_with, Replies, StaysOpen, IsOver, IsCut, RepliesWhole, RepliesUnwritten, BreaksOff};
 ghost use Rattle.http_edge.specs.declared.wire.EdgeFault.TheVariants.{OutOfMemory};
 
 use crate::body::{BodyRead, read_body};
@@ -24,7 +25,8 @@ const CONNECTION_ROOM: usize = 65_536 + PART_ROOM;
 
 /// A buffer for one connection after another. It has room for the longest head and for the longest line of a chunk.
 pub fn connection_buffer(alloc: Global) -> Result<Vec<u8>, AllocError>
-    ensures { IfOk result (λ buffer. buffer.items ≡ []) }
+    ensures empty { IfOk result (λ buffer. buffer.items ≡ []) }
+    ensures room { IfOk result (λ buffer. max_head + part_room ≤ vec_capacity buffer) }
 {
     Vec::with_capacity(alloc, CONNECTION_ROOM)
 }
@@ -78,11 +80,8 @@ fn converse<T: Threads + Sync, L: Line, H: Handler>(
         × Moves L.gives L.takes line.old line.new read written
         × Talk H.answers handler.old read handler.new written over
         × (over ≡ false → L.ends line.old < L.ends line.new)) }
-    ensures broken { IfErr result (λ fault. fault ≢ OutOfMemory → (read : List ℕ)
-        × (written : List ℕ)
-        × Moves L.gives L.takes line.old line.new read written
-        × (missing : List ℕ) × Talks H.answers (Due H.answers) handler.old read handler.new
-        (written ++ missing)) }
+    ensures broken { IfErr result (λ fault. fault ≢ OutOfMemory
+        → BreaksOff H.answers handler.old handler.new L.gives L.takes line.old line.new) }
     ensures short { result ≡ Err OutOfMemory → (read : List ℕ) × (written : List ℕ)
         × Moves L.gives L.takes line.old line.new read written
         × Talks H.answers (Lacks H.answers) handler.old read handler.new written }
@@ -326,19 +325,16 @@ fn handle_message<T: Threads + Sync, L: Line, H: Handler>(
     head: Head,
     body: Vec<u8>,
 ) -> Result<bool, EdgeFault>
-    ensures on_success { IfOk result (λ goes. (h : RequestHead) → IsHeadOf head h → (text : List ℕ)
-        × Moves L.gives L.takes line.old line.new [] text
-        × Replies H.answers handler.old handler.new (message_with h body.items) text []
-        × (goes ≡ not (closes h))) }
+    ensures on_success { IfOk result (λ goes. (h : RequestHead) → IsHeadOf head h
+        → RepliesWhole H.answers handler.old handler.new L.gives L.takes line.old line.new
+        (message_with h body.items) goes) }
     ensures on_error { OnErr result ((h : RequestHead) → IsHeadOf head h → (text : List ℕ)
         × Moves L.gives L.takes line.old line.new [] text
         × (missing : List ℕ)
         × Replies H.answers handler.old handler.new (message_with h body.items) text missing) }
     ensures short { result ≡ Err OutOfMemory → (h : RequestHead) → IsHeadOf head h
-        → Moves L.gives L.takes line.old line.new [] []
-        × (missing : List ℕ)
-        × (told : Replies H.answers handler.old handler.new (message_with h body.items) [] missing)
-        × (is_for_no_memory told.reply ≡ false) }
+        → RepliesUnwritten H.answers handler.old handler.new L.gives L.takes line.old line.new
+        (message_with h body.items) }
     ensures end { L.ends line.new ≡ L.ends line.old }
     ensures reads { L.reads_left line.new ≡ L.reads_left line.old }
     ensures kept { OnOk result (L.failed line.new ≡ L.failed line.old) }

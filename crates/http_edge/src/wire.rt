@@ -1,6 +1,7 @@
 //! Reading into a buffer, and writing.
 ghost use Rattle.std.specs.Prelude.{◌≡◌, ◌≢◌, ℕ, ◌+◌, ◌-◌, ◌/◌, ◌<◌, ◌≤◌, List, [], ◌++◌, length, drop, IfOk, OnOk, OnErr, IsTrue, true, false, Ok, Err};
 ghost use Rattle.httparse.specs.Pieces.{is_newline};
+ghost use Rattle.http_edge.specs.Chunks.{has_line_end};
 ghost use Rattle.http_edge.specs.Limits.{max_part, max_read};
 ghost use Rattle.http_line.specs.Line.{Moves};
 ghost use Rattle.http_edge.specs.Steps.{work, HasFailed};
@@ -51,6 +52,9 @@ pub(crate) type Room = [u8; 8192];
 
 /// A head, a chunk and an answer are read in so many bytes at most, so that little is behind what is looked at.
 pub(crate) const PART_ROOM: usize = 4096;
+
+/// What an answer is read through.
+pub(crate) type PartRoom = [u8; 4096];
 
 /// Reads once, through this room, to the end of the buffer, and says whether a byte came.
 pub(crate) fn fill<L: Line>(
@@ -140,11 +144,14 @@ impl Watch {
         ensures seen { self.new.seen ≡ length bytes.now }
         ensures looked { result ≡ true → self.new.looked ≡ length bytes.now }
         ensures kept { result ≡ false → self.new.looked ≡ self.old.looked }
+        ensures line { self.old.is_begun ≡ true → self.old.seen ≤ length bytes.now
+            → has_line_end (drop self.old.seen bytes.now) ≡ true → result ≡ true }
+        ensures begun { self.old.is_begun ≡ true → self.new.is_begun ≡ true }
     {
         let fresh = &bytes[self.seen.min(bytes.len())..];
         self.seen = bytes.len();
         self.is_begun |= fresh.iter().any(|b| !is_line_end(*b));
-        let is_line = self.is_begun && fresh.iter().any(|b| *b == b'\n');
+        let is_line = self.is_begun && fresh.contains(&b'\n');
         let is_due = ended || is_line || bytes.len() >= MAX_PART || bytes.len() / 2 >= self.looked;
         if is_due {
             self.looked = bytes.len();

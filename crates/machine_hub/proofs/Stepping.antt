@@ -103,10 +103,10 @@ module _ {M S O : Type 0} (steps : M → S → O → M → Type 0) (loses : M �
     late_calls = t.late;
   }
 
-  pub told_so : {Q : Type 0} (is_so : M → Q → Bool) (question : Q) (slot : TableId) (v u : SlotView M S O) (seat : SeatState M S O) (s : Standing M S O) (told : Told)
-      → seat_of slot v ≡ seat → v.parts ≡ 1 → Taken steps loses v s u → told.answer ≡ is_so s.machine question → told.stopped ≡ s.stopped → WasTold steps loses is_so seat question told
-  told_so is_so question slot v u seat s told is part t answer stopped =
-      subst (λ (y : SeatState M S O). WasTold steps loses is_so y question told) is (with_history t.entries t.later s, known_by slot v u s t part, answer, stopped)
+  pub told_so : {Q A : Type 0} (reads : M → Q → A → Type 0) (question : Q) (slot : TableId) (v u : SlotView M S O) (seat : SeatState M S O) (s : Standing M S O) (told : Told A)
+      → seat_of slot v ≡ seat → v.parts ≡ 1 → Taken steps loses v s u → reads s.machine question told.answer → told.stopped ≡ s.stopped → WasTold steps loses reads seat question told
+  told_so reads question slot v u seat s told is part t answer stopped =
+      subst (λ (y : SeatState M S O). WasTold steps loses reads y question told) is (with_history t.entries t.later s, known_by slot v u s t part, answer, stopped)
 
   -- what the seat knows after the step
   after_view : (v u w : SlotView M S O) (before s : Standing M S O) (e : Entry S O) (t : Taken steps loses v before u) → Stepped u s w → s.last ≡ Some e

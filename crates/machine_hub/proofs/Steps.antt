@@ -60,6 +60,6 @@ module _ {M S O : Type 0} (steps : M → S → O → M → Type 0) (loses : M �
     receipt_is = receipt_is ∙ ap (option_map (λ (g : ℕ × Entry S O). receipt_at k g.0)) did.given_is;
   }
 
-  pub told_on : {Q : Type 0} (is_so : M → Q → Bool) (ss me : List (SeatState M S O)) (self : List TableId) (k : ℕ) (s : SeatState M S O) (question : Q) (told : Told)
-      → ss ≡ me → slots_of me ≡ self → k < length self → s ≡ get_or ss k s → WasTold steps loses is_so s question told → IsToldOn steps loses is_so me k question told
-  told_on is_so ss me self k s question told is e lt got was = (s, subst (λ l. slice_get l k ≡ Some s) is (seat_at ss me self k s is e lt got), was)
+  pub told_on : {Q A : Type 0} (reads : M → Q → A → Type 0) (ss me : List (SeatState M S O)) (self : List TableId) (k : ℕ) (s : SeatState M S O) (question : Q) (told : Told A)
+      → ss ≡ me → slots_of me ≡ self → k < length self → s ≡ get_or ss k s → WasTold steps loses reads s question told → IsToldOn steps loses reads me k question told
+  told_on reads ss me self k s question told is e lt got was = (s, subst (λ l. slice_get l k ≡ Some s) is (seat_at ss me self k s is e lt got), was)

@@ -95,10 +95,10 @@ pub record IsCallOn {C M S O : Type 0} (asks : C → S → Type 0) (steps : M �
 
 -- at one moment of a call the machine of this shard, which did all that the caller's earlier calls there gave, answered
 -- so
-abbrev pub IsToldOn : {M S O Q : Type 0} → (M → S → O → M → Type 0) → (M → M → Type 0) → (M → Q → Bool) →
-    List (SeatState M S O) → ℕ → Q → Told → Type 0
-IsToldOn {M} {S} {O} steps loses is_so callers shard question told =
-    (seat : SeatState M S O) × (slice_get callers shard ≡ Some seat) × WasTold steps loses is_so seat question told
+abbrev pub IsToldOn : {M S O Q A : Type 0} → (M → S → O → M → Type 0) → (M → M → Type 0) → (M → Q → A → Type 0) →
+    List (SeatState M S O) → ℕ → Q → Told A → Type 0
+IsToldOn {M} {S} {O} steps loses reads callers shard question told =
+    (seat : SeatState M S O) × (slice_get callers shard ≡ Some seat) × WasTold steps loses reads seat question told
 
 module _ {M S O : Type 0} (steps : M → S → O → M → Type 0) where
   -- what all callers' calls at a shard tell of it at the end. What it did is a run from what it was at first, which the

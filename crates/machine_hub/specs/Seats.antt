@@ -168,11 +168,11 @@ pub record IsStepOf {C M S O : Type 0} (asks : C → S → Type 0) (steps : M �
 
 -- at one moment of a call the seat's machine, which did all that the seat's earlier calls gave, answered so, and had
 -- been refused memory or hadn't
-abbrev pub WasTold : {M S O Q : Type 0} → (M → S → O → M → Type 0) → (M → M → Type 0) → (M → Q → Bool) →
-    SeatState M S O → Q → Told → Type 0
-WasTold {M} {S} {O} steps loses is_so seat question told =
+abbrev pub WasTold : {M S O Q A : Type 0} → (M → S → O → M → Type 0) → (M → M → Type 0) → (M → Q → A → Type 0) →
+    SeatState M S O → Q → Told A → Type 0
+WasTold {M} {S} {O} steps loses reads seat question told =
     (s : Standing M S O) × IsSeatsMachine steps loses seat s
-    × (told.answer ≡ is_so s.machine question) × (told.stopped ≡ s.stopped)
+    × reads s.machine question told.answer × (told.stopped ≡ s.stopped)
 
 -- what the calls of all seats tell of the machine at its end: what it did is a run from what it was at first, which the
 -- log has where it keeps; each entry is one call's and each call with an entry is there; a call without one came only

@@ -103,18 +103,17 @@ impl<M: Machine, L: StepLog<M>> Hub<M, L> {
         Ok((outcome, receipt))
     }
 
-    /// Whether the question's answer is yes for a shard's machine, and whether that was refused memory before. It makes
-    /// no step.
+    /// What the question is told of a shard's machine, and whether that was refused memory before. It makes no step.
     pub fn ask<R: Wait>(
         &self,
         rt: &R,
         me: &mut Caller<M, L>,
         shard: usize,
         question: &M::Question,
-    ) -> Told
+    ) -> Told<M::Reading>
         requires shard { shard < length self.now }
         requires same_hub { slots_of me.old ≡ self.now }
-        ensures answer { IsToldOn M.steps M.loses M.is_so me.old shard question.now result }
+        ensures answer { IsToldOn M.steps M.loses M.reads me.old shard question.now result }
         ensures same { me.new ≡ me.old }
     {
         let seat = &mut me.seats[shard];

@@ -1,8 +1,8 @@
 //! A machine with its log.
 
-ghost use Rattle.std.specs.Prelude.{◌≡◌, ◌+◌, ◌<◌, [], length, true, false, Some, IfOk, OnErr, option_map};
+ghost use Rattle.std.specs.Prelude.{◌≡◌, ◌+◌, ◌^◌, ◌<◌, ◌++◌, ◌∷◌, [], length, true, false, Some, IfOk, OnOk, OnErr, option_map};
 ghost use Rattle.std.specs.Arc.{arc_value};
-ghost use Rattle.machine_hub.specs.Runs.{entry, IsLoss, IsMade};
+ghost use Rattle.machine_hub.specs.Runs.{entry, IsLoss, IsLogged, IsMade};
 
 use crate::entry::{Entry, EntryOf};
 use crate::log::StepLog;
@@ -82,70 +82,95 @@ impl<M: Machine, L: StepLog<M>> LoggedMachine<M, L> {
         ensures lost { OnErr result (IsLoss M.steps M.loses self.old.machine self.new.machine) }
         ensures same { (self.new.number ≡ self.old.number) × (self.new.keeps ≡ self.old.keeps) }
     {
-        if self.stopped {
-            let (_step, outcome) = self.make(alloc, call)?;
-            return Ok((outcome, None));
+        self.make_room(alloc)?;
+        match self.machine.make(alloc, call) {
+            Ok(made) => self.log_made(alloc, made),
+            Err(error) => {
+                self.stopped = true;
+                Err(error)
+            }
         }
-        let made = self.make_and_log(alloc, call);
-        if made.is_err() {
-            self.stopped = true;
-        }
-        made
     }
 
-    /// Makes one step and logs it, where the log isn't stopped.
-    fn make_and_log(
+    /// Makes room for one entry more, unless the log is stopped. Where memory is refused it is stopped.
+    fn make_room(&mut self, alloc: Global) -> Result<(), AllocError>
+        ensures room { OnOk result ((self.new.stopped ≡ false)
+            → length self.new.entries + 1 < 2 ^ 64) }
+        ensures stays { OnOk result (self.new.stopped ≡ self.old.stopped) }
+        ensures on_refusal { OnErr result (self.new.stopped ≡ true) }
+        ensures same { (self.new.machine ≡ self.old.machine)
+            × (self.new.entries ≡ self.old.entries)
+            × (self.new.number ≡ self.old.number) × (self.new.keeps ≡ self.old.keeps) }
+    {
+        if self.stopped {
+            return Ok(());
+        }
+        let room = self.log.room(alloc, self.number);
+        self.stopped = room.is_err();
+        room
+    }
+
+    /// Remembers a step that was made, and logs it unless the log is stopped. Where memory is refused it is stopped.
+    fn log_made(
         &mut self,
         alloc: Global,
-        call: M::Call,
+        made: (M::Step, M::Outcome),
     ) -> Result<(M::Outcome, Given<M>), AllocError>
-        requires { self.old.stopped ≡ false }
-        ensures made { IfOk result (λ r. IsMade M.asks M.steps call self.old self.new r.0
+        requires room { (self.old.stopped ≡ false) → length self.old.entries + 1 < 2 ^ 64 }
+        ensures outcome { IfOk result (λ r. r.0 ≡ made.1) }
+        ensures last { IfOk result (λ r. self.new.last ≡ Some (entry made.0 made.1)) }
+        ensures logged { IfOk result (λ r. IsLogged self.old self.new (entry made.0 made.1)
             (option_map (λ given. (given.0, arc_value given.1)) r.1)) }
-        ensures on_refusal { OnErr result (self.new.entries ≡ self.old.entries) }
-        ensures lost { OnErr result (IsLoss M.steps M.loses self.old.machine self.new.machine) }
-        ensures same { (self.new.number ≡ self.old.number) × (self.new.keeps ≡ self.old.keeps) }
+        ensures on_refusal { OnErr result
+            ((self.new.entries ≡ self.old.entries) × (self.new.stopped ≡ true)) }
+        ensures same { (self.new.machine ≡ self.old.machine)
+            × (self.new.number ≡ self.old.number) × (self.new.keeps ≡ self.old.keeps) }
     {
-        self.log.room(alloc, self.number)?;
-        let (step, outcome) = self.make(alloc, call)?;
-        if !self.log.keeps() {
+        let made = Some(made);
+        self.last = Remembered::of(&made);
+        let Some((step, outcome)) = made else {
+            unreachable!()
+        };
+        if self.stopped || !self.log.keeps() {
             return Ok((outcome, None));
         }
-        let copy = M::copied(&outcome)?;
-        let kept = self.log.keep(
-            alloc,
-            Entry {
-                step,
-                outcome: copy,
-            },
-        )?;
-        let position = self.made;
-        self.made = position + 1;
-        Ok((outcome, Some((position, kept))))
-    }
-
-    /// Makes one step.
-    fn make(&mut self, alloc: Global, call: M::Call) -> Result<(M::Step, M::Outcome), AllocError>
-        ensures asked { IfOk result (λ made. M.asks call made.0) }
-        ensures made { IfOk result (λ made. M.steps self.old.machine made.0 made.1
-            self.new.machine) }
-        ensures lost { OnErr result (M.loses self.old.machine self.new.machine) }
-        ensures last { IfOk result (λ made. self.new.last ≡ Some (entry made.0 made.1)) }
-        ensures log { (self.new.entries ≡ self.old.entries)
-            × (self.new.stopped ≡ self.old.stopped) }
-        ensures same { (self.new.number ≡ self.old.number) × (self.new.keeps ≡ self.old.keeps) }
-    {
-        let made = Some(self.machine.make(alloc, call)?);
-        self.last = Remembered::of(&made);
-        match made {
-            Some(made) => Ok(made),
-            None => unreachable!(),
+        match self.keep(alloc, step, &outcome) {
+            Ok(given) => Ok((outcome, Some(given))),
+            Err(error) => {
+                self.stopped = true;
+                Err(error)
+            }
         }
     }
 
-    /// Whether the question's answer is yes. It makes no step.
-    pub fn tell(&self, question: &M::Question) -> bool
-        ensures { result ≡ M.is_so self.now.machine question.now }
+    /// Keeps the entry of a step that was made. Gives it with its position.
+    fn keep(
+        &mut self,
+        alloc: Global,
+        step: M::Step,
+        outcome: &M::Outcome,
+    ) -> Result<(u64, Arc<EntryOf<M>, Global>), AllocError>
+        requires room { length self.old.entries + 1 < 2 ^ 64 }
+        requires keeps { self.old.keeps ≡ true }
+        ensures given { IfOk result (λ r. (r.0 ≡ length self.old.entries)
+            × (arc_value r.1 ≡ entry step outcome.now)) }
+        ensures kept { IfOk result (λ r.
+            self.new.entries ≡ self.old.entries ++ entry step outcome.now ∷ []) }
+        ensures on_refusal { OnErr result (self.new.entries ≡ self.old.entries) }
+        ensures stays { (self.new.stopped ≡ self.old.stopped) × (self.new.last ≡ self.old.last) }
+        ensures same { (self.new.machine ≡ self.old.machine)
+            × (self.new.number ≡ self.old.number) × (self.new.keeps ≡ self.old.keeps) }
+    {
+        let outcome = M::copied(outcome)?;
+        let kept = self.log.keep(alloc, Entry { step, outcome })?;
+        let position = self.made;
+        self.made = position + 1;
+        Ok((position, kept))
+    }
+
+    /// What the question is told. It makes no step.
+    pub fn tell(&self, question: &M::Question) -> M::Reading
+        ensures { M.reads self.now.machine question.now result }
     {
         self.machine.tell(question)
     }

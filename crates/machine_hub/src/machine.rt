@@ -4,7 +4,7 @@ use std::alloc::{AllocError, Global};
 
 /// A state machine. A call names a step, but for what only the machine knows, as the next of its random words.
 pub trait Machine: Drop + Send {
-    ghost use Rattle.std.specs.Prelude.{◌≡◌, Bool, IfOk, OnErr};
+    ghost use Rattle.std.specs.Prelude.{◌≡◌, IfOk, OnErr};
 
     /// What a caller asks for.
     type Call: Drop;
@@ -18,6 +18,9 @@ pub trait Machine: Drop + Send {
     /// What can be asked of a state without a step.
     type Question: Drop;
 
+    /// What a question is told.
+    type Reading: Drop;
+
     // a state of no meaning, which stands in clauses before there is a machine
     ghost nowhere: { Self };
 
@@ -30,8 +33,8 @@ pub trait Machine: Drop + Send {
     // want of memory may leave a state so
     ghost loses: { Self → Self → Type 0 };
 
-    // whether a question's answer is yes in a state
-    ghost is_so: { Self → Self.Question → Bool };
+    // a question may be told this in a state
+    ghost reads: { Self → Self.Question → Self.Reading → Type 0 };
 
     /// Makes one step. Where memory is refused the step isn't done.
     fn make(
@@ -43,9 +46,9 @@ pub trait Machine: Drop + Send {
         ensures made { IfOk result (λ made. steps self.old made.0 made.1 self.new) }
         ensures lost { OnErr result (loses self.old self.new) };
 
-    /// Whether the question's answer is yes.
-    fn tell(&self, question: &Self::Question) -> bool
-        ensures { result ≡ is_so self.now question.now };
+    /// What the question is told. It changes nothing.
+    fn tell(&self, question: &Self::Question) -> Self::Reading
+        ensures { reads self.now question.now result };
 
     /// A copy of an outcome.
     fn copied(outcome: &Self::Outcome) -> Result<Self::Outcome, AllocError>

@@ -178,10 +178,15 @@ impl<M: Machine, L: StepLog<M>> Slot<M, L> {
         }
     }
 
-    /// Whether the question's answer is yes. It makes no step, and the machine's log has nothing of it.
-    pub fn ask<R: Wait>(&self, rt: &R, me: &mut SlotSeat<M, L>, question: &M::Question) -> Told
+    /// What the question is told. It makes no step, and the machine's log has nothing of it.
+    pub fn ask<R: Wait>(
+        &self,
+        rt: &R,
+        me: &mut SlotSeat<M, L>,
+        question: &M::Question,
+    ) -> Told<M::Reading>
         requires { me.old.slot ≡ self.now }
-        ensures answer { WasTold M.steps M.loses M.is_so me.old question.now result }
+        ensures answer { WasTold M.steps M.loses M.reads me.old question.now result }
         ensures same { me.new ≡ me.old }
     {
         let _guard = self.gate.lock(rt);

@@ -24,6 +24,8 @@ mod refusals;
 #[cfg(test)]
 mod retries;
 #[cfg(test)]
+mod retry_settings;
+#[cfg(test)]
 mod rules;
 #[cfg(test)]
 mod senders;

@@ -1,25 +1,17 @@
 //! A sender that is refused memory: the call changes nothing, and does the next time what it is to do.
 
+use crate::retry_settings::ENDLESS;
 use bytes::Bytes;
 use send_queue::{Batch, OfferFault, SendQueue, Settled};
 use send_retry::Answer;
 use std::alloc::AllocError;
 use std::process::Abort;
 use std::test::Fail;
-use tail_settings::{RetryOnFailure, SendingQueue};
+use tail_settings::SendingQueue;
 
 const TWO_AT_A_TIME: SendingQueue = SendingQueue {
     queue_size: 3,
     num_consumers: 2,
-};
-
-/// The exporterhelper's defaults, without an end.
-const RETRIES: RetryOnFailure = RetryOnFailure {
-    initial_interval: 5000,
-    max_interval: 30_000,
-    max_elapsed_time: 0,
-    multiplier: 1500,
-    randomization_factor: 500,
 };
 
 /// A batch that formed at 1000, of as many spans as its payload has bytes.
@@ -79,7 +71,7 @@ fn due_of_failed(queue: &mut SendQueue, ticket: u64) -> u64 {
 // Each run with one allocation refused has to end well, too.
 #[test]
 fn where_memory_is_refused_a_sender_stays(rt: HostRuntime) -> Result<(), Fail> {
-    let mut queue = SendQueue::new(rt.alloc(), &TWO_AT_A_TIME, &RETRIES)?;
+    let mut queue = SendQueue::new(rt.alloc(), &TWO_AT_A_TIME, &ENDLESS)?;
     assert!(rt; is_taken_at_last(&rt, &mut queue, b"a"));
     assert!(rt; is_taken_at_last(&rt, &mut queue, b"bb"));
     assert!(rt; is_taken_at_last(&rt, &mut queue, b"ccc"));
@@ -96,7 +88,7 @@ fn where_memory_is_refused_a_sender_stays(rt: HostRuntime) -> Result<(), Fail> {
 // What a step offered before it was refused memory leaves again, the latest first.
 #[test]
 fn a_step_that_is_refused_memory_takes_back_its_batches(rt: HostRuntime) -> Result<(), Fail> {
-    let mut queue = SendQueue::new(rt.alloc(), &TWO_AT_A_TIME, &RETRIES)?;
+    let mut queue = SendQueue::new(rt.alloc(), &TWO_AT_A_TIME, &ENDLESS)?;
     assert!(rt; is_taken_at_last(&rt, &mut queue, b"a"));
     let before = seen(&queue);
     assert!(rt; is_taken_at_last(&rt, &mut queue, b"bb"));

@@ -2,33 +2,17 @@
 
 use crate::answers::answer;
 use crate::lines::{cut, number, small, words};
+use crate::retry_settings::{ENDLESS, LONG_ENOUGH};
 use send_retry::{NextDelay, RetryState, Verdict, classify, next_delay};
 use std::alloc::{AllocError, Global};
 use std::test::Fail;
 use tail_settings::RetryOnFailure;
 
-/// The exporterhelper's defaults, without an end.
-const ENDLESS: RetryOnFailure = RetryOnFailure {
-    initial_interval: 5000,
-    max_interval: 30_000,
-    max_elapsed_time: 0,
-    multiplier: 1500,
-    randomization_factor: 500,
-};
-
-/// The same, but that no attempt comes later than this after the first.
+/// A millisecond less than is long enough.
 const TOO_SHORT: RetryOnFailure = RetryOnFailure {
     initial_interval: 5000,
     max_interval: 30_000,
     max_elapsed_time: 51_249,
-    multiplier: 1500,
-    randomization_factor: 500,
-};
-
-const LONG_ENOUGH: RetryOnFailure = RetryOnFailure {
-    initial_interval: 5000,
-    max_interval: 30_000,
-    max_elapsed_time: 51_250,
     multiplier: 1500,
     randomization_factor: 500,
 };

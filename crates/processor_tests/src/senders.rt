@@ -4,6 +4,7 @@ ghost use Rattle.processor_tests.specs.Senders.{Tickets};
 
 use crate::answers::answer;
 use crate::lines::{cut, number, small, words};
+use crate::retry_settings::{ENDLESS, LONG_ENOUGH};
 use bytes::Bytes;
 use send_queue::{Batch, OfferFault, SendQueue, SettleFault, Settled, offers_are_undone};
 use std::alloc::{AllocError, Global};
@@ -143,29 +144,11 @@ const TWO: SendingQueue = SendingQueue {
     num_consumers: 2,
 };
 
-/// The exporterhelper's defaults, without an end.
-const ENDLESS: RetryOnFailure = RetryOnFailure {
-    initial_interval: 5000,
-    max_interval: 30_000,
-    max_elapsed_time: 0,
-    multiplier: 1500,
-    randomization_factor: 500,
-};
-
-/// The same for so long.
+/// No attempt comes later than this after the first.
 const FIFTY_SECONDS: RetryOnFailure = RetryOnFailure {
     initial_interval: 5000,
     max_interval: 30_000,
     max_elapsed_time: 50_000,
-    multiplier: 1500,
-    randomization_factor: 500,
-};
-
-/// Just long enough for a third attempt.
-const LONG_ENOUGH: RetryOnFailure = RetryOnFailure {
-    initial_interval: 5000,
-    max_interval: 30_000,
-    max_elapsed_time: 51_250,
     multiplier: 1500,
     randomization_factor: 500,
 };

@@ -7,6 +7,7 @@ use Rattle.replay_script.specs.declared.fault.ScriptFault.{ScriptFault}
 use Rattle.replay_script.specs.declared.fault.ScriptFault.TheVariants.{Script, Line, OutOfMemory}
 use Rattle.replay_script.specs.Command.{CommandData}
 use Rattle.replay_script.specs.Line.{Kind, Skipped, Says, Faulty, kind_of, lines_of}
+use Rattle.replay_script.specs.Output.{Sends}
 
 -- how commands are answered
 abbrev pub AnswersOf : Type 0 → Type 1
@@ -56,3 +57,9 @@ Ends answers lines state unread written (Ok done) = Told answers lines 1 state w
 Ends answers lines state unread written (Err (Script line)) = Told answers lines 1 state written (Some line)
 Ends answers lines state unread written (Err Line) = BeginsTold answers lines state written
 Ends answers lines state unread written (Err OutOfMemory) = ToldSoFar answers lines state unread written
+
+-- the same where that came to text that was held, of which the writer gets the first part
+abbrev pub SendsAnswers : {S : Type 0} → AnswersOf S → List (List ℕ) → S → Option (List ℕ)
+    → (before after : Option (List ℕ)) → (held left : List ℕ) → Result Unit ScriptFault → Type 0
+SendsAnswers answers lines state unread before after held left result =
+    (text : List ℕ) × Sends before after held text left × Ends answers lines state unread text result

@@ -3,9 +3,8 @@
 ghost use Rattle.std.specs.Prelude.{◌≡◌, ℕ, ◌<◌, List, ◌++◌, length, IfSome, IfErr, OnOk, OnErr};
 ghost use Rattle.std.specs.Io.KnownBytes.{Appends};
 ghost use Rattle.replay_script.specs.Line.{kind_of, lines_of};
-ghost use Rattle.replay_script.specs.Transcript.{Ends};
+ghost use Rattle.replay_script.specs.Transcript.{Ends, SendsAnswers};
 ghost use Rattle.replay_script.specs.Step.{Adds, Refuses};
-ghost use Rattle.replay_script.specs.Output.{Sends};
 
 use crate::command::parse_line;
 use crate::fault::ScriptFault;
@@ -49,10 +48,10 @@ fn answer_lines<T: Threads + Sync, S: Session, R: BufRead, W: Write>(
     writer: &mut W,
     output: &mut Output,
 ) -> Result<(), ScriptFault>
-    ensures output { IfSome (R.remaining reader.old) (λ script. (text : List ℕ)
-        × Sends (W.contents writer.old) (W.contents writer.new) output.old.text.items text
-        output.new.text.items
-        × Ends S.answers (lines_of script) session.old (R.remaining reader.new) text result) }
+    ensures output { IfSome (R.remaining reader.old)
+        (λ script. SendsAnswers S.answers (lines_of script) session.old (R.remaining reader.new)
+        (W.contents writer.old) (W.contents writer.new) output.old.text.items output.new.text.items
+        result) }
     ensures little { OnOk result (length output.old.text.items < 65536
         → length output.new.text.items < 65536) }
 {

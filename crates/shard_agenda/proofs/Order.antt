@@ -5,7 +5,7 @@ use Rattle.std.specs.Prelude.{slice_get}
 use Rattle.shard_agenda.specs.declared.AgendaEntry.{AgendaEntry}
 use Rattle.shard_agenda.specs.Agenda.{ready_of, is_member, AreApart}
 use Rattle.shard_agenda.specs.Firsts.{is_before, precedes, IsRight}
-use Rattle.shard_agenda.specs.Pick.{NotAfter, IsPick}
+use Rattle.shard_agenda.specs.Pick.{NotAfter, IsPick, IsNext}
 use Rattle.shard_agenda.proofs.Tree.{first_is_least, first_is_there}
 
 -- no other stands before this one
@@ -55,7 +55,7 @@ is_member-at [] j x at = absurd (cc)
 is_member-at (y ∷ ys) zero x at = let same : y ≡ x = cc in subst (λ (z : AgendaEntry). is_member (y ∷ ys) z.tenant ≡ true) same (grind (arith, nat_tests))
 is_member-at (y ∷ ys) (suc j) x at = grind (arith, nat_tests, is_member-at ys j x at)
 
-ready_of-at : (es : List AgendaEntry) (j : ℕ) (x : AgendaEntry) → AreApart es → slice_get es j ≡ Some x → ready_of es x.tenant ≡ x.ready
+pub ready_of-at : (es : List AgendaEntry) (j : ℕ) (x : AgendaEntry) → AreApart es → slice_get es j ≡ Some x → ready_of es x.tenant ≡ x.ready
 ready_of-at [] j x apart at = absurd (cc)
 ready_of-at (y ∷ ys) zero x apart at = let same : y ≡ x = cc in subst (λ (z : AgendaEntry). ready_of (y ∷ ys) z.tenant ≡ z.ready) same (grind (arith, nat_tests))
 ready_of-at (y ∷ ys) (suc j) x apart at = by_test (eqb y.tenant x.tenant) refl (ready_of-at ys j x apart.1 at)
@@ -88,8 +88,26 @@ module _ (es fs : List AgendaEntry) (right : IsRight es fs) (x : AgendaEntry) (f
       after (inl h) = omega arith
       after (inr h) = omega (arith, h.0)
 
+  nobody_ready : x.ready ≡ None → (u k : ℕ) → ready_of es u ≡ Some k → ⊥
+  nobody_ready ready = never x.tenant es (subst (λ (r : Option ℕ). IsLeast (record { ready = r; tenant = x.tenant }) es) ready least)
+
   pub none_at : (now : ℕ) → x.ready ≡ None → IsPick (ready_of es) now None
-  none_at now ready = λ u k at. absurd (never x.tenant es (subst (λ (r : Option ℕ). IsLeast (record { ready = r; tenant = x.tenant }) es) ready least) u k at)
+  none_at now ready = λ u k at. absurd (nobody_ready ready u k at)
+
+  -- the least moment is the one that stands first
+  pub next_at : AreApart es → (r : Option ℕ) → x.ready ≡ r → IsNext (ready_of es) r
+  next_at apart None ready = λ u. absent (ready_of es u) (nobody_ready ready u)
+    where
+      absent : (r : Option ℕ) → ((k : ℕ) → r ≡ Some k → ⊥) → r ≡ None
+      absent None never_so = refl
+      absent (Some k) never_so = absurd (never_so k refl)
+  next_at apart (Some m) ready =
+      let there = first_is_there es fs right x first in
+      ((x.tenant, ready_of-at es there.0 x apart there.1 ∙ ready), λ u k at. by_order u k (not_after m x.tenant es (least_ready m ready) u k at))
+    where
+      by_order : (u k : ℕ) → NotAfter m x.tenant k u → m ≤ k
+      by_order u k (inl earlier) = omega (arith, earlier)
+      by_order u k (inr same) = omega (arith, same.0)
 
 pub empty_at : (es fs : List AgendaEntry) (now : ℕ) → length fs ≡ length es → slice_get fs 0 ≡ None → IsPick (ready_of es) now None
 empty_at [] fs now even at = λ u k absent. absurd (cc)

@@ -10,3 +10,9 @@ abbrev pub IsPick : (ℕ → Option ℕ) → ℕ → Option ℕ → Type 0
 IsPick ready_when now None = (tenant moment : ℕ) → ready_when tenant ≡ Some moment → now < moment
 IsPick ready_when now (Some picked) = (least : ℕ) × (ready_when picked ≡ Some least) × (least ≤ now)
     × ((tenant moment : ℕ) → ready_when tenant ≡ Some moment → NotAfter least picked moment tenant)
+
+-- the least moment of any tenant, or none where none has one
+abbrev pub IsNext : (ℕ → Option ℕ) → Option ℕ → Type 0
+IsNext ready_when None = (tenant : ℕ) → ready_when tenant ≡ None
+IsNext ready_when (Some least) = ((tenant : ℕ) × (ready_when tenant ≡ Some least))
+    × ((tenant moment : ℕ) → ready_when tenant ≡ Some moment → least ≤ moment)

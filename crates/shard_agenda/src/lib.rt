@@ -10,7 +10,7 @@
 
 ghost use Rattle.std.specs.Prelude.{◌≡◌, ◌||◌, ◌&&◌, ◌==◌, ℕ, not, OnOk, OnErr, true, None, []};
 ghost use Rattle.shard_agenda.specs.Agenda.{ready_of, is_member, with_ready};
-ghost use Rattle.shard_agenda.specs.Pick.{IsPick};
+ghost use Rattle.shard_agenda.specs.Pick.{IsPick, IsNext};
 
 mod firsts;
 
@@ -125,6 +125,22 @@ impl Agenda {
         };
         self.entries[at] = last;
         mend(&self.entries, &mut self.firsts, at);
+    }
+
+    /// When the member is ready next; none where nothing of it waits, or where it is none.
+    pub fn ready(&self, tenant: u32) -> Option<u64>
+        ensures { result ≡ ready_of self.now tenant }
+    {
+        let at = *self.places.get(&tenant)?;
+        self.entries[at].ready
+    }
+
+    /// When the first of all members is ready next; none where nothing of any member's waits.
+    pub fn next(&self) -> Option<u64>
+        ensures { IsNext (ready_of self.now) result }
+    {
+        let first = self.firsts.first()?;
+        first.ready
     }
 
     /// The member that is ready first, the lower number first at one moment; none where no member is ready by now.

@@ -1,6 +1,7 @@
 -- Tenants that come and go.
 use Rattle.std.proofs.Common.{◌≡◌, ℕ, List, [], ◌&&◌, inl, inr, Bool, true, false, not, Some, None, is_some, Result, Ok, Err, refl, sym, ap, ◌∙◌, subst}
-use Rattle.std.specs.Prelude.{IfOk, OnErr, is_none, if◌then◌else◌, ◌≢◌}
+use Rattle.std.specs.Prelude.{IfOk, OnOk, OnErr, is_none, if◌then◌else◌, ◌≢◌}
+use Rattle.send_retry.specs.Class.{answer_view}
 use Rattle.tail_settings.specs.declared.section.Section.{Section}
 use Rattle.tail_settings.specs.Section.{SectionData, section_view}
 use Rattle.tenant_rules.specs.Own as own
@@ -10,16 +11,14 @@ use Rattle.tenant_shard.specs.declared.step.Step.TheVariants as steps
 use Rattle.tenant_shard.specs.declared.step.Outcome.{Outcome}
 use Rattle.tenant_shard.specs.declared.step.Outcome.TheVariants.{Done, Refused}
 use Rattle.tenant_shard.specs.View.{View, kept_of, was_of, StaysOf}
-use Rattle.tenant_shard.specs.Outcomes.{OwnStep, Comes, plain, asked_in, reports, is_retirement, number_used}
+use Rattle.tenant_shard.specs.Outcomes.{OwnStep, Piped, Comes, plain, own_post, asked_in, reports, is_retirement, number_used}
 use Rattle.tenant_shard.specs.Refusal.{ShardRefuses}
-use Rattle.tenant_shard.specs.Run.{ShardSteps}
 use Rattle.tenant_shard.specs.Follows.{ShardFollows}
-use Rattle.tenant_shard.specs.Chain.{ShardDoes}
 use Rattle.shard_machine.specs.Jitter.{TenantGenerator, generator_of, without, IsSeeded, IsRemoved}
-use Rattle.shard_machine.specs.Drawing.{is_let_in, StepIsRefused}
+use Rattle.shard_machine.specs.Drawing.{is_let_in, IsTriedFor, IsTried, IsSettled, StepIsRefused}
 use Rattle.shard_machine.specs.MachineState.{ComesIn, Retires, GeneratorsGoOn, AreMembers, lets_in}
-use Rattle.shard_machine.proofs.Members.{never_kept, stay_same, members_at_refusal, with_same_words, with_one, no_words, piped_is, never_comes}
-use Rattle.shard_machine.proofs.Going.{IsPlain, plain_goes_on, plain_members, members_refused}
+use Rattle.shard_machine.proofs.Members.{never_kept, stay_same, members_stay, members_at_refusal, with_same_words, with_one, no_words, piped_is, never_comes}
+use Rattle.shard_machine.proofs.Going.{members_refused}
 
 some_same : (one other : ℕ) → Some one ≡ Some other → one ≡ other
 some_same one other same = cc
@@ -29,13 +28,6 @@ comes_same one other same = cc
 
 -- ---- a tenant comes
 
--- its generator was made, if it had none, and goes again where it isn't let in
-pub record IsTried (t : ℕ) (section : Section) (words : List TenantGenerator) (newly : Bool) (tried : List TenantGenerator) : Type 0 where
-  pub seeded : IsSeeded t section.seed words tried
-  pub newly_is : newly ≡ is_none (generator_of t words)
-  pub undone : newly ≡ true → without t tried ≡ words
-  pub had_one : newly ≡ false → tried ≡ words
-
 undo : (t : ℕ) (words tried left : List TenantGenerator) (newly : Bool) → (newly ≡ true → without t tried ≡ words) → (newly ≡ false → tried ≡ words) → left ≡ (if newly && true then without t tried else tried) → left ≡ words
 undo t words tried left true undone had_one is = is ∙ undone refl
 undo t words tried left false undone had_one is = is ∙ had_one refl
@@ -44,7 +36,7 @@ keep : (t : ℕ) (tried left : List TenantGenerator) (newly : Bool) → left ≡
 keep t tried left true is = is
 keep t tried left false is = is
 
-module _ (t : ℕ) (section : Section) (words tried left : List TenantGenerator) (newly : Bool) (views views' : List View) (are : AreMembers words views) (tries : IsTried t section words newly tried) where
+module _ (t : ℕ) (section : Section) (words tried left : List TenantGenerator) (newly : Bool) (views views' : List View) (are : AreMembers words views) (tries : IsTriedFor t section.seed words newly tried) where
   -- it is or was a member
   kept_out : (o : Outcome) → o ≡ Refused t number_used → views' ≡ views → left ≡ (if newly && not (lets_in o) then without t tried else tried) → ComesIn t section.seed (lets_in o) words left × AreMembers left views'
   kept_out o is same left_is =
@@ -85,7 +77,7 @@ pub record Came {E : Type 0} (step : Step) (words : List TenantGenerator) (views
   pub kept : OnErr told (words' ≡ words)
   pub members : AreMembers words' views'
 
-pub came : {E : Type 0} (step : Step) (t : ℕ) (section : Section) (words tried left : List TenantGenerator) (newly : Bool) (views views' : List View) (told : Result Outcome E) → step ≡ steps.Add t section → AreMembers words views → IsTried t section words newly tried
+came : {E : Type 0} (step : Step) (t : ℕ) (section : Section) (words tried left : List TenantGenerator) (newly : Bool) (views views' : List View) (told : Result Outcome E) → step ≡ steps.Add t section → AreMembers words views → IsTriedFor t section.seed words newly tried
     → IfOk told (λ o. ShardFollows step views o views') → OnErr told (ShardRefuses step views views') → left ≡ (if newly && not (is_let_in told) then without t tried else tried) → Came step words views told left views'
 came step t section words tried left newly views views' (Ok o) is are tries follows refuses left_is =
     let r = comes t section words tried left newly views views' are tries o (subst (λ s. ShardFollows s views o views') is follows) left_is in
@@ -100,10 +92,6 @@ came step t section words tried left newly views views' (Err fault) is are tries
 pub record IsDismissed (t : ℕ) (words : List TenantGenerator) (leaves : Bool) (left : List TenantGenerator) : Type 0 where
   pub removed : leaves ≡ true → IsRemoved t words left
   pub others : leaves ≡ false → left ≡ words
-
-goes : (t : ℕ) (words left : List TenantGenerator) (leaves : Bool) → IsDismissed t words leaves left → Retires t leaves words left
-goes t words left true dismissed = dismissed.removed refl
-goes t words left false dismissed = dismissed.others refl
 
 module _ (t now : ℕ) (words left : List TenantGenerator) (views views' : List View) (are : AreMembers words views) (o : Outcome) (dismissed : IsDismissed t words (reports o) left) where
   -- it was no member
@@ -138,29 +126,85 @@ module _ (t now : ℕ) (words left : List TenantGenerator) (views views' : List 
       member u m.before m.after m.whose.0 m.was (m.is_now ∙ ap (λ (b : Bool). if b && reports o then None else Some m.after) retires) m.others
   leaves (inr (inr (u, a))) = absurd (never_comes (asked_in (steps.Retire t now)) (plain (own.Retire now)) a.whose.section refl a.whose.comes)
 
-pub left_go_on : (step : Step) (t now : ℕ) (words left : List TenantGenerator) (o : Outcome) → step ≡ steps.Retire t now → IsDismissed t words (reports o) left → GeneratorsGoOn step o words left
-left_go_on step t now words left o is dismissed = subst (λ s. GeneratorsGoOn s o words left) (sym is) (goes t words left (reports o) dismissed)
-
-pub left_members : (step : Step) (t now : ℕ) (words left : List TenantGenerator) (views views' : List View) (o : Outcome) → step ≡ steps.Retire t now → AreMembers words views → IsDismissed t words (reports o) left → ShardFollows step views o views' → AreMembers left views'
+left_members : (step : Step) (t now : ℕ) (words left : List TenantGenerator) (views views' : List View) (o : Outcome) → step ≡ steps.Retire t now → AreMembers words views → IsDismissed t words (reports o) left → ShardFollows step views o views' → AreMembers left views'
 left_members step t now words left views views' o is are dismissed follows = leaves t now words left views views' are o dismissed (subst (λ s. ShardFollows s views o views') is follows)
 
--- ---- by what a step of the shard told
+-- ---- any step, with what is done before and after it
 
-pub does_told : {E : Type 0} (step : Step) (views views' : List View) (told : Result Outcome E) → IfOk told (λ o. ShardSteps step views o views') → IfOk told (λ o. ShardFollows step views o views') → IfOk told (λ o. ShardDoes step views o views')
-does_told step views views' (Ok o) by_own_steps follows = record { by_own_steps = by_own_steps; from_state = follows }
-does_told step views views' (Err fault) by_own_steps follows = tt
+-- a step of a pipeline that is no retirement
+plain_came : {E : Type 0} (step : Step) (words left : List TenantGenerator) (views views' : List View) (told : Result Outcome E) (asked : OwnStep) → asked_in step ≡ Piped asked → is_retirement asked.step ≡ false → ((o : Outcome) → GeneratorsGoOn step o words words) → AreMembers words views → left ≡ words
+    → IfOk told (λ o. ShardFollows step views o views') → OnErr told (ShardRefuses step views views') → Came step words views told left views'
+plain_came step words left views views' (Ok o) asked asks stays goes are same follows refuses = record {
+  go_on = subst (λ w. GeneratorsGoOn step o words w) (sym same) (goes o);
+  kept = tt;
+  members = with_same_words words left views views' are same (members_stay step views o views' asked asks stays follows);
+}
+plain_came step words left views views' (Err fault) asked asks stays goes are same follows refuses = record {
+  go_on = tt;
+  kept = same;
+  members = members_refused step words left views views' are same (inl refuses);
+}
 
-pub refused_told : {E : Type 0} (step : Step) (views views' : List View) (told : Result Outcome E) → OnErr told (ShardRefuses step views views') → OnErr told (StepIsRefused step views views')
-refused_told step views views' (Ok o) refuses = tt
-refused_told step views views' (Err fault) refuses = inl refuses
+pub settled : {E : Type 0} (step : Step) (words tried left : List TenantGenerator) (newly : Bool) (views views' : List View) (told : Result Outcome E) → AreMembers words views → IsTried step words newly tried
+    → IfOk told (λ o. ShardFollows step views o views') → OnErr told (ShardRefuses step views views') → IsSettled step newly told tried left → Came step words views told left views'
+settled (steps.Post now prepared) words tried left newly views views' told are (none, same) follows refuses left_is =
+    plain_came (steps.Post now prepared) words left views views' told (own_post now prepared) refl refl (λ o. refl) are (left_is ∙ same) follows refuses
+settled (steps.Turn now) words tried left newly views views' told are (none, same) follows refuses left_is =
+    plain_came (steps.Turn now) words left views views' told (plain (own.Turn now)) refl refl (λ o. refl) are (left_is ∙ same) follows refuses
+settled (steps.Answer tenant now ticket word answer) words tried left newly views views' told are (none, same) follows refuses left_is =
+    plain_came (steps.Answer tenant now ticket word answer) words left views views' told (plain (own.Answer now ticket word (answer_view answer))) refl refl (λ o. refl) are (left_is ∙ same) follows refuses
+settled (steps.Report tenant now) words tried left newly views views' told are (none, same) follows refuses left_is =
+    plain_came (steps.Report tenant now) words left views views' told (plain (own.Report now)) refl refl (λ o. refl) are (left_is ∙ same) follows refuses
+settled (steps.Drain tenant now) words tried left newly views views' told are (none, same) follows refuses left_is =
+    plain_came (steps.Drain tenant now) words left views views' told (plain (own.Drain now)) refl refl (λ o. refl) are (left_is ∙ same) follows refuses
+settled (steps.Add tenant section) words tried left newly views views' told are tries follows refuses left_is =
+    came (steps.Add tenant section) tenant section words tried left newly views views' told refl are tries follows refuses left_is
+settled (steps.Retire tenant now) words tried left newly views views' (Ok o) are (none, same) follows refuses left_is =
+    let retires : Retires tenant (reports o) words left = subst (λ w. Retires tenant (reports o) w left) same left_is in
+    let dismissed : IsDismissed tenant words (reports o) left = record {
+      removed = λ leaves. subst (λ b. Retires tenant b words left) leaves retires;
+      others = λ stays. subst (λ b. Retires tenant b words left) stays retires;
+    } in
+    record { go_on = retires; kept = tt; members = left_members (steps.Retire tenant now) tenant now words left views views' o refl are dismissed follows }
+settled (steps.Retire tenant now) words tried left newly views views' (Err fault) are (none, same) follows refuses left_is =
+    record { go_on = tt; kept = left_is ∙ same; members = members_refused (steps.Retire tenant now) words left views views' are (left_is ∙ same) (inl refuses) }
 
-pub goes_told : {E : Type 0} (step : Step) (words : List TenantGenerator) (told : Result Outcome E) → IsPlain step → IfOk told (λ o. GeneratorsGoOn step o words words)
-goes_told step words (Ok o) is_plain = plain_goes_on step o words is_plain
-goes_told step words (Err fault) is_plain = tt
+-- ---- before and after it
 
-pub members_told : {E : Type 0} (step : Step) (words : List TenantGenerator) (views views' : List View) (told : Result Outcome E) → IsPlain step → AreMembers words views → IfOk told (λ o. ShardFollows step views o views') → OnErr told (ShardRefuses step views views') → AreMembers words views'
-members_told step words views views' (Ok o) is_plain are follows refuses = plain_members step words views o views' is_plain are follows
-members_told step words views views' (Err fault) is_plain are follows refuses = members_refused step words words views views' are refl (inl refuses)
+-- nobody comes
+pub not_tried : (step : Step) (words : List TenantGenerator) → ((tenant : ℕ) (section : Section) → step ≡ steps.Add tenant section → ⊥) → IsTried step words false words
+not_tried (steps.Post now prepared) words none = (refl, refl)
+not_tried (steps.Turn now) words none = (refl, refl)
+not_tried (steps.Answer tenant now ticket word answer) words none = (refl, refl)
+not_tried (steps.Report tenant now) words none = (refl, refl)
+not_tried (steps.Drain tenant now) words none = (refl, refl)
+not_tried (steps.Add tenant section) words none = absurd (none tenant section refl)
+not_tried (steps.Retire tenant now) words none = (refl, refl)
+
+-- a tenant comes
+pub tries_of : {E : Type 0} (t seed : ℕ) (old new : List TenantGenerator) (r : Result Bool E) → OnOk r (IsSeeded t seed old new) → IfOk r (λ newly. newly ≡ is_none (generator_of t old)) → IfOk r (λ newly. newly ≡ true → without t new ≡ old) → IfOk r (λ newly. newly ≡ false → new ≡ old)
+    → IfOk r (λ newly. IsTriedFor t seed old newly new)
+tries_of t seed old new (Ok newly) seeded newly_is undone had_one = record { seeded = seeded; newly_is = newly_is; undone = undone; had_one = had_one }
+tries_of t seed old new (Err fault) seeded newly_is undone had_one = tt
+
+pub and_refused : {A E : Type 0} (P Q : Type 0) (r : Result A E) → P → OnErr r Q → OnErr r (P × Q)
+and_refused P Q (Ok a) p q = tt
+and_refused P Q (Err fault) p q = (p, q)
+
+-- nobody comes or is to go
+pub not_settled : {E : Type 0} (step : Step) (newly : Bool) (told : Result Outcome E) (words : List TenantGenerator) → ((tenant : ℕ) (section : Section) → step ≡ steps.Add tenant section → ⊥) → ((tenant now : ℕ) → step ≡ steps.Retire tenant now → ⊥) → IsSettled step newly told words words
+not_settled (steps.Post now prepared) newly told words none stays = refl
+not_settled (steps.Turn now) newly told words none stays = refl
+not_settled (steps.Answer tenant now ticket word answer) newly told words none stays = refl
+not_settled (steps.Report tenant now) newly told words none stays = refl
+not_settled (steps.Drain tenant now) newly told words none stays = refl
+not_settled (steps.Add tenant section) newly told words none stays = absurd (none tenant section refl)
+not_settled (steps.Retire tenant now) newly told words none stays = absurd (stays tenant now refl)
+
+-- a tenant is to go
+pub retires_by : (t : ℕ) (removes goes : Bool) (old new : List TenantGenerator) → removes ≡ goes → (removes ≡ true → IsRemoved t old new) → new ≡ (if removes then without t old else old) → Retires t goes old new
+retires_by t removes true old new is removed left_is = removed is
+retires_by t removes false old new is removed left_is = left_is ∙ ap (λ b. if b then without t old else old) is
 
 -- what holds in any case holds where it was refused memory
 pub if_refused : {A E : Type 0} (P : Type 0) (told : Result A E) → P → OnErr told P

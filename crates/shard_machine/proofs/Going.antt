@@ -1,11 +1,10 @@
 -- A step with its word.
-use Rattle.std.proofs.Common.{◌≡◌, ℕ, List, ◌⊎◌, inl, inr, false, Option, Some, None, is_some, refl, sym, ap, ◌∙◌, subst}
+use Rattle.std.proofs.Common.{◌≡◌, ℕ, List, ◌⊎◌, inl, inr, Option, Some, None, is_some, refl, sym, ap, ◌∙◌, subst}
 use Rattle.std.proofs.lemmas.Bool.{cases_eq}
 use Rattle.std.specs.Prelude.{option_map, ◌≢◌}
 use Rattle.rand_pcg.specs.Lcg.{Lcg}
 use Rattle.send_retry.specs.declared.answer.Answer.{Answer}
 use Rattle.send_retry.specs.Class.{answer_view}
-use Rattle.tail_settings.specs.declared.section.Section.{Section}
 use Rattle.tenant_rules.specs.Own as own
 use Rattle.shard_machine.specs.Jitter.{next_word, moved, TenantGenerator, generator_of, IsDraw}
 use Rattle.tenant_shard.specs.declared.step.Step.{Step}
@@ -13,7 +12,7 @@ use Rattle.tenant_shard.specs.declared.step.Step.TheVariants as steps
 use Rattle.tenant_shard.specs.declared.step.Outcome.{Outcome}
 use Rattle.tenant_shard.specs.declared.step.Outcome.TheVariants.{Refused}
 use Rattle.tenant_shard.specs.View.{View, kept_of}
-use Rattle.tenant_shard.specs.Outcomes.{OwnStep, Piped, plain, own_post, asked_in, is_retirement, not_member}
+use Rattle.tenant_shard.specs.Outcomes.{plain, asked_in, not_member}
 use Rattle.tenant_shard.specs.Follows.{refusal_number, ShardFollows}
 use Rattle.tenant_shard.specs.Chain.{ShardDoes}
 use Rattle.shard_machine.specs.declared.step.WordSource.{WordSource}
@@ -21,7 +20,7 @@ use Rattle.shard_machine.specs.declared.step.WordSource.TheVariants as word
 use Rattle.shard_machine.specs.declared.step.LoggedStep.{LoggedStep}
 use Rattle.shard_machine.specs.Drawing.{IsReady, StepIsRefused}
 use Rattle.shard_machine.specs.MachineState.{MachineState, GeneratorsGoOn, GeneratorsMove, MachineDoes, AreMembers}
-use Rattle.shard_machine.proofs.Members.{members_stay, members_at_refusal, are_still, with_same_words, no_member, never_comes}
+use Rattle.shard_machine.proofs.Members.{members_at_refusal, are_still, with_same_words, no_member, never_comes}
 
 -- who gets no word has no generator
 pub no_generator : (o : Option Lcg) → option_map next_word o ≡ None → o ≡ None
@@ -64,43 +63,7 @@ ready_stays word.Nobody (steps.Retire other now) old new ready = absurd ready
 pub members_ready : (w : WordSource) (step : Step) (old new : List TenantGenerator) (views : List View) → AreMembers old views → IsReady w step old new → AreMembers new views
 members_ready w step old new views are ready = are_still old new views views are (ready_stays w step old new ready) (λ tenant. refl)
 
--- ---- steps by which nobody comes or is to go
-
--- a step that is neither
-pub record IsPlain (step : Step) : Type 0 where
-  pub no_add : (tenant : ℕ) (section : Section) → step ≡ steps.Add tenant section → ⊥
-  pub no_retirement : (tenant now : ℕ) → step ≡ steps.Retire tenant now → ⊥
-
--- what it asks
-record IsOther (step : Step) : Type 0 where
-  asked : OwnStep
-  asks : asked_in step ≡ Piped asked
-  stays : is_retirement asked.step ≡ false
-
-other_of : (step : Step) → IsPlain step → IsOther step
-other_of (steps.Post now prepared) plain_one = record { asked = own_post now prepared; asks = refl; stays = refl }
-other_of (steps.Turn now) plain_one = record { asked = plain (own.Turn now); asks = refl; stays = refl }
-other_of (steps.Answer tenant now ticket drawn answer) plain_one = record { asked = plain (own.Answer now ticket drawn (answer_view answer)); asks = refl; stays = refl }
-other_of (steps.Report tenant now) plain_one = record { asked = plain (own.Report now); asks = refl; stays = refl }
-other_of (steps.Drain tenant now) plain_one = record { asked = plain (own.Drain now); asks = refl; stays = refl }
-other_of (steps.Add tenant section) plain_one = absurd (plain_one.no_add tenant section refl)
-other_of (steps.Retire tenant now) plain_one = absurd (plain_one.no_retirement tenant now refl)
-
-pub plain_goes_on : (step : Step) (o : Outcome) (words : List TenantGenerator) → IsPlain step → GeneratorsGoOn step o words words
-plain_goes_on (steps.Post now prepared) o words plain_one = refl
-plain_goes_on (steps.Turn now) o words plain_one = refl
-plain_goes_on (steps.Answer tenant now ticket drawn answer) o words plain_one = refl
-plain_goes_on (steps.Report tenant now) o words plain_one = refl
-plain_goes_on (steps.Drain tenant now) o words plain_one = refl
-plain_goes_on (steps.Add tenant section) o words plain_one = absurd (plain_one.no_add tenant section refl)
-plain_goes_on (steps.Retire tenant now) o words plain_one = absurd (plain_one.no_retirement tenant now refl)
-
--- ---- what a step does, and what is left of one that was refused memory
-
-pub plain_members : (step : Step) (words : List TenantGenerator) (views : List View) (o : Outcome) (views' : List View) → IsPlain step → AreMembers words views → ShardFollows step views o views' → AreMembers words views'
-plain_members step words views o views' plain_one are follows =
-    let other = other_of step plain_one in
-    with_same_words words words views views' are refl (members_stay step views o views' other.asked other.asks other.stays follows)
+-- ---- what is left of a step that was refused memory
 
 pub members_refused : (step : Step) (words words' : List TenantGenerator) (views views' : List View) → AreMembers words views → words' ≡ words → StepIsRefused step views views' → AreMembers words' views'
 members_refused step words words' views views' are same refused = with_same_words words words' views views' are same (members_at_refusal step views views' refused)

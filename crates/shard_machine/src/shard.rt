@@ -2,14 +2,11 @@
 
 ghost use Rattle.std.specs.Prelude.{◌≡◌, ℕ, true, not, List, [], ◌∷◌, ◌++◌, IfOk, OnOk, OnErr, ◌&&◌, if◌then◌else◌};
 ghost use Rattle.tail_settings.specs.Settings.{settings_view};
-ghost use Rattle.tenant_shard.specs.Chain.{ShardDoes};
 ghost use Rattle.tenant_shard.specs.Lives.{ShardStands};
-ghost use Rattle.tenant_shard.specs.Outcomes.{reports};
 ghost use Rattle.tenant_shard.specs.Table.{opened};
-ghost use Rattle.tenant_shard.specs.declared.step.Step.TheVariants as steps;
 ghost use Rattle.shard_machine.specs.Jitter.{without, IsRemoved};
-ghost use Rattle.shard_machine.specs.MachineState.{AreMembers, AreSeeded, AsksFor, GeneratorsGoOn};
-ghost use Rattle.shard_machine.specs.Drawing.{is_let_in, IsReady, StepIsRefused};
+ghost use Rattle.shard_machine.specs.MachineState.{AreMembers, AreSeeded, AsksFor};
+ghost use Rattle.shard_machine.specs.Drawing.{is_let_in, has_gone, IsReady, IsTried, IsSettled, IsNewcomers};
 
 use crate::copy::copy_of;
 use crate::jitter::JitterGenerators;
@@ -18,8 +15,8 @@ use decision_cache::HashKeys;
 use machine_hub::Machine;
 use std::alloc::{AllocError, Global};
 use std::marker::Model;
-use tail_settings::{Section, Settings};
-use tenant_shard::{Outcome, Shard, Step};
+use tail_settings::Settings;
+use tenant_shard::{Outcome, Shard, Step, Waiting};
 
 /// A shard, and a generator of words for each of its tenants.
 #[derive(Drop)]
@@ -60,8 +57,7 @@ impl ShardMachine {
 
 impl Machine for ShardMachine {
     ghost use Rattle.std.specs.Prelude.{[]};
-    ghost use Rattle.tenant_shard.specs.Empty.{is_empty};
-    ghost use Rattle.tenant_shard.specs.View.{kept_of};
+    ghost use Rattle.tenant_shard.specs.Waiting.{IsWaiting};
     ghost use Rattle.shard_machine.specs.MachineState.{AsksFor, MachineDoes};
     ghost use Rattle.shard_machine.specs.Drawing.{IsLost, IsLostBySome};
 
@@ -73,6 +69,8 @@ impl Machine for ShardMachine {
 
     type Question = u32;
 
+    type Reading = Waiting;
+
     ghost nowhere = { record { views = []; words = [] } };
 
     ghost asks = { AsksFor };
@@ -81,7 +79,7 @@ impl Machine for ShardMachine {
 
     ghost loses = { IsLostBySome };
 
-    ghost is_so = { λ s tenant. is_empty (kept_of tenant s.views) };
+    ghost reads = { λ s tenant waiting. IsWaiting s.views tenant waiting };
 
     fn make(&mut self, _alloc: Global, call: Call) -> Result<(LoggedStep, Outcome), AllocError>
         ensures asked { IfOk result (λ made. AsksFor call made.0) }
@@ -90,12 +88,15 @@ impl Machine for ShardMachine {
         ensures lost { OnErr result (IsLostBySome self.old self.new) }
     {
         let made = ready(&mut self.words, call);
-        let outcome = step_with_words(&mut self.shard, &mut self.words, &made.step)?;
+        let newly = seed_newcomer(&mut self.words, &made.step)?;
+        let told = self.shard.step(&made.step);
+        remove_leaver(&mut self.words, &made.step, newly, &told);
+        let outcome = told?;
         Ok((made, outcome))
     }
 
-    fn tell(&self, tenant: &u32) -> bool {
-        self.shard.is_empty(*tenant)
+    fn tell(&self, tenant: &u32) -> Waiting {
+        self.shard.waiting(*tenant)
     }
 
     fn copied(outcome: &Outcome) -> Result<Outcome, AllocError>
@@ -145,69 +146,32 @@ fn ready(words: &mut JitterGenerators, call: Call) -> LoggedStep
     }
 }
 
-/// Does the step of a shard. A tenant comes with a generator, and its generator goes with it. Where memory is refused
-/// no generator has changed.
-fn step_with_words(
-    shard: &mut Shard,
-    words: &mut JitterGenerators,
-    step: &Step,
-) -> Result<Outcome, AllocError>
-    requires { AreMembers words.old shard.old }
-    ensures does { IfOk result (λ outcome. ShardDoes step.now shard.old outcome shard.new) }
-    ensures go_on { IfOk result (λ outcome. GeneratorsGoOn step.now outcome words.old words.new) }
-    ensures refused { OnErr result (StepIsRefused step.now shard.old shard.new) }
-    ensures kept { OnErr result (words.new ≡ words.old) }
-    ensures members { AreMembers words.new shard.new }
+/// A tenant that comes gets a generator before, unless it has one, so that nobody is let in without one. Answers
+/// whether one was made. Where memory is refused, no generator has changed.
+fn seed_newcomer(words: &mut JitterGenerators, step: &Step) -> Result<bool, AllocError>
+    ensures tried { IfOk result (λ newly. IsTried step.now words.old newly words.new) }
+    ensures on_refusal { OnErr result (IsNewcomers step.now × (words.new ≡ words.old)) }
 {
     match step {
-        Step::Add { tenant, section } => let_in(shard, words, step, *tenant, section),
-        Step::Retire { tenant, .. } => retire(shard, words, step, *tenant),
-        _ => shard.step(step),
+        Step::Add { tenant, section } => words.seed(*tenant, section.seed),
+        _ => Ok(false),
     }
 }
 
-/// A tenant comes. Its generator is made first, so that nobody is let in without one.
-fn let_in(
-    shard: &mut Shard,
+/// The generator that was made goes again where its tenant isn't let in, and that of a tenant that has gone.
+fn remove_leaver(
     words: &mut JitterGenerators,
     step: &Step,
-    tenant: u32,
-    section: &Section,
-) -> Result<Outcome, AllocError>
-    requires members { AreMembers words.old shard.old }
-    requires comes { step.now ≡ steps.Add tenant section.now }
-    ensures does { IfOk result (λ outcome. ShardDoes step.now shard.old outcome shard.new) }
-    ensures go_on { IfOk result (λ outcome. GeneratorsGoOn step.now outcome words.old words.new) }
-    ensures refused { OnErr result (StepIsRefused step.now shard.old shard.new) }
-    ensures kept { OnErr result (words.new ≡ words.old) }
-    ensures members { AreMembers words.new shard.new }
+    newly: bool,
+    told: &Result<Outcome, AllocError>,
+)
+    ensures { IsSettled step.now newly told.now words.old words.new }
 {
-    let newly = words.seed(tenant, section.seed)?;
-    let told = shard.step(step);
-    let removes = is_kept_out(newly, &told);
-    remove_if(words, tenant, removes);
-    told
-}
-
-/// A tenant is to go.
-fn retire(
-    shard: &mut Shard,
-    words: &mut JitterGenerators,
-    step: &Step,
-    tenant: u32,
-) -> Result<Outcome, AllocError>
-    requires members { AreMembers words.old shard.old }
-    requires retires { (now : ℕ) × (step.now ≡ steps.Retire tenant now) }
-    ensures does { IfOk result (λ outcome. ShardDoes step.now shard.old outcome shard.new) }
-    ensures go_on { IfOk result (λ outcome. GeneratorsGoOn step.now outcome words.old words.new) }
-    ensures refused { OnErr result (StepIsRefused step.now shard.old shard.new) }
-    ensures kept { OnErr result (words.new ≡ words.old) }
-    ensures members { AreMembers words.new shard.new }
-{
-    let outcome = shard.step(step)?;
-    let leaves = reports(&outcome);
-    remove_if(words, tenant, leaves);
-    Ok(outcome)
+    match step {
+        Step::Add { tenant, .. } => remove_if(words, *tenant, is_kept_out(newly, told)),
+        Step::Retire { tenant, .. } => remove_if(words, *tenant, has_gone(told)),
+        _ => {}
+    }
 }
 
 /// Whether a tenant that got a generator isn't let in.
@@ -217,11 +181,11 @@ fn is_kept_out(newly: bool, told: &Result<Outcome, AllocError>) -> bool
     newly && !matches!(told, Ok(Outcome::Done(_)))
 }
 
-/// Whether a tenant is told its counters.
-fn reports(outcome: &Outcome) -> bool
-    ensures { result ≡ reports outcome.now }
+/// Whether a tenant that is to go has gone.
+fn has_gone(told: &Result<Outcome, AllocError>) -> bool
+    ensures { result ≡ has_gone told.now }
 {
-    matches!(outcome, Outcome::Report(_, _))
+    matches!(told, Ok(Outcome::Report(_, _)))
 }
 
 /// Takes a tenant's generator away, or leaves all as they are.

@@ -19,7 +19,7 @@ use Rattle.machine_hub.specs.Hub.{AreShardRuns, AreShardHistories}
 use Rattle.shard_machine.specs.MachineState.{MachineState, MachineDoes, started}
 use Rattle.shard_machine.specs.Run.{Logged, steps_of, outcomes_of, drawn_for, section_in, AreFirstWords, RunsAreShardRuns, WordsAreInOrder}
 use Rattle.shared_hub.specs.Shards.{IsFresh, AreOpened}
-use Rattle.shared_hub.specs.Logs.{Seat, CallerState, LoggedShard, has_none, IsLogOf, EachCallEndsARun, EachLookSeesARun, AreLogged, AreOneRun, IsHistoryOf, AreOneHistory, EachCallEndsAHistory, EachLookSeesAHistory, LogsTellByOwnSteps}
+use Rattle.shared_hub.specs.Logs.{Seat, CallerState, LoggedShard, waits, IsLogOf, EachCallEndsARun, EachLookSeesARun, AreLogged, AreOneRun, IsHistoryOf, AreOneHistory, EachCallEndsAHistory, EachLookSeesAHistory, LogsTellByOwnSteps}
 use Rattle.shard_machine.specs.Drawing.{IsLostBySome}
 use Rattle.shared_hub.proofs.Sparing.{IsAlone, spares, behind, run_and_later, entries_behind, losses_behind}
 
@@ -142,7 +142,7 @@ sees_a_run shard_runs in_order table members caller shard tenant told look fresh
       last = did.middle;
       log = log_of shard_runs in_order table members look.0.home.start did.middle was.0.entries fresh did.run;
       calls = was.1.calls;
-      empty_is = was.2 ∙ ap (λ (m : MachineState). has_none m tenant) (sym here);
+      waits_so = subst (λ (m : MachineState). waits m tenant told.answer) (sym here) was.2;
     }
 
 -- the machine's history with a call's step behind it

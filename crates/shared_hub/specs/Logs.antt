@@ -9,6 +9,8 @@ use Rattle.tenant_shard.specs.declared.step.Step.{Step}
 use Rattle.tenant_shard.specs.declared.step.Outcome.{Outcome}
 use Rattle.tenant_shard.specs.View.{kept_of}
 use Rattle.tenant_shard.specs.Empty.{is_empty}
+use Rattle.tenant_shard.specs.declared.waiting.Waiting.{Waiting}
+use Rattle.tenant_shard.specs.Waiting.{IsWaiting}
 use Rattle.tenant_shard.specs.Lives.{ShardStands}
 use Rattle.tenant_shard.specs.Run.{Run, after_all}
 use Rattle.tenant_shard.specs.Chain.{ShardRuns}
@@ -57,14 +59,19 @@ IsAnswerOn old new shard tenant now ticket answer outcome receipt =
 abbrev pub has_none : MachineState → ℕ → Bool
 has_none shard tenant = is_empty (kept_of tenant shard.views)
 
--- at one moment of a call the tenant was empty or wasn't, and its shard had been refused memory or hadn't
-abbrev pub IsLookOn : CallerState → ℕ → ℕ → Told → Type 0
-IsLookOn caller shard tenant told = IsToldOn MachineDoes IsLostBySome has_none caller shard tenant told
+-- what a tenant and its shard wait for
+abbrev pub waits : MachineState → ℕ → Waiting → Type 0
+waits shard tenant waiting = IsWaiting shard.views tenant waiting
 
--- at one moment of a call this was so
+-- at one moment of a call the tenant and its shard waited for this, and the shard had been refused memory or hadn't
+abbrev pub IsLookOn : CallerState → ℕ → ℕ → Told Waiting → Type 0
+IsLookOn caller shard tenant told = IsToldOn MachineDoes IsLostBySome waits caller shard tenant told
+
+-- at one moment of a call the tenant was empty or wasn't
 abbrev pub IsEmptyOn : CallerState → ℕ → ℕ → Bool → Type 0
 IsEmptyOn caller shard tenant empty =
-    (stopped : Bool) × IsLookOn caller shard tenant (record { answer = empty; stopped = stopped })
+    (stopped : Bool) × IsToldOn MachineDoes IsLostBySome (λ s of answer. answer ≡ has_none s of) caller shard tenant
+    (record { answer = empty; stopped = stopped })
 
 -- the section of a tenant in such a log: the table's, where it was a member at first, or else the one with which it was
 -- let in, where it was
@@ -107,19 +114,20 @@ EachCallEndsARun = (table : SettingsData) (members : List ℕ) (old new : Caller
     (after : Seat) → slice_get new shard ≡ Some after → after.bare ≡ made.seat.bare →
     EndsARun table members made.made.old.entries call outcome
 
--- a tenant is empty, or isn't, where such a run ends in which all earlier calls of this seat are
-pub record SeesARun (table : SettingsData) (members : List ℕ) (seat : Seat) (tenant : ℕ) (empty : Bool) : Type 0 where
+-- a tenant and its shard wait for this where such a run ends in which all earlier calls of this seat are
+pub record SeesARun (table : SettingsData) (members : List ℕ) (seat : Seat) (tenant : ℕ) (waiting : Waiting)
+    : Type 0 where
   pub entries : List Logged
   pub last : MachineState
   pub log : IsLogOf table members entries last
   pub calls : HasCalls entries seat
-  pub empty_is : empty ≡ has_none last tenant
+  pub waits_so : waits last tenant waiting
 
 -- what is told of a tenant is so where such a run ends, unless it is told too that the shard was refused memory
 abbrev pub EachLookSeesARun : Type 0
-EachLookSeesARun = (table : SettingsData) (members : List ℕ) (caller : CallerState) (shard tenant : ℕ) (told : Told)
-    (look : IsLookOn caller shard tenant told) → IsFresh table members look.0.home.start → told.stopped ≡ false →
-    SeesARun table members look.0 tenant told.answer
+EachLookSeesARun = (table : SettingsData) (members : List ℕ) (caller : CallerState) (shard tenant : ℕ)
+    (told : Told Waiting) (look : IsLookOn caller shard tenant told) → IsFresh table members look.0.home.start →
+    told.stopped ≡ false → SeesARun table members look.0 tenant told.answer
 
 -- what this shard did is such a run, and where its log keeps, that run is the log. Unless it was refused memory, the
 -- run leaves what the shard is now
@@ -196,7 +204,7 @@ EachCallEndsAHistory = (table : SettingsData) (members : List ℕ) (old new : Ca
 -- what is told of a tenant is so where such a history ends
 abbrev pub EachLookSeesAHistory : Type 0
 EachLookSeesAHistory = (table : SettingsData) (members : List ℕ) (caller : CallerState) (shard tenant : ℕ)
-    (told : Told) (look : IsLookOn caller shard tenant told) →
+    (told : Told Waiting) (look : IsLookOn caller shard tenant told) →
     IsFresh table members look.0.home.start → IsHistoryOf table members look.2.0
 
 -- what a tenant is told follows from its section at first, if it had one, and its own steps alone, whichever log it is,

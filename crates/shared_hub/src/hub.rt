@@ -21,7 +21,7 @@ use std::alloc::{AllocError, Global};
 use std::marker::Model;
 use std::sync::Wait;
 use tail_settings::Settings;
-use tenant_shard::{Outcome, Step};
+use tenant_shard::{Outcome, Step, Waiting};
 
 /// All shards of the settings, which threads share. Shards are numbered from 0, and tenant i is in shard i mod their
 /// number.
@@ -140,12 +140,12 @@ impl SharedHub {
         ensures same { me.new ≡ me.old }
     {
         let told = self.look(rt, me, tenant);
-        told.answer
+        told.answer.is_empty
     }
 
-    /// The same, with whether the tenant's shard was refused memory before: if not, it is so where a run of the shard
-    /// ends.
-    pub fn look<R: Wait>(&self, rt: &R, me: &mut Caller, tenant: u32) -> Told
+    /// The same, with when the tenant and its shard are ready next, and whether the shard was refused memory before: if
+    /// not, it is so where a run of the shard ends. It takes no memory.
+    pub fn look<R: Wait>(&self, rt: &R, me: &mut Caller, tenant: u32) -> Told<Waiting>
         requires same_hub { slots_of me.old ≡ self.now }
         ensures look { IsLookOn me.old (tenant % length self.now) tenant result }
         ensures same { me.new ≡ me.old }

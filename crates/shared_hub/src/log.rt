@@ -10,6 +10,10 @@ use std::alloc::{AllocError, Global};
 use std::sync::Arc;
 use tenant_shard::{Outcome, Step};
 
+/// So many bytes of memory are left where a log takes more. A log lets nothing go, and what tenants hold goes by calls
+/// that take memory.
+const SPARE: usize = 67_108_864;
+
 /// Keeps each entry, or nothing, as it was opened.
 #[derive(Drop)]
 pub struct OptionalLog {
@@ -56,6 +60,7 @@ impl StepLog<ShardMachine> for OptionalLog {
         if !self.keeps {
             return Ok(());
         }
+        spare(alloc)?;
         self.kept.reserve(1)?;
         if self.next.is_none() {
             self.next = Some(Arc::new(alloc, blank())?);
@@ -87,6 +92,12 @@ impl StepLog<ShardMachine> for OptionalLog {
         }
         Ok(theirs)
     }
+}
+
+/// Whether there is memory to spare. It is given back at once.
+fn spare(alloc: Global) -> Result<(), AllocError> {
+    let _spared = Vec::<u8>::with_capacity(alloc, SPARE)?;
+    Ok(())
 }
 
 /// An entry that stands for none.

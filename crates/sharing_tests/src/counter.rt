@@ -19,6 +19,8 @@ impl Machine for Counter {
 
     type Question = u64;
 
+    type Reading = bool;
+
     ghost nowhere = { record { count = 0 } };
 
     ghost asks = { λ call step. step ≡ call };
@@ -27,7 +29,7 @@ impl Machine for Counter {
 
     ghost loses = { λ old new. new ≡ old };
 
-    ghost is_so = { λ state least. not (nat_lt state.count least) };
+    ghost reads = { λ state least answer. answer ≡ not (nat_lt state.count least) };
 
     fn make(&mut self, _alloc: Global, call: u64) -> Result<(u64, u64), AllocError> {
         let before = self.count;

@@ -78,7 +78,7 @@ fn told_around_a_refusal<R: Wait>(rt: &R, alloc: Global) -> Result<(u8, u8), Fai
     Ok((bits(before), bits(after)))
 }
 
-fn bits(told: Told) -> u8 {
+fn bits(told: Told<bool>) -> u8 {
     match (told.answer, told.stopped) {
         (false, false) => 0,
         (true, false) => 1,

@@ -3,7 +3,7 @@
 use crate::story::{Line, cut};
 use shared_hub::{Entry, WordSource};
 use std::alloc::Global;
-use tenant_shard::{Outcome, Step};
+use tenant_shard::{Outcome, Step, Waiting};
 
 /// An outcome's kind, tenant, number and text.
 fn parts_of(outcome: &Outcome) -> (&'static str, u32, u64, &[u8]) {
@@ -44,6 +44,22 @@ fn is_text(alloc: Global, kind: &str, bytes: &[u8], text: &str) -> bool {
     match hex::encode(alloc, bytes) {
         Ok(digits) => digits.as_str() == text,
         Err(_) => false,
+    }
+}
+
+/// Whether a tenant and its shard wait for what a line says.
+pub fn is_waiting(waiting: &Waiting, line: &str) -> bool {
+    let (empty, rest) = cut(line);
+    let (tenant, shard) = cut(rest);
+    (empty == "yes") == waiting.is_empty
+        && is_moment(waiting.tenant_ready, tenant)
+        && is_moment(waiting.shard_ready, shard)
+}
+
+fn is_moment(moment: Option<u64>, text: &str) -> bool {
+    match moment {
+        Some(moment) => text.parse().ok() == Some(moment),
+        None => text == "-",
     }
 }
 

@@ -4,7 +4,7 @@ ghost use Rattle.std.specs.Prelude.{◌≡◌, IfSome};
 ghost use Rattle.machine_hub.specs.Hub.{slots_of};
 
 use crate::calls::{made, stepped};
-use crate::outcomes::{is_entry, is_outcome};
+use crate::outcomes::{is_entry, is_outcome, is_waiting};
 use crate::story::{Line, SETTINGS, STORY, line_of};
 use decision_cache::HashKeys;
 use shared_hub::{Caller, Entry, HubKeeper, Receipt, ShardLog, SharedHub};
@@ -48,9 +48,10 @@ fn is_told<R: Threads + Wait + Sync>(
     ensures { slots_of me.new ≡ hub.now }
 {
     if line.shard == "-" {
-        let empty = line.outcome == "yes";
         let told = hub.look(rt, me, line.tenant);
-        return told.answer == empty && !told.stopped && hub.empty(rt, me, line.tenant) == empty;
+        return !told.stopped
+            && is_waiting(&told.answer, line.outcome)
+            && hub.empty(rt, me, line.tenant) == told.answer.is_empty;
     }
     match made(rt, alloc, settings, hub, me, line) {
         Some((outcome, receipt)) => {
@@ -146,7 +147,7 @@ fn each_call_has_its_entry(rt: HostRuntime) -> Result<(), Fail> {
     let settings = load(rt.alloc(), SETTINGS)?;
     assert_eq!(rt;
         run_story(&rt, rt.alloc(), &settings, true),
-        Some((53, "", true))
+        Some((56, "", true))
     );
     Ok(())
 }
@@ -157,7 +158,7 @@ fn calls_are_told_the_same_without_logs(rt: HostRuntime) -> Result<(), Fail> {
     let settings = load(rt.alloc(), SETTINGS)?;
     assert_eq!(rt;
         run_story(&rt, rt.alloc(), &settings, false),
-        Some((53, "", true))
+        Some((56, "", true))
     );
     Ok(())
 }

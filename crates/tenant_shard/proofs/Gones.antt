@@ -1,5 +1,5 @@
 -- The numbers of the tenants that have gone, behind the members.
-use Rattle.std.proofs.Common.{◌≡◌, ◌≢◌, ℕ, zero, suc, ◌+◌, ◌≤◌, ◌<◌, List, [], ◌∷◌, ◌++◌, length, get_or, map, refl, sym, subst, ap, ◌∙◌, arith, Bool, true, false, eqb, cond, Option, Some, None, Result, Ok, Err, inl, inr, ◌⊎◌}
+use Rattle.std.proofs.Common.{◌≡◌, ◌≢◌, ℕ, zero, suc, ◌+◌, ◌≤◌, ◌<◌, List, [], ◌∷◌, ◌++◌, length, get_or, map, refl, sym, subst, ap, ◌∙◌, arith, Bool, true, false, eqb, cond, Option, None, Result, Ok, Err, inl, inr, ◌⊎◌}
 use Rattle.std.proofs.lemmas.Bool.{cases_eq}
 use Rattle.std.proofs.lemmas.Bool.Decides.{nat_tests}
 use Rattle.std.proofs.lemmas.List.Edits.{length-insert, length-remove}
@@ -14,15 +14,13 @@ use Rattle.shard_agenda.specs.declared.AgendaEntry.{AgendaEntry}
 use Rattle.shard_agenda.specs.Agenda.{ready_of}
 use Rattle.tail_policy.specs.declared.note.TraceNote.{TraceNote}
 use Rattle.tenant_stores.specs.declared.stores.Stores.{Stores}
-use Rattle.tenant_rules.specs.declared.reply.StepReply.{StepReply}
-use Rattle.tenant_rules.specs.Own.{Own}
 use Rattle.tenant_rules.specs.State.{State}
 use Rattle.tenant_rules.specs.Ready.{ready}
 use Rattle.tenant_rules.specs.Sum.{IsCounted}
 use Rattle.tenant_pipeline.specs.declared.pipeline.Pipeline.{Pipeline}
 use Rattle.tenant_shard.specs.View.{View, kept_of, was_of, StaysOf}
 use Rattle.tenant_shard.specs.Members.{views, gone_view, all_views, is_gone}
-use Rattle.tenant_shard.specs.Steps.{IsChangeOf, IsToldOf, IsAdditionOf, IsDepartureOf}
+use Rattle.tenant_shard.specs.Steps.{IsChangeOf, IsAdditionOf, IsDepartureOf}
 use Rattle.tenant_shard.specs.Whole.{IsWhole, AreGone, AllCounted}
 use Rattle.tenant_shard.specs.Pick.{ready_in}
 use Rattle.tenant_shard.proofs.Frame.{all_counted}
@@ -81,15 +79,6 @@ change_behind t before after kept vs ws gs change = record {
   section = change.section;
   was_now = was_behind t ws gs ∙ ap (λ b. b || is_gone t gs) change.was_now;
   others = λ other ne. stays_behind other vs ws gs (change.others other ne);
-}
-
-pub told_behind : (t : ℕ) (step : Own) (vs : List View) (told : StepReply) (ws : List View) (gs : List ℕ) → IsToldOf t step vs told ws → IsToldOf t step (vs ++ map gone_view gs) told (ws ++ map gone_view gs)
-told_behind t step vs told ws gs tells = record {
-  before = tells.before;
-  after = tells.after;
-  change = change_behind t tells.before tells.after (Some tells.after) vs ws gs tells.change;
-  answers = tells.answers;
-  from_state = tells.from_state;
 }
 
 pub addition_behind : (t : ℕ) (section : SectionData) (vs ws : List View) (gs : List ℕ) → IsAdditionOf t section vs ws → IsAdditionOf t section (vs ++ map gone_view gs) (ws ++ map gone_view gs)

@@ -1,5 +1,5 @@
 -- A step that its pipeline takes, and what it tells.
-use Rattle.std.proofs.Common.{◌≡◌, ℕ, List, refl, sym, ap, ◌∙◌, Bool, true, false}
+use Rattle.std.proofs.Common.{◌≡◌, ℕ, List, Some, refl, sym, ap, ◌∙◌, Bool, true, false}
 use Rattle.std.specs.Prelude.{Decides}
 use Rattle.tail_settings.specs.Section.{SectionData}
 use Rattle.otlp_prepare.specs.Equal.{same_policies}
@@ -7,12 +7,14 @@ use Rattle.otlp_prepare.proofs.Equals.{same_policies_decides}
 use Rattle.tenant_rules.specs.declared.reply.StepReply.{StepReply}
 use Rattle.tenant_rules.specs.declared.reply.StepReply.TheVariants as replies
 use Rattle.tenant_rules.specs.Own.{Own, Retire}
+use Rattle.tenant_rules.specs.State.{State}
 use Rattle.tenant_pipeline.specs.declared.step.OwnStep.{OwnStep as PipelineStep}
 use Rattle.tenant_pipeline.specs.declared.step.OwnStep.TheVariants.{Post}
 use Rattle.tenant_pipeline.specs.OwnStep.{IsMadeFor}
+use Rattle.tenant_pipeline.specs.Steps.{Answers, FollowsFromState}
 use Rattle.tenant_shard.specs.View.{View}
 use Rattle.tenant_shard.specs.Outcomes.{Answered, named, asked_by, is_taken, reports, has_left}
-use Rattle.tenant_shard.specs.Steps.{ends, IsToldOf, IsStepOf, IsDepartureOf}
+use Rattle.tenant_shard.specs.Steps.{ends, IsChangeOf, IsStepOf, IsDepartureOf}
 use Rattle.tenant_shard.proofs.Wholes.{reports-named}
 
 -- a body that comes is taken where it was made ready for the tenant's policies
@@ -44,40 +46,40 @@ left_is : (t : ℕ) (step : Own) (told : StepReply) (b : Bool) → ends step tol
 left_is t step told b is = ap (has_left step) (reports-named t (Answered told)) ∙ is
 
 -- the member stays
-pub stays_told : (t : ℕ) (step : Own) (old new : List View) (told : StepReply) → ends step told ≡ false → IsToldOf t step old told new → IsStepOf t step old (named t (Answered told)) new
-stays_told t step old new told is tells = record {
-  before = tells.before;
-  after = tells.after;
+pub stays_told : (t : ℕ) (step : Own) (old new : List View) (told : StepReply) (before after : State) → ends step told ≡ false → IsChangeOf t before after (Some after) old new → Answers step before told after → FollowsFromState step before told after → IsStepOf t step old (named t (Answered told)) new
+stays_told t step old new told before after is change answers follows = record {
+  before = before;
+  after = after;
   change = record {
-    was = tells.change.was;
-    is_now = rw (left_is t step told false is) tells.change.is_now;
-    section = tells.change.section;
-    was_now = tells.change.was_now;
-    others = tells.change.others;
+    was = change.was;
+    is_now = rw (left_is t step told false is) change.is_now;
+    section = change.section;
+    was_now = change.was_now;
+    others = change.others;
   };
   said = told;
-  answers = tells.answers;
-  from_state = tells.from_state;
+  answers = answers;
+  from_state = follows;
   outcome_is = refl;
 }
 
 -- the member goes
-pub leaves_told : (t : ℕ) (step : Own) (old middle new : List View) (told : StepReply) → ends step told ≡ true → IsToldOf t step old told middle → IsDepartureOf t middle new → IsStepOf t step old (named t (Answered told)) new
-leaves_told t step old middle new told is tells left = record {
-  before = tells.before;
-  after = tells.after;
+pub leaves_told : (t : ℕ) (step : Own) (old middle new : List View) (told : StepReply) (before after : State) → ends step told ≡ true → IsChangeOf t before after (Some after) old middle → Answers step before told after → FollowsFromState step before told after → IsDepartureOf t middle new → IsStepOf t step old (named t (Answered told)) new
+leaves_told t step old middle new told before after is change answers follows left = record {
+  before = before;
+  after = after;
   change = record {
-    was = tells.change.was;
+    was = change.was;
     is_now = rw (left_is t step told true is) left.is_now;
-    section = tells.change.section;
+    section = change.section;
     was_now = left.was_now;
     others = λ other ne.
-        let first = tells.change.others other ne in
+        let first = change.others other ne in
         let then = left.others other ne in
         (then.0 ∙ first.0, then.1 ∙ first.1);
   };
   said = told;
-  answers = tells.answers;
-  from_state = tells.from_state;
+  answers = answers;
+  from_state = follows;
   outcome_is = refl;
 }

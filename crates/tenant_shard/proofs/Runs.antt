@@ -2,14 +2,13 @@
 use Rattle.std.proofs.Common.{◌≡◌, ℕ, ◌<◌, List, [], ◌∷◌, refl, sym, subst, ap, ◌∙◌, arith, Bool, true, false, eqb, Option, Some, None, inl, inr, Result, Ok, Err, IfOk, OnErr}
 use Rattle.std.proofs.lemmas.Bool.{cases_eq}
 use Rattle.std.proofs.lemmas.Bool.Decides.{nat_tests}
-use Rattle.std.specs.Prelude.{option_and_then, min, if◌then◌else◌, IsOk}
+use Rattle.std.specs.Prelude.{option_and_then, if◌then◌else◌, IsOk}
 use Rattle.std.specs.Option.{unwrap_or}
 use Rattle.std.specs.declared.alloc.AllocError.{AllocError}
 use Rattle.tail_settings.specs.Section.{SectionData}
 use Rattle.tenant_rules.specs.declared.reply.StepReply.{StepReply}
 use Rattle.tenant_rules.specs.declared.reply.StepReply.TheVariants as replies
-use Rattle.tenant_rules.specs.Own.{Own, latest_moment, moment_of}
-use Rattle.tenant_rules.specs.Own as own
+use Rattle.tenant_rules.specs.Own.{Own, moment_of}
 use Rattle.tenant_rules.specs.State.{State, state}
 use Rattle.tenant_rules.specs.Ready.{ready}
 use Rattle.tenant_pipeline.specs.Steps.{Answers}
@@ -18,11 +17,11 @@ use Rattle.tenant_shard.specs.declared.step.Outcome.{Outcome}
 use Rattle.tenant_shard.specs.declared.step.Outcome.TheVariants.{Idle, Done, Refused}
 use Rattle.tenant_shard.specs.View.{View, kept_of, was_of}
 use Rattle.tenant_shard.specs.Lives.{Life, gone, Lives, MemberStands, LifeStands, ShardStands}
-use Rattle.tenant_shard.specs.Outcomes.{OwnStep, plain, Asked, Piped, Comes, asked_in, named_in, is_taken, not_member, other_policies, number_used, Answer, Answered, NotTaken, named, told_whom, whose, is_tenant, is_own, reports, has_left}
+use Rattle.tenant_shard.specs.Outcomes.{OwnStep, Asked, Piped, Comes, asked_in, named_in, is_taken, not_member, other_policies, number_used, Answer, Answered, NotTaken, named, told_whom, whose, is_tenant, is_own, reports, has_left}
 use Rattle.tenant_shard.specs.Pick.{ready_in, ready_after, ready_at}
 use Rattle.shard_agenda.specs.Pick.{IsPick}
 use Rattle.tenant_shard.specs.Run.{IsTakenOrNot, IsAnswered, IsAnswerTo, IsOutcomeOf, IsOutcome, came, lived_by, lived, AllKnown, OthersStay, ShardSteps, after}
-use Rattle.tenant_shard.specs.Refusal.{IsStepFor, IsNobodys, Reaches, ReachesNone, ShardRefuses}
+use Rattle.tenant_shard.specs.Refusal.{IsStepFor, IsNobodys, Reaches, ShardRefuses}
 use Rattle.tenant_shard.specs.Follows.{ShardFollows}
 use Rattle.tenant_shard.specs.Steps.{kept_after, IsStepOf, IsLossOf, IsAdditionOf, IsComingOf}
 
@@ -112,12 +111,15 @@ ready_same (Some section) past true (Some kept) stands = ap ready (sym stands)
 ready_same (Some section) past false None stands = absurd stands
 ready_same (Some section) past false (Some kept) stands = refl
 
+pub ready_stands : (lives : Lives) (views : List View) → ShardStands lives views → (t : ℕ) → ready_at lives views t ≡ ready_in views t
+ready_stands lives views stands t = ready_same (lives t).section (lives t).past (lives t).known (kept_of t views) (stands t).0
+
 pub IsPick-same : (f g : ℕ → Option ℕ) (now : ℕ) (picked : Option ℕ) → ((t : ℕ) → g t ≡ f t) → IsPick f now picked → IsPick g now picked
 IsPick-same f g now None same is = λ t m h. is t m (sym (same t) ∙ h)
 IsPick-same f g now (Some t) same is = (is.0, same t ∙ is.1, is.2, λ u m h. is.3 u m (sym (same u) ∙ h))
 
 pick_at : (lives : Lives) (views : List View) (now : ℕ) (picked : Option ℕ) → ShardStands lives views → IsPick (ready_in views) now picked → IsPick (ready_at lives views) now picked
-pick_at lives views now picked stands is = IsPick-same (ready_in views) (ready_at lives views) now picked (λ u. ready_same (lives u).section (lives u).past (lives u).known (kept_of u views) (stands u).0) is
+pick_at lives views now picked stands is = IsPick-same (ready_in views) (ready_at lives views) now picked (ready_stands lives views stands) is
 
 -- where every member's own steps are known, what is kept doesn't count
 ready_unseen : (section : Option SectionData) (past : List Own) (known : Bool) (seen seen' : Option ℕ) → known ≡ true → ready_after section past known seen ≡ ready_after section past known seen'
@@ -247,38 +249,24 @@ add_steps t s section old new name asks is_new added = done s old (Done t) new a
 turn_whose : (t u : ℕ) (s : Step) (step : Own) (old new : List View) (outcome : Outcome) → named_in s ≡ None → IsStepOf t step old outcome new → is_own u s outcome ≡ eqb t u
 turn_whose t u s step old new outcome name is = ap (λ w. is_tenant u (whose w outcome)) name ∙ ap (is_tenant u) (whom_told t step old new outcome is)
 
--- a turn reaches any member
-pub turn_reaches : (t now : ℕ) (old : List View) → ¬ (kept_of t old ≡ None) → Reaches (plain (own.Turn now)) (kept_of t old)
-turn_reaches t now old there = by_kept (kept_of t old) there
-  where
-    by_kept : (kept : Option State) → ¬ (kept ≡ None) → Reaches (plain (own.Turn now)) kept
-    by_kept None some = absurd (some refl)
-    by_kept (Some kept) some = refl
-
 -- a picked tenant is a member
 pub pick_is_kept : (vs : List View) (t m : ℕ) → ready_in vs t ≡ Some m → kept_of t vs ≡ None → ⊥
 pick_is_kept vs t m is none = let never : ready_in vs t ≡ None = rw none refl in cc
 
--- who is first in the agenda is the pick
-pub picked_is : (agenda : ℕ → Option ℕ) (vs : List View) (now moment : ℕ) (found picked : Option ℕ) → ((t : ℕ) → agenda t ≡ ready_in vs t) → moment ≡ min now latest_moment → IsPick agenda moment found → found ≡ picked → IsPick (ready_in vs) (moment_of (own.Turn now)) picked
-picked_is agenda vs now moment found picked same by pick is =
-    let pick' : IsPick agenda (moment_of (own.Turn now)) picked = rw (by, is) at pick in
-    IsPick-same agenda (ready_in vs) (moment_of (own.Turn now)) picked (λ t. sym (same t)) pick'
-
-pub turn_steps : (t now : ℕ) (s : Step) (old new : List View) (outcome : Outcome) → named_in s ≡ None → asked_in s ≡ Piped (plain (own.Turn now)) → Reaches (plain (own.Turn now)) (kept_of t old) → IsPick (ready_in old) (moment_of (own.Turn now)) (Some t) → IsStepOf t (own.Turn now) old outcome new → ShardSteps s old outcome new
-turn_steps t now s old new outcome name asks reaches pick is = done s old outcome new all (others_stay t (own.Turn now) old new outcome is)
+pub turn_steps : (t : ℕ) (s : Step) (step : OwnStep) (old new : List View) (outcome : Outcome) → named_in s ≡ None → asked_in s ≡ Piped step → Reaches step (kept_of t old) → IsPick (ready_in old) (moment_of step.step) (Some t) → IsStepOf t step.step old outcome new → ShardSteps s old outcome new
+turn_steps t s step old new outcome name asks reaches pick is = done s old outcome new all (others_stay t step.step old new outcome is)
   where
     all : (lives : Lives) → ShardStands lives old → IsOutcome lives old s outcome × ShardStands (after s outcome lives) new
     all lives stands =
-        let both = all_stand t s (plain (own.Turn now)) old new outcome lives asks (λ u. turn_whose t u s (own.Turn now) old new outcome name is) is (reached (plain (own.Turn now)) (kept_of t old) is.before is.change.was reaches) stands in
-        (rw (name, asks) (Some t, pick_at lives old (moment_of (own.Turn now)) (Some t) stands pick, both.0), both.1)
+        let both = all_stand t s step old new outcome lives asks (λ u. turn_whose t u s step.step old new outcome name is) is (reached step (kept_of t old) is.before is.change.was reaches) stands in
+        (rw (name, asks) (Some t, pick_at lives old (moment_of step.step) (Some t) stands pick, both.0), both.1)
 
-pub idle_steps : (now : ℕ) (s : Step) (old : List View) → named_in s ≡ None → asked_in s ≡ Piped (plain (own.Turn now)) → IsPick (ready_in old) (moment_of (own.Turn now)) None → ShardSteps s old Idle old
-idle_steps now s old name asks pick = done s old Idle old all (λ other ne. (refl, refl))
+pub idle_steps : (s : Step) (step : OwnStep) (old : List View) → named_in s ≡ None → asked_in s ≡ Piped step → IsPick (ready_in old) (moment_of step.step) None → ShardSteps s old Idle old
+idle_steps s step old name asks pick = done s old Idle old all (λ other ne. (refl, refl))
   where
     all : (lives : Lives) → ShardStands lives old → IsOutcome lives old s Idle × ShardStands (after s Idle lives) old
     all lives stands = (
-      rw (name, asks) (None, pick_at lives old (moment_of (own.Turn now)) None stands pick, refl),
+      rw (name, asks) (None, pick_at lives old (moment_of step.step) None stands pick, refl),
       λ u. let test : is_own u s Idle ≡ false = ap (λ w. is_tenant u (whose w Idle)) name in rw test (stands u),
     )
 
@@ -302,20 +290,7 @@ own_goes_on t s step old new outcome asks whose is = inr (inl (
   },
 ))
 
--- whose step it is
-pub named_for : (t : ℕ) (s : Step) (step : OwnStep) (old : List View) → named_in s ≡ Some t → asked_in s ≡ Piped step → Reaches step (kept_of t old) → IsStepFor t s old
-named_for t s step old name asks reaches = rw (name, asks) (refl, reaches)
-
-pub turn_for : (t now : ℕ) (s : Step) (old : List View) → named_in s ≡ None → asked_in s ≡ Piped (plain (own.Turn now)) → IsPick (ready_in old) (moment_of (own.Turn now)) (Some t) → IsStepFor t s old
-turn_for t now s old name asks pick = rw (name, asks) pick
-
--- a step that is nobody's
-pub stranger_goes_on : (t : ℕ) (s : Step) (step : OwnStep) (old : List View) → named_in s ≡ Some t → asked_in s ≡ Piped step → kept_of t old ≡ None → ShardFollows s old (Refused t not_member) old
-stranger_goes_on t s step old name asks none = inl (record { whose = rw (name, asks) (rw none tt); outcome_is = rw (name, asks) (rw none refl); new_is = refl })
-
-pub other_goes_on : (t : ℕ) (s : Step) (step : OwnStep) (old : List View) (before : State) → named_in s ≡ Some t → asked_in s ≡ Piped step → kept_of t old ≡ Some before → is_taken before.section step ≡ false → ShardFollows s old (Refused t other_policies) old
-other_goes_on t s step old before name asks was other = inl (record { whose = rw (name, asks) (rw was other); outcome_is = rw (name, asks) (rw was refl); new_is = refl })
-
+-- a tenant that comes goes on
 pub used_goes_on : (t : ℕ) (s : Step) (section : SectionData) (old : List View) → named_in s ≡ Some t → asked_in s ≡ Comes section → was_of t old ≡ true → ShardFollows s old (Refused t number_used) old
 used_goes_on t s section old name asks was = inl (record { whose = rw (name, asks) was; outcome_is = rw (name, asks) refl; new_is = refl })
 
@@ -329,23 +304,9 @@ add_goes_on t s section old new name asks is_new added = inr (inr (
   },
 ))
 
-pub idle_goes_on : (now : ℕ) (s : Step) (old : List View) → named_in s ≡ None → asked_in s ≡ Piped (plain (own.Turn now)) → IsPick (ready_in old) (moment_of (own.Turn now)) None → ShardFollows s old Idle old
-idle_goes_on now s old name asks pick = inl (record { whose = rw (name, asks) pick; outcome_is = rw name refl; new_is = refl })
-
--- a step that reaches a pipeline is not nobody's
-pub not_nobodys : (t : ℕ) (s : Step) (step : OwnStep) (old : List View) → named_in s ≡ Some t → asked_in s ≡ Piped step → Reaches step (kept_of t old) → IsNobodys s old → ⊥
-not_nobodys t s step old name asks reaches none = by_kept (kept_of t old) reaches (rw (name, asks) at none)
-  where
-    by_kept : (kept : Option State) → Reaches step kept → ReachesNone step kept → ⊥
-    by_kept None some none' = some
-    by_kept (Some kept) some none' = absurd (cc)
-
 -- no member is ready where one is
 pub not_both : (f : ℕ → Option ℕ) (now t : ℕ) → IsPick f now (Some t) → IsPick f now None → ⊥
 not_both f now t some none = let later : now < some.0 = none t some.0 some.1 in omega (arith, later, some.2)
-
-pub not_idle : (t now : ℕ) (s : Step) (old : List View) → named_in s ≡ None → asked_in s ≡ Piped (plain (own.Turn now)) → IsPick (ready_in old) (moment_of (own.Turn now)) (Some t) → IsNobodys s old → ⊥
-not_idle t now s old name asks pick none = not_both (ready_in old) (moment_of (own.Turn now)) t pick (rw (name, asks) at none)
 
 -- who is new is not nobody
 pub not_again : (t : ℕ) (s : Step) (section : SectionData) (old : List View) → named_in s ≡ Some t → asked_in s ≡ Comes section → was_of t old ≡ false → IsNobodys s old → ⊥

@@ -6,6 +6,7 @@ pub mod Run
 pub mod Steps
 pub mod Refusal
 pub mod Follows
+pub mod Addressee
 pub mod Chain
 pub mod Alone
 pub mod Comings
@@ -14,4 +15,5 @@ pub mod Table
 pub mod Members
 pub mod Whole
 pub mod Empty
+pub mod Waiting
 pub mod Equal

@@ -33,14 +33,6 @@ pub record IsChangeOf (tenant : ℕ) (before after : State) (kept : Option State
   pub was_now : was_of tenant new ≡ true
   pub others : (other : ℕ) → other ≢ tenant → StaysOf other old new
 
--- the member's pipeline tells this
-pub record IsToldOf (tenant : ℕ) (step : Own) (old : List View) (said : StepReply) (new : List View) : Type 0 where
-  pub before : State
-  pub after : State
-  pub change : IsChangeOf tenant before after (Some after) old new
-  pub answers : Answers step before said after
-  pub from_state : FollowsFromState step before said after
-
 -- the member answers, and goes where its retirement is told its counters
 pub record IsStepOf (tenant : ℕ) (step : Own) (old : List View) (outcome : Outcome) (new : List View) : Type 0 where
   pub before : State

@@ -1,10 +1,11 @@
 -- The members of a shard, by the settings and a list of numbers, and which numbers stand in which shard's. This
 -- project's own rule.
-use Rattle.std.specs.Prelude.{◌≡◌, ℕ, ◌%◌, ◌==◌, List, map, filter, Option, None, if◌then◌else◌}
+use Rattle.std.specs.Prelude.{◌≡◌, ℕ, ◌%◌, ◌==◌, ◌∷◌, ◌++◌, List, [], map, filter, Option, None, if◌then◌else◌}
 use Rattle.std.specs.List.{list_any}
 use Rattle.tail_settings.specs.Section.{SectionData}
 use Rattle.tail_settings.specs.Settings.{SettingsData, section_at}
-use Rattle.tenant_shard.specs.Lives.{new_life, Lives}
+use Rattle.tenant_shard.specs.Lives.{new_life, Lives, ShardStands}
+use Rattle.tenant_shard.specs.View.{View}
 
 -- a member is a tenant number of the table that stands in the list
 abbrev pub section_of : SettingsData → List ℕ → ℕ → Option SectionData
@@ -14,6 +15,11 @@ section_of settings members tenant =
 -- a shard that was opened stands for no steps, and no other number was used than the members'
 abbrev pub opened : SettingsData → List ℕ → Lives
 opened settings members tenant = new_life (section_of settings members tenant)
+
+-- a shard that was opened with some members, whichever these were, is opened with one more
+abbrev pub OpensOneMore : SettingsData → ℕ → (old new : List View) → Type 0
+OpensOneMore settings tenant old new = (earlier : List ℕ) → ShardStands (opened settings earlier) old
+    → ShardStands (opened settings (earlier ++ tenant ∷ [])) new
 
 -- the numbers of a shard's tenants: those that leave the shard's over when divided by the number of shards
 abbrev pub members_of : SettingsData → ℕ → List ℕ

@@ -1,13 +1,12 @@
 //! Tenants that come, and those that go.
 
-ghost use Rattle.std.specs.Prelude.{◌≡◌, ◌<◌, ◌≤◌, ℕ, false, List, [], ◌∷◌, ◌++◌, length, slice_index_or, vec_capacity, IfOk, OnOk, OnErr};
+ghost use Rattle.std.specs.Prelude.{◌≡◌, ◌<◌, ◌≤◌, false, [], length, slice_index_or, vec_capacity, IfOk, OnOk, OnErr};
 ghost use Rattle.tail_settings.specs.Section.{section_view};
 ghost use Rattle.tail_settings.specs.Settings.{settings_view};
 ghost use Rattle.tenant_pipeline.specs.Invariant.{HasNonePending};
-ghost use Rattle.tenant_shard.specs.Lives.{ShardStands};
 ghost use Rattle.tenant_shard.specs.Members.{IsPlaceOf, IsGapFor, views, all_views, is_gone};
 ghost use Rattle.tenant_shard.specs.Steps.{IsAdditionOf, IsComingOf, IsDepartureOf};
-ghost use Rattle.tenant_shard.specs.Table.{opened};
+ghost use Rattle.tenant_shard.specs.Table.{OpensOneMore};
 ghost use Rattle.tenant_shard.specs.View.{was_of};
 ghost use Rattle.tenant_shard.specs.Whole.{IsShard};
 
@@ -76,10 +75,8 @@ pub fn open_member(
     ensures whole { IsShard stores.now agenda.new members.new.items gone.new.items
         (vec_capacity gone.new) }
     ensures nobody_left { gone.new.items ≡ [] }
-    ensures stands { OnOk result ((earlier : List ℕ) → let table = settings_view settings.now in
-        ShardStands (opened table earlier) (all_views stores.now members.old.items []) →
-        ShardStands (opened table (earlier ++ tenant ∷ []))
-        (all_views stores.now members.new.items [])) }
+    ensures stands { OnOk result (OpensOneMore (settings_view settings.now) tenant
+        (all_views stores.now members.old.items []) (all_views stores.now members.new.items [])) }
 {
     let Err(at) = place_of(members, tenant) else {
         return Ok(());

@@ -21,6 +21,8 @@
 //! changes anything, and what the tenant is told afterwards is as if it had not come. An answer to a job that isn't in
 //! flight is refused with 21, and nothing but due timers has happened then.
 //!
+//! When a tenant is ready next, and when the first of a shard's members is, is asked without a step (`Shard::waiting`).
+//!
 //! It stands on `tenant_pipeline`, `tenant_stores`, `shard_agenda`, `tenant_rules` and `tail_settings`. Its own rules
 //! come from no public text.
 #![tactic(auto)]
@@ -30,16 +32,20 @@ ghost use Rattle.tenant_shard.specs.Alone.{OwnStepsDecide};
 ghost use Rattle.tenant_shard.specs.Chain.{KeptDecides};
 ghost use Rattle.tenant_shard.specs.Comings.{NeverAgain, AlwaysWelcome};
 ghost use Rattle.tenant_shard.specs.Table.{EachInItsShard};
+ghost use Rattle.tenant_shard.specs.Waiting.{LivesTellWhatWaits};
 
+mod addressee;
 mod comings;
 mod member;
 mod members;
 mod shard;
 mod step;
+mod waiting;
 
 pub use members::members_of;
 pub use shard::{Shard, Stopped};
 pub use step::{Outcome, Step, equal_steps_are_the_same};
+pub use waiting::Waiting;
 
 /// What a tenant is told follows from its life before and its own steps alone, whoever else comes and goes: a law over
 /// runs, also over those of different shards.
@@ -61,6 +67,11 @@ pub fn no_number_is_used_again()
 /// A tenant whose number is new is let in, whatever else is in the shard: a law over steps.
 pub fn newcomers_are_let_in()
     ensures { AlwaysWelcome }
+{}
+
+/// What a tenant and its shard wait for follows from the tenants' lives: a law over states.
+pub fn lives_tell_what_waits()
+    ensures { LivesTellWhatWaits }
 {}
 
 /// Each tenant of a table is in one shard, with its own section: a law over settings.

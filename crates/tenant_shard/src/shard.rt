@@ -1,40 +1,33 @@
 //! The shard.
 
-ghost use Rattle.std.specs.Prelude.{◌≡◌, ◌<◌, ℕ, true, Some, length, slice_index_or, vec_capacity, IfOk, OnErr, IsOk, IfErr};
+ghost use Rattle.std.specs.Prelude.{◌≡◌, ◌<◌, length, vec_capacity, IfOk, OnErr, IsOk, IfErr};
 ghost use Rattle.tail_settings.specs.Settings.{settings_view};
 ghost use Rattle.tenant_pipeline.specs.OwnStep.{own_step_of};
-ghost use Rattle.tenant_pipeline.specs.Invariant.{HasNonePending};
-ghost use Rattle.tenant_shard.specs.declared.step.Step.TheVariants as steps;
 ghost use Rattle.tenant_shard.specs.View.{View, kept_of};
 ghost use Rattle.tenant_shard.specs.Lives.{ShardStands};
-ghost use Rattle.tenant_shard.specs.Members.{IsPlaceOf, views, all_views};
-ghost use Rattle.tenant_shard.specs.Outcomes.{asked_by, asked_in, named_in};
+ghost use Rattle.tenant_shard.specs.Members.{IsPlaceOf, all_views};
+ghost use Rattle.tenant_shard.specs.Outcomes.{asked_by};
 ghost use Rattle.tenant_shard.specs.Run.{ShardSteps};
 ghost use Rattle.tenant_shard.specs.Refusal.{Reaches, ShardRefuses, IsNobodys};
 ghost use Rattle.tenant_shard.specs.Follows.{ShardFollows};
-ghost use Rattle.tenant_shard.specs.Steps.{IsForPipeline, ends, IsToldOf, IsStepOf, IsLossOf};
+ghost use Rattle.tenant_shard.specs.Steps.{IsStepOf, IsLossOf};
 ghost use Rattle.tenant_shard.specs.Table.{opened};
-ghost use Rattle.tenant_shard.specs.Whole.{IsWhole, IsShard};
+ghost use Rattle.tenant_shard.specs.Whole.{IsShard};
 
+use crate::addressee::{Addressee, addressee_of};
 use crate::comings::{add, let_go, open_member};
 use crate::member::{ends, named, own_step, place_of};
 use crate::step::{Outcome, Step};
+use crate::waiting::Waiting;
 use decision_cache::HashKeys;
 use shard_agenda::Agenda;
 use std::alloc::{AllocError, Global};
 use std::marker::Model;
 use tail_policy::TraceNote;
 use tail_settings::Settings;
-use tenant_pipeline::{LATEST_MOMENT, OwnStep, Pipeline};
-use tenant_rules::StepReply;
+use tenant_pipeline::{OwnStep, Pipeline};
 use tenant_stores::Stores;
 use thiserror::Error;
-
-/// The number of the refusal of a tenant that is no member.
-const NOT_MEMBER: u8 = 22;
-
-/// The number of the refusal of a body that was prepared for other policies than the tenant's.
-const OTHER_POLICIES: u8 = 23;
 
 /// What trace ids are hashed with where they are the caller's own choice.
 const FIXED_KEYS: HashKeys = HashKeys {
@@ -84,6 +77,7 @@ impl Shard {
     ghost use Rattle.tenant_shard.specs.Chain.{ShardRuns, RunsByOwnSteps, StandsAfter};
     ghost use Rattle.tenant_shard.specs.Empty.{is_empty};
     ghost use Rattle.tenant_shard.specs.Stop.{IsStopped};
+    ghost use Rattle.tenant_shard.specs.Waiting.{IsWaiting};
     ghost use Rattle.tenant_shard.specs.Whole.{AllCounted};
 
     /// Opens a shard of the tenants of the settings whose numbers stand in `members`, with no steps so far, which are
@@ -153,15 +147,31 @@ impl Shard {
         // In every state each span that was taken is counted once.
         ensures counted { AllCounted self.new }
     {
-        step_in(
-            self.alloc,
-            self.keys,
-            &mut self.stores,
-            &mut self.agenda,
-            &mut self.members,
-            &mut self.gone,
-            step,
-        )
+        if let Step::Add { tenant, section } = step {
+            return add(
+                self.alloc,
+                self.keys,
+                &self.stores,
+                &mut self.agenda,
+                &mut self.members,
+                &mut self.gone,
+                *tenant,
+                section,
+            );
+        }
+        let own = own_step(step);
+        match addressee_of(&self.agenda, &self.members, step, &own) {
+            Addressee::Member { place, tenant } => step_at(
+                &mut self.stores,
+                &mut self.agenda,
+                &mut self.members,
+                &mut self.gone,
+                place,
+                tenant,
+                &own,
+            ),
+            Addressee::Nobody(told) => Ok(told),
+        }
     }
 
     /// Does the steps one after the other: each member is told exactly what a pipeline of its own
@@ -212,142 +222,34 @@ impl Shard {
             Err(_) => false,
         }
     }
-}
 
-/// A step goes to the tenant that it names, or a turn to the member that is ready first.
-fn step_in(
-    alloc: Global,
-    keys: HashKeys,
-    stores: &mut Stores<TraceNote>,
-    agenda: &mut Agenda,
-    members: &mut Vec<Pipeline>,
-    gone: &mut Vec<u32>,
-    step: &Step,
-) -> Result<Outcome, AllocError>
-    requires { IsShard stores.old agenda.old members.old.items gone.old.items
-        (vec_capacity gone.old) }
-    ensures on_success { IfOk result (λ outcome. ShardSteps step.now
-        (all_views stores.old members.old.items gone.old.items) outcome
-        (all_views stores.new members.new.items gone.new.items)) }
-    ensures from_state { IfOk result (λ outcome. ShardFollows step.now
-        (all_views stores.old members.old.items gone.old.items) outcome
-        (all_views stores.new members.new.items gone.new.items)) }
-    ensures on_refusal { OnErr result (ShardRefuses step.now
-        (all_views stores.old members.old.items gone.old.items)
-        (all_views stores.new members.new.items gone.new.items)) }
-    ensures on_no_member { IsNobodys step.now
-        (all_views stores.old members.old.items gone.old.items) → (IsOk result)
-        × (all_views stores.new members.new.items gone.new.items
-        ≡ all_views stores.old members.old.items gone.old.items) }
-    ensures whole { IsShard stores.new agenda.new members.new.items gone.new.items
-        (vec_capacity gone.new) }
-{
-    match step {
-        Step::Post { prepared, .. } => {
-            step_of(stores, agenda, members, gone, prepared.tenant(), step)
+    /// What the tenant and the shard wait for. It takes no memory, and doesn't go through the members.
+    pub fn waiting(&self, tenant: u32) -> Waiting
+        ensures { IsWaiting self.now tenant result }
+    {
+        Waiting {
+            is_empty: self.is_empty(tenant),
+            tenant_ready: self.agenda.ready(tenant),
+            shard_ready: self.agenda.next(),
         }
-        Step::Turn { now } => turn(stores, agenda, members, gone, *now),
-        Step::Answer { tenant, .. } => step_of(stores, agenda, members, gone, *tenant, step),
-        Step::Report { tenant, .. } => step_of(stores, agenda, members, gone, *tenant, step),
-        Step::Drain { tenant, .. } => step_of(stores, agenda, members, gone, *tenant, step),
-        Step::Add { tenant, section } => {
-            add(alloc, keys, stores, agenda, members, gone, *tenant, section)
-        }
-        Step::Retire { tenant, .. } => step_of(stores, agenda, members, gone, *tenant, step),
     }
 }
 
-/// The step of the tenant that it names, where that is a member with the policies that a body was prepared for.
-fn step_of(
-    stores: &mut Stores<TraceNote>,
-    agenda: &mut Agenda,
-    members: &mut Vec<Pipeline>,
-    gone: &mut Vec<u32>,
-    tenant: u32,
-    step: &Step,
-) -> Result<Outcome, AllocError>
-    requires whole { IsShard stores.old agenda.old members.old.items gone.old.items
-        (vec_capacity gone.old) }
-    requires whose { named_in step.now ≡ Some tenant }
-    requires piped { IsForPipeline (asked_in step.now) }
-    ensures on_success { IfOk result (λ outcome. ShardSteps step.now
-        (all_views stores.old members.old.items gone.old.items) outcome
-        (all_views stores.new members.new.items gone.new.items)) }
-    ensures from_state { IfOk result (λ outcome. ShardFollows step.now
-        (all_views stores.old members.old.items gone.old.items) outcome
-        (all_views stores.new members.new.items gone.new.items)) }
-    ensures on_refusal { OnErr result (ShardRefuses step.now
-        (all_views stores.old members.old.items gone.old.items)
-        (all_views stores.new members.new.items gone.new.items)) }
-    ensures on_no_member { IsNobodys step.now
-        (all_views stores.old members.old.items gone.old.items) → (IsOk result)
-        × (all_views stores.new members.new.items gone.new.items
-        ≡ all_views stores.old members.old.items gone.old.items) }
-    ensures whole { IsShard stores.new agenda.new members.new.items gone.new.items
-        (vec_capacity gone.new) }
-{
-    let own = own_step(step);
-    let Ok(i) = place_of(members, tenant) else {
-        return Ok(Outcome::Refused(tenant, NOT_MEMBER));
-    };
-    if !members[i].takes(&own) {
-        return Ok(Outcome::Refused(tenant, OTHER_POLICIES));
-    }
-    let outcome = step_at(stores, agenda, members, gone, i, tenant, &own)?;
-    Ok(outcome)
-}
-
-/// The turn goes to the member that is ready first.
-fn turn(
-    stores: &mut Stores<TraceNote>,
-    agenda: &mut Agenda,
-    members: &mut Vec<Pipeline>,
-    gone: &mut Vec<u32>,
-    now: u64,
-) -> Result<Outcome, AllocError>
-    requires whole { IsShard stores.old agenda.old members.old.items gone.old.items
-        (vec_capacity gone.old) }
-    ensures on_success { IfOk result (λ outcome. ShardSteps (steps.Turn now)
-        (all_views stores.old members.old.items gone.old.items) outcome
-        (all_views stores.new members.new.items gone.new.items)) }
-    ensures from_state { IfOk result (λ outcome. ShardFollows (steps.Turn now)
-        (all_views stores.old members.old.items gone.old.items) outcome
-        (all_views stores.new members.new.items gone.new.items)) }
-    ensures on_refusal { OnErr result (ShardRefuses (steps.Turn now)
-        (all_views stores.old members.old.items gone.old.items)
-        (all_views stores.new members.new.items gone.new.items)) }
-    ensures on_no_member { IsNobodys (steps.Turn now)
-        (all_views stores.old members.old.items gone.old.items) → (IsOk result)
-        × (all_views stores.new members.new.items gone.new.items
-        ≡ all_views stores.old members.old.items gone.old.items) }
-    ensures whole { IsShard stores.new agenda.new members.new.items gone.new.items
-        (vec_capacity gone.new) }
-{
-    let Some(tenant) = agenda.first_due(now.min(LATEST_MOMENT)) else {
-        return Ok(Outcome::Idle);
-    };
-    let Ok(i) = place_of(members, tenant) else {
-        unreachable!()
-    };
-    let own = OwnStep::Turn { now };
-    let outcome = step_at(stores, agenda, members, gone, i, tenant, &own)?;
-    Ok(outcome)
-}
-
-/// The member does a step that reaches it, and goes where its retirement is told its counters.
+/// The member's pipeline does a step that reaches it, and the agenda follows. The member goes where its retirement is
+/// told its counters.
 fn step_at(
     stores: &mut Stores<TraceNote>,
     agenda: &mut Agenda,
     members: &mut Vec<Pipeline>,
     gone: &mut Vec<u32>,
-    i: usize,
+    place: usize,
     tenant: u32,
     step: &OwnStep<'_>,
 ) -> Result<Outcome, AllocError>
     requires whole { IsShard stores.old agenda.old members.old.items gone.old.items
         (vec_capacity gone.old) }
-    requires within { i < length members.old.items }
-    requires place { IsPlaceOf tenant members.old.items i }
+    requires within { place < length members.old.items }
+    requires place { IsPlaceOf tenant members.old.items place }
     requires taken { Reaches (asked_by step.now)
         (kept_of tenant (all_views stores.old members.old.items gone.old.items)) }
     ensures on_success { IfOk result (λ outcome. IsStepOf tenant (own_step_of step.now)
@@ -359,42 +261,14 @@ fn step_at(
     ensures whole { IsShard stores.new agenda.new members.new.items gone.new.items
         (vec_capacity gone.new) }
 {
-    let told = tell(stores, agenda, members, i, tenant, step)?;
-    if !ends(step, &told) {
-        return Ok(named(tenant, told));
-    }
-    let_go(stores, agenda, members, gone, i, tenant);
-    Ok(named(tenant, told))
-}
-
-/// The member's pipeline does a step that reaches it, and the agenda follows.
-fn tell(
-    stores: &mut Stores<TraceNote>,
-    agenda: &mut Agenda,
-    members: &mut Vec<Pipeline>,
-    i: usize,
-    tenant: u32,
-    step: &OwnStep<'_>,
-) -> Result<StepReply, AllocError>
-    requires whole { IsWhole stores.old agenda.old members.old.items }
-    requires within { i < length members.old.items }
-    requires place { IsPlaceOf tenant members.old.items i }
-    requires taken { Reaches (asked_by step.now)
-        (kept_of tenant (views stores.old members.old.items)) }
-    ensures on_success { IfOk result (λ told. IsToldOf tenant (own_step_of step.now)
-        (views stores.old members.old.items) told (views stores.new members.new.items)) }
-    ensures may_leave { IfOk result (λ told. ends (own_step_of step.now) told ≡ true →
-        (d : Pipeline) → HasNonePending (slice_index_or members.new.items i d)) }
-    ensures on_refusal { OnErr result (IsLossOf tenant (own_step_of step.now)
-        (views stores.old members.old.items) (views stores.new members.new.items)) }
-    ensures place { IsPlaceOf tenant members.new.items i }
-    ensures count { length members.new.items ≡ length members.old.items }
-    ensures whole { IsWhole stores.new agenda.new members.new.items }
-{
-    let own = &mut members[i];
+    let own = &mut members[place];
     let result = own.step(stores, step);
     let ready = own.ready(stores);
     agenda.set(tenant, ready);
     let told = result?;
-    Ok(told)
+    if !ends(step, &told) {
+        return Ok(named(tenant, told));
+    }
+    let_go(stores, agenda, members, gone, place, tenant);
+    Ok(named(tenant, told))
 }

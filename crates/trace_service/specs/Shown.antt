@@ -15,15 +15,17 @@ use Rattle.http_edge.specs.Seen.{response_of}
 use Rattle.http_edge.specs.declared.message.MediaType.TheVariants as media
 use Rattle.http_edge.specs.declared.message.Reply.{Reply}
 use Rattle.machine_hub.specs.declared.receipt.Receipt.{Receipt}
+use Rattle.machine_hub.specs.declared.told.Told.{Told}
 use Rattle.machine_hub.specs.Hub.{IsRefusedOn}
 use Rattle.otlp_front.specs.Route.{names_in}
 use Rattle.otlp_front.specs.Target.{path_of}
-use Rattle.shared_hub.specs.Logs.{CallerState, IsStepOn}
+use Rattle.shared_hub.specs.Logs.{CallerState, IsLookOn, IsStepOn}
 use Rattle.tail_settings.specs.Section.{SectionData}
 use Rattle.tail_settings.specs.Settings.{SettingsData, number_of, section_at}
 use Rattle.tenant_shard.specs.declared.step.Step.TheVariants as steps
 use Rattle.tenant_shard.specs.declared.step.Outcome.{Outcome}
 use Rattle.tenant_shard.specs.declared.step.Outcome.TheVariants as outcomes
+use Rattle.tenant_shard.specs.declared.waiting.Waiting.{Waiting}
 use Rattle.trace_service.specs.Changed.{TellsAdding, TellsRetiring}
 use Rattle.trace_service.specs.Comings.{Present}
 use Rattle.trace_service.specs.InForce.{CameOf}
@@ -52,24 +54,32 @@ pub record IsLooked (old new : CallerState) (shards tenant : ℕ) (ledger : Opti
   pub made : IsStepOn old new (tenant % shards) (steps.Report tenant now) outcome receipt
   pub tells : Tells outcome ledger
 
--- the tenants of whom something was told, behind others
-abbrev pub told_of : List TenantData → List ℕ → Option LedgerData → List TenantData
-told_of figures name (Some ledger) = figures ++ record { name = name; ledger = ledger } ∷ []
-told_of figures name None = figures
+-- the tenant's shard said, at a moment after all of this caller's steps, that something of the tenant's is due next at
+-- this one, in milliseconds since the start, or that nothing of it waits
+abbrev pub IsDue : CallerState → ℕ → ℕ → Option ℕ → Type 0
+IsDue caller shards tenant moment =
+    (told : Told Waiting) × IsLookOn caller (tenant % shards) tenant told × (told.answer.tenant_ready ≡ moment)
 
--- a tenant was asked for so, and what was told of it, if anything, is behind the figures of others
+-- the tenants of whom something was told, behind others
+abbrev pub told_of : List TenantData → List ℕ → Option LedgerData → Option ℕ → List TenantData
+told_of figures name (Some ledger) ready = figures ++ record { name = name; ledger = ledger; ready = ready } ∷ []
+told_of figures name None ready = figures
+
+-- a tenant was asked for so, its counters first, and what was told of it, if anything, is behind the figures of others
 abbrev pub LooksMore : ℕ → Entry → CallerState → CallerState → List TenantData → List TenantData → Type 0
 LooksMore shards tenant old new before after =
-    (ledger : Option LedgerData) × IsLooked old new shards tenant.number ledger
-    × (after ≡ told_of before (string_bytes tenant.name) ledger)
+    (ledger : Option LedgerData) × (ready : Option ℕ) × IsLooked old new shards tenant.number ledger
+    × IsDue new shards tenant.number ready
+    × (after ≡ told_of before (string_bytes tenant.name) ledger ready)
 
 -- these tenants were asked for so, one after the other, and this was told of those that hadn't gone
 pub data AreLooked (shards : ℕ) (old : CallerState) : Present → List TenantData → CallerState → Type 0 where
   no_look : AreLooked shards old [] [] old
   look_more : (tenants : Present) (figures : List TenantData) (mid : CallerState) (tenant : ℕ) (name : List ℕ)
-      (ledger : Option LedgerData) (new : CallerState)
+      (ledger : Option LedgerData) (ready : Option ℕ) (new : CallerState)
       → AreLooked shards old tenants figures mid → IsLooked mid new shards tenant ledger
-      → AreLooked shards old (tenants ++ (tenant, name) ∷ []) (told_of figures name ledger) new
+      → IsDue new shards tenant ready
+      → AreLooked shards old (tenants ++ (tenant, name) ∷ []) (told_of figures name ledger ready) new
 
 -- nothing was done but that counters were asked for, in as many steps as one likes, of which some were refused memory
 pub data OnlyLooks (shards : ℕ) (old : CallerState) : CallerState → Type 0 where
@@ -151,9 +161,10 @@ HasSection first number section = (now : SettingsData) × CameOf first now × (s
 -- settings say or its shard
 pub data ShowsTenant (first : SettingsData) (shards : ℕ) (name : List ℕ) (old new : CallerState) (told : Response)
     : Type 0 where
-  shown : (number : ℕ) (section : SectionData) (ledger : LedgerData) → IsKnown first name number
+  shown : (number : ℕ) (section : SectionData) (ledger : LedgerData) (ready : Option ℕ) → IsKnown first name number
       → HasSection first number (Some section) → IsLooked old new shards number (Some ledger)
-      → told ≡ reply_of 200 media.Json (settled_text (record { name = name; ledger = ledger }) section)
+      → IsDue new shards number ready
+      → told ≡ reply_of 200 media.Json (settled_text (record { name = name; ledger = ledger; ready = ready }) section)
       → ShowsTenant first shards name old new told
   nobody : IsNobody first name → new ≡ old → told ≡ unknown_reply → ShowsTenant first shards name old new told
   left : (number : ℕ) → IsKnown first name number → HasSection first number None → new ≡ old → told ≡ unknown_reply

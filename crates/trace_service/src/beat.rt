@@ -58,6 +58,29 @@ impl Signals {
         &self.paces
     }
 
+    /// Memory is short: from now on the shards' moments go on millisecond by millisecond. Turners that rest look at
+    /// once what is due.
+    pub fn slow_down(&self) {
+        self.paces.slow_down();
+        self.bells.ring_shards();
+    }
+
+    /// A post was refused memory.
+    pub fn refuse_post(&self) {
+        self.tally.refuse();
+        self.slow_down();
+    }
+
+    /// Whether this shard takes no post at this moment, in milliseconds: the reserve isn't there, or memory was short
+    /// and too much is due there since. A post would do all of that in its one step.
+    pub fn is_short(&self, shard: usize, now: u64) -> bool {
+        let is_behind = match self.paces.shard(shard) {
+            Some(pace) => pace.is_behind(now),
+            None => false,
+        };
+        is_behind || !self.reserve.is_there()
+    }
+
     /// What is kept back for those who let memory go.
     pub fn reserve(&self) -> &Reserve {
         &self.reserve

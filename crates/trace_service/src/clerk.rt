@@ -11,7 +11,7 @@ ghost use Rattle.machine_hub.specs.Hub.{IsRefusedOn};
 ghost use Rattle.trace_service.specs.Changed.{TellsAdding};
 ghost use Rattle.trace_service.specs.Receiving.{IsTalk};
 ghost use Rattle.trace_service.specs.Roster.{entry_of};
-ghost use Rattle.trace_service.specs.Shown.{AreFigures, AreLooked, IsKnown, IsLooked, IsNobody, IsOfService, IsShown, OnlyLooks, LooksMore, OnlyLooksIf, ShowsMetrics, ShowsReply, ShowsTenant, ShowsTenants, Tells, TellsGoing, TellsReadiness, clerk_of, drained_reply, is_for_figures, may_look, page_reply, refused_reply, told_of};
+ghost use Rattle.trace_service.specs.Shown.{AreFigures, AreLooked, IsDue, IsKnown, IsLooked, IsNobody, IsOfService, IsShown, OnlyLooks, LooksMore, OnlyLooksIf, ShowsMetrics, ShowsReply, ShowsTenant, ShowsTenants, Tells, TellsGoing, TellsReadiness, clerk_of, drained_reply, is_for_figures, may_look, page_reply, refused_reply, told_of};
 ghost use Rattle.trace_service.specs.Token.{bearer, is_for_all, is_let_in, is_wanted, token_of};
 ghost use Rattle.trace_service.specs.declared.desk.Asked.{Asked as AskedCode};
 
@@ -228,7 +228,8 @@ impl<'c, 'h, J: Naming, R: Wait + Clock> Clerk<'c, 'h, J, R> {
             ≡ clerk_of self.old.port self.old.staff self.old.lane_capacity }
     {
         let counters = self.counters(tenant.number)?;
-        push_figures(figures, tenant, counters)
+        let ready = self.ready(tenant.number);
+        push_figures(figures, tenant, counters, ready)
     }
 
     /// The counters of the tenant of this number. None where it has gone.
@@ -247,6 +248,19 @@ impl<'c, 'h, J: Naming, R: Wait + Clock> Clerk<'c, 'h, J, R> {
             Err(HubFault::OutOfMemory) => Err(AllocError),
             Err(HubFault::Behind { .. } | HubFault::OtherEntry { .. }) => unreachable!(),
         }
+    }
+
+    /// When something of the tenant of this number is due next, in milliseconds since the start, after all that this
+    /// thread had asked of its shard. None where nothing of it waits.
+    fn ready(&mut self, tenant: u32) -> Option<u64>
+        ensures due { IsDue self.old.context.now.caller (length self.old.context.now.hub.now) tenant
+            result }
+        ensures caller { self.new.context.now.caller ≡ self.old.context.now.caller }
+        ensures hub { self.new.context.now.hub ≡ self.old.context.now.hub }
+        ensures same { clerk_of self.new.port self.new.staff self.new.lane_capacity
+            ≡ clerk_of self.old.port self.old.staff self.old.lane_capacity }
+    {
+        self.context.waiting(tenant).tenant_ready
     }
 
     /// All figures, for a scraper.
@@ -344,9 +358,11 @@ impl<'c, 'h, J: Naming, R: Wait + Clock> Clerk<'c, 'h, J, R> {
         let Some(counters) = self.counters(number)? else {
             return unknown(alloc);
         };
+        let ready = self.ready(number);
         let figures = TenantFigures {
             name: String::from_str(alloc, name)?,
             counters,
+            ready,
         };
         let mut text = Vec::new(alloc);
         put_settled_tenant(alloc, &mut text, &figures, &section)?;
@@ -448,16 +464,21 @@ fn push_figures(
     figures: &mut Vec<TenantFigures>,
     tenant: &Present,
     counters: Option<[u64; 14]>,
+    ready: Option<u64>,
 ) -> Result<(), AllocError>
     ensures { OnOk result (map tenant_of figures.new.items ≡ told_of
         (map tenant_of figures.old.items) (string_bytes tenant.now.name)
-        (option_map ledger_of counters)) }
+        (option_map ledger_of counters) ready) }
 {
     let Some(counters) = counters else {
         return Ok(());
     };
     let name = tenant.name.clone()?;
-    figures.push(TenantFigures { name, counters })?;
+    figures.push(TenantFigures {
+        name,
+        counters,
+        ready,
+    })?;
     Ok(())
 }
 

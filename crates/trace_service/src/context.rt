@@ -22,7 +22,7 @@ use std::sync::{Mutex, Wait};
 use std::thread::Threads;
 use std::time::Clock;
 use tail_settings::Section;
-use tenant_shard::{Outcome, Step};
+use tenant_shard::{Outcome, Step, Waiting};
 
 /// One thread's place at the shards.
 #[derive(Drop)]
@@ -48,14 +48,16 @@ pub(crate) struct WorkerContext<'h, J: Naming, R> {
 impl<'h, J: Naming, R: Wait + Clock> WorkerContext<'h, J, R> {
     ghost use Rattle.std.specs.Prelude.{◌≡◌, ◌<◌, ◌≤◌, ◌%◌, ℕ, length, map, Option, option_map, IfOk, IfErr, OnErr};
     ghost use Rattle.machine_hub.specs.declared.receipt.Receipt.{Receipt};
+    ghost use Rattle.machine_hub.specs.declared.told.Told.{Told};
     ghost use Rattle.otlp_front.specs.Route.{names_in};
     ghost use Rattle.tail_settings.specs.Section.{section_view};
     ghost use Rattle.tail_settings.specs.Settings.{SettingsData, number_of, section_at};
     ghost use Rattle.tenant_shard.specs.declared.step.Step.TheVariants as steps;
+    ghost use Rattle.tenant_shard.specs.declared.waiting.Waiting.{Waiting};
     ghost use Rattle.trace_service.specs.InForce.{CameOf};
     ghost use Rattle.trace_service.specs.Roster.{entry_of};
     ghost use Rattle.machine_hub.specs.Hub.{IsRefusedOn};
-    ghost use Rattle.shared_hub.specs.Logs.{IsStepOn, IsEmptyOn};
+    ghost use Rattle.shared_hub.specs.Logs.{IsStepOn, IsEmptyOn, IsLookOn};
     ghost use Rattle.shared_hub.specs.declared.fault.HubFault.TheVariants as faults;
 
     /// A place at these shards, for who makes turns of this one.
@@ -127,6 +129,13 @@ impl<'h, J: Naming, R: Wait + Clock> WorkerContext<'h, J, R> {
         self.rt
     }
 
+    /// At which shard a tenant is.
+    fn shard_of(&self, tenant: u32) -> usize
+        ensures { result ≡ tenant % length self.now.hub.now }
+    {
+        tenant as usize % self.hub.shards()
+    }
+
     /// Makes one step at this tenant's shard.
     pub fn step(&mut self, tenant: u32, step: Step) -> Result<Outcome, HubFault>
         ensures call { IfOk result (λ outcome. (receipt : Option Receipt)
@@ -137,7 +146,7 @@ impl<'h, J: Naming, R: Wait + Clock> WorkerContext<'h, J, R> {
         ensures fault { IfErr result (λ fault. fault ≡ faults.OutOfMemory) }
         ensures hub { self.new.hub ≡ self.old.hub }
     {
-        let shard = tenant as usize % self.hub.shards();
+        let shard = self.shard_of(tenant);
         if let Step::Add { section, .. } = &step {
             self.signals().bells().expect(section);
         }
@@ -160,7 +169,7 @@ impl<'h, J: Naming, R: Wait + Clock> WorkerContext<'h, J, R> {
         ensures hub { self.new.hub ≡ self.old.hub }
     {
         let now = self.beat.now();
-        let shard = tenant as usize % self.hub.shards();
+        let shard = self.shard_of(tenant);
         let step = Step::Report { tenant, now };
         let (outcome, _receipt) = self
             .hub
@@ -222,6 +231,17 @@ impl<'h, J: Naming, R: Wait + Clock> WorkerContext<'h, J, R> {
         ensures hub { self.new.hub ≡ self.old.hub }
     {
         self.hub.empty(self.rt, &mut self.caller, tenant)
+    }
+
+    /// What the tenant and its shard wait for.
+    pub fn waiting(&mut self, tenant: u32) -> Waiting
+        ensures looked { (told : Told Waiting)
+            × IsLookOn self.old.caller (tenant % length self.old.hub.now) tenant told
+            × (told.answer ≡ result) }
+        ensures same { self.new.caller ≡ self.old.caller }
+        ensures hub { self.new.hub ≡ self.old.hub }
+    {
+        self.hub.look(self.rt, &mut self.caller, tenant).answer
     }
 }
 
@@ -292,7 +312,8 @@ impl<'h, J: Naming, R: Wait + Clock> AnswerSink for WorkerContext<'h, J, R> {
             answer,
         ) {
             Ok(_) => {
-                self.teller.answered(tenant as usize % self.hub.shards());
+                let shard = self.shard_of(tenant);
+                self.teller.answered(shard);
                 self.signals().tally().end_job(answer);
                 Ok(())
             }
@@ -340,8 +361,8 @@ impl<'h, J: Naming, R: Wait + Clock> WorkerContext<'h, J, R> {
         self.settings.lock(self.rt).destination(message)
     }
 
-    /// Posts a body to the tenant with this number and section, at the moment that it now is. What is kept of the body
-    /// shares its bytes.
+    /// Posts a body to the tenant with this number and section, once there is room for it, at the moment that it is
+    /// then. What is kept of the body shares its bytes.
     fn post<T: Threads + Sync>(
         &mut self,
         rt: &T,
@@ -354,30 +375,9 @@ impl<'h, J: Naming, R: Wait + Clock> WorkerContext<'h, J, R> {
             (response_of result) }
     {
         let bytes = body.len();
-        let large_bodies = self.signals().large_bodies();
-        large_bodies.enter(self.rt, bytes);
-        let reply = self.post_now(rt, tenant, section, body);
-        large_bodies.leave(self.rt, bytes);
-        reply
-    }
-
-    /// The same, without waiting for room.
-    fn post_now<T: Threads + Sync>(
-        &mut self,
-        rt: &T,
-        tenant: u32,
-        section: &Section,
-        body: Vec<u8>,
-    ) -> Reply
-        ensures { IsSent (Some (section_view section.now)) self.old.beat.last self.new.beat.last
-            self.old.caller self.new.caller (length self.old.hub.now) tenant body.items
-            (response_of result) }
-    {
+        self.signals().large_bodies().enter(self.rt, bytes);
         let now = self.beat.now();
-        if !self.signals().reserve().is_there() {
-            return without_memory(self.alloc);
-        }
-        match bytes_of(body) {
+        match self.admitted(now, tenant, body) {
             Ok(body) => {
                 let reply = post_body(
                     rt,
@@ -393,15 +393,32 @@ impl<'h, J: Naming, R: Wait + Clock> WorkerContext<'h, J, R> {
                     self.beat.signals().gates(),
                 );
                 if is_without_memory(&reply) {
-                    self.signals().tally().refuse();
-                    self.signals().paces().slow_down();
+                    self.signals().refuse_post();
                 }
-                let shard = tenant as usize % self.hub.shards();
-                self.signals().bells().ring_shard(shard);
+                self.end_post(tenant, bytes);
                 reply
             }
-            Err(AllocError) => without_memory(self.alloc),
+            Err(AllocError) => {
+                self.end_post(tenant, bytes);
+                without_memory(self.alloc)
+            }
         }
+    }
+
+    /// The body as it may be shared, where a post may come to this tenant's shard at this moment.
+    fn admitted(&self, now: u64, tenant: u32, body: Vec<u8>) -> Result<Bytes, AllocError>
+        ensures { IfOk result (λ bytes. bytes ≡ body.items) }
+    {
+        if self.signals().is_short(self.shard_of(tenant), now) {
+            return Err(AllocError);
+        }
+        bytes_of(body)
+    }
+
+    /// A post of a body of so many bytes is done: there is room for others, and a turn of its shard may be worth while.
+    fn end_post(&self, tenant: u32, bytes: usize) {
+        self.signals().large_bodies().leave(self.rt, bytes);
+        self.signals().bells().ring_shard(self.shard_of(tenant));
     }
 }
 

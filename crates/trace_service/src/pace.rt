@@ -8,6 +8,10 @@ use std::sync::atomic::{AtomicBool, AtomicU64, AtomicUsize, Ordering};
 /// For so many pauses at most a turner waits for its jobs' answers before its moment goes on.
 const PATIENCE: u32 = 100;
 
+/// So many milliseconds a shard's moments may be behind the clock's where a post comes to it. What is due in these it
+/// does in one step.
+const MOST_BEHIND: u64 = 50;
+
 /// What threads know of how one shard's moments go on.
 #[derive(Drop)]
 pub(crate) struct ShardPace {
@@ -33,6 +37,12 @@ impl ShardPace {
 
     fn is_slow(&self) -> bool {
         self.is_slow.load(Ordering::SeqCst)
+    }
+
+    /// Whether memory was short and they are far behind this one, which is the clock's.
+    pub fn is_behind(&self, now: u64) -> bool {
+        let reached = self.reached.load(Ordering::SeqCst);
+        self.is_slow() && now.saturating_sub(reached) > MOST_BEHIND
     }
 
     /// A turn was made, or was refused memory.

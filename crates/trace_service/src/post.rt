@@ -1,17 +1,17 @@
 //! One body, posted to its tenant's shard.
 
-ghost use Rattle.std.specs.Prelude.{◌≡◌, ◌<◌, ◌≤◌, ◌%◌, length, IfOk};
+ghost use Rattle.std.specs.Prelude.{◌≡◌, ◌<◌, ◌≤◌, length, IfOk};
 ghost use Rattle.http_edge.specs.Seen.{response_of};
 ghost use Rattle.machine_hub.specs.Hub.{slots_of};
 ghost use Rattle.otlp_front.specs.Seen.{response_for};
 ghost use Rattle.tail_settings.specs.Section.{section_view};
-ghost use Rattle.trace_service.specs.Post.{IsPosted, IsStepped, MayTell, Tells, bad_request, no_memory};
+ghost use Rattle.trace_service.specs.Post.{IsPosted, MayTell, Tells, bad_request, no_memory};
 
 use crate::gates::Gates;
 use bytes::Bytes;
 use http_edge::{Allow, MediaType, Reply};
 use otlp_front::RouteRefusal;
-use otlp_prepare::{Prepared, Refusal, prepare};
+use otlp_prepare::{Refusal, prepare};
 use shared_hub::{Caller, HubFault, SharedHub};
 use std::alloc::{AllocError, Global};
 use std::sync::Wait;
@@ -43,34 +43,17 @@ pub fn post_body<T: Threads + Sync, R: Wait>(
         body (response_of result) }
 {
     match prepare(threads, alloc, tenant, section, body, parts) {
-        Ok(prepared) => post_prepared(rt, alloc, hub, me, now, tenant, prepared, gates),
+        Ok(prepared) => {
+            let shard = tenant as usize % hub.shards();
+            let _gate = gates.pass(rt, tenant);
+            match hub.step(rt, alloc, me, shard, Step::Post { now, prepared }) {
+                Ok((outcome, _receipt)) => http_reply(alloc, outcome),
+                Err(HubFault::OutOfMemory) => without_memory(alloc),
+                Err(HubFault::Behind { .. } | HubFault::OtherEntry { .. }) => unreachable!(),
+            }
+        }
         Err(Refusal::Bad(_)) => bad_protobuf(alloc),
         Err(Refusal::OutOfMemory) => without_memory(alloc),
-    }
-}
-
-/// Posts a body that is ready.
-fn post_prepared<R: Wait>(
-    rt: &R,
-    alloc: Global,
-    hub: &SharedHub,
-    me: &mut Caller,
-    now: u64,
-    tenant: u32,
-    prepared: Prepared,
-    gates: &Gates,
-) -> Reply
-    requires same_hub { slots_of me.old ≡ hub.now }
-    ensures same_hub { slots_of me.new ≡ hub.now }
-    ensures stepped { IsStepped me.old me.new (tenant % length hub.now) now prepared
-        (response_of result) }
-{
-    let shard = tenant as usize % hub.shards();
-    let _gate = gates.pass(rt, tenant);
-    match hub.step(rt, alloc, me, shard, Step::Post { now, prepared }) {
-        Ok((outcome, _receipt)) => http_reply(alloc, outcome),
-        Err(HubFault::OutOfMemory) => without_memory(alloc),
-        Err(HubFault::Behind { .. } | HubFault::OtherEntry { .. }) => unreachable!(),
     }
 }
 

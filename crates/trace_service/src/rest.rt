@@ -84,6 +84,13 @@ impl Bells {
         }
     }
 
+    /// The same of every shard.
+    pub fn ring_shards(&self) {
+        for bell in self.shards.as_slice() {
+            bell.notify_one();
+        }
+    }
+
     /// There is one more job in the lane.
     pub fn ring_lane(&self) {
         self.lane.notify_one();

@@ -85,7 +85,7 @@ impl<'h, R: Wait> Teller<'h, R> {
         if !self.wants {
             self.wants = true;
             self.signals.reserve().want(self.rt);
-            self.signals.paces().slow_down();
+            self.signals.slow_down();
         }
     }
 

@@ -43,3 +43,6 @@ pub returns-in_err-head-clause-on_error : goal.returns-in_err-head-clause-on_err
 returns-in_err-head-clause-on_error g c =
     let p = err_from_is_err_and c.from_residual.result c.from_residual.ensures.1 in
     rw p.1 ([], _, refl, no_call)
+
+pub returns-in_err-head-clause-quiet : goal.returns-in_err-head-clause-quiet
+returns-in_err-head-clause-quiet g c = λ _. no_call

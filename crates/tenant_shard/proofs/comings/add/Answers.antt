@@ -1,5 +1,4 @@
-use Rattle.std.proofs.Common.{◌∙◌, sym, refl, true, false, inl, inr}
-use Rattle.std.specs.Result.{is_ok}
+use Rattle.std.proofs.Common.{◌∙◌, sym, refl, inl, inr}
 use Rattle.tail_settings.specs.Section.{section_view}
 use Rattle.tenant_shard.specs.Members.{views}
 use Rattle.tenant_shard.proofs.Places.{on_err}

@@ -1,5 +1,5 @@
 use Rattle.std.proofs.Common.{◌≡◌, ◌∙◌, ap, sym, subst, ℕ, []}
-use Rattle.std.specs.List.{insert, remove}
+use Rattle.std.specs.List.{remove}
 use Rattle.std.specs.Prelude.{vec_capacity}
 use Rattle.tenant_stores.specs.Counts.{no_rows}
 use Rattle.tenant_stores.specs.Invariant.{StoreInvariant}

@@ -1,8 +1,8 @@
-use Rattle.std.proofs.Common.{◌≡◌, map, length, option_map, string_bytes}
+use Rattle.std.proofs.Common.{◌≡◌, ◌∙◌, map, length, option_map, string_bytes}
 use Rattle.admin_pages.specs.Figures.{tenant_of}
 use Rattle.drop_ledger.specs.Ledger.{ledger_of}
 use Rattle.trace_service.proofs.Replies.{on_err}
-use Rattle.trace_service.proofs.Shown.{on_ok, one_looked, one_refused}
+use Rattle.trace_service.proofs.Shown.{looks_more, on_ok, one_looked, one_refused}
 use Rattle.trace_service.proofs.clerk.Clerk.add_figures.Goals as goal
 
 pub returns-in_err-counters-clause-looks : goal.returns-in_err-counters-clause-looks
@@ -13,9 +13,12 @@ returns-in_err-counters-clause-looks g c =
 pub returns : goal.returns
 returns g c =
     let look = c.in_ok-counters.ensures.looked in
+    let due = rw c.counters.ensures.hub at c.ready-ready.ensures.due in
     record {
-      looked = on_ok c.push_figures.result _ _ (λ (more : map tenant_of c.push_figures.new.figures.items ≡ _). (_, look, more)) c.push_figures.ensures;
-      looks = on_err c.push_figures.result _ (one_looked _ _ c.args.tenant.now.number _ _ look);
-      hub = c.counters.ensures.hub;
-      same = c.counters.ensures.same;
+      looked = on_ok c.push_figures.result _ _
+          (looks_more _ c.args.tenant.now _ _ _ _ (map tenant_of c.push_figures.new.figures.items) _ _ look due c.ready-ready.ensures.caller)
+          c.push_figures.ensures;
+      looks = on_err c.push_figures.result _ (rw c.ready-ready.ensures.caller (one_looked _ _ c.args.tenant.now.number _ _ look));
+      hub = c.ready-ready.ensures.hub ∙ c.counters.ensures.hub;
+      same = c.ready-ready.ensures.same ∙ c.counters.ensures.same;
     }

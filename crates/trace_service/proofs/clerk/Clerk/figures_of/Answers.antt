@@ -17,8 +17,8 @@ loop-tenant-preserved g c =
     record {
       same = c.add_figures.ensures.same ∙ before.same;
       hub = c.add_figures.ensures.hub ∙ before.hub;
-      looked = looked_more _ _ c.args.tenants.now c.loop-tenant.tenant-index c.tenant-item.result _ _ _ told.0 _
-          c.loop-tenant-test.true c.tenant-item.is before.looked (rw before.hub at told.1) told.2;
+      looked = looked_more _ _ c.args.tenants.now c.loop-tenant.tenant-index c.tenant-item.result _ _ _ told.0 told.1 _
+          c.loop-tenant-test.true c.tenant-item.is before.looked (rw before.hub at told.2) (rw before.hub at told.3) told.4;
     }
 
 pub returns-in_err-add_figures-clause-looks : goal.returns-in_err-add_figures-clause-looks

@@ -55,11 +55,13 @@ returns-in_default-3-clause-looks g c =
 
 pub returns-in_err-from_str-clause-looks : goal.returns-in_err-from_str-clause-looks
 returns-in_err-from_str-clause-looks g c =
-    on_err c.from_residual-in_err-from_str.result _ (one_looked _ _ c.in-Some.number _ _ c.in_ok-counters.ensures.looked)
+    on_err c.from_residual-in_err-from_str.result _
+    (rw c.ready-ready.ensures.caller (one_looked _ _ c.in-Some.number _ _ c.in_ok-counters.ensures.looked))
 
 pub returns-in_err-put_settled_tenant-clause-looks : goal.returns-in_err-put_settled_tenant-clause-looks
 returns-in_err-put_settled_tenant-clause-looks g c =
-    on_err c.from_residual-in_err-put_settled_tenant.result _ (one_looked _ _ c.in-Some.number _ _ c.in_ok-counters.ensures.looked)
+    on_err c.from_residual-in_err-put_settled_tenant.result _
+    (rw c.ready-ready.ensures.caller (one_looked _ _ c.in-Some.number _ _ c.in_ok-counters.ensures.looked))
 
 pub returns-clause-shown : goal.returns-clause-shown
 returns-clause-shown g c =
@@ -67,6 +69,10 @@ returns-clause-shown g c =
     let section = c.in-Some-2.section in
     let at : section_at later.0 c.in-Some.number ≡ Some (section_view section) = sym later.2 ∙ ap (option_map section_view) c.in-Some-2.is in
     let text = rw c.new-text.ensures.items at c.in_ok-put_settled_tenant.ensures in
-    shown c.in-Some.number (section_view section) (ledger_of c.in-Some-3.counters) c.in-Some.ensures.known (later.0, later.1, at)
-    (rw c.in-Some-3.is at c.in_ok-counters.ensures.looked) (c.shown.ensures ∙ ap (reply_of 200 Json) (text ∙ ap (λ n. settled_text (record { name = n; ledger = ledger_of c.in-Some-3.counters }) (section_view section))
-    (c.in_ok-from_str.ensures.ok ∙ c.in-Some.ensures.name)))
+    let due = rw c.counters.ensures.hub at c.ready-ready.ensures.due in
+    rw c.ready-ready.ensures.caller (shown c.in-Some.number (section_view section) (ledger_of c.in-Some-3.counters) c.ready-ready.result
+    c.in-Some.ensures.known (later.0, later.1, at)
+    (rw c.in-Some-3.is at c.in_ok-counters.ensures.looked) due
+    (c.shown.ensures ∙ ap (reply_of 200 Json) (text
+    ∙ ap (λ n. settled_text (record { name = n; ledger = ledger_of c.in-Some-3.counters; ready = c.ready-ready.result }) (section_view section))
+    (c.in_ok-from_str.ensures.ok ∙ c.in-Some.ensures.name))))
