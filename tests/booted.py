@@ -20,6 +20,7 @@ import traceback
 from pathlib import Path
 
 from serving import talk
+from serving.runs import end
 from serving.talk import MOST, BackEnd, body, check, globals_of, head_of, line_of, read_message, tenant, wait_for
 
 PORT, ADMIN = 4318, 9464
@@ -287,8 +288,7 @@ def main():
         tried(room)
     for fault in talk.faults:
         print(fault)
-    print("it comes, serves, stops and goes" if not talk.faults else f"{len(talk.faults)} wrong")
-    sys.exit(min(len(talk.faults), 1))
+    end("it comes, serves, stops and goes")
 
 
 if __name__ == "__main__":

@@ -20,7 +20,7 @@ import tempfile
 import threading
 from pathlib import Path
 
-from replay.make_script import attribute, number_field, piece, span, time_field
+from replay.make_script import attribute, number_field, piece, span
 
 ROOT = Path(__file__).resolve().parent.parent
 MOST = 2.2

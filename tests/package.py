@@ -14,11 +14,9 @@ import shlex
 import shutil
 import subprocess
 import sys
-import tempfile
-import traceback
 from pathlib import Path
 
-from serving import talk
+from serving import runs, talk
 from serving.admin import free_port
 from serving.talk import MOST, BackEnd, body, check, globals_of, head_of, line_of, read_message, tenant, wait_for
 
@@ -197,16 +195,8 @@ def main():
     words = sys.argv[1:]
     talk.program = os.path.abspath(words.pop(0) if words and words[0] not in TESTS else HERE / "trace_collector")
     for name in words or TESTS:
-        before = len(talk.faults)
-        with tempfile.TemporaryDirectory() as folder:
-            try:
-                TESTS[name](folder)
-            except Exception:  # pylint: disable=broad-except
-                talk.faults.append(traceback.format_exc())
-        for fault in talk.faults[before:][:20]:
-            print(f"{name}: {fault}", flush=True)
-    print("it is put where it has to be" if not talk.faults else f"{len(talk.faults)} wrong")
-    sys.exit(min(len(talk.faults), 1))
+        runs.run(name, TESTS[name])
+    runs.end("it is put where it has to be")
 
 
 if __name__ == "__main__":

@@ -14,10 +14,9 @@ import sys
 import tempfile
 import threading
 import time
-import traceback
 from pathlib import Path
 
-from serving import browser, talk
+from serving import browser, runs, talk
 from serving.admin import LookedAfter
 from serving.browser import Browser
 from serving.talk import BUSY, ERROR, ERRORS, TAKEN, BackEnd, check, request, tenant, wait_for
@@ -315,16 +314,8 @@ def main():
             pictures(folder, words[1])
         return
     for name in words or TESTS:
-        before = len(talk.faults)
-        with tempfile.TemporaryDirectory() as folder:
-            try:
-                TESTS[name](folder)
-            except Exception:  # pylint: disable=broad-except
-                talk.faults.append(traceback.format_exc())
-        for fault in talk.faults[before:][:20]:
-            print(f"{name}: {fault}", flush=True)
-    print("it shows what it has to" if not talk.faults else f"{len(talk.faults)} wrong")
-    sys.exit(min(len(talk.faults), 1))
+        runs.run(name, TESTS[name])
+    runs.end("it shows what it has to")
 
 
 if __name__ == "__main__":

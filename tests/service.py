@@ -14,12 +14,11 @@ ends with 1 where something is.
 import os
 import subprocess
 import sys
-import tempfile
-import time
-import traceback
 from pathlib import Path
 
-from serving import admin, agreement, back_ends, clients, comings, ending, limits, loopback, memory, rest, short, talk
+from serving import (admin, agreement, back_ends, clients, comings, ending, late, limits, loopback, memory, rest, short,
+                     talk)
+from serving.runs import end, run
 
 HERE = Path(__file__).resolve().parent.parent
 SHORT = 3
@@ -33,24 +32,10 @@ def agree(folder):
 
 
 TESTS = {test.__name__: test
-         for test in (*loopback.TESTS, *clients.TESTS, *back_ends.TESTS, *comings.TESTS, *limits.TESTS, *rest.TESTS,
-                      *ending.TESTS, *memory.TESTS, *admin.TESTS, *short.TESTS, agree)}
+         for test in (*loopback.TESTS, *clients.TESTS, *back_ends.TESTS, *late.TESTS, *comings.TESTS, *limits.TESTS,
+                      *rest.TESTS, *ending.TESTS, *memory.TESTS, *admin.TESTS, *short.TESTS, agree)}
 # Those of these names alone.
 BY_HAND = {test.__name__: test for test in (*short.BY_HAND, *admin.BY_HAND)}
-
-
-def run(name, test):
-    """How long it took. What it raises is a fault of it."""
-    start = time.monotonic()
-    before = len(talk.faults)
-    with tempfile.TemporaryDirectory() as folder:
-        try:
-            test(folder)
-        except Exception:  # pylint: disable=broad-except
-            talk.faults.append(traceback.format_exc())
-    for fault in talk.faults[before:][:20]:
-        print(f"{name}: {fault}", flush=True)
-    return time.monotonic() - start
 
 
 def main():
@@ -71,8 +56,7 @@ def main():
             print(said, end="")
             if beside.returncode != 0:
                 talk.faults.append(said)
-    print("the service does as it has to" if not talk.faults else f"{len(talk.faults)} wrong")
-    sys.exit(min(len(talk.faults), 1))
+    end("the service does as it has to")
 
 
 if __name__ == "__main__":

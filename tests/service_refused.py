@@ -29,6 +29,7 @@ from pathlib import Path
 from refused import built
 from serving import talk
 from serving.admin import LookedAfter
+from serving.runs import end
 from serving.talk import (ERROR, ERRORS, MOST, NAMES, BackEnd, Service, check, line_of, read_message, request, tenant,
                           wait_for)
 
@@ -44,6 +45,8 @@ AT_A_TIME = 24
 EVER = 1 << 40
 # So many clients post for so many seconds.
 CLIENTS, LOAD = 4, 5
+# For so many seconds no command comes.
+WHILE = 2
 HELD = ("undecided", "pending", "queued", "active")
 
 
@@ -342,6 +345,23 @@ class Coming(Case):
         self.taken("a")
 
 
+class Awaited(Coming):
+    """A tenant that can't come, where no command came for a while. The while is no attempt, as long as which to rest."""
+
+    GOOD, MEMORY = {"refused add 10"}, {"refused add memory"}
+
+    def ask(self):
+        time.sleep(WHILE)
+        begun = time.monotonic()
+        self.service.say("add /nowhere\n")
+        line = self.service.hear().strip()
+        check("it is answered soon", time.monotonic() - begun < WHILE / 2, True)
+        return line
+
+    def again(self):
+        self.taken("a")
+
+
 class Going(Coming):
     """A tenant that goes, and holds a span."""
 
@@ -530,7 +550,7 @@ class Faulty(Added):
         check("who is there", self.called("/tenants")[1].count(b'"tenant"'), 2)
 
 
-CASES = {case.__name__: case for case in (Post, Large, Audited, Chunked, Cached, Report, Coming, Going, Draining,
+CASES = {case.__name__: case for case in (Post, Large, Audited, Chunked, Cached, Report, Coming, Awaited, Going, Draining,
                                            AuditedEnd, DrainedByCall, *LOOKED, Added, Deleted, Faulty)}
 
 
@@ -686,8 +706,7 @@ def main():
             continue
         for how, last_of in (("alone", lambda first: first), ("and all after it", lambda first: EVER)):
             tell(f"{name}, {how}", lambda folder: run(CASES[name], Memory(folder), folder, last_of))
-    print("it does as it has to" if not talk.faults else f"{len(talk.faults)} wrong")
-    sys.exit(min(len(talk.faults), 1))
+    end("it does as it has to")
 
 
 if __name__ == "__main__":

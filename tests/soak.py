@@ -20,7 +20,6 @@ import random
 import re
 import socket
 import struct
-import sys
 import tempfile
 import threading
 import time
@@ -28,7 +27,8 @@ from pathlib import Path
 
 from serving import talk
 from serving.admin import LookedAfter
-from serving.talk import ALL, BUSY, ERROR, ERRORS, MOST, NAMES, TAKEN, BackEnd, check, head_of, read_message, request
+from serving.runs import end
+from serving.talk import BUSY, ERROR, ERRORS, MOST, NAMES, TAKEN, BackEnd, check, head_of, read_message, request
 
 SPAN = re.compile(rb"\x0a\x10(\d{6})(\d{10})\x12\x08(\d{8})")
 OVER = re.compile(rb"rejected: 0 invalid, (\d+) over budget")
@@ -378,8 +378,7 @@ def main():
         soaked(folder, given.minutes, given.rate)
     for fault in talk.faults[:50]:
         print(fault)
-    print("each span is accounted for, and nothing rose" if not talk.faults else f"{len(talk.faults)} wrong")
-    sys.exit(min(len(talk.faults), 1))
+    end("each span is accounted for, and nothing rose")
 
 
 if __name__ == "__main__":

@@ -20,15 +20,12 @@ import shutil
 import socket
 import subprocess
 import sys
-import tempfile
 import threading
-import time
-import traceback
 from collections import Counter
 from pathlib import Path
 from urllib.parse import quote
 
-from serving import talk
+from serving import runs, talk
 from serving.admin import GAUGES, METRICS, LookedAfter, free_port
 from serving.agreement import SPAN
 from serving.talk import MOST, NAMES, BackEnd, Service, body, check, line_of, request, tenant, wait_for
@@ -424,12 +421,17 @@ def by_h11(folder):
                 taken[message.name].update(message.ids)
         client.close()
         check("each kind came", sorted(told), [200, 400, 403, 404, 405, 415])
-        done = "".join(line_of(name, accepted=taken[name].total(), exported=taken[name].total()) for name in "ab")
-        check("the end", service.end(), (0, done, b""))
-        for name, back_end in (("a", ones), ("b", twos)):
-            came = Counter(span for text in back_end.bodies() for span in SPAN.findall(text))
-            check(f"{name}'s spans that didn't come once", ((taken[name] - came).total(), (came - taken[name]).total()),
-                  (0, 0))
+        all_came(service, taken, {"a": ones, "b": twos})
+
+
+def all_came(service, taken, back_ends):
+    """The service ends, has counted the spans that were taken of each tenant, and its back end has each once."""
+    done = "".join(line_of(name, accepted=taken[name].total(), exported=taken[name].total()) for name in back_ends)
+    check("the end", service.end(), (0, done, b""))
+    for name, back_end in back_ends.items():
+        came = Counter(span for text in back_end.bodies() for span in SPAN.findall(text))
+        check(f"{name}'s spans that didn't come once", ((taken[name] - came).total(), (came - taken[name]).total()),
+              (0, 0))
 
 
 class Answering:
@@ -597,12 +599,7 @@ def by_peer(folder, *words):
             check("it closes", answer.get("Closes", False) or not message.closes, True)
             if message.status == 200:
                 taken[message.name].update(message.ids)
-        done = "".join(line_of(name, accepted=taken[name].total(), exported=taken[name].total()) for name in "ab")
-        check("the end", service.end(), (0, done, b""))
-        for name, back_end in (("a", ones), ("b", twos)):
-            came = Counter(span for text in back_end.bodies() for span in SPAN.findall(text))
-            check(f"{name}'s spans that didn't come once", ((taken[name] - came).total(), (came - taken[name]).total()),
-                  (0, 0))
+        all_came(service, taken, {"a": ones, "b": twos})
 
 
 class PeerEnd:
@@ -788,17 +785,8 @@ def main():
         if not is_there(name):
             print(f"{name}: not installed")
             continue
-        start, before = time.monotonic(), len(talk.faults)
-        with tempfile.TemporaryDirectory() as folder:
-            try:
-                TESTS[name](folder)
-            except Exception:  # pylint: disable=broad-except
-                talk.faults.append(traceback.format_exc())
-        for fault in talk.faults[before:][:20]:
-            print(f"{name}: {fault}")
-        print(f"{name}: {time.monotonic() - start:.1f} s", flush=True)
-    print("it does as it has to" if not talk.faults else f"{len(talk.faults)} wrong")
-    sys.exit(min(len(talk.faults), 1))
+        print(f"{name}: {runs.run(name, TESTS[name]):.1f} s", flush=True)
+    runs.end("it does as it has to")
 
 
 if __name__ == "__main__":

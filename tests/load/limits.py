@@ -16,7 +16,6 @@ was counted and what came don't agree. Processors are shared out as measure.py d
 
 import argparse
 import socket
-import sys
 import tempfile
 import threading
 import time
@@ -26,7 +25,7 @@ from contextlib import ExitStack
 import measure
 from measure import free_port, numbers
 from neighbours import head, row
-from peers import Dripping, Heard, Measured, Resting, globals_of, plain_section, raise_open_files, talk
+from peers import Dripping, Heard, Measured, Resting, each_part, globals_of, plain_section, talk
 from replay.make_script import piece
 
 # more than it needs at rest, in MB
@@ -239,17 +238,13 @@ def main():
     asked.add_argument("--within", type=int, default=30, help="how long its end is waited for")
     measure.add_processors(asked)
     words = asked.parse_args()
-    raise_open_files()
-    with tempfile.TemporaryDirectory() as folder:
-        words.load = measure.built(folder)
-        for name in words.parts:
-            print(f"\n{name}\n")
-            for options in ("", *words.given):
-                words.name, words.options = options or "none", options.split()
-                PARTS[name](words)
-    for fault in faults[:40]:
-        print(fault, file=sys.stderr)
-    sys.exit(min(len(faults), 1))
+
+    def with_options(name):
+        for options in ("", *words.given):
+            words.name, words.options = options or "none", options.split()
+            PARTS[name](words)
+
+    each_part(words, with_options, faults)
 
 
 if __name__ == "__main__":

@@ -27,7 +27,6 @@ import argparse
 import socket
 import statistics
 import subprocess
-import sys
 import tempfile
 import threading
 import time
@@ -35,7 +34,7 @@ from contextlib import ExitStack
 
 import measure
 from measure import MOST, RATE, SPANS, free_port, wait_for
-from peers import Measured, Resting, globals_of, plain_section, post, raise_open_files, talk
+from peers import Measured, Resting, each_part, globals_of, plain_section, post, talk
 
 IDLE = (0, 60, 4096)
 GOOD, BAD = 90, 10
@@ -336,15 +335,7 @@ def main():
     asked.add_argument("--connections", type=int, nargs="+", default=(8, 32))
     measure.add_processors(asked)
     words = asked.parse_args()
-    raise_open_files()
-    with tempfile.TemporaryDirectory() as folder:
-        words.load = measure.built(folder)
-        for name in words.parts:
-            print(f"\n{name}\n")
-            PARTS[name](words)
-    for fault in faults[:20]:
-        print(fault, file=sys.stderr)
-    sys.exit(min(len(faults), 1))
+    each_part(words, lambda name: PARTS[name](words), faults)
 
 
 if __name__ == "__main__":

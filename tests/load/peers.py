@@ -7,6 +7,7 @@ import selectors
 import socket
 import subprocess
 import sys
+import tempfile
 import threading
 import time
 from pathlib import Path
@@ -19,6 +20,8 @@ sys.path.insert(0, str(measure.HERE.parent))
 from serving import talk  # pylint: disable=wrong-import-position
 
 EMPTY = talk.head_of("tenant-0", 0)
+# So many faults are printed.
+SHOWN = 40
 TAKEN = b"HTTP/1.1 200 OK\r\nContent-Type: application/x-protobuf\r\nContent-Length: 0\r\n\r\n"
 
 
@@ -26,6 +29,19 @@ def raise_open_files():
     """As many files as this process may open, and who it starts."""
     _, most = resource.getrlimit(resource.RLIMIT_NOFILE)
     resource.setrlimit(resource.RLIMIT_NOFILE, (most, most))
+
+
+def each_part(words, work, faults):
+    """Has `work` done for each part that is asked for, and ends with 1 where there are faults then."""
+    raise_open_files()
+    with tempfile.TemporaryDirectory() as folder:
+        words.load = measure.built(folder)
+        for name in words.parts:
+            print(f"\n{name}\n")
+            work(name)
+    for fault in faults[:SHOWN]:
+        print(fault, file=sys.stderr)
+    sys.exit(min(len(faults), 1))
 
 
 def globals_of(port, shards=2, receivers=4, senders=4):

@@ -1,7 +1,6 @@
 """What the port for operators does."""
 
 import json
-import os
 import socket
 import subprocess
 import threading
@@ -25,6 +24,8 @@ OF_SERVICE = {"gauge": ("nimchaes_build_info", "nimchaes_tenants", "nimchaes_dra
                           "nimchaes_retries_total", "nimchaes_back_end_answers_total")}
 METRICS = {"accepted": "otelcol_receiver_accepted_spans_total", "exported": "otelcol_exporter_sent_spans_total",
            "queue_full": "otelcol_exporter_enqueue_failed_spans_total"}
+# The Collector's tail sampling processor has this gauge of the traces that it has in memory.
+ROWS = "otelcol_processor_tail_sampling_sampling_traces_on_memory"
 JSON = "application/json"
 # So many scrapes are measured, one a second, and as many seconds of rest.
 SCRAPES = 10
@@ -100,8 +101,8 @@ class LookedAfter(Service):
 
 
 def figures(name, **counts):
-    """What JSON tells of a tenant of which nothing waits."""
-    return {"tenant": name, **{word: counts.get(word, 0) for word in NAMES}, "ready_at_ms": None}
+    """What JSON tells of a tenant without rows of which nothing waits."""
+    return {"tenant": name, **{word: counts.get(word, 0) for word in NAMES}, "rows": 0, "ready_at_ms": None}
 
 
 def looked_at(folder):
@@ -153,6 +154,16 @@ def check_moments(service, family):
     check("of it alone", service.told("/tenants/e")[1]["ready_at_ms"], round(moment * 1000))
 
 
+def check_rows(service, family, wanted):
+    """Each trace of a tenant is a row, also after its decision; by JSON too."""
+    check("rows are", family.kind, "gauge")
+    check("rows have help", bool(family.help), True)
+    check("rows", family.samples, {(("tenant", name),): float(rows) for name, rows in wanted.items()})
+    check("rows in JSON", {row["tenant"]: row["rows"] for row in service.told("/tenants")[1]["tenants"]}, wanted)
+    for name, rows in wanted.items():
+        check(f"rows of {name} alone", service.told(f"/tenants/{name}")[1]["rows"], rows)
+
+
 def scraped(folder):
     """Metrics have the form that is documented, and say what reports say."""
     with BackEnd() as back_end, \
@@ -170,6 +181,7 @@ def scraped(folder):
             check(f"{metric} has help", bool(family.help), True)
             check(metric, family.samples, {(("tenant", name),): float(counts.get(word, 0))
                                            for name, counts in wanted.items()})
+        check_rows(service, found.pop(ROWS), {"a.b-c_D": 3, "e": 2})
         check_moments(service, found.pop("nimchaes_ready_uptime_seconds"))
         check("of the service", {name: family.kind for name, family in found.items()},
               {name: kind for kind, names in OF_SERVICE.items() for name in names})

@@ -10,6 +10,8 @@ SENDERS = 48
 # Turners look some sixty times a second all together, and so do senders. A thread that looked each millisecond would
 # alone make 1,000 more.
 MOST_A_SECOND = 600
+# until a span is decided on, in milliseconds
+WAIT = 5_000
 
 
 def switches(pid):
@@ -51,6 +53,23 @@ def rests_and_wakes(folder):
         check("status", service.end()[0], 0)
 
 
+def rests_until_something_is_due(folder):
+    """While spans wait for their decisions threads sleep, and once it is time for these the spans leave at once."""
+    with BackEnd() as back_end:
+        tenants = [tenant(f"t{number}", back_end, wait=WAIT) for number in range(SHARDS)]
+        with Service(folder, tenants, shards=SHARDS, senders=SENDERS) as service:
+            posted = []
+            for number in range(SHARDS):
+                check("a post", service.post(f"t{number}", body(1, number + 1))[0], 200)
+                posted.append(time.monotonic())
+            wait_for(lambda: is_at_rest(service), "it rests while spans wait")
+            check("none has left", len(back_end.posts), 0)
+            wait_for(lambda: len(back_end.posts) == SHARDS, "the spans leave")
+            late = sorted(at - then - WAIT / 1_000 for then, (_, _, at) in zip(posted, back_end.posts))
+            check("half of the spans come in time", late[len(late) // 2] < 0.1, True)
+            check("status", service.end()[0], 0)
+
+
 def ends_at_once(folder):
     """The end of the input wakes all who rest."""
     with BackEnd() as back_end, started(folder, back_end) as service:
@@ -60,4 +79,4 @@ def ends_at_once(folder):
         check("it ends at once", time.monotonic() - begun < 0.7, True)
 
 
-TESTS = (rests_and_wakes, ends_at_once)
+TESTS = (rests_and_wakes, rests_until_something_is_due, ends_at_once)

@@ -1,5 +1,6 @@
 """What comes of a service whose memory was short, once the load is over."""
 
+import itertools
 import re
 import tempfile
 import threading
@@ -8,7 +9,7 @@ from collections import Counter
 from pathlib import Path
 
 from replay.make_script import piece
-from serving.talk import BackEnd, Service, body, check, in_threads, request, tenant
+from serving.talk import BackEnd, Service, body, check, in_threads, line_of, request, tenant
 
 # so many MB of addresses more than it needs at rest
 ROOM = (0, 16, 32, 64, 128, 256, 512, 1024)
@@ -23,6 +24,11 @@ WAIT = 3_000
 LOAD = 4
 SOON = 10
 HELD = ("undecided", "pending", "queued", "active")
+# A minute passes until a span is decided on that waits at the end of the input, and yet all has left within so many seconds:
+# a few where nothing else runs, and more where each of its threads waits longer for a processor than it has one.
+LONG = 60_000
+ENDED = 30
+FULL = (128, 256)
 HOW = {"shards": 2, "receivers": CLIENTS, "senders": 2, "parts": 1}
 # the C library gives each thread memory of its own, or what is free in that of one is there for all others
 HEAPS = {"heaps of their own": (), "one heap": ("env", "MALLOC_ARENA_MAX=1")}
@@ -35,9 +41,9 @@ def large():
                      for number in range(SPANS)))
 
 
-def sections(back_end):
+def sections(back_end, wait=WAIT):
     """No trace is pushed out by others."""
-    return [tenant(name, back_end, wait=WAIT, timeout=100, consumers=2, most=40_000_000).replace(
+    return [tenant(name, back_end, wait=wait, timeout=100, consumers=2, most=40_000_000).replace(
         "[tenant.tail_sampling]", "[tenant.tail_sampling]\nnum_traces = 1000000") for name in "ab"]
 
 
@@ -147,10 +153,61 @@ def leaves_by_itself(folder, *options):
         in_threads(*works[at:at + AT_A_TIME])
 
 
+def filled(service, text):
+    """The numbers of the posts that were taken, by tenant, until one was refused memory."""
+    taken = {"a": [], "b": []}
+    for count in itertools.count(1):
+        name = "ab"[count % 2]
+        status, _ = service.post(name, text.replace(FIRST, count.to_bytes(8, "big")))
+        if status != 200:
+            check("a post that isn't taken", status, 503)
+            return taken
+        taken[name].append(count)
+
+
+def spans_of(count):
+    """The ids of the trace and of the span of each span that a post has."""
+    return [(count.to_bytes(8, "big") + (number // 10 + 1).to_bytes(8, "big"), (number + 1).to_bytes(8, "big"))
+            for number in range(SPANS)]
+
+
+def full(heaps, most, what, text):
+    """One service under a limit of so many bytes of addresses, which ends once it is full of spans."""
+    with tempfile.TemporaryDirectory() as folder, BackEnd() as back_end:
+        with Service(folder, sections(back_end, LONG), under=(*heaps, "prlimit", f"--as={most}"), **HOW) as service:
+            taken = filled(service, text)
+            check(f"{what}: nothing was sent", len(back_end.posts), 0)
+            begun = time.monotonic()
+            status, out, _ = service.end()
+            took = time.monotonic() - begun
+        print(what, {name: len(counts) for name, counts in taken.items()}, f"{took:.1f} s", flush=True)
+        counts = {name: SPANS * len(taken[name]) for name in "ab"}
+        done = "".join(line_of(name, accepted=counts[name], exported=counts[name]) for name in "ab")
+        check(f"{what}: the end", (status, out), (0, done))
+        check(f"{what}: it ends", took < ENDED, True)
+        came = Counter(re.findall(rb"\x0a\x10(.{16})\x12\x08(.{8})", b"".join(back_end.bodies()), re.DOTALL))
+        wanted = Counter(span for name in "ab" for count in taken[name] for span in spans_of(count))
+        check(f"{what}: each span came once", came == wanted, True)
+
+
+def drains_while_full(folder):
+    """A service that took spans until it was refused memory has no room for all their batches. At the end of its input they
+    leave nevertheless one batch after another, each span once, long before they are due by the time alone: whether its
+    threads share their memory or not."""
+    text = large()
+    works = []
+    for name, heaps in HEAPS.items():
+        with BackEnd() as back_end:
+            least = needed(folder, back_end, heaps)
+        works += [lambda heaps=heaps, most=least + (room << 20), what=f"{name}, {room} MB more, full":
+                  full(heaps, most, what, text) for room in FULL]
+    in_threads(*works)
+
+
 def leaves_with_an_audit(folder):
     """The same of a service that keeps a log, which takes memory for good, and is stopped while there is some."""
     leaves_by_itself(folder, "--audit")
 
 
-TESTS = (leaves_by_itself,)
+TESTS = (leaves_by_itself, drains_while_full)
 BY_HAND = (leaves_with_an_audit,)

@@ -31,17 +31,21 @@ unfoldable pub counters_text : TenantData → List SpanCounter → List ℕ
 counters_text tenant [] = []
 counters_text tenant (counter ∷ counters) = counter_text tenant counter ++ counters_text tenant counters
 
+-- how many rows are present, a member behind another one
+abbrev pub rows_text : ℕ → List ℕ
+rows_text rows = codes ",\"rows\":" ++ decimal rows
+
 -- a moment in milliseconds, or that there is none
 abbrev pub moment_text : Option ℕ → List ℕ
 moment_text (Some moment) = decimal moment
 moment_text None = codes "null"
 
--- a tenant's figures, without the end of their object: its name, its counters under the words of a report, and when
--- something of it is due next, in milliseconds since the start
+-- a tenant's figures, without the end of their object: its name, its counters under the words of a report, how many
+-- rows are present, and when something of it is due next, in milliseconds since the start
 unfoldable pub figures_text : TenantData → List ℕ
 figures_text tenant =
     codes "{\"tenant\":" ++ string_text tenant.name ++ counters_text tenant all_counters
-    ++ codes ",\"ready_at_ms\":" ++ moment_text tenant.ready
+    ++ rows_text tenant.rows ++ codes ",\"ready_at_ms\":" ++ moment_text tenant.ready
 
 -- a tenant's figures, as an object
 unfoldable pub tenant_text : TenantData → List ℕ

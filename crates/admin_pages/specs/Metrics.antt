@@ -67,6 +67,22 @@ abbrev pub families_text : List TenantData → List SpanCounter → List ℕ
 families_text tenants [] = []
 families_text tenants (counter ∷ counters) = family_text tenants counter ++ families_text tenants counters
 
+-- the metric of how many rows of a tenant are present, named as the Collector's tailsamplingprocessor names it
+abbrev pub rows_metric : List ℕ
+rows_metric = codes "otelcol_processor_tail_sampling_sampling_traces_on_memory"
+
+-- how many there are of these tenants, each under its name
+abbrev pub rows_samples : List TenantData → List ℕ
+rows_samples [] = []
+rows_samples (tenant ∷ tenants) =
+    labelled_text rows_metric (codes "tenant") tenant.name (decimal tenant.rows) ++ rows_samples tenants
+
+-- the family of how many rows of these tenants are present
+abbrev pub rows_text : List TenantData → List ℕ
+rows_text tenants =
+    head_text rows_metric (codes "Traces that are present, undecided ones and decided ones") Gauge
+    ++ rows_samples tenants
+
 -- milliseconds as seconds, the base unit of time, with three digits behind the point
 abbrev pub seconds_text : ℕ → List ℕ
 seconds_text milliseconds =
@@ -93,6 +109,6 @@ ready_text tenants =
     head_text ready_metric (codes "Seconds after the start at which something of the tenant is due next") Gauge
     ++ ready_samples tenants
 
--- all counters of all tenants, and when something of them is due
+-- all counters of all tenants, how many rows of them are present, and when something of them is due
 abbrev pub tenants_text : List TenantData → List ℕ
-tenants_text tenants = families_text tenants all_counters ++ ready_text tenants
+tenants_text tenants = families_text tenants all_counters ++ rows_text tenants ++ ready_text tenants

@@ -2,7 +2,7 @@
 
 ghost use Rattle.std.specs.Prelude.{◌≡◌, ◌++◌, ◌<◌, map, flat_map, OnOk};
 ghost use Rattle.admin_pages.specs.Figures.{tenant_of};
-ghost use Rattle.admin_pages.specs.Json.{hex_digit, string_byte, string_text, counter_text, counters_text, moment_text, figures_text, tenant_text, further_text, array_text, tenants_text};
+ghost use Rattle.admin_pages.specs.Json.{hex_digit, string_byte, string_text, counter_text, counters_text, rows_text, moment_text, figures_text, tenant_text, further_text, array_text, tenants_text};
 
 use crate::counter::SpanCounter;
 use crate::figures::TenantFigures;
@@ -47,8 +47,17 @@ pub(crate) fn put_figures(
     out.extend_from_slice(b"{\"tenant\":")?;
     put_string(out, tenant.name.as_str())?;
     put_counters(alloc, out, tenant, &SpanCounter::all())?;
+    put_rows(alloc, out, tenant.rows)?;
     out.extend_from_slice(b",\"ready_at_ms\":")?;
     put_moment(alloc, out, tenant.ready)
+}
+
+/// Appends how many rows a tenant has, as a member.
+fn put_rows(alloc: Global, out: &mut Vec<u8>, rows: u64) -> Result<(), AllocError>
+    ensures { OnOk result (out.new.items ≡ out.old.items ++ rows_text rows) }
+{
+    let member = format!(in alloc; ",\"rows\":{rows}")?;
+    out.extend_from_slice(member.as_bytes())
 }
 
 /// Appends a moment, or that there is none.

@@ -1,6 +1,6 @@
 //! Figures as a scraper and a page read them.
 
-use crate::figures::{EACH, due, tenant};
+use crate::figures::{EACH, due, tenant, with_rows};
 use admin_pages::{
     MetricKind, put_measure, put_string, put_tenant, put_tenant_metrics, put_tenants,
 };
@@ -26,13 +26,44 @@ nimchaes_undecided_spans{tenant=\"a\"} 2\n"
     let ends = b"# TYPE nimchaes_over_budget_spans_total counter\n\
 nimchaes_over_budget_spans_total{tenant=\"a\"} 14\n\
 nimchaes_over_budget_spans_total{tenant=\"b\\\\c\\\"d\\ne\"} 0\n\
+# HELP otelcol_processor_tail_sampling_sampling_traces_on_memory \
+Traces that are present, undecided ones and decided ones\n\
+# TYPE otelcol_processor_tail_sampling_sampling_traces_on_memory gauge\n\
+otelcol_processor_tail_sampling_sampling_traces_on_memory{tenant=\"a\"} 0\n\
+otelcol_processor_tail_sampling_sampling_traces_on_memory{tenant=\"b\\\\c\\\"d\\ne\"} 0\n\
 # HELP nimchaes_ready_uptime_seconds Seconds after the start at which something of the tenant is due next\n\
 # TYPE nimchaes_ready_uptime_seconds gauge\n"
         .as_slice();
     assert!(rt; text.ends_with(ends));
     assert_eq!(rt;
         text.iter().filter(|byte| **byte == b'\n').count(),
-        14 * 4 + 2
+        15 * 4 + 2
+    );
+    Ok(())
+}
+
+#[test]
+fn each_tenant_has_a_number_of_rows(rt: HostRuntime) -> Result<(), Fail> {
+    let alloc = rt.alloc();
+    let tenants = [
+        with_rows(alloc, "a", 7)?,
+        with_rows(alloc, "b\"", 50_000)?,
+        with_rows(alloc, "c", u64::MAX)?,
+    ];
+    let mut text = Vec::new(alloc);
+    put_tenant_metrics(alloc, &mut text, &tenants)?;
+    let ends = b"# TYPE otelcol_processor_tail_sampling_sampling_traces_on_memory gauge\n\
+otelcol_processor_tail_sampling_sampling_traces_on_memory{tenant=\"a\"} 7\n\
+otelcol_processor_tail_sampling_sampling_traces_on_memory{tenant=\"b\\\"\"} 50000\n\
+otelcol_processor_tail_sampling_sampling_traces_on_memory{tenant=\"c\"} 18446744073709551615\n\
+# HELP nimchaes_ready_uptime_seconds Seconds after the start at which something of the tenant is due next\n\
+# TYPE nimchaes_ready_uptime_seconds gauge\n"
+        .as_slice();
+    assert!(rt; text.ends_with(ends));
+    let mut text = Vec::new(alloc);
+    put_tenant(alloc, &mut text, &with_rows(alloc, "a", 50_000)?)?;
+    assert!(rt;
+        text.ends_with(b",\"over_budget\":0,\"rows\":50000,\"ready_at_ms\":null}".as_slice())
     );
     Ok(())
 }
@@ -89,7 +120,7 @@ nimchaes_lane_jobs 3\n"
 const EACH_MEMBERS: &str =
     ",\"accepted\":77,\"undecided\":2,\"pending\":3,\"queued\":4,\"active\":5,\"exported\":6,\
 \"not_sampled\":7,\"too_early\":8,\"queue_full\":9,\"retry_exhausted\":10,\"back_end_refused\":11,\
-\"back_end_rejected\":12,\"invalid\":13,\"over_budget\":14,\"ready_at_ms\":null}";
+\"back_end_rejected\":12,\"invalid\":13,\"over_budget\":14,\"rows\":0,\"ready_at_ms\":null}";
 
 #[test]
 fn a_tenant_is_an_object(rt: HostRuntime) -> Result<(), Fail> {
@@ -104,11 +135,14 @@ fn a_tenant_is_an_object(rt: HostRuntime) -> Result<(), Fail> {
 #[test]
 fn who_waits_has_a_moment_in_milliseconds(rt: HostRuntime) -> Result<(), Fail> {
     for (moment, ends) in [
-        (0, ",\"over_budget\":0,\"ready_at_ms\":0}"),
-        (61_005, ",\"over_budget\":0,\"ready_at_ms\":61005}"),
+        (0, ",\"over_budget\":0,\"rows\":0,\"ready_at_ms\":0}"),
+        (
+            61_005,
+            ",\"over_budget\":0,\"rows\":0,\"ready_at_ms\":61005}",
+        ),
         (
             u64::MAX,
-            ",\"over_budget\":0,\"ready_at_ms\":18446744073709551615}",
+            ",\"over_budget\":0,\"rows\":0,\"ready_at_ms\":18446744073709551615}",
         ),
     ] {
         let mut text = Vec::new(rt.alloc());

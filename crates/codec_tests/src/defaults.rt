@@ -1,6 +1,6 @@
 //! Spans that are canonical but for defaults that are written out.
 
-use crate::texts::{bytes_of, words};
+use crate::texts::{bytes_of, is_found, words};
 use otlp_canonical::without_defaults;
 use std::alloc::Global;
 use std::test::Fail;
@@ -39,18 +39,6 @@ not_known 22002a016ea00600 2a016ea00600\n\
 of_another_type 1a002000 2000\n\
 # The low 32 bits are none, which is no default as it is written.\n\
 a_count_of_more_bits 508080808010 none\n";
-
-/// Whether this was found: a text, or none for `none`.
-fn is_found(alloc: Global, found: Option<Vec<u8>>, wanted: &str) -> Result<bool, Fail> {
-    match found {
-        None => Ok(wanted == "none"),
-        Some(_) if wanted == "none" => Ok(false),
-        Some(copy) => {
-            let wanted = bytes_of(alloc, wanted)?;
-            Ok(copy.as_slice() == wanted.as_slice())
-        }
-    }
-}
 
 /// Whether the line's text is so without its defaults.
 fn is_so(alloc: Global, line: &str) -> Result<bool, Fail> {

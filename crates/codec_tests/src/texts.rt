@@ -17,3 +17,15 @@ pub fn bytes_of(alloc: Global, digits: &str) -> Result<Vec<u8>, Fail> {
     }
     Ok(hex::decode(alloc, digits)?)
 }
+
+/// Whether this was found: a text, or none for `none`.
+pub fn is_found(alloc: Global, found: Option<Vec<u8>>, wanted: &str) -> Result<bool, Fail> {
+    match found {
+        None => Ok(wanted == "none"),
+        Some(_) if wanted == "none" => Ok(false),
+        Some(copy) => {
+            let wanted = bytes_of(alloc, wanted)?;
+            Ok(copy.as_slice() == wanted.as_slice())
+        }
+    }
+}

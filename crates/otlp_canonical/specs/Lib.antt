@@ -1,4 +1,5 @@
 pub mod Canonical
 pub mod Defaults
+pub mod Order
 pub mod Parts
 pub mod Sound

@@ -15,6 +15,7 @@ mod defaults;
 mod field;
 mod message;
 mod number;
+mod order;
 mod request;
 mod span;
 mod text;
@@ -22,4 +23,5 @@ mod unknown;
 mod value;
 
 pub use defaults::without_defaults;
+pub use order::in_order;
 pub use text::{is_request_text, is_resource_text, is_scope_text, is_span_text};

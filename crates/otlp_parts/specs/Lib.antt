@@ -3,3 +3,4 @@ pub mod Texts
 pub mod Kept
 pub mod Parts
 pub mod Sizes
+pub mod Urls

@@ -1,5 +1,5 @@
 -- What the types of the code stand for, without where their bytes lie in memory. This project's own rule.
-use Rattle.std.specs.Prelude.{ℕ, List, [], ◌∷◌, map, Option, Some, None}
+use Rattle.std.specs.Prelude.{ℕ, Bool, true, false, List, [], ◌∷◌, map, Option, Some, None}
 use Rattle.otlp_trace.specs.Data.{ScopeData, ResourceData}
 use Rattle.otlp_parts.specs.ReadAs.{scope_of, resource_of, scope_among, resource_among}
 use Rattle.span_pool.specs.Stored.{bytes_of}
@@ -24,6 +24,11 @@ abbrev pub spans_in : SpanTexts → List (List ℕ)
 spans_in (span_texts.One span) = span ∷ []
 spans_in (span_texts.More spans) = spans.items
 
+-- whether they take a list
+abbrev pub have_list : SpanTexts → Bool
+have_list (span_texts.One span) = false
+have_list (span_texts.More spans) = true
+
 -- a scope spans
 abbrev pub scope_parts_view : ScopeParts → ScopeTexts
 scope_parts_view p = record { scope = p.scope; schema_url = bytes_of p.schema_url; spans = spans_in p.spans }
@@ -32,6 +37,11 @@ scope_parts_view p = record { scope = p.scope; schema_url = bytes_of p.schema_ur
 abbrev pub scopes_in : ScopeList → List ScopeTexts
 scopes_in (scope_list.One scope) = scope_parts_view scope ∷ []
 scopes_in (scope_list.More scopes) = map scope_parts_view scopes.items
+
+-- whether they take a list
+abbrev pub scopes_have_list : ScopeList → Bool
+scopes_have_list (scope_list.One scope) = false
+scopes_have_list (scope_list.More scopes) = true
 
 -- a resource spans
 abbrev pub resource_parts_view : ResourceParts → ResourceTexts

@@ -1,7 +1,8 @@
 //! Texts that stand round spans.
 
-ghost use Rattle.std.specs.Prelude.{◌≡◌, IfOk, option_copied};
+ghost use Rattle.std.specs.Prelude.{◌≡◌, true, IfOk, option_copied};
 ghost use Rattle.span_pool.specs.Stored.{bytes_of, same_text};
+ghost use Rattle.otlp_parts.specs.Urls.{is_url};
 
 use bytes::Bytes;
 use std::alloc::{AllocError, Global};
@@ -37,9 +38,10 @@ impl PartText {
         }
     }
 
-    /// This URL, or none where it is empty.
+    /// This URL, or none where it is empty, which takes no memory.
     pub(crate) fn of_url(alloc: Global, url: Bytes) -> Result<PartText, AllocError>
-        ensures { IfOk result (λ held. bytes_of held ≡ url) }
+        ensures same { IfOk result (λ held. bytes_of held ≡ url) }
+        ensures url { IfOk result (λ held. is_url held ≡ true) }
     {
         if url.is_empty() {
             PartText::of(alloc, None)

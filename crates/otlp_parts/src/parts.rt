@@ -1,7 +1,7 @@
 //! What is kept of a body.
 
-ghost use Rattle.std.specs.Prelude.{◌≡◌, ◌==◌, IfOk, length, map};
-ghost use Rattle.otlp_parts.specs.Parts.{spans_in, scopes_in, scope_parts_view, resource_parts_view};
+ghost use Rattle.std.specs.Prelude.{◌≡◌, true};
+ghost use Rattle.otlp_parts.specs.Urls.{is_url};
 
 use crate::part_text::PartText;
 use bytes::Bytes;
@@ -17,10 +17,14 @@ pub enum SpanTexts {
 }
 
 impl SpanTexts {
+    ghost use Rattle.std.specs.Prelude.{◌==◌, length, not};
+    ghost use Rattle.otlp_parts.specs.Parts.{spans_in, have_list};
+
     /// These texts.
     #[tactic(auto, using(crate::proofs::Few::only_one))]
     pub(crate) fn of(spans: Vec<Bytes>) -> SpanTexts
-        ensures { spans_in result ≡ spans.items }
+        ensures same { spans_in result ≡ spans.items }
+        ensures list { have_list result ≡ not (length spans.items == 1) }
     {
         let mut spans = spans;
         if spans.len() != 1 {
@@ -53,9 +57,13 @@ pub struct ScopeParts {
     pub schema_url: PartText,
     /// The canonical texts of the valid spans, in the order of the body.
     pub spans: SpanTexts,
+    ghost url: { is_url schema_url ≡ true },
 }
 
 impl ScopeParts {
+    ghost use Rattle.std.specs.Prelude.{IfOk};
+    ghost use Rattle.otlp_parts.specs.Parts.{scope_parts_view};
+
     /// The same, whose texts are shared with the scope spans before it where they are the same.
     pub(crate) fn like(self, last: Option<&ScopeParts>) -> Result<ScopeParts, AllocError>
         ensures { IfOk result (λ parts. scope_parts_view parts ≡ scope_parts_view self) }
@@ -81,10 +89,14 @@ pub enum ScopeList {
 }
 
 impl ScopeList {
+    ghost use Rattle.std.specs.Prelude.{◌==◌, IfOk, length, map, not};
+    ghost use Rattle.otlp_parts.specs.Parts.{scopes_in, scope_parts_view, scopes_have_list};
+
     /// These scope spans.
     #[tactic(auto, using(crate::proofs::Few::only_one_made))]
     pub(crate) fn of(scopes: Vec<ScopeParts>) -> ScopeList
-        ensures { scopes_in result ≡ map scope_parts_view scopes.items }
+        ensures same { scopes_in result ≡ map scope_parts_view scopes.items }
+        ensures list { scopes_have_list result ≡ not (length scopes.items == 1) }
     {
         let mut scopes = scopes;
         if scopes.len() != 1 {
@@ -120,9 +132,13 @@ pub struct ResourceParts {
     pub schema_url: PartText,
     /// In the order of the body.
     pub scopes: ScopeList,
+    ghost url: { is_url schema_url ≡ true },
 }
 
 impl ResourceParts {
+    ghost use Rattle.std.specs.Prelude.{IfOk};
+    ghost use Rattle.otlp_parts.specs.Parts.{resource_parts_view};
+
     /// The same, whose texts are shared with the resource spans before it where they are the same.
     pub(crate) fn like(self, last: Option<&ResourceParts>) -> Result<ResourceParts, AllocError>
         ensures { IfOk result (λ parts. resource_parts_view parts ≡ resource_parts_view self) }

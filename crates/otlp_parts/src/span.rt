@@ -1,10 +1,10 @@
 //! Spans of a body.
 
-ghost use Rattle.std.specs.Prelude.{◌≡◌, ◌≤◌, ◌+◌, ◌==◌, length, slice_range, IsTrue, IfOk};
+ghost use Rattle.std.specs.Prelude.{◌≡◌, ◌≤◌, ◌+◌, ◌==◌, length, slice_range, IsTrue, IfOk, IfSome};
 ghost use Rattle.std.specs.List.{list_all};
 ghost use Rattle.otlp_trace.specs.View.{span_view};
 ghost use Rattle.otlp_read.specs.Fault.{Gives};
-ghost use Rattle.otlp_canonical.specs.Canonical.{CanonicalSpan};
+ghost use Rattle.otlp_canonical.specs.Canonical.{CanonicalSpan, CanonicalCopy};
 ghost use Rattle.span_pool.specs.Ids.{is_id};
 ghost use Rattle.otlp_parts.specs.Texts.{is_valid_span};
 ghost use Rattle.otlp_parts.specs.Kept.{kept_span};
@@ -12,12 +12,12 @@ ghost use Rattle.otlp_parts.specs.ReadAs.{span_of};
 ghost use Rattle.otlp_parts.specs.Sizes.{text_size};
 
 use bytes::Bytes;
-use otlp_canonical::{is_span_text, without_defaults};
+use otlp_canonical::{in_order, is_span_text, without_defaults};
 use otlp_read::{ReadFault, read_span};
 use otlp_trace::{Span, write_span};
 use span_pool::read_spans_are_viewed;
 use span_view::SpanRef;
-use std::alloc::Global;
+use std::alloc::{AllocError, Global};
 
 /// The levels that a span in a body has room for, its own among them.
 const SPAN_ROOM: u32 = 98;
@@ -66,6 +66,19 @@ fn is_valid_text(text: &[u8]) -> bool
     is_id(view.trace_id(), 16) && is_id(view.span_id(), 8)
 }
 
+/// The canonical text of a span that isn't canonical but for defaults that are written in it, or for the order of its
+/// fields.
+fn canonical_copy(alloc: Global, text: &[u8]) -> Result<Option<Vec<u8>>, AllocError>
+    ensures { IfOk result (λ found. IfSome found (λ copy. CanonicalCopy 98 text.now copy.items)) }
+{
+    let bare = without_defaults(alloc, text, SPAN_ROOM)?;
+    if bare.is_some() {
+        return Ok(bare);
+    }
+    let ordered = in_order(alloc, text, SPAN_ROOM)?;
+    Ok(ordered)
+}
+
 /// A canonical text, none where its span isn't valid.
 fn copied_part(copy: Vec<u8>) -> Result<Option<Bytes>, ReadFault>
     requires canonical { CanonicalSpan 98 copy.items }
@@ -78,8 +91,8 @@ fn copied_part(copy: Vec<u8>) -> Result<Option<Bytes>, ReadFault>
     Ok(Some(part))
 }
 
-/// A span's canonical text, none where the span isn't valid: where it stands, or a copy without the defaults that are
-/// written in it, or written of what is read.
+/// A span's canonical text, none where the span isn't valid: where it stands, or a copy in order and without the
+/// defaults that are written in it, or written of what is read.
 pub fn span_part(
     alloc: Global,
     text: &Bytes,
@@ -101,7 +114,7 @@ pub fn span_part(
         let part = text.slice(start..end)?;
         return Ok(Some(part));
     }
-    if let Some(copy) = without_defaults(alloc, bytes, SPAN_ROOM)? {
+    if let Some(copy) = canonical_copy(alloc, bytes)? {
         let part = copied_part(copy)?;
         return Ok(part);
     }

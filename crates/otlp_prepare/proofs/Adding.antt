@@ -1,6 +1,6 @@
 -- One more origin, and the spans that come with it.
-use Rattle.std.proofs.Common.{◌≡◌, ◌∙◌, ◌<◌, ℕ, Bool, List, [], ◌∷◌, ◌++◌, Option, Result, Ok, Err, OnOk, map, length, refl, sym, ap, subst, append-nil, append_assoc, arith}
-use Rattle.std.proofs.lemmas.List.{get_or_append_left, length-append, map-append}
+use Rattle.std.proofs.Common.{◌≡◌, ◌∙◌, ◌<◌, ◌≤◌, ◌+◌, ℕ, Bool, List, [], ◌∷◌, ◌++◌, Option, Result, Ok, Err, OnOk, map, length, refl, sym, ap, subst, append-nil, append_assoc, arith}
+use Rattle.std.proofs.lemmas.List.{get_or_append_left, length-append, length-map, map-append}
 use Rattle.std.proofs.Math.Seq.{get_or-append_seam}
 use Rattle.std.specs.Prelude.{◌&&◌}
 use Rattle.std.specs.List.{AllByRecursion, flat_map}
@@ -100,11 +100,20 @@ arrivals_added os o around bits is (text ∷ texts) =
 
 -- ---- both
 
+-- one origin comes with at least one span
+one_for_some : (os : List SpanOrigin) (o : SpanOrigin) (bits : ResourceBits) (texts : List (List ℕ)) (parts : List UnnotedSpanData) → 0 < length texts
+    → length (os ++ o ∷ []) + length parts ≤ length os + length (parts ++ map (part_with bits (length os)) texts)
+one_for_some os o bits texts parts some =
+    let one = length-append os (o ∷ []) in
+    let more = length-append parts (map (part_with bits (length os)) texts) in
+    let made = length-map texts (part_with bits (length os)) in
+    omega (arith, one, more, made, some)
+
 added_behind : (law : AllTold) (policies : List PolicyData) (os : List SpanOrigin) (o : SpanOrigin) (around : OriginData) (bits : ResourceBits)
     → origin_view o ≡ around → IsAround policies around.resource bits → (texts : List (List ℕ)) → AllByRecursion IsValidRead texts
-    → AllByRecursion IsShort texts → (parts : List UnnotedSpanData) → AreFound policies os parts
+    → AllByRecursion IsShort texts → 0 < length texts → (parts : List UnnotedSpanData) → AreFound policies os parts
     → Adds policies (map (arrival_with around) texts) os parts (os ++ o ∷ []) (parts ++ map (part_with bits (length os)) texts)
-added_behind law policies os o around bits is resource texts read short parts are =
+added_behind law policies os o around bits is resource texts read short some parts are =
     let before = all_kept policies os o parts are in
     let behind = all_added law policies os o around bits is resource texts read short in
     let kept = arrivals_kept policies os o parts are in
@@ -112,15 +121,16 @@ added_behind law policies os o around bits is resource texts read short parts ar
     record {
       found = every_append (IsFound policies (os ++ o ∷ [])) parts (map (part_with bits (length os)) texts) before behind;
       whole = map-append (part_arrival (os ++ o ∷ [])) parts (map (part_with bits (length os)) texts) ∙ (λ j. kept j ++ more j);
+      sparing = one_for_some os o bits texts parts some;
     }
 
 -- the spans of one scope that has some, as the code adds them
 pub added : (law : AllTold) (policies : List PolicyData) (os os' : List SpanOrigin) (o : SpanOrigin) (around : OriginData) (bits : ResourceBits) (n : ℕ)
     → origin_view o ≡ around → IsAround policies around.resource bits → (texts : List (List ℕ)) → AllByRecursion IsValidRead texts
-    → AllByRecursion IsShort texts → (parts parts' : List UnnotedSpanData) → AreFound policies os parts → os' ≡ os ++ o ∷ [] → n ≡ length os
+    → AllByRecursion IsShort texts → 0 < length texts → (parts parts' : List UnnotedSpanData) → AreFound policies os parts → os' ≡ os ++ o ∷ [] → n ≡ length os
     → parts' ≡ parts ++ map (part_with bits n) texts → Adds policies (map (arrival_with around) texts) os parts os' parts'
-added law policies os os' o around bits n is resource texts read short parts parts' are pushed index behind =
-    let all = added_behind law policies os o around bits is resource texts read short parts are in
+added law policies os os' o around bits n is resource texts read short some parts parts' are pushed index behind =
+    let all = added_behind law policies os o around bits is resource texts read short some parts are in
     let spans : parts' ≡ parts ++ map (part_with bits (length os)) texts = behind ∙ ap (λ (i : ℕ). parts ++ map (part_with bits i) texts) index in
     let placed = subst (λ (xs : List SpanOrigin). Adds policies (map (arrival_with around) texts) os parts xs (parts ++ map (part_with bits (length os)) texts)) (sym pushed) all in
     subst (λ (xs : List UnnotedSpanData). Adds policies (map (arrival_with around) texts) os parts os' xs) (sym spans) placed
@@ -128,7 +138,7 @@ added law policies os os' o around bits n is resource texts read short parts par
 -- of one that has none
 pub none_added : (policies : List PolicyData) (os : List SpanOrigin) (around : OriginData) (texts : List (List ℕ)) (parts : List UnnotedSpanData)
     → length texts ≡ 0 → AreFound policies os parts → Adds policies (map (arrival_with around) texts) os parts os parts
-none_added policies os around [] parts none are = record { found = are; whole = sym (append-nil (part_arrivals os parts)) }
+none_added policies os around [] parts none are = record { found = are; whole = sym (append-nil (part_arrivals os parts)); sparing = omega arith }
 none_added policies os around (text ∷ texts) parts none are = absurd (omega (arith, none))
 
 -- ---- the scopes of a resource
@@ -138,11 +148,12 @@ pub record IsAdding (policies : List PolicyData) (group : ResourceTexts) (left :
     (os' : List SpanOrigin) (parts' : List UnnotedSpanData) : Type 0 where
   pub found : AreFound policies os' parts'
   pub whole : part_arrivals os' parts' ++ flat_map (arrivals_in_scope group) left ≡ part_arrivals os parts ++ arrivals_in_resource group
+  pub sparing : length os' + length parts ≤ length os + length parts'
 
 pub none_yet : (policies : List PolicyData) (group : ResourceTexts) (left : List ScopeTexts) (os : List SpanOrigin) (parts : List UnnotedSpanData) → left ≡ group.scopes → AreFound policies os parts
     → IsAdding policies group left os parts os parts
 none_yet policies group left os parts all are =
-    record { found = are; whole = ap (λ (xs : List ScopeTexts). part_arrivals os parts ++ flat_map (arrivals_in_scope group) xs) all }
+    record { found = are; whole = ap (λ (xs : List ScopeTexts). part_arrivals os parts ++ flat_map (arrivals_in_scope group) xs) all; sparing = omega arith }
 
 pub one_more : (policies : List PolicyData) (group : ResourceTexts) (scope : ScopeTexts) (before left : List ScopeTexts) (os os' os'' : List SpanOrigin) (parts parts' parts'' : List UnnotedSpanData)
     → before ≡ scope ∷ left → IsAdding policies group before os parts os' parts' → Adds policies (arrivals_in_scope group scope) os' parts' os'' parts''
@@ -153,11 +164,12 @@ one_more policies group scope before left os os' os'' parts parts' parts'' next 
       ap (λ (xs : List Arrival). xs ++ flat_map (arrivals_in_scope group) left) adds.whole
       ∙ (append_assoc (part_arrivals os' parts') (arrivals_in_scope group scope) (flat_map (arrivals_in_scope group) left)
       ∙ (ap (λ (xs : List ScopeTexts). part_arrivals os' parts' ++ flat_map (arrivals_in_scope group) xs) (sym next) ∙ is.whole));
+  sparing = omega (arith, is.sparing, adds.sparing);
 }
 
 pub all_now : {A : Type 0} (f : A → ScopeTexts) (policies : List PolicyData) (group : ResourceTexts) (left : List A) (os os' : List SpanOrigin) (parts parts' : List UnnotedSpanData) → length left ≡ 0
     → IsAdding policies group (map f left) os parts os' parts' → Adds policies (arrivals_in_resource group) os parts os' parts'
-all_now f policies group [] os os' parts parts' none is = record { found = is.found; whole = sym (append-nil (part_arrivals os' parts')) ∙ is.whole }
+all_now f policies group [] os os' parts parts' none is = record { found = is.found; whole = sym (append-nil (part_arrivals os' parts')) ∙ is.whole; sparing = is.sparing }
 all_now f policies group (scope ∷ left) os os' parts parts' none is = absurd (omega (arith, none))
 
 -- of a resource of one scope
@@ -165,7 +177,7 @@ of_one : (policies : List PolicyData) (group : ResourceTexts) (scope : ScopeText
     → Adds policies (arrivals_in_scope group scope) os parts os' parts' → Adds policies (arrivals_in_resource group) os parts os' parts'
 of_one policies group scope os os' parts parts' one adds =
     let same : arrivals_in_scope group scope ≡ arrivals_in_resource group = sym (append-nil (arrivals_in_scope group scope)) ∙ ap (flat_map (arrivals_in_scope group)) (sym one) in
-    record { found = adds.found; whole = adds.whole ∙ ap (λ (xs : List Arrival). part_arrivals os parts ++ xs) same }
+    record { found = adds.found; whole = adds.whole ∙ ap (λ (xs : List Arrival). part_arrivals os parts ++ xs) same; sparing = adds.sparing }
 
 -- a resource spans with these scope spans
 abbrev with_scopes : Option (List ℕ) → Option (List ℕ) → List ScopeTexts → ResourceTexts

@@ -1,6 +1,6 @@
 -- What the code follows: the arrivals of a body by the texts of its parts, and the spans as they are found among these.
 -- The valid spans are those of Arrivals; the way to them is this project's own.
-use Rattle.std.specs.Prelude.{◌≡◌, ◌<◌, ◌++◌, ℕ, true, length, List, [], Option, option_map, map, flat_map, IfSome}
+use Rattle.std.specs.Prelude.{◌≡◌, ◌<◌, ◌≤◌, ◌+◌, ◌++◌, ℕ, true, length, List, [], Option, option_map, map, flat_map, IfSome}
 use Rattle.std.specs.List.{AllByRecursion}
 use Rattle.otlp_trace.specs.Data.{SpanData, ResourceData}
 use Rattle.otlp_trace.specs.Text.{span_text, resource_text}
@@ -113,12 +113,13 @@ pub record IsFound (policies : List PolicyData) (origins : List SpanOrigin) (par
 abbrev pub AreFound : List PolicyData → List SpanOrigin → List UnnotedSpanData → Type 0
 AreFound policies origins parts = AllByRecursion (IsFound policies origins) parts
 
--- these arrivals were found behind those that had been
+-- these arrivals were found behind those that had been, with no more origins than spans
 pub record Adds (policies : List PolicyData) (arrivals : List Arrival) (origins : List SpanOrigin)
     (parts : List UnnotedSpanData)
     (origins' : List SpanOrigin) (parts' : List UnnotedSpanData) : Type 0 where
   pub found : AreFound policies origins' parts'
   pub whole : part_arrivals origins' parts' ≡ part_arrivals origins parts ++ arrivals
+  pub sparing : length origins' + length parts ≤ length origins + length parts'
 
 -- ---- texts that were read
 

@@ -1,6 +1,6 @@
 //! The spans of a body's parts, one after the other, and what stands round them.
 
-ghost use Rattle.std.specs.Prelude.{◌≡◌, ◌<◌, ◌++◌, map, IfOk, OnOk, Some, None};
+ghost use Rattle.std.specs.Prelude.{◌≡◌, ◌<◌, ◌≤◌, ◌++◌, length, map, IfOk, OnOk, Some, None};
 ghost use Rattle.std.specs.List.{AllByRecursion};
 ghost use Rattle.otlp_read.specs.RoundTrip.{IsShort};
 ghost use Rattle.otlp_parts.specs.Parts.{body_parts_view, resource_parts_view, scope_parts_view, scopes_in, spans_in};
@@ -291,6 +291,8 @@ pub fn found_in(
     ensures arrivals { IfOk result (λ found.
         part_arrivals found.origins.items found.parts.items ≡ arrivals_in_body
         (body_parts_view body)) }
+    ensures sparing { IfOk result (λ found. length found.origins.items
+        ≤ length found.parts.items) }
 {
     let missing = OriginText::none(alloc)?;
     let mut found = BodySpans {

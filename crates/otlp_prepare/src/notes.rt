@@ -54,7 +54,8 @@ fn with_notes(
         .collect(alloc)
 }
 
-/// Spans with their notes, in order, made in at most `threads` threads.
+/// Spans with their notes, in order, made in at most `threads` threads. They are few, since the memory of their notes
+/// without their resources is taken at once.
 fn noted_at_once<R: Threads + Sync>(
     rt: &R,
     alloc: Global,
@@ -62,7 +63,8 @@ fn noted_at_once<R: Threads + Sync>(
     parts: Vec<UnnotedSpan>,
     threads: u32,
 ) -> Result<Vec<NotedSpan>, AllocError>
-    requires { (0 < threads) × (threads ≤ 16) }
+    requires threads { (0 < threads) × (threads ≤ 16) }
+    requires few { length parts.items ≤ 4096 }
     ensures { IfOk result (λ spans. spans.items ≡ map (noted policies.now) parts.items) }
 {
     let own = own_notes(rt, alloc, policies, parts.as_slice(), threads)?;
@@ -75,6 +77,7 @@ fn first_of(left: &mut Vec<UnnotedSpan>) -> Result<Vec<UnnotedSpan>, AllocError>
         now.items ++ reverse left.new.items) }
     ensures fewer { OnOk result (0 < length left.old.items
         → length left.new.items < length left.old.items) }
+    ensures few { IfOk result (λ now. length now.items ≤ 4096) }
 {
     let at = left.len().saturating_sub(NOTED);
     let mut now = left.split_off(at)?;

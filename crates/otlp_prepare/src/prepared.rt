@@ -25,7 +25,7 @@ pub struct Prepared {
 }
 
 impl Model for Prepared {
-    ghost use Rattle.std.specs.Prelude.{map};
+    ghost use Rattle.std.specs.Prelude.{◌≤◌, length, map};
     ghost use Rattle.std.specs.Arc.{arc_slice_items};
     ghost use Rattle.tail_settings.specs.Policy.{policy_view};
     ghost use Rattle.otlp_prepare.specs.Arrivals.{arrivals_in};
@@ -40,7 +40,9 @@ impl Model for Prepared {
       invalid = p.invalid;
     } };
 
-    ghost invariant = { λ p. AreReady (map policy_view (arc_slice_items p.policies)) p.origins.items p.spans.items };
+    ghost invariant = { λ p.
+        AreReady (map policy_view (arc_slice_items p.policies)) p.origins.items p.spans.items
+        × (length p.origins.items ≤ length p.spans.items) };
 }
 
 impl PartialEq for Prepared {
@@ -94,7 +96,7 @@ fn are_same_spans(
 }
 
 impl Prepared {
-    ghost use Rattle.std.specs.Prelude.{map};
+    ghost use Rattle.std.specs.Prelude.{◌≤◌, map};
     ghost use Rattle.tail_settings.specs.Policy.{policy_view};
     ghost use Rattle.otlp_prepare.specs.Arrivals.{arrivals_in};
     ghost use Rattle.otlp_prepare.specs.Prepared.{AreReady};
@@ -108,7 +110,9 @@ impl Prepared {
         spans: Vec<NotedSpan>,
         invalid: u64,
     ) -> Prepared
-        requires { AreReady (map policy_view (arc_slice_items policies)) origins.items spans.items }
+        requires ready { AreReady (map policy_view (arc_slice_items policies)) origins.items
+            spans.items }
+        requires sparing { length origins.items ≤ length spans.items }
         ensures { result ≡ record {
           tenant = tenant;
           policies = map policy_view (arc_slice_items policies);
@@ -170,6 +174,7 @@ impl Prepared {
     pub fn parts(&self) -> (&[SpanOrigin], &[NotedSpan])
         ensures arrivals { arrivals_in result.0.now result.1.now ≡ self.now.arrivals }
         ensures ready { AreReady self.now.policies result.0.now result.1.now }
+        ensures sparing { length result.0.now ≤ length result.1.now }
     {
         (self.origins.as_slice(), self.spans.as_slice())
     }

@@ -66,6 +66,42 @@ fn notes_of_each_kind(rt: HostRuntime) -> Result<(), Fail> {
     Ok(())
 }
 
+/// Policies, a span, a resource, and their note: where no policy asks for an attribute, where one in an `and` alone
+/// does, and where a key stands behind its value. A missing status is UNSET, and a number without a name meets no
+/// policy.
+const ASKED: &str = "\
+statuses late-error w = 1 5 1000000005
+statuses error - = 1 0 0
+statuses ok - = 4 0 0
+statuses unset 8 = 4 0 0
+statuses twice w = 4 0 0
+statuses unknown - = 0 0 0
+statuses negative - = 0 0 0
+second late-error w = 0 5 1000000005
+second backwards - = 0 18446744073709551615 0
+error negative - = 0 0 0
+both twice - = 2 0 0
+both late-error w = 1 5 1000000005
+both unknown - = 0 0 0
+has-w ok w = 1 0 0
+each value-first - = 72 0 0";
+
+#[test]
+fn notes_where_little_is_asked(rt: HostRuntime) -> Result<(), Fail> {
+    for line in ASKED.lines() {
+        let [policies, span, resource, _, met, start, end] = words(line);
+        let settings = loaded(rt.alloc(), policies_of(policies))?;
+        let section = settings.section(0).ok_or("no section")?;
+        let asked = TenantPolicies::of(&section.tail_sampling.policies);
+        let note = note_of(met, start, end);
+        assert!(rt;
+            is_noted(&rt, &asked, span_of(span), resource_of(resource), note)?,
+            "at {line}"
+        );
+    }
+    Ok(())
+}
+
 /// Two notes, and theirs together: all bits, the first start and the last end.
 const JOINED: &str = "\
 36 5 9 88 3 7 = 124 3 9

@@ -30,6 +30,12 @@ fn policies_of_spans(name: &str) -> &'static str {
     match name {
         "error" => "[{ type = \"status_code\", status_codes = [\"ERROR\"] }]",
         "no-error" => "[{ type = \"status_code\", status_codes = [\"OK\", \"UNSET\"] }]",
+        // Of statuses and times alone. Bits, from the lowest: an error, latency, all but an error.
+        "statuses" => {
+            "[{ type = \"status_code\", status_codes = [\"ERROR\"] }, \
+{ type = \"latency\", threshold_ms = 1000 }, \
+{ type = \"status_code\", status_codes = [\"OK\", \"UNSET\"] }]"
+        }
         "seven" => {
             "[{ type = \"numeric_attribute\", key = \"k\", min_value = 7, max_value = 7 }]"
         }
@@ -123,6 +129,8 @@ fn span_with(name: &str) -> &'static [u8] {
         "seven" => b"\x4a\x07\x0a\x01k\x12\x02\x18\x07",
         "minus-seven" => b"\x4a\x10\x0a\x01k\x12\x0b\x18\xf9\xff\xff\xff\xff\xff\xff\xff\xff\x01",
         "true" => b"\x4a\x07\x0a\x01k\x12\x02\x10\x01",
+        // The string `v`, and its key behind it.
+        "value-first" => b"\x4a\x08\x12\x03\x0a\x01v\x0a\x01k",
         "vw" => b"\x4a\x09\x0a\x01k\x12\x04\x0a\x02vw",
         // The string `v`, and the number 7.
         "twice" => b"\x4a\x08\x0a\x01k\x12\x03\x0a\x01v\x4a\x07\x0a\x01k\x12\x02\x18\x07",

@@ -4,7 +4,9 @@ ghost use Rattle.processor_tests.specs.Views.{Told, CanonicalTexts};
 
 use otlp_trace::DoubleBits;
 use span_view::{SpanField, SpanRef, ValueRef, canonical_text_is_viewed, equal_values, is_text};
+use std::alloc::{AllocError, Global};
 use std::process::Abort;
+use std::test::Fail;
 
 /// The span of opentelemetry-proto's example of a trace (examples/trace.json), with a status of code 2 and fields that
 /// no span knows behind it.
@@ -161,6 +163,84 @@ fn what_tells_nothing_is_passed_over(rt: HostRuntime) {
     // The first of two trace ids, behind the number 1 as a varint; and nothing behind a place where no field begins.
     assert!(rt; tells(&rt, b"\x08\x09\x0a\x01\x01\x0a\x01\x02", b"\x01", 0));
     assert!(rt; tells(&rt, b"\x0a\x01\x01\x00\x12\x01\x03", b"\x01", 0));
+}
+
+/// Whether a span has these times, by one call for each and by one for both.
+fn has_times(rt: &impl Abort, span: &[u8], start: u64, end: u64) -> bool {
+    let view = checked(rt, span, b"");
+    (view.start(), view.end()) == (start, end) && view.times() == (start, end)
+}
+
+/// A span of fields by their tags, each with eight bytes of a number below 256.
+fn timed(alloc: Global, fields: &[(u8, u8)]) -> Result<Vec<u8>, AllocError> {
+    let mut span = Vec::new(alloc);
+    for (tag, number) in fields {
+        span.extend_from_slice(&[*tag, *number, 0, 0, 0, 0, 0, 0, 0])?;
+    }
+    Ok(span)
+}
+
+/// Tags and numbers, and the start and the end that they tell: the first of several, wherever it stands.
+const TIMES: [(&[(u8, u8)], u64, u64); 8] = [
+    (&[], 0, 0),
+    (&[(0x39, 5)], 5, 0),
+    (&[(0x41, 6)], 0, 6),
+    (&[(0x39, 5), (0x41, 6)], 5, 6),
+    (&[(0x41, 6), (0x39, 5)], 5, 6),
+    (&[(0x41, 6), (0x39, 5), (0x41, 9)], 5, 6),
+    (&[(0x39, 5), (0x39, 7), (0x41, 6)], 5, 6),
+    // A field of eight bytes that no span knows.
+    (&[(0x39, 5), (0x49, 1), (0x41, 6)], 5, 6),
+];
+
+#[test]
+fn times_are_told_together(rt: HostRuntime) -> Result<(), Fail> {
+    for (fields, start, end) in TIMES {
+        let span = timed(rt.alloc(), fields)?;
+        assert!(rt; has_times(&rt, &span, start, end), "{start} {end}");
+    }
+    // A varint of the start's number, and an end that is cut short.
+    assert!(rt; has_times(&rt, b"\x38\x63\x39\x05\x00\x00\x00\x00\x00\x00\x00", 5, 0));
+    assert!(rt; has_times(&rt, b"\x39\x05\x00\x00\x00\x00\x00\x00\x00\x41\x06", 5, 0));
+    Ok(())
+}
+
+/// What stands before a key of so many bytes in a span's attribute: an attribute of 127 bytes and one of 128, and then
+/// keys of 127 and of 128.
+const HEADS: [(&[u8], usize); 4] = [
+    (b"\x4a\x7f\x0a\x7d", 125),
+    (b"\x4a\x80\x01\x0a\x7e", 126),
+    (b"\x4a\x81\x01\x0a\x7f", 127),
+    (b"\x4a\x83\x01\x0a\x80\x01", 128),
+];
+
+/// A span that has an attribute with so long a key, and then lasts from 5 to 6 and has an error.
+fn keyed(alloc: Global, head: &[u8], count: usize) -> Result<Vec<u8>, AllocError> {
+    let mut span = Vec::new(alloc);
+    span.extend_from_slice(head)?;
+    for _ in 0..count {
+        span.push(b'a')?;
+    }
+    let times = timed(alloc, &[(0x39, 5), (0x41, 6)])?;
+    span.extend_from_slice(&times)?;
+    span.extend_from_slice(b"\x7a\x02\x18\x02")?;
+    Ok(span)
+}
+
+#[test]
+fn short_and_long_keys_are_told_alike(rt: HostRuntime) -> Result<(), Fail> {
+    for (head, count) in HEADS {
+        let span = keyed(rt.alloc(), head, count)?;
+        assert!(rt; has_times(&rt, &span, 5, 6), "at {count}");
+        let view = checked(&rt, &span, b"");
+        let (key, _value) = view.attributes().next().ok_or("no attribute")?;
+        assert!(rt; view.status() == 2 && key.len() == count, "at {count}");
+        assert!(rt;
+            tells_attribute(view.fields().next(), key, ValueRef::Unset),
+            "at {count}"
+        );
+    }
+    Ok(())
 }
 
 #[test]

@@ -1,7 +1,8 @@
 //! The hub.
 
-ghost use Rattle.std.specs.Prelude.{◌≡◌, ◌≢◌, ◌<◌, ◌%◌, ◌⊎◌, length, replicate, IfOk, IfErr, OnErr, vec_len};
+ghost use Rattle.std.specs.Prelude.{◌≡◌, ◌≢◌, ◌<◌, ◌⊎◌, length, replicate, IfOk, IfErr, OnErr, vec_len};
 ghost use Rattle.tail_settings.specs.Settings.{SettingsData, settings_view};
+ghost use Rattle.tenant_shard.specs.Table.{shard_of};
 ghost use Rattle.machine_hub.specs.Hub.{slots_of, new_caller, AreCallersOf, AreShardRuns, IsRefusedOn};
 ghost use Rattle.shard_machine.specs.MachineState.{MachineDoes};
 ghost use Rattle.shared_hub.specs.Shards.{AreOpened, kept};
@@ -114,10 +115,10 @@ impl SharedHub {
         requires same_hub { slots_of me.old ≡ self.now }
         ensures same_hub { slots_of me.new ≡ self.now }
         ensures call { IfOk result (λ r.
-            IsAnswerOn me.old me.new (tenant % length self.now) tenant now ticket answer.now r.0
-            r.1) }
+            IsAnswerOn me.old me.new (shard_of (length self.now) tenant) tenant now ticket
+            answer.now r.0 r.1) }
         ensures on_refusal { OnErr result ((me.new ≡ me.old)
-            ⊎ IsRefusedOn me.old me.new (tenant % length self.now)) }
+            ⊎ IsRefusedOn me.old me.new (shard_of (length self.now) tenant)) }
         ensures fault { IfErr result (λ fault. fault ≡ faults.OutOfMemory) }
     {
         let answer = copy_of(answer)?;
@@ -136,18 +137,18 @@ impl SharedHub {
     /// queue, and no batch is on its way. It makes no step.
     pub fn empty<R: Wait>(&self, rt: &R, me: &mut Caller, tenant: u32) -> bool
         requires same_hub { slots_of me.old ≡ self.now }
-        ensures empty { IsEmptyOn me.old (tenant % length self.now) tenant result }
+        ensures empty { IsEmptyOn me.old (shard_of (length self.now) tenant) tenant result }
         ensures same { me.new ≡ me.old }
     {
         let told = self.look(rt, me, tenant);
         told.answer.is_empty
     }
 
-    /// The same, with when the tenant and its shard are ready next, and whether the shard was refused memory before: if
-    /// not, it is so where a run of the shard ends. It takes no memory.
+    /// The same, with how many rows of the tenant are present, when it and its shard are ready next, and whether the
+    /// shard was refused memory before: if not, it is so where a run of the shard ends. It takes no memory.
     pub fn look<R: Wait>(&self, rt: &R, me: &mut Caller, tenant: u32) -> Told<Waiting>
         requires same_hub { slots_of me.old ≡ self.now }
-        ensures look { IsLookOn me.old (tenant % length self.now) tenant result }
+        ensures look { IsLookOn me.old (shard_of (length self.now) tenant) tenant result }
         ensures same { me.new ≡ me.old }
     {
         let shard = self.shard_of(tenant);
@@ -190,8 +191,8 @@ impl SharedHub {
     }
 
     /// In which shard the tenant is.
-    fn shard_of(&self, tenant: u32) -> usize
-        ensures shard { result ≡ tenant % length self.now }
+    pub fn shard_of(&self, tenant: u32) -> usize
+        ensures shard { result ≡ shard_of (length self.now) tenant }
         ensures within { result < length self.now }
     {
         tenant as usize % self.hub.shards()

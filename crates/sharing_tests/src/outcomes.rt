@@ -47,11 +47,13 @@ fn is_text(alloc: Global, kind: &str, bytes: &[u8], text: &str) -> bool {
     }
 }
 
-/// Whether a tenant and its shard wait for what a line says.
+/// Whether a tenant has as many rows, and it and its shard wait for what a line says.
 pub fn is_waiting(waiting: &Waiting, line: &str) -> bool {
     let (empty, rest) = cut(line);
+    let (rows, rest) = cut(rest);
     let (tenant, shard) = cut(rest);
     (empty == "yes") == waiting.is_empty
+        && rows.parse().ok() == Some(waiting.rows)
         && is_moment(waiting.tenant_ready, tenant)
         && is_moment(waiting.shard_ready, shard)
 }

@@ -5,3 +5,4 @@ pub mod Messages
 pub mod Told
 pub mod Values
 pub mod FieldsTold
+pub mod Short

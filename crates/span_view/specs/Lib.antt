@@ -3,3 +3,4 @@ pub mod Reading
 pub mod Shown
 pub mod Fields
 pub mod Canonical
+pub mod Short

@@ -1,9 +1,11 @@
 //! Looking for fields in a text. Where no field begins, the text is taken to end.
 
-ghost use Rattle.std.specs.Prelude.{◌≡◌, ◌<◌, true, length, IfSome};
+ghost use Rattle.std.specs.Prelude.{◌≡◌, ◌<◌, ◌≤◌, ◌==◌, true, false, length, IfSome};
+ghost use Rattle.pb_wire.specs.declared.field.WireType.{WireType};
 ghost use Rattle.pb_wire.specs.declared.field.WireType.TheVariants as types;
 ghost use Rattle.pb_wire.specs.Grammar.{datum, entry};
 ghost use Rattle.span_view.specs.Reading.{fields_of, found_fields, has, is_kind, held, found_held};
+ghost use Rattle.span_view.specs.Short.{IsBehind, StartsWithBytes, StartsWithNumber};
 ghost use Rattle.span_view.specs.Reading.{first_bytes, first_eight, first_varint};
 
 use pb_wire::{Field, Value, WireType, next_field};
@@ -18,6 +20,83 @@ pub fn first_field(text: &[u8]) -> Option<(Field<'_>, &[u8])>
         Ok(found) => found,
         Err(_) => None,
     }
+}
+
+/// The number of the first field and the text behind it, where the field's tag has one byte and what it holds is eight
+/// bytes, a number of one byte or at most 127 bytes. Of other fields it says nothing.
+#[inline(always)]
+pub fn short_field(text: &[u8]) -> Option<(u32, &[u8])>
+    ensures { IfSome result (λ found. IsBehind found.0 text.now found.1.now) }
+{
+    let Some((tag, held)) = text.split_first() else {
+        return None;
+    };
+    let tag = *tag;
+    if tag < 8 || tag >= 0x80 {
+        return None;
+    }
+    let number = u32::from(tag / 8);
+    if tag % 8 == 1 {
+        if held.len() < 8 {
+            return None;
+        }
+        return Some((number, held.split_at(8).1));
+    }
+    let Some((first, rest)) = held.split_first() else {
+        return None;
+    };
+    let first = *first;
+    if first >= 0x80 {
+        return None;
+    }
+    if tag % 8 == 0 {
+        return Some((number, rest));
+    }
+    let size = usize::from(first);
+    if tag % 8 != 2 || rest.len() < size {
+        return None;
+    }
+    Some((number, rest.split_at(size).1))
+}
+
+/// What the first field holds and the text behind it, where its tag has one byte and it is at most 127 bytes. Of other
+/// fields it says nothing.
+#[inline(always)]
+pub fn short_bytes(text: &[u8], number: u32) -> Option<(&[u8], &[u8])>
+    ensures { IfSome result (λ found. StartsWithBytes number text.now found.0.now found.1.now) }
+{
+    let Some((tag, held)) = text.split_first() else {
+        return None;
+    };
+    let tag = *tag;
+    if number == 0 || tag >= 0x80 || u64::from(tag) != u64::from(number) * 8 + 2 {
+        return None;
+    }
+    let Some((size, rest)) = held.split_first() else {
+        return None;
+    };
+    let size = usize::from(*size);
+    if size >= 0x80 || rest.len() < size {
+        return None;
+    }
+    Some(rest.split_at(size))
+}
+
+/// The text behind the fields at its front that are passed over at once, none of which has this number.
+#[inline(always)]
+fn past_others(text: &[u8], number: u32) -> &[u8]
+    ensures same { (kind : WireType) → held number kind (fields_of text.now) ≡ held number kind
+        (fields_of result.now) }
+    ensures within { length result.now ≤ length text.now }
+{
+    let mut left = text;
+    'fields: while let Some((other, rest)) = short_field(left) {
+        if other == number {
+            return left;
+        }
+        left = rest;
+    }
+    left
 }
 
 /// Whether a field has this number and wire type, a group's being that of its start.
@@ -43,7 +122,7 @@ pub fn find(text: &[u8], number: u32, kind: WireType) -> Option<(Value<'_>, &[u8
     ensures kind { IfSome result (λ found. is_kind kind (datum found.0) ≡ true) }
     ensures shorter { IfSome result (λ found. length found.1.now < length text.now) }
 {
-    let mut left = text;
+    let mut left = past_others(text, number);
     'fields: while let Some((field, rest)) = first_field(left) {
         if has(&field, number, kind) {
             return Some((field.value, rest));
@@ -58,6 +137,9 @@ pub fn find(text: &[u8], number: u32, kind: WireType) -> Option<(Value<'_>, &[u8
 pub fn bytes(text: &[u8], number: u32) -> &[u8]
     ensures { result.now ≡ first_bytes (held number types.Bytes (fields_of text.now)) }
 {
+    if let Some((bytes, _)) = short_bytes(text, number) {
+        return bytes;
+    }
     match find(text, number, WireType::Bytes) {
         Some((Value::Bytes(bytes), _)) => bytes,
         _ => &[],
@@ -84,4 +166,55 @@ pub fn varint(text: &[u8], number: u32) -> u64
         Some((Value::Varint(value), _)) => value,
         _ => 0,
     }
+}
+
+/// The text behind the fields at its front that are passed over at once, none of which has one of these numbers.
+#[inline(always)]
+fn past_others_than(text: &[u8], first: u32, second: u32) -> &[u8]
+    ensures first { (kind : WireType) → held first kind (fields_of text.now) ≡ held first kind
+        (fields_of result.now) }
+    ensures second { (kind : WireType) → held second kind (fields_of text.now) ≡ held second kind
+        (fields_of result.now) }
+{
+    let mut left = text;
+    'fields: while let Some((other, rest)) = short_field(left) {
+        if other == first || other == second {
+            return left;
+        }
+        left = rest;
+    }
+    left
+}
+
+/// The number in the first field and the text behind it, where that field has this number and eight bytes.
+#[inline(always)]
+fn leading_eight(text: &[u8], number: u32) -> Option<(u64, &[u8])>
+    ensures { IfSome result (λ found. StartsWithNumber number text.now found.0 found.1.now) }
+{
+    let Some((field, rest)) = first_field(text) else {
+        return None;
+    };
+    if field.number != number {
+        return None;
+    }
+    match field.value {
+        Value::Eight(bytes) => Some((u64::from_le_bytes(bytes), rest)),
+        _ => None,
+    }
+}
+
+/// The numbers in the first fields of eight bytes with these numbers, 0 where there is none, in one walk where the
+/// fields stand side by side.
+pub fn two_eights(text: &[u8], first: u32, second: u32) -> (u64, u64)
+    requires { (first == second) ≡ false }
+    ensures first { result.0 ≡ first_eight (held first types.Eight (fields_of text.now)) }
+    ensures second { result.1 ≡ first_eight (held second types.Eight (fields_of text.now)) }
+{
+    let front = past_others_than(text, first, second);
+    if let Some((one, rest)) = leading_eight(front, first) {
+        if let Some((other, _)) = leading_eight(rest, second) {
+            return (one, other);
+        }
+    }
+    (eight(text, first), eight(text, second))
 }

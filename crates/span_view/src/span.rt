@@ -6,7 +6,7 @@ ghost use Rattle.span_view.specs.Fields.{first_start, first_end, first_status, a
 ghost use Rattle.span_view.specs.Reading.{facts_of};
 
 use crate::attributes::Attributes;
-use crate::fields::{bytes, eight};
+use crate::fields::{bytes, eight, two_eights};
 use crate::status::code_of;
 use crate::walk::SpanFields;
 use std::marker::Model;
@@ -65,6 +65,14 @@ impl<'a> SpanRef<'a> {
         ensures { result ≡ self.now.end_time_unix_nano }
     {
         eight(self.span, 8)
+    }
+
+    /// Start and end, in nanoseconds since 1970, in one walk where they stand side by side.
+    pub fn times(&self) -> (u64, u64)
+        ensures start { result.0 ≡ self.now.start_time_unix_nano }
+        ensures end { result.1 ≡ self.now.end_time_unix_nano }
+    {
+        two_eights(self.span, 7, 8)
     }
 
     /// The code of the span's status: 0 unset, also where there is no status, 1 ok, 2 error. Other numbers are carried.

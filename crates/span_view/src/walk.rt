@@ -1,13 +1,14 @@
 //! What a span and its resource tell policies, in one walk.
 
-ghost use Rattle.std.specs.Prelude.{◌≡◌, [], option_map};
+ghost use Rattle.std.specs.Prelude.{◌≡◌, ◌≤◌, [], length, option_map};
 ghost use Rattle.pb_wire.specs.Grammar.{datum};
 ghost use Rattle.span_view.specs.Facts.{AreText};
 ghost use Rattle.span_view.specs.Fields.{told_by, told, told_and, told_of, attributes_told, field_shown, found_told};
 ghost use Rattle.span_view.specs.Reading.{fields_of, facts_of};
+ghost use Rattle.span_view.specs.Short.{may_tell};
 
 use crate::attribute::AttributeRef;
-use crate::fields::first_field;
+use crate::fields::{first_field, short_bytes, short_field};
 use crate::status::code_of;
 use crate::value::next_attribute;
 use pb_wire::{Field, Value};
@@ -61,13 +62,40 @@ fn told_by(field: Field<'_>) -> Option<SpanField<'_>>
     }
 }
 
+/// Whether a field of this number may tell something.
+#[inline(always)]
+fn may_tell(number: u32) -> bool
+    ensures { result ≡ may_tell number }
+{
+    number == 7 || number == 8 || number == 9 || number == 15
+}
+
+/// The text behind the fields at its front that are passed over at once, none of which tells anything.
+#[inline(always)]
+fn past_silent(text: &[u8]) -> &[u8]
+    ensures same { told (fields_of text.now) ≡ told (fields_of result.now) }
+    ensures within { length result.now ≤ length text.now }
+{
+    let mut left = text;
+    'fields: while let Some((number, rest)) = short_field(left) {
+        if may_tell(number) {
+            return left;
+        }
+        left = rest;
+    }
+    left
+}
+
 /// What the first field of a span's text that tells something tells, and the text behind it.
 #[inline(always)]
 fn next_told(text: &[u8]) -> Option<(SpanField<'_>, &[u8])>
     requires text { AreText (attributes_told (told (fields_of text.now))) }
     ensures { told (fields_of text.now) ≡ found_told result }
 {
-    let mut left = text;
+    if let Some((attribute, rest)) = short_bytes(text, 9) {
+        return Some((SpanField::Attribute(AttributeRef::of(attribute)), rest));
+    }
+    let mut left = past_silent(text);
     'fields: while let Some((field, rest)) = first_field(left) {
         if let Some(told) = told_by(field) {
             return Some((told, rest));

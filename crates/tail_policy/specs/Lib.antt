@@ -9,3 +9,4 @@ pub mod Parts
 pub mod Both
 pub mod Marks
 pub mod Tally
+pub mod Asks

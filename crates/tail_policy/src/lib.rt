@@ -12,6 +12,7 @@
 
 mod all_of;
 mod any_of;
+mod asks;
 mod attribute;
 mod bits;
 mod both;
@@ -20,6 +21,7 @@ mod note;
 mod noting;
 mod policy;
 mod status;
+mod status_bits;
 mod tally;
 mod tenant;
 mod time;

@@ -3,10 +3,11 @@
 ghost use Rattle.std.specs.Prelude.{◌≡◌, ◌≤◌, map};
 ghost use Rattle.tail_settings.specs.Policy.{policy_view, leaves_of};
 
-use crate::bits::{Fact, fact_bits};
+use crate::asks::ask_attributes;
 use crate::marks::{COUNT, mark_policies};
 use crate::note::{ResourceBits, TraceNote};
 use crate::noting::{Policy, PolicyByParts};
+use crate::status_bits::StatusBits;
 use crate::tally::{SpanFacts, resource_bits, tally};
 use span_view::SpanRef;
 use std::alloc::AllocError;
@@ -19,18 +20,22 @@ pub struct TenantPolicies<'a> {
     policies: &'a [PolicySpec],
     /// Which keys the policies may ask for.
     marks: [bool; COUNT],
+    /// Whether one of them asks for an attribute.
+    asks: bool,
+    /// Which of them each status meets.
+    statuses: StatusBits,
 }
 
 impl<'a> Model for TenantPolicies<'a> {
     ghost use Rattle.std.specs.Prelude.{List, map};
-    ghost use Rattle.tail_policy.specs.Marks.{IsReady};
+    ghost use Rattle.tail_policy.specs.Asks.{IsFound};
     ghost use Rattle.tail_settings.specs.Policy.{PolicyData, policy_view};
 
     ghost Value = { List PolicyData };
 
     ghost view = { λ p. map policy_view p.policies.now };
 
-    ghost invariant = { λ p. IsReady (map policy_view p.policies.now) p.marks };
+    ghost invariant = { λ p. IsFound (map policy_view p.policies.now) p.marks p.asks p.statuses };
 }
 
 impl<'a> TenantPolicies<'a> {
@@ -42,7 +47,12 @@ impl<'a> TenantPolicies<'a> {
     {
         let mut marks = [false; COUNT];
         mark_policies(&mut marks, policies);
-        TenantPolicies { policies, marks }
+        TenantPolicies {
+            policies,
+            marks,
+            asks: ask_attributes(policies),
+            statuses: StatusBits::of(policies),
+        }
     }
 }
 
@@ -67,14 +77,18 @@ impl<'a> Policy for TenantPolicies<'a> {
 
     /// It takes no memory and is never refused.
     fn note(&self, span: &SpanRef<'_>) -> Result<TraceNote, AllocError> {
+        if !self.asks {
+            let met = self.statuses.of_span(span);
+            let (start, end) = span.times();
+            return Ok(TraceNote::new(met, start, end));
+        }
         let SpanFacts {
             met,
             start,
             end,
             status,
         } = tally(self.policies, &self.marks, span.fields());
-        let listed = fact_bits(self.policies, Fact::Status(status));
-        Ok(TraceNote::new(listed | met, start, end))
+        Ok(TraceNote::new(self.statuses.at(status) | met, start, end))
     }
 
     fn join(&self, first: TraceNote, second: TraceNote) -> TraceNote {
@@ -100,6 +114,9 @@ impl<'a> PolicyByParts for TenantPolicies<'a> {
     /// It takes no memory and is never refused.
     #[tactic(auto, unfolding(crate::specs::Parts::resource_bits_of))]
     fn resource_note(&self, resource: &[u8]) -> Result<ResourceBits, AllocError> {
+        if !self.asks {
+            return Ok(ResourceBits::new(0));
+        }
         Ok(ResourceBits::new(resource_bits(self.policies, &self.marks, resource)))
     }
 

@@ -1,6 +1,7 @@
 pub mod Prepared
 pub mod OwnStep
 pub mod StateIn
+pub mod Present
 pub mod Invariant
 pub mod Steps
 pub mod Outbox

@@ -10,6 +10,7 @@ ghost use Rattle.tenant_stores.specs.Promises.{OthersUnchanged};
 ghost use Rattle.tenant_rules.specs.Ready.{ready};
 ghost use Rattle.tenant_rules.specs.Retiring.{holds_none};
 ghost use Rattle.tenant_pipeline.specs.StateIn.{state_of, state_in};
+ghost use Rattle.tenant_pipeline.specs.Present.{rows_present};
 ghost use Rattle.tenant_pipeline.specs.Invariant.{PipelineInvariantBy, PipelineInvariant, IsSwept, HasNonePending};
 ghost use Rattle.tenant_pipeline.specs.Steps.{StandsFor};
 
@@ -132,6 +133,14 @@ impl Pipeline {
         ensures { result ≡ ready (state_in self.now stores.now) }
     {
         lesser(self.next_timer(stores), self.sender.ready())
+    }
+
+    /// How many of its rows are present: those that wait, and decided ones that late spans still follow.
+    pub fn rows_present(&self) -> u64
+        ensures { (p : Part Note) → PipelineInvariantBy self.now p → result
+            ≡ rows_present (state_of self.now p) }
+    {
+        self.rows.opened.saturating_sub(self.rows.first)
     }
 
     /// Whether none of its spans waits for anything: each that was taken was exported or dropped.

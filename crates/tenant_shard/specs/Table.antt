@@ -21,14 +21,17 @@ abbrev pub OpensOneMore : SettingsData → ℕ → (old new : List View) → Typ
 OpensOneMore settings tenant old new = (earlier : List ℕ) → ShardStands (opened settings earlier) old
     → ShardStands (opened settings (earlier ++ tenant ∷ [])) new
 
--- the numbers of a shard's tenants: those that leave the shard's over when divided by the number of shards
+-- in which of so many shards a tenant is: in that whose number its own leaves over
+abbrev pub shard_of : ℕ → ℕ → ℕ
+shard_of shards tenant = tenant % shards
+
+-- the numbers of a shard's tenants
 abbrev pub members_of : SettingsData → ℕ → List ℕ
 members_of table shard =
-    filter (λ number. number % table.global.shards == shard) (map (λ tenant. tenant.number) table.tenants)
+    filter (λ number. shard_of table.global.shards number == shard) (map (λ tenant. tenant.number) table.tenants)
 
--- each tenant of the table is in one shard, with its own section: in that whose number its own leaves over. Nobody else
--- is in any
+-- each tenant of the table is in one shard, with its own section. Nobody else is in any
 abbrev pub EachInItsShard : Type 0
 EachInItsShard = (table : SettingsData) (shard tenant : ℕ) →
     section_of table (members_of table shard) tenant
-    ≡ (if tenant % table.global.shards == shard then section_at table tenant else None)
+    ≡ (if shard_of table.global.shards tenant == shard then section_at table tenant else None)

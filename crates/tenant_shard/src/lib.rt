@@ -21,7 +21,8 @@
 //! changes anything, and what the tenant is told afterwards is as if it had not come. An answer to a job that isn't in
 //! flight is refused with 21, and nothing but due timers has happened then.
 //!
-//! When a tenant is ready next, and when the first of a shard's members is, is asked without a step (`Shard::waiting`).
+//! How many rows a tenant has, when it is ready next, and when the first of a shard's members is, is asked without a
+//! step (`Shard::waiting`).
 //!
 //! It stands on `tenant_pipeline`, `tenant_stores`, `shard_agenda`, `tenant_rules` and `tail_settings`. Its own rules
 //! come from no public text.
@@ -69,7 +70,7 @@ pub fn newcomers_are_let_in()
     ensures { AlwaysWelcome }
 {}
 
-/// What a tenant and its shard wait for follows from the tenants' lives: a law over states.
+/// What a tenant and its shard wait for, and how many rows it has, follows from the tenants' lives: a law over states.
 pub fn lives_tell_what_waits()
     ensures { LivesTellWhatWaits }
 {}

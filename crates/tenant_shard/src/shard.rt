@@ -77,7 +77,7 @@ impl Shard {
     ghost use Rattle.tenant_shard.specs.Chain.{ShardRuns, RunsByOwnSteps, StandsAfter};
     ghost use Rattle.tenant_shard.specs.Empty.{is_empty};
     ghost use Rattle.tenant_shard.specs.Stop.{IsStopped};
-    ghost use Rattle.tenant_shard.specs.Waiting.{IsWaiting};
+    ghost use Rattle.tenant_shard.specs.Waiting.{IsWaiting, rows_of};
     ghost use Rattle.tenant_shard.specs.Whole.{AllCounted};
 
     /// Opens a shard of the tenants of the settings whose numbers stand in `members`, with no steps so far, which are
@@ -223,12 +223,24 @@ impl Shard {
         }
     }
 
-    /// What the tenant and the shard wait for. It takes no memory, and doesn't go through the members.
+    /// How many rows of the tenant are present. None where it is no member.
+    fn rows(&self, tenant: u32) -> u64
+        ensures { result ≡ rows_of (kept_of tenant self.now) }
+    {
+        match place_of(&self.members, tenant) {
+            Ok(i) => self.members[i].rows_present(),
+            Err(_) => 0,
+        }
+    }
+
+    /// What the tenant and the shard wait for, and how many rows the tenant has. It takes no memory, and doesn't go
+    /// through the members.
     pub fn waiting(&self, tenant: u32) -> Waiting
         ensures { IsWaiting self.now tenant result }
     {
         Waiting {
             is_empty: self.is_empty(tenant),
+            rows: self.rows(tenant),
             tenant_ready: self.agenda.ready(tenant),
             shard_ready: self.agenda.next(),
         }

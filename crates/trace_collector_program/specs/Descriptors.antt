@@ -4,7 +4,7 @@
 use Rattle.std.specs.Prelude.{codes, ℕ, ◌+◌, ◌*◌, ◌-◌, min, List, [], ◌∷◌, length, take, drop, ◌==◌, nat_le, Option, Some, None, if◌then◌else◌}
 use Rattle.std.specs.Char.{is_ascii_digit}
 use Rattle.std.specs.Str.{bytes_eq}
-use Rattle.trace_collector_program.specs.declared.descriptors.Crew.{Crew}
+use Rattle.trace_collector_program.specs.declared.descriptors.ThreadCounts.{ThreadCounts}
 
 -- behind this stands the limit
 abbrev pub title : List ℕ
@@ -58,8 +58,8 @@ port_needs (Some admins) = admins + 2
 
 -- a descriptor for each connection of a receiver or a sender, and those of a port for operators; three standard ones,
 -- the listener, and one of who reads the input, for a file that a line names or a connection that wakes a receiver
-abbrev pub needed : Crew → ℕ
-needed crew = crew.receivers + crew.senders + port_needs crew.admins + 5
+abbrev pub needed : ThreadCounts → ℕ
+needed threads = threads.receivers + threads.senders + port_needs threads.admins + 5
 
 -- a limit that is lower than what is needed
 abbrev pub lower_than : ℕ → Option ℕ → Option ℕ
@@ -67,5 +67,5 @@ lower_than needed None = None
 lower_than needed (Some limit) = if nat_le needed limit then None else Some limit
 
 -- the limit of open files, where these threads need more
-abbrev pub too_low : List ℕ → Crew → Option ℕ
-too_low limits crew = lower_than (needed crew) (open_files limits)
+abbrev pub too_low : List ℕ → ThreadCounts → Option ℕ
+too_low limits threads = lower_than (needed threads) (open_files limits)

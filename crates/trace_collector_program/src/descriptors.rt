@@ -83,14 +83,14 @@ fn open_files(limits: &[u8]) -> Option<u32>
 
 /// So many threads hold a connection each.
 #[derive(Clone, Copy, Debug, PartialEq, Eq)]
-pub struct Crew {
+pub struct ThreadCounts {
     pub receivers: u32,
     pub senders: u32,
     /// Those of the port for operators, if there is one.
     pub admins: Option<u32>,
 }
 
-impl Crew {
+impl ThreadCounts {
     /// How many descriptors a service with these threads has open at a time, at most.
     pub fn needed(&self) -> u64
         ensures { result ≡ needed self.now }
@@ -104,11 +104,11 @@ impl Crew {
 }
 
 /// How many files the process may have open, where a service with these threads needs more.
-pub fn too_low(limits: &[u8], crew: Crew) -> Option<u32>
-    ensures { result ≡ too_low limits.now crew }
+pub fn too_low(limits: &[u8], threads: ThreadCounts) -> Option<u32>
+    ensures { result ≡ too_low limits.now threads }
 {
     match open_files(limits) {
-        Some(limit) if u64::from(limit) < crew.needed() => Some(limit),
+        Some(limit) if u64::from(limit) < threads.needed() => Some(limit),
         _ => None,
     }
 }

@@ -7,7 +7,7 @@ ghost use Rattle.trace_collector_program.specs.Serve.{IsAsked, nanos_of};
 ghost use Rattle.trace_collector_program.specs.Task.{options_view};
 
 use crate::admin::{AdminDoor, admin_door};
-use crate::descriptors::Crew;
+use crate::descriptors::ThreadCounts;
 use crate::reason::Reason;
 use crate::start::{has_descriptors, listen_at, settings_of_file};
 use crate::task::{RELEASE, ServeOptions};
@@ -27,8 +27,8 @@ use tail_settings::{GlobalSettings, Settings};
 use thiserror::Error;
 use trace_collector::ReplayFault;
 use trace_service::{
-    ADMINS, AdminDesk, AdminPort, DeskDocuments, DeskInput, DeskOutput, Documents, Observer,
-    Outside, ServiceFault, ServiceOptions, Stage, run_service,
+    ADMINS, AdminDesk, AdminPort, Console, DeskDocuments, DeskInput, DeskOutput, Documents,
+    Observer, ServiceFault, ServiceOptions, ServiceStart, Stage, run_service,
 };
 
 impl From<ServiceFault> for ProgramFault {
@@ -118,37 +118,33 @@ where
     }
     let settings = settings_of_file(rt, path, reason)?;
     let global = &settings.global;
-    has_descriptors(rt, crew(global, options), reason)?;
+    has_descriptors(rt, thread_counts(global, options), reason)?;
     let listener = listen_at(rt, global.listen.as_str(), reason)?;
     let door = admin_door(rt, options, reason)?;
     let keys = HashKeys::draw(rt)?;
-    let asked = service_options(options, keys);
     let output = Watched::new(io::writer(rt));
-    let mut course = Course {
+    let course = Course {
         rt,
         listener: &listener,
         door: &door,
         is_verbose: options.verbose,
     };
+    let launch = Launch {
+        rt,
+        settings,
+        listener: &listener,
+        options: service_options(options, keys),
+    };
     let served = match &door {
-        Some(door) => serve_at_desk(
-            rt,
-            settings,
-            &listener,
-            door,
-            reason,
-            output,
-            &mut course,
-            asked,
-        ),
-        None => serve_input(rt, settings, &listener, reason, output, &mut course, asked),
+        Some(door) => serve_at_desk(launch, door, output, course, reason),
+        None => serve_input(launch, output, course, reason),
     };
     whole(served?)
 }
 
 /// The threads that hold a connection each, by settings and options.
-fn crew(global: &GlobalSettings, options: &ServeOptions<'_>) -> Crew {
-    Crew {
+fn thread_counts(global: &GlobalSettings, options: &ServeOptions<'_>) -> ThreadCounts {
+    ThreadCounts {
         receivers: options.connections.unwrap_or(global.receivers),
         senders: options.senders.unwrap_or(global.senders),
         admins: match options.admin {
@@ -158,90 +154,92 @@ fn crew(global: &GlobalSettings, options: &ServeOptions<'_>) -> Crew {
     }
 }
 
-/// Serves until standard input ends.
-fn serve_input<'x, R, W, L>(
+/// What the service is started with, whoever ends it.
+#[derive(Drop)]
+struct Launch<'x, R> {
     rt: &'x R,
     settings: Settings,
+    /// Where clients come in.
     listener: &'x TcpListener,
-    reason: &mut Reason,
-    mut output: Watched<W>,
-    course: &mut L,
     options: ServiceOptions,
+}
+
+/// Serves until standard input ends.
+fn serve_input<R, W, L>(
+    launch: Launch<'_, R>,
+    output: Watched<W>,
+    observer: L,
+    reason: &mut Reason,
 ) -> Result<u64, ServiceFault>
 where
     R: Input + AllocGlobal + Clock + Threads + Wait + Sync + Documents,
     R: Net<Listener = TcpListener, Stream = TcpStream>,
     W: Write + Drop,
-    L: Observer,
+    L: Observer + Drop,
 {
+    let rt = launch.rt;
     let alloc = rt.alloc();
-    let mut input = BufReader::with_capacity(alloc, READ_SIZE, Watched::new(rt.reader()))?;
-    let outside = Outside {
-        listener,
-        documents: rt,
-        admin: None,
+    let input = BufReader::with_capacity(alloc, READ_SIZE, Watched::new(rt.reader()))?;
+    let mut console = Console {
+        input,
+        output,
+        observer,
     };
-    let served = run_service(
+    let start = ServiceStart {
         rt,
         alloc,
-        settings,
-        &outside,
-        &mut input,
-        &mut output,
-        course,
-        options,
-    );
-    put_input(reason, input.get_ref());
-    put_output(reason, &output);
+        listener: launch.listener,
+        documents: rt,
+        admin: None,
+        options: launch.options,
+    };
+    let served = run_service(&start, launch.settings, &mut console);
+    put_input(reason, console.input.get_ref());
+    put_output(reason, &console.output);
     served
 }
 
 /// Serves until whoever looks after it ends it.
 fn serve_at_desk<R, W, L>(
-    rt: &R,
-    settings: Settings,
-    listener: &TcpListener,
+    launch: Launch<'_, R>,
     door: &AdminDoor,
-    reason: &mut Reason,
     output: Watched<W>,
-    course: &mut L,
-    options: ServiceOptions,
+    observer: L,
+    reason: &mut Reason,
 ) -> Result<u64, ServiceFault>
 where
     R: AllocGlobal + Clock + Threads + Wait + Sync,
     R: Net<Listener = TcpListener, Stream = TcpStream>,
     W: Write + Drop,
-    L: Observer,
+    L: Observer + Drop,
 {
+    let rt = launch.rt;
     let alloc = rt.alloc();
     let desk = AdminDesk::new(alloc);
     let documents = DeskDocuments { rt, desk: &desk };
     let lines = DeskInput { rt, desk: &desk };
-    let mut input = BufReader::with_capacity(alloc, READ_SIZE, lines)?;
-    let mut heard = DeskOutput {
-        rt,
-        desk: &desk,
-        output,
+    let input = BufReader::with_capacity(alloc, READ_SIZE, lines)?;
+    let mut console = Console {
+        input,
+        output: DeskOutput {
+            rt,
+            desk: &desk,
+            output,
+        },
+        observer,
     };
-    let served = serve_lines(
-        rt, settings, listener, door, &desk, &documents, &mut input, &mut heard, course, options,
-    );
-    put_output(reason, &heard.output);
+    let served = serve_lines(launch, door, &desk, &documents, &mut console);
+    put_output(reason, &console.output.output);
     served
 }
 
 /// The same, with the lines that are asked for at this desk. What it holds together has one lifetime.
 fn serve_lines<'x, R, D, I, O, L>(
-    rt: &'x R,
-    settings: Settings,
-    listener: &'x TcpListener,
+    launch: Launch<'x, R>,
     door: &'x AdminDoor,
     desk: &'x AdminDesk,
     documents: &'x D,
-    input: &mut I,
-    output: &mut O,
-    course: &mut L,
-    options: ServiceOptions,
+    console: &mut Console<I, O, L>,
 ) -> Result<u64, ServiceFault>
 where
     R: AllocGlobal + Clock + Threads + Wait + Sync,
@@ -251,22 +249,15 @@ where
     O: Write,
     L: Observer,
 {
-    let admin = Some(port_at(door, desk));
-    let outside = Outside {
-        listener,
+    let start = ServiceStart {
+        rt: launch.rt,
+        alloc: launch.rt.alloc(),
+        listener: launch.listener,
         documents,
-        admin,
+        admin: Some(port_at(door, desk)),
+        options: launch.options,
     };
-    run_service(
-        rt,
-        rt.alloc(),
-        settings,
-        &outside,
-        input,
-        output,
-        course,
-        options,
-    )
+    run_service(&start, launch.settings, console)
 }
 
 /// Where the service is looked after, at this door and this desk.

@@ -4,7 +4,7 @@ ghost use Rattle.std.specs.Prelude.{◌≡◌, IfOk, IfErr, Ok};
 ghost use Rattle.tail_settings.specs.Settings.{settings_of, settings_view};
 ghost use Rattle.trace_collector_program.specs.Fault.{IsOfSettings, IsOutside};
 
-use crate::descriptors::{Crew, too_low};
+use crate::descriptors::{ThreadCounts, too_low};
 use crate::reason::Reason;
 use crate::{ProgramFault, read_file, settings_text};
 use settings_check::address_fault;
@@ -87,7 +87,7 @@ fn unheard(address: &str, error: io::Error, reason: &mut Reason) -> ProgramFault
 /// doesn't say how many it may have, it doesn't fail.
 pub fn has_descriptors(
     rt: &(impl Files + AllocGlobal),
-    crew: Crew,
+    threads: ThreadCounts,
     reason: &mut Reason,
 ) -> Result<(), ProgramFault>
     ensures { IfErr result IsOutside }
@@ -95,21 +95,21 @@ pub fn has_descriptors(
     let Ok(limits) = fs::read(rt, LIMITS) else {
         return Ok(());
     };
-    match too_low(limits.as_slice(), crew) {
-        Some(limit) => Err(short_of(limit, crew, reason)),
+    match too_low(limits.as_slice(), threads) {
+        Some(limit) => Err(short_of(limit, threads, reason)),
         None => Ok(()),
     }
 }
 
 /// The fault of a limit of open files that is too low. It is told also to who isn't told of other faults.
-fn short_of(limit: u32, crew: Crew, reason: &mut Reason) -> ProgramFault
+fn short_of(limit: u32, threads: ThreadCounts, reason: &mut Reason) -> ProgramFault
     ensures { IsOutside result }
 {
     let shortage = Shortage {
         limit,
-        receivers: crew.receivers,
-        senders: crew.senders,
-        needed: crew.needed(),
+        receivers: threads.receivers,
+        senders: threads.senders,
+        needed: threads.needed(),
     };
     reason.put("open files", &shortage);
     reason.tell();

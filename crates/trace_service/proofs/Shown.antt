@@ -16,10 +16,11 @@ use Rattle.shared_hub.specs.Logs.{CallerState}
 use Rattle.tail_settings.specs.Settings.{SettingsData}
 use Rattle.trace_service.specs.declared.roster.Present.{Present as Entry}
 use Rattle.tenant_shard.specs.declared.step.Outcome.TheVariants as outcomes
+use Rattle.tenant_shard.specs.declared.waiting.Waiting.{Waiting}
 use Rattle.trace_service.specs.Comings.{Present}
 use Rattle.trace_service.specs.InForce.{CameOf}
 use Rattle.trace_service.specs.Roster.{entry_of}
-use Rattle.trace_service.specs.Shown.{AreFigures, AreLooked, no_look, look_more, ClerkData, IsDue, IsLooked, LooksMore, IsOfService, IsShown, let_in, not_let_in, route_in, Shows, OnlyLooks, OnlyLooksIf, is_for_figures, may_look, nothing, looked, refused, Tells, told_of, refused_reply}
+use Rattle.trace_service.specs.Shown.{AreFigures, AreLooked, no_look, look_more, ClerkData, IsLooked, IsSeen, LooksMore, IsOfService, IsShown, let_in, not_let_in, route_in, Shows, OnlyLooks, OnlyLooksIf, is_for_figures, may_look, nothing, looked, refused, Tells, told_of, refused_reply}
 use Rattle.trace_service.specs.Token.{is_let_in}
 use Rattle.trace_service.proofs.Replies.{if_ok, on_err}
 
@@ -47,31 +48,31 @@ looks_then shards old mid before (refused at tenant new more refusal) =
 pub all_looked : (shards : ℕ) (old : CallerState) {tenants : Present} {figures : List TenantData} {new : CallerState}
     → AreLooked shards old tenants figures new → OnlyLooks shards old new
 all_looked shards old no_look = nothing
-all_looked shards old (look_more tenants figures mid tenant name ledger ready new before look due) =
+all_looked shards old (look_more tenants figures mid tenant name ledger waiting new before look seen) =
     looked mid tenant ledger new (all_looked shards old before) look
 
 -- ---- one tenant more
 
 pub looks_more : (shards : ℕ) (x : Entry) (old mid new : CallerState) (before after : List TenantData) (ledger : Option LedgerData)
-    (ready : Option ℕ) → IsLooked old mid shards x.number ledger → IsDue mid shards x.number ready → new ≡ mid
-    → after ≡ told_of before (string_bytes x.name) ledger ready → LooksMore shards x old new before after
-looks_more shards x old mid new before after ledger ready look due same is =
-    subst (λ s. LooksMore shards x old s before after) (sym same) (ledger, ready, look, due, is)
+    (waiting : Waiting) → IsLooked old mid shards x.number ledger → IsSeen mid shards x.number waiting → new ≡ mid
+    → after ≡ told_of before (string_bytes x.name) ledger waiting → LooksMore shards x old new before after
+looks_more shards x old mid new before after ledger waiting look seen same is =
+    subst (λ s. LooksMore shards x old s before after) (sym same) (ledger, waiting, look, seen, is)
 
 one_more : (xs : List Entry) (i : ℕ) (x : Entry) → i < length xs → x ≡ get_or xs i x
     → map entry_of (take (i + 1) xs) ≡ map entry_of (take i xs) ++ entry_of x ∷ []
 one_more xs i x within at = map_more entry_of xs i x within ∙ ap (λ y. map entry_of (take i xs) ++ entry_of y ∷ []) (sym at)
 
 module _ (shards : ℕ) (old : CallerState) (xs : List Entry) (i : ℕ) (x : Entry) (figures more : List TenantData)
-    (mid : CallerState) (ledger : Option LedgerData) (ready : Option ℕ) (new : CallerState) where
+    (mid : CallerState) (ledger : Option LedgerData) (waiting : Waiting) (new : CallerState) where
   pub looked_more : i < length xs → x ≡ get_or xs i x → AreLooked shards old (map entry_of (take i xs)) figures mid
-      → IsLooked mid new shards x.number ledger → IsDue new shards x.number ready
-      → more ≡ told_of figures (string_bytes x.name) ledger ready
+      → IsLooked mid new shards x.number ledger → IsSeen new shards x.number waiting
+      → more ≡ told_of figures (string_bytes x.name) ledger waiting
       → AreLooked shards old (map entry_of (take (i + 1) xs)) more new
-  looked_more within at before look due more_is =
+  looked_more within at before look seen more_is =
       subst (λ ts. AreLooked shards old ts more new) (sym (one_more xs i x within at))
       (subst (λ fs. AreLooked shards old (map entry_of (take i xs) ++ entry_of x ∷ []) fs new) (sym more_is)
-      (look_more (map entry_of (take i xs)) figures mid x.number (string_bytes x.name) ledger ready new before look due))
+      (look_more (map entry_of (take i xs)) figures mid x.number (string_bytes x.name) ledger waiting new before look seen))
 
 -- ---- replies
 

@@ -95,9 +95,10 @@ pub data TellsAdded (document line : List ℕ) (told : Response) : Type 0 where
 abbrev pub last_line : List ℕ → LedgerData → List ℕ
 last_line name ledger = report_text name (counters_text ledger)
 
--- a tenant of this name went with this ledger: nothing of it waits
+-- a tenant of this name went with this ledger: it has no rows any more, and nothing of it waits
 abbrev pub went_reply : List ℕ → LedgerData → Response
-went_reply name ledger = reply_of 200 Json (tenant_text (record { name = name; ledger = ledger; ready = None }))
+went_reply name ledger =
+    reply_of 200 Json (tenant_text (record { name = name; ledger = ledger; rows = 0; ready = None }))
 
 -- what whoever asked that the tenant of this name goes is told, where this line answered
 pub data TellsRetired (name line : List ℕ) (told : Response) : Type 0 where

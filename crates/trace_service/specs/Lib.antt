@@ -8,7 +8,7 @@ pub mod Documents
 pub mod Comings
 pub mod Output
 pub mod Commands
-pub mod Told
+pub mod CommandReply
 pub mod Roster
 pub mod Audit
 pub mod Fault

@@ -54,32 +54,37 @@ pub record IsLooked (old new : CallerState) (shards tenant : ℕ) (ledger : Opti
   pub made : IsStepOn old new (tenant % shards) (steps.Report tenant now) outcome receipt
   pub tells : Tells outcome ledger
 
--- the tenant's shard said, at a moment after all of this caller's steps, that something of the tenant's is due next at
--- this one, in milliseconds since the start, or that nothing of it waits
-abbrev pub IsDue : CallerState → ℕ → ℕ → Option ℕ → Type 0
-IsDue caller shards tenant moment =
-    (told : Told Waiting) × IsLookOn caller (tenant % shards) tenant told × (told.answer.tenant_ready ≡ moment)
+-- the tenant's shard said, at a moment after all of this caller's steps, that the tenant waits so: how many rows of it
+-- are present, and when something of it is due next, in milliseconds since the start, or that nothing of it waits
+abbrev pub IsSeen : CallerState → ℕ → ℕ → Waiting → Type 0
+IsSeen caller shards tenant waiting =
+    (told : Told Waiting) × IsLookOn caller (tenant % shards) tenant told × (told.answer ≡ waiting)
+
+-- the figures of a tenant with these counters that waits so
+abbrev pub figures_with : List ℕ → LedgerData → Waiting → TenantData
+figures_with name ledger waiting =
+    record { name = name; ledger = ledger; rows = waiting.rows; ready = waiting.tenant_ready }
 
 -- the tenants of whom something was told, behind others
-abbrev pub told_of : List TenantData → List ℕ → Option LedgerData → Option ℕ → List TenantData
-told_of figures name (Some ledger) ready = figures ++ record { name = name; ledger = ledger; ready = ready } ∷ []
-told_of figures name None ready = figures
+abbrev pub told_of : List TenantData → List ℕ → Option LedgerData → Waiting → List TenantData
+told_of figures name (Some ledger) waiting = figures ++ figures_with name ledger waiting ∷ []
+told_of figures name None waiting = figures
 
 -- a tenant was asked for so, its counters first, and what was told of it, if anything, is behind the figures of others
 abbrev pub LooksMore : ℕ → Entry → CallerState → CallerState → List TenantData → List TenantData → Type 0
 LooksMore shards tenant old new before after =
-    (ledger : Option LedgerData) × (ready : Option ℕ) × IsLooked old new shards tenant.number ledger
-    × IsDue new shards tenant.number ready
-    × (after ≡ told_of before (string_bytes tenant.name) ledger ready)
+    (ledger : Option LedgerData) × (waiting : Waiting) × IsLooked old new shards tenant.number ledger
+    × IsSeen new shards tenant.number waiting
+    × (after ≡ told_of before (string_bytes tenant.name) ledger waiting)
 
 -- these tenants were asked for so, one after the other, and this was told of those that hadn't gone
 pub data AreLooked (shards : ℕ) (old : CallerState) : Present → List TenantData → CallerState → Type 0 where
   no_look : AreLooked shards old [] [] old
   look_more : (tenants : Present) (figures : List TenantData) (mid : CallerState) (tenant : ℕ) (name : List ℕ)
-      (ledger : Option LedgerData) (ready : Option ℕ) (new : CallerState)
+      (ledger : Option LedgerData) (waiting : Waiting) (new : CallerState)
       → AreLooked shards old tenants figures mid → IsLooked mid new shards tenant ledger
-      → IsDue new shards tenant ready
-      → AreLooked shards old (tenants ++ (tenant, name) ∷ []) (told_of figures name ledger ready) new
+      → IsSeen new shards tenant waiting
+      → AreLooked shards old (tenants ++ (tenant, name) ∷ []) (told_of figures name ledger waiting) new
 
 -- nothing was done but that counters were asked for, in as many steps as one likes, of which some were refused memory
 pub data OnlyLooks (shards : ℕ) (old : CallerState) : CallerState → Type 0 where
@@ -161,10 +166,10 @@ HasSection first number section = (now : SettingsData) × CameOf first now × (s
 -- settings say or its shard
 pub data ShowsTenant (first : SettingsData) (shards : ℕ) (name : List ℕ) (old new : CallerState) (told : Response)
     : Type 0 where
-  shown : (number : ℕ) (section : SectionData) (ledger : LedgerData) (ready : Option ℕ) → IsKnown first name number
+  shown : (number : ℕ) (section : SectionData) (ledger : LedgerData) (waiting : Waiting) → IsKnown first name number
       → HasSection first number (Some section) → IsLooked old new shards number (Some ledger)
-      → IsDue new shards number ready
-      → told ≡ reply_of 200 media.Json (settled_text (record { name = name; ledger = ledger; ready = ready }) section)
+      → IsSeen new shards number waiting
+      → told ≡ reply_of 200 media.Json (settled_text (figures_with name ledger waiting) section)
       → ShowsTenant first shards name old new told
   nobody : IsNobody first name → new ≡ old → told ≡ unknown_reply → ShowsTenant first shards name old new told
   left : (number : ℕ) → IsKnown first name number → HasSection first number None → new ≡ old → told ≡ unknown_reply

@@ -28,18 +28,13 @@ pub(crate) struct Signals {
 }
 
 impl Signals {
-    /// Nobody is there yet. Nothing is due by the time alone where nothing happened for so many milliseconds.
-    pub fn new(
-        alloc: Global,
-        shards: usize,
-        senders: u32,
-        longest_wait: u64,
-    ) -> Result<Signals, AllocError> {
+    /// Nobody is there yet.
+    pub fn new(alloc: Global, shards: usize, senders: u32) -> Result<Signals, AllocError> {
         Ok(Signals {
             here: AtomicUsize::new(0),
             closing: AtomicBool::new(false),
             over: AtomicBool::new(false),
-            bells: Bells::new(alloc, shards, senders, longest_wait)?,
+            bells: Bells::new(alloc, shards, senders)?,
             paces: Paces::new(alloc, shards)?,
             reserve: Reserve::new(alloc),
             gates: Gates::new(alloc)?,
@@ -190,7 +185,7 @@ impl<'b, C: Clock> ServiceBeat<'b, C> {
 
     /// A beat like this, for who makes chores.
     pub fn of_chores(&self) -> ServiceBeat<'b, C> {
-        self.with(Rest::of_attempts(), self.behind_turners())
+        self.with(Rest::of_chores(), self.behind_turners())
     }
 
     /// A beat like this, for a sender.
@@ -215,11 +210,11 @@ impl<'b, C: Clock> ServiceBeat<'b, C> {
         }
     }
 
-    /// Milliseconds from the start on. Where the clock fails those of the last moment.
+    /// Milliseconds from the start on. Where the clock fails those for which it was last asked.
     fn elapsed(&self) -> u64 {
         match self.start.elapsed(self.clock) {
             Ok(elapsed) => u64::try_from(elapsed.as_millis()).unwrap_or(u64::MAX),
-            Err(_) => self.last,
+            Err(_) => self.begun,
         }
     }
 }
@@ -240,17 +235,17 @@ impl<C: Wait + Clock> Beat for ServiceBeat<'_, C> {
     fn now(&mut self) -> u64 {
         self.rest.time();
         self.begun = self.elapsed();
-        let now = self.last.max(self.begun);
-        self.last = self.last.max(self.pace.moment(self.last, now));
+        self.last = self.last.max(self.pace.moment(self.last, self.begun));
         self.last
     }
 
     fn pause(&mut self) {
-        let took = self.elapsed().saturating_sub(self.begun);
+        let now = self.elapsed();
+        let took = now.saturating_sub(self.begun);
         match self.pace.pause(self.clock, self.signals.reserve()) {
             Pause::None => {}
-            Pause::Short => Rest::of_attempts().pause(self.clock, took),
-            Pause::Usual => self.rest.pause(self.clock, took),
+            Pause::Short => Rest::of_attempts().pause(self.clock, took, 0),
+            Pause::Usual => self.rest.pause(self.clock, took, self.pace.left(now)),
         }
         self.begun = self.elapsed();
     }

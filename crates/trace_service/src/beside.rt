@@ -5,6 +5,7 @@ ghost use Rattle.trace_service.specs.Output.{Output};
 
 use crate::course::Observer;
 use crate::service::ServiceFault;
+use crate::start::Console;
 use std::io::{BufRead, Write};
 use std::thread::{Threads, join_mut};
 
@@ -32,9 +33,7 @@ pub(crate) fn work_beside<R, F, D, I, O, L>(
     rt: &R,
     team: &mut F,
     director: &mut D,
-    input: &mut I,
-    output: &mut O,
-    observer: &mut L,
+    console: &mut Console<I, O, L>,
     threads: usize,
 ) -> Result<u64, ServiceFault>
 where
@@ -46,9 +45,15 @@ where
     L: Observer,
     requires { F.pre team.old }
     ensures team { F.step team.old tt team.new }
-    ensures directed { IfOk result (λ lost. D.directs director.old (I.remaining input.old)
-        (O.contents output.old) director.new (O.contents output.new, lost)) }
+    ensures directed { IfOk result (λ lost. D.directs director.old
+        (I.remaining console.old.input) (O.contents console.old.output) director.new
+        (O.contents console.new.output, lost)) }
 {
+    let Console {
+        input,
+        output,
+        observer,
+    } = console;
     let ((), ended) = join_mut(
         rt,
         team,

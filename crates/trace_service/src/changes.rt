@@ -148,6 +148,7 @@ fn went(alloc: Global, name: &str, counters: [u64; 14]) -> Result<Reply, AllocEr
     let figures = TenantFigures {
         name: String::from_str(alloc, name)?,
         counters,
+        rows: 0,
         ready: None,
     };
     let mut text = Vec::new(alloc);

@@ -11,7 +11,7 @@ ghost use Rattle.machine_hub.specs.Hub.{IsRefusedOn};
 ghost use Rattle.trace_service.specs.Changed.{TellsAdding};
 ghost use Rattle.trace_service.specs.Receiving.{IsTalk};
 ghost use Rattle.trace_service.specs.Roster.{entry_of};
-ghost use Rattle.trace_service.specs.Shown.{AreFigures, AreLooked, IsDue, IsKnown, IsLooked, IsNobody, IsOfService, IsShown, OnlyLooks, LooksMore, OnlyLooksIf, ShowsMetrics, ShowsReply, ShowsTenant, ShowsTenants, Tells, TellsGoing, TellsReadiness, clerk_of, drained_reply, is_for_figures, may_look, page_reply, refused_reply, told_of};
+ghost use Rattle.trace_service.specs.Shown.{AreFigures, AreLooked, IsKnown, IsLooked, IsNobody, IsOfService, IsSeen, IsShown, OnlyLooks, LooksMore, OnlyLooksIf, ShowsMetrics, ShowsReply, ShowsTenant, ShowsTenants, Tells, TellsGoing, TellsReadiness, clerk_of, drained_reply, is_for_figures, may_look, page_reply, refused_reply, told_of};
 ghost use Rattle.trace_service.specs.Token.{bearer, is_for_all, is_let_in, is_wanted, token_of};
 ghost use Rattle.trace_service.specs.declared.desk.Asked.{Asked as AskedCode};
 
@@ -44,7 +44,7 @@ use std::str;
 use std::sync::Wait;
 use std::thread::Threads;
 use std::time::{Clock, Duration};
-use tenant_shard::Outcome;
+use tenant_shard::{Outcome, Waiting};
 
 /// For so many seconds is waited until a line of the input is answered.
 const LONGEST_ANSWER: u64 = 5;
@@ -228,8 +228,8 @@ impl<'c, 'h, J: Naming, R: Wait + Clock> Clerk<'c, 'h, J, R> {
             ≡ clerk_of self.old.port self.old.staff self.old.lane_capacity }
     {
         let counters = self.counters(tenant.number)?;
-        let ready = self.ready(tenant.number);
-        push_figures(figures, tenant, counters, ready)
+        let waiting = self.waiting(tenant.number);
+        push_figures(figures, tenant, counters, waiting)
     }
 
     /// The counters of the tenant of this number. None where it has gone.
@@ -250,17 +250,17 @@ impl<'c, 'h, J: Naming, R: Wait + Clock> Clerk<'c, 'h, J, R> {
         }
     }
 
-    /// When something of the tenant of this number is due next, in milliseconds since the start, after all that this
-    /// thread had asked of its shard. None where nothing of it waits.
-    fn ready(&mut self, tenant: u32) -> Option<u64>
-        ensures due { IsDue self.old.context.now.caller (length self.old.context.now.hub.now) tenant
-            result }
+    /// How many rows the tenant of this number has, and when something of it is due next, in milliseconds since the
+    /// start, after all that this thread had asked of its shard.
+    fn waiting(&mut self, tenant: u32) -> Waiting
+        ensures seen { IsSeen self.old.context.now.caller (length self.old.context.now.hub.now)
+            tenant result }
         ensures caller { self.new.context.now.caller ≡ self.old.context.now.caller }
         ensures hub { self.new.context.now.hub ≡ self.old.context.now.hub }
         ensures same { clerk_of self.new.port self.new.staff self.new.lane_capacity
             ≡ clerk_of self.old.port self.old.staff self.old.lane_capacity }
     {
-        self.context.waiting(tenant).tenant_ready
+        self.context.waiting(tenant)
     }
 
     /// All figures, for a scraper.
@@ -358,11 +358,12 @@ impl<'c, 'h, J: Naming, R: Wait + Clock> Clerk<'c, 'h, J, R> {
         let Some(counters) = self.counters(number)? else {
             return unknown(alloc);
         };
-        let ready = self.ready(number);
+        let waiting = self.waiting(number);
         let figures = TenantFigures {
             name: String::from_str(alloc, name)?,
             counters,
-            ready,
+            rows: waiting.rows,
+            ready: waiting.tenant_ready,
         };
         let mut text = Vec::new(alloc);
         put_settled_tenant(alloc, &mut text, &figures, &section)?;
@@ -464,11 +465,11 @@ fn push_figures(
     figures: &mut Vec<TenantFigures>,
     tenant: &Present,
     counters: Option<[u64; 14]>,
-    ready: Option<u64>,
+    waiting: Waiting,
 ) -> Result<(), AllocError>
     ensures { OnOk result (map tenant_of figures.new.items ≡ told_of
         (map tenant_of figures.old.items) (string_bytes tenant.now.name)
-        (option_map ledger_of counters) ready) }
+        (option_map ledger_of counters) waiting) }
 {
     let Some(counters) = counters else {
         return Ok(());
@@ -477,7 +478,8 @@ fn push_figures(
     figures.push(TenantFigures {
         name,
         counters,
-        ready,
+        rows: waiting.rows,
+        ready: waiting.tenant_ready,
     })?;
     Ok(())
 }

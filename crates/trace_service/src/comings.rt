@@ -18,7 +18,7 @@ use crate::control::Control;
 use crate::documents::Documents;
 use crate::in_force::Newcomer;
 use crate::naming::Naming;
-use crate::reports::{Told, write_text};
+use crate::reports::{CommandReply, write_text};
 use crate::roster::Roster;
 use export_edge::Beat;
 use shared_hub::HubFault;
@@ -101,7 +101,7 @@ where
         match self.let_in(roster, path) {
             Ok(line) => write_text(output, line.as_slice(), lost),
             Err(NotAdded::Refused(number)) => {
-                let line = self.line_again(Told::NotAdded(number));
+                let line = self.line_again(CommandReply::NotAdded(number));
                 write_text(output, line.as_slice(), lost);
             }
             Err(NotAdded::OutOfMemory) => {
@@ -182,7 +182,7 @@ where
                 Err(NotAdded::Refused(reason))
             }
             Ok(_) => {
-                let line = self.line_again(Told::Added {
+                let line = self.line_again(CommandReply::Added {
                     name: name.as_str(),
                     number,
                 });
@@ -218,7 +218,7 @@ where
         self.make(number, Chore::Drain);
         self.await_tenant(number);
         let outcome = self.make(number, Chore::Retire);
-        let line = self.line_again(Told::Outcome {
+        let line = self.line_again(CommandReply::Outcome {
             name: tenant.name.as_str(),
             outcome: &outcome,
         });
@@ -238,7 +238,7 @@ where
             if self.context.is_empty(tenant) {
                 return;
             }
-            self.beat.pause();
+            self.beat.again().pause();
         }
         unreachable!()
     }

@@ -133,7 +133,7 @@ impl<'h, J: Naming, R: Wait + Clock> WorkerContext<'h, J, R> {
     fn shard_of(&self, tenant: u32) -> usize
         ensures { result ≡ tenant % length self.now.hub.now }
     {
-        tenant as usize % self.hub.shards()
+        self.hub.shard_of(tenant)
     }
 
     /// Makes one step at this tenant's shard.
@@ -147,9 +147,6 @@ impl<'h, J: Naming, R: Wait + Clock> WorkerContext<'h, J, R> {
         ensures hub { self.new.hub ≡ self.old.hub }
     {
         let shard = self.shard_of(tenant);
-        if let Step::Add { section, .. } = &step {
-            self.signals().bells().expect(section);
-        }
         let (outcome, _receipt) = self
             .hub
             .step(self.rt, self.alloc, &mut self.caller, shard, step)?;
@@ -224,6 +221,22 @@ impl<'h, J: Naming, R: Wait + Clock> WorkerContext<'h, J, R> {
         self.teller.sate();
     }
 
+    /// While memory is short the moments of this tenant's shard don't wait for the clock's, until `calm`, so that the
+    /// tenant's spans leave one batch after another.
+    pub fn hurry(&self, tenant: u32) {
+        let most = self.settings.lock(self.rt).longest_wait(tenant);
+        if let Some(pace) = self.signals().paces().shard(self.shard_of(tenant)) {
+            pace.hurry(most);
+        }
+    }
+
+    /// The moments of this tenant's shard go on as the clock's do.
+    pub fn calm(&self, tenant: u32) {
+        if let Some(pace) = self.signals().paces().shard(self.shard_of(tenant)) {
+            pace.calm();
+        }
+    }
+
     /// Whether the tenant holds no span.
     pub fn is_empty(&mut self, tenant: u32) -> bool
         ensures empty { IsEmptyOn self.old.caller (tenant % length self.old.hub.now) tenant result }
@@ -262,6 +275,9 @@ impl<'h, J: Naming, R: Wait + Clock> JobSource for WorkerContext<'h, J, R> {
             Ok((outcome, _receipt)) => {
                 let turned = turn_result(outcome);
                 self.teller.end_turn(self.shard, &turned);
+                if let TurnResult::Idle = turned {
+                    self.note_due();
+                }
                 turned
             }
             Err(_) => {
@@ -269,6 +285,26 @@ impl<'h, J: Naming, R: Wait + Clock> JobSource for WorkerContext<'h, J, R> {
                 TurnResult::Idle
             }
         }
+    }
+}
+
+impl<'h, J: Naming, R: Wait + Clock> WorkerContext<'h, J, R> {
+    ghost use Rattle.std.specs.Prelude.{◌≡◌};
+
+    /// Asks until when its shard has nothing to do by the time alone, behind a turn that found nothing.
+    fn note_due(&mut self)
+        ensures shard { self.new.shard ≡ self.old.shard }
+        ensures caller { self.new.caller ≡ self.old.caller }
+        ensures hub { self.new.hub ≡ self.old.hub }
+    {
+        let due = match u32::try_from(self.shard) {
+            Ok(tenant) => {
+                let told = self.hub.look(self.rt, &mut self.caller, tenant);
+                told.answer.shard_ready
+            }
+            Err(_) => Some(0),
+        };
+        self.teller.note_due(self.shard, due);
     }
 }
 

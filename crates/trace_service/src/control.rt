@@ -5,7 +5,7 @@ ghost use Rattle.std.specs.Bool.{OnTrue};
 ghost use Rattle.trace_service.specs.Control.{Answers, Directs, ReadsCommands, Reports, ReportsNamed};
 ghost use Rattle.trace_service.specs.Commands.{AreDrained, AreEmptyOn, AreReported, IsMade, AsksNothing, step_of};
 ghost use Rattle.trace_service.specs.Roster.{entry_of, present_in};
-ghost use Rattle.trace_service.specs.Told.{told_text};
+ghost use Rattle.trace_service.specs.CommandReply.{reply_text};
 
 use crate::beat::ServiceBeat;
 use crate::beside::Director;
@@ -17,7 +17,7 @@ use crate::entrance::{wake, wake_at_last};
 use crate::in_force::InForce;
 use crate::input::{Line, next_line};
 use crate::naming::Naming;
-use crate::reports::{Told, line_of, write_text};
+use crate::reports::{CommandReply, line_of, write_text};
 use crate::roster::{Present, Roster};
 use crate::service::ServiceFault;
 use crate::workers::all_arrive;
@@ -163,7 +163,7 @@ where
         ensures hub { self.new.context.hub ≡ self.old.context.hub }
     {
         let outcome = self.make(tenant.number, Chore::Report);
-        let line = self.line_again(Told::Outcome {
+        let line = self.line_again(CommandReply::Outcome {
             name: tenant.name.as_str(),
             outcome: &outcome,
         });
@@ -181,7 +181,9 @@ where
         }
     }
 
-    /// These tenants take no spans any more, and all send what they hold.
+    /// These tenants take no spans any more, and all send what they hold. A drain writes all batches in its one step:
+    /// where memory for these is refused it is its shard's turner that makes them fewer, one after another. Who drains
+    /// stays behind turners meanwhile: at a moment ahead of theirs it would write batches that they don't yet hand out.
     fn drain_all(&mut self, tenants: &[Present])
         ensures drained { AreDrained (length self.old.context.hub.now) self.old.context.caller
             self.old.beat.last (map (λ tenant. tenant.number) tenants.now) self.new.context.caller
@@ -189,7 +191,9 @@ where
         ensures hub { self.new.context.hub ≡ self.old.context.hub }
     {
         for tenant in tenants {
+            self.context.hurry(tenant.number);
             self.make(tenant.number, Chore::Drain);
+            self.context.calm(tenant.number);
         }
     }
 
@@ -215,21 +219,21 @@ where
     }
 
     /// The line that says this: again, after a pause, where memory is refused.
-    pub fn line_again(&mut self, told: Told<'_>) -> Vec<u8>
-        ensures line { result.items ≡ told_text told.entry }
+    pub fn line_again(&mut self, reply: CommandReply<'_>) -> Vec<u8>
+        ensures line { result.items ≡ reply_text reply.entry }
         ensures caller { self.new.context.caller ≡ self.old.context.caller }
         ensures hub { self.new.context.hub ≡ self.old.context.hub }
         ensures last { self.new.beat.last ≡ self.old.beat.last }
     {
         'attempts: for _ in self.rt.forever() {
-            match line_of(self.alloc, told) {
+            match line_of(self.alloc, reply) {
                 Ok(line) => {
                     self.context.sate();
                     return line;
                 }
                 Err(AllocError) => {
                     self.context.want();
-                    self.beat.pause();
+                    self.beat.again().pause();
                 }
             }
         }
@@ -254,7 +258,7 @@ where
                 let name = tenant.name.as_str();
                 observer.observe(Stage::Sending { name });
             }
-            self.beat.pause();
+            self.beat.again().pause();
         }
         unreachable!()
     }

@@ -80,6 +80,9 @@ impl<'h> Entrance<'h> {
     /// The client of a stream, with the limit for its reads and writes. None where it doesn't take that.
     fn limited<'s>(&self, stream: TcpStream, signals: &'s Signals) -> Option<Client<'s>> {
         let patience = self.patience;
+        // Of requests that came together each reply is a write, and it isn't to wait until the one before it has been
+        // acknowledged.
+        let _delays_at_worst = stream.set_nodelay(true);
         if patience.rest.is_some() {
             stream.set_read_timeout(patience.rest).ok()?;
             stream.set_write_timeout(patience.rest).ok()?;

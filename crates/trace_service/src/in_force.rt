@@ -11,7 +11,6 @@ ghost use Rattle.trace_service.specs.InForce.{CameOf, IsNewcomer, IsTenant, IsTu
 ghost use Rattle.trace_service.specs.Roster.{entry_of};
 
 use crate::naming::Naming;
-use crate::rest::longest_wait;
 use crate::roster::{Present, tenants_of};
 use crate::tally::Tally;
 use arrayvec::ArrayString;
@@ -60,13 +59,15 @@ impl<J: Naming> InForce<J> {
         }
     }
 
-    /// The longest of all tenants' waits, in milliseconds.
-    pub fn longest_wait(&self) -> u64 {
-        let mut longest = 0;
-        'tenants: for (_name, tenant) in self.settings.tenants.iter() {
-            longest = longest.max(longest_wait(&tenant.section));
+    /// For how long, in milliseconds, spans of the tenant with this number may wait until a batch has them.
+    pub fn longest_wait(&self, tenant: u32) -> u64 {
+        match self.settings.section(tenant) {
+            Some(section) => section
+                .tail_sampling
+                .decision_wait
+                .saturating_add(section.batch.timeout),
+            None => 0,
         }
-        longest
     }
 
     /// The tenants, in the order of their numbers.

@@ -47,6 +47,7 @@ mod rest;
 mod roster;
 mod service;
 mod shared;
+mod start;
 mod tally;
 mod teller;
 mod visit;
@@ -57,9 +58,10 @@ pub use crate::desk::{AdminDesk, DeskInput, DeskOutput};
 pub use crate::documents::{DeskDocuments, Documents};
 pub use crate::gates::Gates;
 pub use crate::office::{ADMINS, AdminPort};
-pub use crate::options::{Outside, ServiceOptions};
+pub use crate::options::ServiceOptions;
 pub use crate::post::post_body;
 pub use crate::service::{ServiceFault, run_service};
+pub use crate::start::{Console, ServiceStart};
 
 /// Each job that was popped from a service's lane, and so each that was sent, is one that a call of its callers gave: a
 /// law over what a service comes to.

@@ -1,8 +1,6 @@
 //! How a service is run, beside its settings.
 
-use crate::office::AdminPort;
 use decision_cache::HashKeys;
-use std::net::TcpListener;
 use std::time::Duration;
 
 /// How a service is run, beside its settings.
@@ -26,15 +24,4 @@ pub struct ServiceOptions {
     /// So long a connection to a back end may take to come about, and so long it may rest then, before the job's
     /// attempt has failed; without it for ever. Not 0.
     pub back_end_timeout: Option<Duration>,
-}
-
-/// What a service meets outside, beside its input and its output.
-#[derive(Drop)]
-pub struct Outside<'a, D> {
-    /// Where clients come in.
-    pub listener: &'a TcpListener,
-    /// Where the documents of those who come are read from.
-    pub documents: &'a D,
-    /// Where it is looked after, if anywhere.
-    pub admin: Option<AdminPort<'a>>,
 }

@@ -23,6 +23,11 @@ pub(crate) struct ShardPace {
     jobs: AtomicUsize,
     // The moment before that of the last turn, in which all is done that is due.
     reached: AtomicU64,
+    // When something is due next by the time alone, as it was behind the last turn; 0 where that found something.
+    due: AtomicU64,
+    // By how many milliseconds they are ahead of the clock's, and may be while somebody is in a hurry, else 0.
+    ahead: AtomicU64,
+    most_ahead: AtomicU64,
 }
 
 impl ShardPace {
@@ -32,6 +37,9 @@ impl ShardPace {
             is_refused: AtomicBool::new(false),
             jobs: AtomicUsize::new(0),
             reached: AtomicU64::new(0),
+            due: AtomicU64::new(0),
+            ahead: AtomicU64::new(0),
+            most_ahead: AtomicU64::new(0),
         }
     }
 
@@ -39,15 +47,53 @@ impl ShardPace {
         self.is_slow.load(Ordering::SeqCst)
     }
 
-    /// Whether memory was short and they are far behind this one, which is the clock's.
+    /// Whether memory was short and they are far behind this one, which is the clock's. Where the last turn found
+    /// nothing they count as having come to where something is due next.
     pub fn is_behind(&self, now: u64) -> bool {
         let reached = self.reached.load(Ordering::SeqCst);
-        self.is_slow() && now.saturating_sub(reached) > MOST_BEHIND
+        let idle_until = self.due.load(Ordering::SeqCst).saturating_sub(1);
+        self.is_slow() && now.saturating_sub(reached.max(idle_until)) > MOST_BEHIND
     }
 
-    /// A turn was made, or was refused memory.
+    /// While memory is short they go on to what is due next without waiting for the clock's, until `calm`. They get
+    /// ahead of these by so many milliseconds at most.
+    pub fn hurry(&self, most: u64) {
+        self.most_ahead.store(most, Ordering::SeqCst);
+    }
+
+    /// They go on as the clock's do, and stay as far ahead of these as they are: batches that wait formed at such
+    /// moments, before which no turn hands them out.
+    pub fn calm(&self) {
+        self.most_ahead.store(0, Ordering::SeqCst);
+    }
+
+    /// The moment that they would have come to, where the clock's is this.
+    fn now(&self, clock: u64) -> u64 {
+        clock.saturating_add(self.ahead.load(Ordering::SeqCst))
+    }
+
+    /// When something is due next, once they were put ahead of the clock's to that, which is this. None where nobody is
+    /// in a hurry, or it is too far ahead.
+    fn put_ahead(&self, clock: u64) -> Option<u64> {
+        let due = self.due.load(Ordering::SeqCst);
+        let ahead = due.saturating_sub(clock);
+        let most = self.most_ahead.load(Ordering::SeqCst);
+        if ahead <= self.ahead.load(Ordering::SeqCst) || ahead > most {
+            return None;
+        }
+        self.ahead.store(ahead, Ordering::SeqCst);
+        Some(due)
+    }
+
+    /// A turn was made, or was refused memory. What is due next isn't known.
     pub fn note_turn(&self, is_refused: bool) {
         self.is_refused.store(is_refused, Ordering::SeqCst);
+        self.due.store(0, Ordering::SeqCst);
+    }
+
+    /// A turn found nothing, and this is when something is due next by the time alone, if anything is.
+    pub fn note_due(&self, due: Option<u64>) {
+        self.due.store(due.unwrap_or(u64::MAX), Ordering::SeqCst);
     }
 
     /// A turn gave a job.
@@ -114,12 +160,14 @@ enum Place<'b> {
 #[derive(Clone, Copy)]
 pub(crate) struct Pace<'b> {
     place: Place<'b>,
-    // Of a turner: whether it was told a moment since its last pause, what the clock's was then, whether it was behind
-    // that, whether the next one is later, and for how many pauses it has waited for answers.
+    // Of a turner: whether it was told a moment since its last pause, what the clock's was then, how many jobs had no
+    // answer then, whether it was behind where it would have come to, what the next one is at least, and for how many
+    // pauses it has waited for answers.
     is_told: bool,
     clock: u64,
+    jobs: usize,
     is_behind: bool,
-    goes_on: bool,
+    next: u64,
     waits: u32,
 }
 
@@ -159,34 +207,53 @@ impl<'b> Pace<'b> {
             place,
             is_told: false,
             clock: 0,
+            jobs: 0,
             is_behind: false,
-            goes_on: false,
+            next: 0,
             waits: 0,
         }
     }
 
-    /// The next moment after this last one, where the clock's is this.
-    pub fn moment(&mut self, last: u64, now: u64) -> u64 {
+    /// The next moment, where the last one was this and the clock's is that. Where it is below the last one it is that.
+    pub fn moment(&mut self, last: u64, clock: u64) -> u64 {
         match self.place {
-            Place::Clock => now,
-            Place::Follower(paces) => now.min(paces.reached()),
+            Place::Clock => clock,
+            Place::Follower(paces) => clock.min(paces.reached()),
+            Place::Turner(shard) => self.turner_moment(shard, last, clock),
+        }
+    }
+
+    fn turner_moment(&mut self, shard: &ShardPace, last: u64, clock: u64) -> u64 {
+        let now = last.max(shard.now(clock));
+        let moment = if shard.is_slow() {
+            now.min(last.max(self.next))
+        } else {
+            now
+        };
+        shard
+            .reached
+            .store(moment.saturating_sub(1), Ordering::SeqCst);
+        self.is_told = true;
+        self.clock = clock;
+        self.jobs = shard.jobs.load(Ordering::SeqCst);
+        self.is_behind = moment < now;
+        self.next = moment;
+        moment
+    }
+
+    /// For how many milliseconds from this moment of the clock's on a turner finds nothing but what it is rung for.
+    pub fn left(&self, clock: u64) -> u64 {
+        match self.place {
             Place::Turner(shard) => {
-                let next = last.saturating_add(u64::from(self.goes_on));
-                let moment = if shard.is_slow() { now.min(next) } else { now };
-                shard
-                    .reached
-                    .store(moment.saturating_sub(1), Ordering::SeqCst);
-                self.is_told = true;
-                self.clock = now;
-                self.is_behind = moment < now;
-                self.goes_on = false;
-                moment
+                let due = shard.due.load(Ordering::SeqCst);
+                due.saturating_sub(shard.now(clock))
             }
+            _ => 0,
         }
     }
 
     /// How it pauses now. A turner that had nothing to do goes on to the next millisecond, once its jobs are answered
-    /// where there is no reserve.
+    /// where there is no reserve; and where somebody is in a hurry to what is due next.
     pub fn pause<R: Wait>(&mut self, rt: &R, reserve: &Reserve) -> Pause {
         match self.place {
             Place::Turner(shard) if self.is_told => {
@@ -206,19 +273,28 @@ impl<'b> Pace<'b> {
         if shard.is_refused.load(Ordering::SeqCst) {
             return Pause::Short;
         }
-        let jobs = shard.jobs.load(Ordering::SeqCst);
-        if !is_enough && jobs != 0 && self.waits < PATIENCE {
+        if !is_enough && self.jobs != 0 && self.waits < PATIENCE {
             self.waits += 1;
             return Pause::Short;
         }
         self.waits = 0;
-        self.goes_on = true;
+        self.next = self.next.saturating_add(1);
         if self.is_behind {
             return Pause::None;
         }
         if is_enough {
             shard.is_slow.store(false, Ordering::SeqCst);
+            return Pause::Usual;
         }
-        Pause::Usual
+        if self.jobs != 0 {
+            return Pause::Short;
+        }
+        match shard.put_ahead(self.clock) {
+            Some(due) => {
+                self.next = due;
+                Pause::None
+            }
+            None => Pause::Short,
+        }
     }
 }

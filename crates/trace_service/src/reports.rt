@@ -5,7 +5,7 @@ ghost use Rattle.std.specs.Io.KnownBytes.{Appends, Keeps};
 ghost use Rattle.trace_service.specs.Audit.{audit_line, audit_text, IsFollowed};
 ghost use Rattle.trace_service.specs.Commands.{outcome_line};
 ghost use Rattle.trace_service.specs.Output.{IsPut};
-ghost use Rattle.trace_service.specs.Told.{told_text};
+ghost use Rattle.trace_service.specs.CommandReply.{reply_text};
 
 use replay_script::{put_added, put_refused, put_report};
 use shared_hub::ShardLog;
@@ -18,7 +18,7 @@ const MOST_WRITES: u64 = 1 << 62;
 
 /// What a line of the input is answered.
 #[derive(Clone, Copy)]
-pub(crate) enum Told<'t> {
+pub(crate) enum CommandReply<'t> {
     /// What came of a tenant's report or retirement.
     Outcome { name: &'t str, outcome: &'t Outcome },
     /// A tenant came.
@@ -29,14 +29,14 @@ pub(crate) enum Told<'t> {
 
 /// The line that says it. Of a report or a retirement it has the counters, or why it was refused; any other outcome has
 /// no line.
-pub(crate) fn line_of(alloc: Global, told: Told<'_>) -> Result<Vec<u8>, AllocError>
-    ensures { IfOk result (λ line. line.items ≡ told_text told.entry) }
+pub(crate) fn line_of(alloc: Global, reply: CommandReply<'_>) -> Result<Vec<u8>, AllocError>
+    ensures { IfOk result (λ line. line.items ≡ reply_text reply.entry) }
 {
     let mut line = Vec::new(alloc);
-    match told {
-        Told::Outcome { name, outcome } => put_outcome(alloc, &mut line, name, outcome)?,
-        Told::Added { name, number } => put_added(alloc, &mut line, name, number)?,
-        Told::NotAdded(number) => put_refused(alloc, &mut line, "add", number)?,
+    match reply {
+        CommandReply::Outcome { name, outcome } => put_outcome(alloc, &mut line, name, outcome)?,
+        CommandReply::Added { name, number } => put_added(alloc, &mut line, name, number)?,
+        CommandReply::NotAdded(number) => put_refused(alloc, &mut line, "add", number)?,
     }
     Ok(line)
 }

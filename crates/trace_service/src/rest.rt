@@ -1,11 +1,9 @@
 //! How threads that have nothing to do rest, and what wakes them.
 
 use std::alloc::{AllocError, Global};
-use std::sync::atomic::{AtomicU64, Ordering};
 use std::sync::{Condvar, Wait};
 use std::thread;
 use std::time::{Clock, Duration};
-use tail_settings::Section;
 
 /// A short pause, in milliseconds.
 const NAP: u64 = 1;
@@ -17,21 +15,6 @@ const LOOK: u64 = 16;
 /// Who waits for the start looks so often, in milliseconds, whether more have come.
 const START_LOOK: u64 = 1_000;
 
-/// For how long, in milliseconds, nothing may happen to a tenant before something of it is due by the time alone: a
-/// decision, a batch's timeout or a retry. A back end may put a retry off for longer.
-pub(crate) fn longest_wait(section: &Section) -> u64 {
-    let retry = &section.retry_on_failure;
-    let delay = retry
-        .initial_interval
-        .max(retry.max_interval)
-        .saturating_mul(2);
-    section
-        .tail_sampling
-        .decision_wait
-        .max(section.batch.timeout)
-        .max(delay)
-}
-
 /// All bells. Who rings one makes no call of the system where nobody listens.
 #[derive(Drop)]
 pub(crate) struct Bells {
@@ -42,18 +25,11 @@ pub(crate) struct Bells {
     start: Condvar,
     // How many listen to the lane's.
     senders: u32,
-    // For how long nothing may happen in a shard before something is due there by the time alone, in milliseconds.
-    longest_wait: AtomicU64,
 }
 
 impl Bells {
-    /// A bell for each shard, and one for so many senders, where tenants wait for so long at most, in milliseconds.
-    pub fn new(
-        alloc: Global,
-        shards: usize,
-        senders: u32,
-        longest_wait: u64,
-    ) -> Result<Bells, AllocError> {
+    /// A bell for each shard, and one for so many senders.
+    pub fn new(alloc: Global, shards: usize, senders: u32) -> Result<Bells, AllocError> {
         let mut list = Vec::new(alloc);
         for _ in 0..shards {
             list.push(Condvar::new())?;
@@ -63,18 +39,7 @@ impl Bells {
             lane: Condvar::new(),
             start: Condvar::new(),
             senders,
-            longest_wait: AtomicU64::new(longest_wait),
         })
-    }
-
-    /// There will be a tenant with this section. One thread alone says so of each.
-    pub fn expect(&self, section: &Section) {
-        let longest = self.longest_wait().max(longest_wait(section));
-        self.longest_wait.store(longest, Ordering::SeqCst);
-    }
-
-    fn longest_wait(&self) -> u64 {
-        self.longest_wait.load(Ordering::SeqCst)
     }
 
     /// Another turn of this shard may be worth while.
@@ -115,7 +80,8 @@ impl Bells {
 #[derive(Clone, Copy)]
 enum Place<'b> {
     Nowhere,
-    Attempts,
+    // Rests so many times as long as what was tried took.
+    Attempts(u64),
     Shard { bell: &'b Condvar, bells: &'b Bells },
     Lane(&'b Bells),
     Start(&'b Bells),
@@ -129,8 +95,6 @@ pub(crate) struct Rest<'b> {
     heard: u64,
     // Whether it asked what the moment is since it last looked.
     is_timed: bool,
-    // How many short pauses it made since it heard a ring. Before the first one nothing is due.
-    naps: u64,
 }
 
 impl<'b> Rest<'b> {
@@ -142,7 +106,13 @@ impl<'b> Rest<'b> {
     /// That of who tries again where memory is refused: as long as what it tried took, so that much work that comes to
     /// nothing doesn't keep others from the shard for most of the time.
     pub fn of_attempts() -> Rest<'b> {
-        Rest::at(Place::Attempts)
+        Rest::at(Place::Attempts(1))
+    }
+
+    /// That of who makes chores, where a drain may be much work that comes to nothing: four times as long, so that
+    /// turners, by whom memory comes back, have the shard for most of the time.
+    pub fn of_chores() -> Rest<'b> {
+        Rest::at(Place::Attempts(4))
     }
 
     /// That of who waits for the start.
@@ -168,23 +138,18 @@ impl<'b> Rest<'b> {
             place,
             heard: 0,
             is_timed: false,
-            naps: u64::MAX,
         }
     }
 
     /// Work is looked for from now on: what is rung later ends a long pause.
     pub fn look(&mut self) {
         self.is_timed = false;
-        let rings = match self.place {
-            Place::Nowhere | Place::Attempts => return,
+        self.heard = match self.place {
+            Place::Nowhere | Place::Attempts(_) => return,
             Place::Shard { bell, bells: _ } => bell.notifications(),
             Place::Lane(bells) => bells.lane.notifications(),
             Place::Start(bells) => bells.start.notifications(),
         };
-        if rings != self.heard {
-            self.heard = rings;
-            self.naps = 0;
-        }
     }
 
     /// The moment is asked for: by a turner for a turn, and by a sender that hands in an answer.
@@ -192,31 +157,40 @@ impl<'b> Rest<'b> {
         self.is_timed = true;
     }
 
-    /// Pauses: for long only where it found no work, nothing was rung since it looked, and, for a turner, nothing has
-    /// happened for so long that nothing can be due. Short pauses no ring cuts off, so that many rings don't make many
-    /// turns. What was tried since the moment was asked for, or since the last pause, took so many milliseconds.
-    pub fn pause<R: Wait + Clock>(&mut self, rt: &R, took: u64) {
+    /// Pauses: for long only where it found no work and nothing was rung since it looked, and a turner for no longer
+    /// than so many milliseconds are left until something is due. A turner's pause begins with a short one that no ring
+    /// cuts off, so that many rings don't make many turns. What was tried since the moment was asked for, or since the
+    /// last pause, took so many milliseconds.
+    pub fn pause<R: Wait + Clock>(&mut self, rt: &R, took: u64, left: u64) {
         match self.place {
-            Place::Shard { bell, bells } if self.is_timed && self.naps >= bells.longest_wait() => {
-                bell.sleep(rt, self.heard, share_of(bells.shards.len() as u64));
+            Place::Shard { bell, bells } if self.is_timed => {
+                nap(rt);
+                let longest = share_of(bells.shards.len() as u64).min(left.saturating_sub(NAP));
+                bell.sleep(rt, self.heard, Duration::from_millis(longest));
             }
             Place::Lane(bells) if !self.is_timed => {
-                let senders = u64::from(bells.senders);
-                bells.lane.sleep(rt, self.heard, share_of(senders));
+                let longest = share_of(u64::from(bells.senders));
+                bells
+                    .lane
+                    .sleep(rt, self.heard, Duration::from_millis(longest));
             }
             Place::Start(bells) => bells
                 .start
                 .sleep(rt, self.heard, Duration::from_millis(START_LOOK)),
-            Place::Attempts => thread::sleep(rt, Duration::from_millis(NAP.max(took))),
-            _ => {
-                self.naps = self.naps.saturating_add(1);
-                thread::sleep(rt, Duration::from_millis(NAP));
+            Place::Attempts(times) => {
+                let longest = NAP.max(took.saturating_mul(times));
+                thread::sleep(rt, Duration::from_millis(longest));
             }
+            _ => nap(rt),
         }
     }
 }
 
-/// How long each of so many rests.
-fn share_of(listeners: u64) -> Duration {
-    Duration::from_millis(LOOK.saturating_mul(listeners))
+fn nap<R: Clock>(rt: &R) {
+    thread::sleep(rt, Duration::from_millis(NAP));
+}
+
+/// How long each of so many rests, in milliseconds.
+fn share_of(listeners: u64) -> u64 {
+    LOOK.saturating_mul(listeners)
 }

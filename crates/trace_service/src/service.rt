@@ -18,30 +18,29 @@ ghost use Rattle.trace_service.specs.Whole.{IsCourse, IsServed};
 ghost use Rattle.trace_service.specs.declared.service.ServiceFault.TheVariants as faults;
 
 use crate::assignment::{assign_threads, collect_callers};
-use crate::beat::{ServiceBeat, Signals};
+use crate::beat::Signals;
 use crate::beside::work_beside;
 use crate::control::Control;
 use crate::course::{Observer, Stage};
 use crate::documents::Documents;
-use crate::entrance::Entrance;
 use crate::in_force::InForce;
 use crate::naming::Naming;
-use crate::office::office_of;
-use crate::options::{Outside, ServiceOptions};
+use crate::options::ServiceOptions;
 use crate::reports::write_audit;
 use crate::roster::Roster;
-use crate::shared::{Shared, Staff};
+use crate::shared::{Shared, Staff, Workplace};
+use crate::start::{Console, ServiceStart};
 use crate::workers::{Worker, work_all};
 use job_lane::{Lane, LaneKeeper, LaneSeat};
 use shared_hub::{Caller, HubFault, HubKeeper, ShardLog, SharedHub};
-use std::alloc::{AllocError, Global};
+use std::alloc::AllocError;
 use std::io;
 use std::io::{BufRead, ErrorKind, Write};
 use std::marker::Brand;
 use std::net::{Net, TcpListener, TcpStream};
 use std::sync::{Mutex, Wait};
 use std::thread::Threads;
-use std::time::{Clock, Instant};
+use std::time::Clock;
 use tail_settings::Settings;
 use thiserror::Error;
 
@@ -92,22 +91,18 @@ impl From<HubFault> for ServiceFault {
     }
 }
 
-/// Serves until the input ends and all tenants have sent what they held: as many receivers and senders as the options
-/// say, or else the settings, a turner for each shard, and one lane. Where it is looked after, eight more threads
-/// answer whoever does. A line `report NAME` of the input prints that tenant's counters, `add PATH` lets a tenant come
-/// whose document is in a file, and `retire NAME` lets one go once it has sent what it held. All reports are printed at
-/// the end; with an audit also how many entries each shard's log has. What can't be written to the output is lost, and
-/// the service goes on: it says at its end how many answers were. After a fault of the input it ends as it does at the
-/// input's end, and then says so. The observer is told of its course, and of lines that ask for nothing.
+/// Serves under these settings until the input ends and all tenants have sent what they held: as many receivers and
+/// senders as the options say, or else the settings, a turner for each shard, and one lane. Where it is looked after,
+/// eight more threads answer whoever does. A line `report NAME` of the input prints that tenant's counters, `add PATH`
+/// lets a tenant come whose document is in a file, and `retire NAME` lets one go once it has sent what it held. All
+/// reports are printed at the end; with an audit also how many entries each shard's log has. What can't be written to
+/// the output is lost, and the service goes on: it says at its end how many answers were. After a fault of the input it
+/// ends as it does at the input's end, and then says so. The observer is told of its course, and of lines that ask for
+/// nothing.
 pub fn run_service<R, D, I, O, L>(
-    rt: &R,
-    alloc: Global,
+    start: &ServiceStart<'_, R, D>,
     settings: Settings,
-    outside: &Outside<'_, D>,
-    input: &mut I,
-    output: &mut O,
-    observer: &mut L,
-    options: ServiceOptions,
+    console: &mut Console<I, O, L>,
 ) -> Result<u64, ServiceFault>
 where
     R: Net<Listener = TcpListener, Stream = TcpStream> + Threads + Wait + Clock + Sync,
@@ -115,55 +110,57 @@ where
     I: BufRead,
     O: Write,
     L: Observer,
-    ensures { IfOk result (IsServed D.reads (settings_view settings) options.audit
-        (I.remaining input.old) (O.contents output.old) (O.contents output.new)) }
+    ensures { IfOk result (IsServed D.reads (settings_view settings) start.now.options.audit
+        (I.remaining console.old.input) (O.contents console.old.output)
+        (O.contents console.new.output)) }
 {
     let global = &settings.global;
-    let staff = Staff::of(global, &options, outside.admin.is_some());
+    let staff = Staff::of(global, &start.options, start.admin.is_some());
     let workers = global.shards as usize
         + staff.senders as usize
         + staff.receivers as usize
         + staff.admins as usize;
-    let ServiceOptions { audit, keys, .. } = options;
+    let ServiceOptions { audit, keys, .. } = start.options;
+    let lane_size = global.lane_size as usize;
     // Who reads the input has a caller too, and no seat.
-    let (hub, keeper, callers) = SharedHub::open(rt, alloc, &settings, workers + 1, audit, keys)?;
-    let (lane, lane_keeper, seats) = Lane::open(alloc, global.lane_size as usize, workers)?;
-    run_named::<Brand, R, D, I, O, L>(
-        rt,
-        alloc,
-        settings,
-        staff,
-        outside,
+    let (hub, keeper, callers) = SharedHub::open(
+        start.rt,
+        start.alloc,
+        &settings,
+        workers + 1,
+        audit,
+        keys,
+    )?;
+    let (lane, lane_keeper, seats) = Lane::open(start.alloc, lane_size, workers)?;
+    let opened = Opened {
         hub,
         keeper,
         callers,
         lane,
         lane_keeper,
         seats,
-        input,
-        output,
-        observer,
-        audit,
-    )
+    };
+    run_named::<Brand, R, D, I, O, L>(start, settings, staff, opened, console)
 }
 
-/// The same, with a hub, a lane and settings that have a name.
-fn run_named<J, R, D, I, O, L>(
-    rt: &R,
-    alloc: Global,
-    settings: Settings,
-    staff: Staff,
-    outside: &Outside<'_, D>,
+/// A hub and a lane, with what they are closed with, a caller for each thread, and a seat for each that works.
+#[derive(Drop)]
+struct Opened {
     hub: SharedHub,
     keeper: HubKeeper,
     callers: Vec<Caller>,
     lane: Lane,
     lane_keeper: LaneKeeper,
     seats: Vec<LaneSeat>,
-    input: &mut I,
-    output: &mut O,
-    observer: &mut L,
-    audit: bool,
+}
+
+/// The same, with a hub, a lane and settings that have a name.
+fn run_named<J, R, D, I, O, L>(
+    start: &ServiceStart<'_, R, D>,
+    settings: Settings,
+    staff: Staff,
+    opened: Opened,
+    console: &mut Console<I, O, L>,
 ) -> Result<u64, ServiceFault>
 where
     J: Naming + Send + Sync,
@@ -173,36 +170,54 @@ where
     O: Write,
     L: Observer,
     requires first { settings_view settings ≡ J.first }
-    requires hub { hub ≡ J.slots }
-    requires keeper { keeper.slots ≡ hub }
-    requires callers { AreCallersOf J.slots callers.items }
-    requires lane { lane.name ≡ J.lane }
-    requires room { lane.capacity ≡ settings.global.lane_size }
-    requires lane_keeper { lane_keeper ≡ lane.name }
-    requires seats { All (λ s. s ≡ new_seat J.lane) seats.items }
-    requires all_seats { vec_len seats ≡ lane_keeper.seats }
-    requires opened { AreOpened (settings_view settings) keeper.homes }
-    requires keeps { kept keeper.homes ≡ replicate settings.global.shards audit }
-    requires not_empty { 0 < vec_len callers }
-    requires all { vec_len callers ≡ keeper.callers }
-    requires fresh { J.fresh ≡ new_caller J.slots keeper.homes }
-    requires new { All (λ c. c ≡ J.fresh) callers.items }
+    requires hub { opened.hub ≡ J.slots }
+    requires keeper { opened.keeper.slots ≡ opened.hub }
+    requires callers { AreCallersOf J.slots opened.callers.items }
+    requires lane { opened.lane.name ≡ J.lane }
+    requires room { opened.lane.capacity ≡ settings.global.lane_size }
+    requires lane_keeper { opened.lane_keeper ≡ opened.lane.name }
+    requires seats { All (λ s. s ≡ new_seat J.lane) opened.seats.items }
+    requires all_seats { vec_len opened.seats ≡ opened.lane_keeper.seats }
+    requires opened { AreOpened (settings_view settings) opened.keeper.homes }
+    requires keeps { kept opened.keeper.homes
+        ≡ replicate settings.global.shards start.now.options.audit }
+    requires not_empty { 0 < vec_len opened.callers }
+    requires all { vec_len opened.callers ≡ opened.keeper.callers }
+    requires fresh { J.fresh ≡ new_caller J.slots opened.keeper.homes }
+    requires new { All (λ c. c ≡ J.fresh) opened.callers.items }
     requires shards { length J.slots ≡ settings.global.shards }
-    requires enough { vec_len callers ≡ 1 + vec_len seats }
-    ensures { IfOk result (IsServed D.reads (settings_view settings) audit (I.remaining input.old)
-        (O.contents output.old) (O.contents output.new)) }
+    requires enough { vec_len opened.callers ≡ 1 + vec_len opened.seats }
+    ensures { IfOk result (IsServed D.reads (settings_view settings) start.now.options.audit
+        (I.remaining console.old.input) (O.contents console.old.output)
+        (O.contents console.new.output)) }
 {
-    let roster = Roster::of(alloc, &settings)?;
-    let in_force = Mutex::new(InForce::<J>::new(settings));
+    let Opened {
+        hub,
+        keeper,
+        callers,
+        lane,
+        lane_keeper,
+        seats,
+    } = opened;
+    let roster = Roster::of(start.alloc, &settings)?;
+    let workplace = Workplace::<J>::new(start.alloc, settings, hub, lane, staff.senders)?;
+    // All that is lent together is lent for as long as the workplace stands.
     let (callers, seats, ended) = at_work::<J, R, D, I, O, L>(
-        rt, alloc, &in_force, roster, staff, outside, &hub, callers, &lane, seats, input, output,
-        observer,
+        &*start, &workplace, staff, roster, callers, seats, console,
     )?;
-    observer.observe(Stage::Ended);
-    let _totals = lane.close(rt, lane_keeper, seats);
-    let shards = end_hub(rt, hub, keeper, callers);
+    console.observer.observe(Stage::Ended);
+    let Workplace { hub, lane, .. } = workplace;
+    let _totals = lane.close(start.rt, lane_keeper, seats);
+    let shards = end_hub(start.rt, hub, keeper, callers);
+    let audit = start.options.audit;
     let mut lost = ended.unwrap_or(0);
-    write_audit(alloc, output, shards.as_slice(), audit, &mut lost)?;
+    write_audit(
+        start.alloc,
+        &mut console.output,
+        shards.as_slice(),
+        audit,
+        &mut lost,
+    )?;
     ended?;
     Ok(lost)
 }
@@ -231,130 +246,16 @@ fn end_hub<R: Wait>(
     shards
 }
 
-/// All threads' work, to its end: the callers, the seats, and how many answers were lost, or how the input failed.
-fn at_work<J, R, D, I, O, L>(
-    rt: &R,
-    alloc: Global,
-    settings: &Mutex<InForce<J>>,
-    roster: Roster,
+/// All threads' work, to its end: the callers, the seats, and how many answers were lost, or how the input failed. All
+/// that threads share is lent for one time.
+fn at_work<'h, J, R, D, I, O, L>(
+    start: &'h ServiceStart<'h, R, D>,
+    workplace: &'h Workplace<J>,
     staff: Staff,
-    outside: &Outside<'_, D>,
-    hub: &SharedHub,
-    callers: Vec<Caller>,
-    lane: &Lane,
-    seats: Vec<LaneSeat>,
-    input: &mut I,
-    output: &mut O,
-    observer: &mut L,
-) -> Result<(Vec<Caller>, Vec<LaneSeat>, Result<u64, ServiceFault>), ServiceFault>
-where
-    J: Naming + Send + Sync,
-    R: Net<Listener = TcpListener, Stream = TcpStream> + Threads + Wait + Clock + Sync,
-    D: Documents,
-    I: BufRead,
-    O: Write,
-    L: Observer,
-    requires hub { hub.now ≡ J.slots }
-    requires callers { AreCallersOf J.slots callers.items }
-    requires lane { lane.now.name ≡ J.lane }
-    requires seats { All (λ s. s ≡ new_seat J.lane) seats.items }
-    requires not_empty { 0 < vec_len callers }
-    requires enough { vec_len callers ≡ 1 + vec_len seats }
-    requires new { All (λ c. c ≡ J.fresh) callers.items }
-    ensures same_hub { IfOk result (λ r. AreCallersOf J.slots r.0.items) }
-    ensures all { IfOk result (λ r. vec_len r.0 ≡ vec_len callers) }
-    ensures same_lane { IfOk result (λ r. All (λ s. s.lane ≡ J.lane) r.1.items) }
-    ensures all_seats { IfOk result (λ r. vec_len r.1 ≡ vec_len seats) }
-    ensures threads { IfOk result (λ r. AreThreads (length J.slots) J.fresh r.0.items r.1.items) }
-    ensures course { IfOk result (λ r. IfOk r.2
-        (λ lost. IsCourse D.reads J.first (present_in roster) (length J.slots)
-        (I.remaining input.old) J.fresh (O.contents output.old, 0) r.0.items
-        (O.contents output.new, lost))) }
-{
-    let longest_wait = settings.lock(rt).longest_wait();
-    let signals = Signals::new(alloc, hub.shards(), staff.senders, longest_wait)?;
-    sharing::<J, R, D, I, O, L>(
-        rt, alloc, settings, roster, staff, outside, hub, lane, &signals, callers, seats, input,
-        output, observer,
-    )
-}
-
-/// The same, with all that is shared lent for one time.
-fn sharing<'h, J, R, D, I, O, L>(
-    rt: &'h R,
-    alloc: Global,
-    settings: &'h Mutex<InForce<J>>,
-    roster: Roster,
-    staff: Staff,
-    outside: &'h Outside<'h, D>,
-    hub: &'h SharedHub,
-    lane: &'h Lane,
-    signals: &'h Signals,
-    callers: Vec<Caller>,
-    seats: Vec<LaneSeat>,
-    input: &mut I,
-    output: &mut O,
-    observer: &mut L,
-) -> Result<(Vec<Caller>, Vec<LaneSeat>, Result<u64, ServiceFault>), ServiceFault>
-where
-    J: Naming + Send + Sync,
-    R: Net<Listener = TcpListener, Stream = TcpStream> + Threads + Wait + Clock + Sync,
-    D: Documents,
-    I: BufRead,
-    O: Write,
-    L: Observer,
-    requires hub { hub.now ≡ J.slots }
-    requires callers { AreCallersOf J.slots callers.items }
-    requires lane { lane.now.name ≡ J.lane }
-    requires seats { All (λ s. s ≡ new_seat J.lane) seats.items }
-    requires not_empty { 0 < vec_len callers }
-    requires enough { vec_len callers ≡ 1 + vec_len seats }
-    requires new { All (λ c. c ≡ J.fresh) callers.items }
-    ensures same_hub { IfOk result (λ r. AreCallersOf J.slots r.0.items) }
-    ensures all { IfOk result (λ r. vec_len r.0 ≡ vec_len callers) }
-    ensures same_lane { IfOk result (λ r. All (λ s. s.lane ≡ J.lane) r.1.items) }
-    ensures all_seats { IfOk result (λ r. vec_len r.1 ≡ vec_len seats) }
-    ensures threads { IfOk result (λ r. AreThreads (length J.slots) J.fresh r.0.items r.1.items) }
-    ensures course { IfOk result (λ r. IfOk r.2
-        (λ lost. IsCourse D.reads J.first (present_in roster) (length J.slots)
-        (I.remaining input.old) J.fresh (O.contents output.old, 0) r.0.items
-        (O.contents output.new, lost))) }
-{
-    let start = Instant::now(rt)?;
-    let shared = Shared {
-        rt,
-        alloc,
-        settings,
-        staff,
-        hub,
-        lane,
-        entrance: Entrance::new(outside.listener, staff.patience),
-        office: office_of(outside.admin),
-        beat: ServiceBeat::new(rt, signals, start),
-        threads: callers.len(),
-    };
-    work_on(
-        &shared,
-        outside.documents,
-        roster,
-        callers,
-        seats,
-        input,
-        output,
-        observer,
-    )
-}
-
-/// The same, with what is shared.
-fn work_on<'h, J, R, D, I, O, L>(
-    shared: &Shared<'h, J, R>,
-    documents: &'h D,
     roster: Roster,
     mut callers: Vec<Caller>,
     seats: Vec<LaneSeat>,
-    input: &mut I,
-    output: &mut O,
-    observer: &mut L,
+    console: &mut Console<I, O, L>,
 ) -> Result<(Vec<Caller>, Vec<LaneSeat>, Result<u64, ServiceFault>), ServiceFault>
 where
     J: Naming + Send + Sync,
@@ -363,9 +264,9 @@ where
     I: BufRead,
     O: Write,
     L: Observer,
-    requires hub { shared.now.hub.now ≡ J.slots }
+    requires hub { workplace.now.hub ≡ J.slots }
     requires callers { AreCallersOf J.slots callers.items }
-    requires lane { shared.now.lane.now.name ≡ J.lane }
+    requires lane { workplace.now.lane.name ≡ J.lane }
     requires seats { All (λ s. s ≡ new_seat J.lane) seats.items }
     requires not_empty { 0 < vec_len callers }
     requires enough { vec_len callers ≡ 1 + vec_len seats }
@@ -377,9 +278,10 @@ where
     ensures threads { IfOk result (λ r. AreThreads (length J.slots) J.fresh r.0.items r.1.items) }
     ensures course { IfOk result (λ r. IfOk r.2
         (λ lost. IsCourse D.reads J.first (present_in roster) (length J.slots)
-        (I.remaining input.old) J.fresh (O.contents output.old, 0) r.0.items
-        (O.contents output.new, lost))) }
+        (I.remaining console.old.input) J.fresh (O.contents console.old.output, 0) r.0.items
+        (O.contents console.new.output, lost))) }
 {
+    let shared = Shared::at(start, workplace, staff, callers.len())?;
     let shards = shared.hub.shards();
     prove!(0 < shards);
     // Who has served to the end says so, whatever memory there is by then.
@@ -393,21 +295,14 @@ where
         alloc: shared.alloc,
         settings: shared.settings,
         roster,
-        documents,
+        documents: start.documents,
         listener: shared.entrance.listener(),
         office: shared.office_listener(),
         context: shared.context(own, 0),
         beat: shared.beat.of_chores(),
     };
-    let mut workers = assign_threads::<J, R>(shared, callers, seats)?;
-    let ended = all_work(
-        shared,
-        workers.as_mut_slice(),
-        &mut control,
-        input,
-        output,
-        observer,
-    );
+    let mut workers = assign_threads::<J, R>(&shared, callers, seats)?;
+    let ended = all_work(&shared, workers.as_mut_slice(), &mut control, console);
     let own = control.context.into_caller();
     let (callers, seats) = collect_callers(all_callers, all_seats, workers, own)?;
     Ok((callers, seats, ended))
@@ -418,9 +313,7 @@ fn all_work<'h, J, R, D, I, O, L>(
     shared: &Shared<'h, J, R>,
     workers: &mut [Worker<'h, J, R>],
     control: &mut Control<'h, J, R, D>,
-    input: &mut I,
-    output: &mut O,
-    observer: &mut L,
+    console: &mut Console<I, O, L>,
 ) -> Result<u64, ServiceFault>
 where
     J: Naming + Send + Sync,
@@ -433,8 +326,9 @@ where
     requires idle { All (λ w. (w.context.caller ≡ J.fresh) × (w.seat ≡ new_seat J.lane))
         workers.old }
     ensures did { All (λ w. IsThread (length J.slots) J.fresh w.context.caller w.seat) workers.new }
-    ensures directed { IfOk result (λ lost. Directs D.reads J.first (I.remaining input.old)
-        control.old (O.contents output.old, 0) control.new (O.contents output.new, lost)) }
+    ensures directed { IfOk result (λ lost. Directs D.reads J.first
+        (I.remaining console.old.input) control.old (O.contents console.old.output, 0) control.new
+        (O.contents console.new.output, lost)) }
 {
     work_beside(
         shared.rt,
@@ -445,9 +339,7 @@ where
                 workers.exit.now }
         { work_all(shared, workers) },
         control,
-        input,
-        output,
-        observer,
+        console,
         shared.threads,
     )
 }

@@ -1,23 +1,26 @@
 //! What all threads share.
 
-ghost use Rattle.std.specs.Prelude.{◌≡◌, ◌<◌, ◌≤◌, length, unwrap_or, if◌then◌else◌};
+ghost use Rattle.std.specs.Prelude.{◌≡◌, ◌<◌, ◌≤◌, IfOk, length, unwrap_or, if◌then◌else◌};
 ghost use Rattle.machine_hub.specs.Hub.{slots_of};
+ghost use Rattle.tail_settings.specs.Settings.{settings_view};
 
-use crate::beat::ServiceBeat;
+use crate::beat::{ServiceBeat, Signals};
 use crate::context::WorkerContext;
 use crate::entrance::Entrance;
 use crate::in_force::InForce;
 use crate::naming::Naming;
-use crate::office::{ADMINS, Office};
+use crate::office::{ADMINS, Office, office_of};
 use crate::options::ServiceOptions;
+use crate::start::ServiceStart;
 use crate::visit::Patience;
 use job_lane::Lane;
 use shared_hub::{Caller, SharedHub};
-use std::alloc::Global;
+use std::alloc::{AllocError, Global};
+use std::io;
 use std::net::TcpListener;
 use std::sync::{Mutex, Wait};
-use std::time::{Clock, Duration};
-use tail_settings::GlobalSettings;
+use std::time::{Clock, Duration, Instant};
+use tail_settings::{GlobalSettings, Settings};
 
 /// How many threads there are of a kind, and how long they wait for those outside. It stays as the settings change.
 #[derive(Clone, Copy, Debug)]
@@ -70,6 +73,39 @@ fn admins_of(is_looked_after: bool) -> u32
     if is_looked_after { ADMINS } else { 0 }
 }
 
+/// What all threads work at, from their start to their end.
+#[derive(Drop)]
+pub(crate) struct Workplace<J: Naming> {
+    pub settings: Mutex<InForce<J>>,
+    pub hub: SharedHub,
+    pub lane: Lane,
+    pub signals: Signals,
+}
+
+impl<J: Naming> Workplace<J> {
+    /// One under these settings, with so many senders, at which nobody is yet.
+    pub fn new(
+        alloc: Global,
+        settings: Settings,
+        hub: SharedHub,
+        lane: Lane,
+        senders: u32,
+    ) -> Result<Workplace<J>, AllocError>
+        requires { settings_view settings ≡ J.first }
+        ensures hub { IfOk result (λ w. w.hub ≡ hub) }
+        ensures lane { IfOk result (λ w. w.lane ≡ lane) }
+    {
+        let settings = InForce::<J>::new(settings);
+        let signals = Signals::new(alloc, hub.shards(), senders)?;
+        Ok(Workplace {
+            settings: Mutex::new(settings),
+            hub,
+            lane,
+            signals,
+        })
+    }
+}
+
 /// What all threads share.
 #[derive(Drop)]
 pub(crate) struct Shared<'h, J: Naming, R> {
@@ -88,7 +124,32 @@ pub(crate) struct Shared<'h, J: Naming, R> {
 }
 
 impl<'h, J: Naming, R: Wait + Clock> Shared<'h, J, R> {
-    ghost use Rattle.std.specs.Prelude.{◌≡◌, ◌<◌, length};
+    ghost use Rattle.std.specs.Prelude.{◌≡◌, ◌<◌, IfOk, length};
+
+    /// So many threads share this workplace, from now on.
+    pub fn at<D>(
+        start: &'h ServiceStart<'h, R, D>,
+        workplace: &'h Workplace<J>,
+        staff: Staff,
+        threads: usize,
+    ) -> io::Result<Shared<'h, J, R>>
+        ensures hub { IfOk result (λ shared. shared.hub.now ≡ workplace.now.hub) }
+        ensures lane { IfOk result (λ shared. shared.lane.now ≡ workplace.now.lane) }
+    {
+        let since = Instant::now(start.rt)?;
+        Ok(Shared {
+            rt: start.rt,
+            alloc: start.alloc,
+            settings: &workplace.settings,
+            staff,
+            hub: &workplace.hub,
+            lane: &workplace.lane,
+            entrance: Entrance::new(start.listener, staff.patience),
+            office: office_of(start.admin),
+            beat: ServiceBeat::new(start.rt, &workplace.signals, since),
+            threads,
+        })
+    }
 
     /// Where whoever looks after the service comes in.
     pub fn office_listener(&self) -> Option<&'h TcpListener> {

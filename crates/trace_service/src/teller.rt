@@ -65,6 +65,13 @@ impl<'h, R: Wait> Teller<'h, R> {
         }
     }
 
+    /// Behind a turn of this shard that found nothing: when something is due there next by the time alone, if anything.
+    pub fn note_due(&self, shard: usize, due: Option<u64>) {
+        if let Some(pace) = self.signals.paces().shard(shard) {
+            pace.note_due(due);
+        }
+    }
+
     /// A turn of this shard was refused memory. Its turner doesn't rest long before the next.
     pub fn refuse_turn(&mut self, shard: usize) {
         self.note(shard, true);

@@ -9,8 +9,8 @@ use Rattle.otlp_prepare.proofs.Joined.{are_ready}
 use Rattle.otlp_prepare.proofs.Valued.{all_prepared}
 use Rattle.otlp_prepare.proofs.body.prepare_parts.Goals as goal
 
-pub of-requires : goal.of-requires
-of-requires g c =
+pub of-requires-clause-ready : goal.of-requires-clause-ready
+of-requires-clause-ready g c =
     let shared : arc_slice_items c.in_ok-shared.shared ≡ arc_slice_items c.args.section.now.tail_sampling.policies = c.in_ok-shared.ensures.cases in
     let policies : c.of-policies.result ≡ map policy_view (arc_slice_items c.in_ok-shared.shared) = c.of-policies.ensures ∙ ap (λ (ps : List PolicySpec). map policy_view ps) (c.as_slice.ensures.value ∙ sym shared) in
     subst (λ (ps : List PolicyData). AreReady ps c.in_ok-found.found.origins.items c.in_ok-spans.spans.items) policies

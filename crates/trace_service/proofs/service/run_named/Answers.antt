@@ -1,5 +1,5 @@
-use Rattle.std.proofs.Common.{◌≡◌, ◌∙◌, ℕ, sym, subst, length, All, arith}
-use Rattle.job_lane.specs.Lane.{LaneName, SeatLists}
+use Rattle.std.proofs.Common.{◌≡◌, ◌∙◌, ℕ, sym, subst, ap, length, All, arith}
+use Rattle.job_lane.specs.Lane.{LaneName, LaneShape, SeatLists}
 use Rattle.machine_hub.specs.Hub.{new_caller}
 use Rattle.otlp_front.specs.Route.{names_in}
 use Rattle.trace_service.specs.Audit.{audit_text, IsFollowed}
@@ -19,12 +19,12 @@ close-totals-requires-clause-same_lane g c =
 pub returns : goal.returns
 returns g c =
     let table = settings_view c.args.settings in
-    let homes = c.args.keeper.homes in
+    let homes = c.args.opened.keeper.homes in
     let slots = g.J.Naming.slots in
     let callers = c.in_ok-callers.callers.items in
     let shards = c.end_hub-shards.result.items in
     let runs = c.end_hub-shards.ensures.calls in
-    let written = g.O.Write.contents c.at_work.new.output in
+    let written = g.O.Write.contents c.at_work.new.console.output in
     let before = c.in_ok-ended.field-0 in
     let text : ℕ → Output = λ lost. (written, lost) in
     let ended : Output = (g.O.Write.contents c.write_audit.new.output, c.write_audit.new.lost) in
@@ -36,7 +36,7 @@ returns g c =
       callers = callers;
       text = text before;
       course = course_told g.D.Documents.reads c.in_ok-callers.ended before g.J.Naming.first table (present_in c.in_ok-roster.roster) (names_in table).tenants (length slots) table.global.shards
-          (g.I.Read.remaining c.args.input.now) (g.O.Write.contents c.args.output.now) written g.J.Naming.fresh (new_caller slots homes) callers
+          (g.I.Read.remaining c.args.console.now.input) (g.O.Write.contents c.args.console.now.output) written g.J.Naming.fresh (new_caller slots homes) callers
           c.in_ok-ended.was (sym c.requires.first) c.in_ok-roster.ensures c.requires.shards c.requires.fresh c.in_ok-callers.ensures.course;
       shards = shards;
       calls = runs;
@@ -48,11 +48,11 @@ returns g c =
       taken = c.close-totals.result.taken;
       left = c.close-totals.result.left;
       lane = c.close-totals.ensures.run;
-      room = omega (arith, c.close-totals.ensures.left, c.requires.room);
+      room = omega (arith, c.close-totals.ensures.left, c.requires.room, ap (λ (lane : LaneShape). lane.capacity) c.in_ok-workplace.ensures.lane);
       logged = c.end_hub-shards.ensures.logged table c.requires.opened;
       count = runs.count ∙ c.requires.opened.count;
       numbered = are_numbered table homes callers shards runs c.requires.opened;
-      kept = kept_if table homes callers shards runs table.global.shards c.args.audit c.requires.keeps;
-      lines = subst (λ lost. IsFollowed c.args.audit (audit_text shards) (text lost) ended) found
+      kept = kept_if table homes callers shards runs table.global.shards c.args.start.now.options.audit c.requires.keeps;
+      lines = subst (λ lost. IsFollowed c.args.start.now.options.audit (audit_text shards) (text lost) ended) found
           (rw c.as_slice.ensures.value at c.in_ok-write_audit.ensures);
     }

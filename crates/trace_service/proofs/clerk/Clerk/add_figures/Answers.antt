@@ -13,12 +13,12 @@ returns-in_err-counters-clause-looks g c =
 pub returns : goal.returns
 returns g c =
     let look = c.in_ok-counters.ensures.looked in
-    let due = rw c.counters.ensures.hub at c.ready-ready.ensures.due in
+    let seen = rw c.counters.ensures.hub at c.waiting-waiting.ensures.seen in
     record {
       looked = on_ok c.push_figures.result _ _
-          (looks_more _ c.args.tenant.now _ _ _ _ (map tenant_of c.push_figures.new.figures.items) _ _ look due c.ready-ready.ensures.caller)
+          (looks_more _ c.args.tenant.now _ _ _ _ (map tenant_of c.push_figures.new.figures.items) _ _ look seen c.waiting-waiting.ensures.caller)
           c.push_figures.ensures;
-      looks = on_err c.push_figures.result _ (rw c.ready-ready.ensures.caller (one_looked _ _ c.args.tenant.now.number _ _ look));
-      hub = c.ready-ready.ensures.hub ∙ c.counters.ensures.hub;
-      same = c.ready-ready.ensures.same ∙ c.counters.ensures.same;
+      looks = on_err c.push_figures.result _ (rw c.waiting-waiting.ensures.caller (one_looked _ _ c.args.tenant.now.number _ _ look));
+      hub = c.waiting-waiting.ensures.hub ∙ c.counters.ensures.hub;
+      same = c.waiting-waiting.ensures.same ∙ c.counters.ensures.same;
     }

@@ -5,7 +5,7 @@ use Rattle.http_edge.specs.declared.message.MediaType.TheVariants.{Json}
 use Rattle.tail_settings.specs.Section.{section_view}
 use Rattle.tail_settings.specs.Settings.{section_at}
 use Rattle.trace_service.specs.Notice.{reply_of, unknown_reply}
-use Rattle.trace_service.specs.Shown.{HasSection, IsKnown, ShowsTenant, gone, left, nobody, nothing, shown}
+use Rattle.trace_service.specs.Shown.{HasSection, IsKnown, ShowsTenant, figures_with, gone, left, nobody, nothing, shown}
 use Rattle.trace_service.proofs.Replies.{if_ok, on_err}
 use Rattle.trace_service.proofs.Shown.{one_looked, one_refused}
 use Rattle.trace_service.proofs.clerk.Clerk.tenant.Goals as goal
@@ -56,12 +56,12 @@ returns-in_default-3-clause-looks g c =
 pub returns-in_err-from_str-clause-looks : goal.returns-in_err-from_str-clause-looks
 returns-in_err-from_str-clause-looks g c =
     on_err c.from_residual-in_err-from_str.result _
-    (rw c.ready-ready.ensures.caller (one_looked _ _ c.in-Some.number _ _ c.in_ok-counters.ensures.looked))
+    (rw c.waiting-waiting.ensures.caller (one_looked _ _ c.in-Some.number _ _ c.in_ok-counters.ensures.looked))
 
 pub returns-in_err-put_settled_tenant-clause-looks : goal.returns-in_err-put_settled_tenant-clause-looks
 returns-in_err-put_settled_tenant-clause-looks g c =
     on_err c.from_residual-in_err-put_settled_tenant.result _
-    (rw c.ready-ready.ensures.caller (one_looked _ _ c.in-Some.number _ _ c.in_ok-counters.ensures.looked))
+    (rw c.waiting-waiting.ensures.caller (one_looked _ _ c.in-Some.number _ _ c.in_ok-counters.ensures.looked))
 
 pub returns-clause-shown : goal.returns-clause-shown
 returns-clause-shown g c =
@@ -69,10 +69,10 @@ returns-clause-shown g c =
     let section = c.in-Some-2.section in
     let at : section_at later.0 c.in-Some.number ≡ Some (section_view section) = sym later.2 ∙ ap (option_map section_view) c.in-Some-2.is in
     let text = rw c.new-text.ensures.items at c.in_ok-put_settled_tenant.ensures in
-    let due = rw c.counters.ensures.hub at c.ready-ready.ensures.due in
-    rw c.ready-ready.ensures.caller (shown c.in-Some.number (section_view section) (ledger_of c.in-Some-3.counters) c.ready-ready.result
+    let seen = rw c.counters.ensures.hub at c.waiting-waiting.ensures.seen in
+    rw c.waiting-waiting.ensures.caller (shown c.in-Some.number (section_view section) (ledger_of c.in-Some-3.counters) c.waiting-waiting.result
     c.in-Some.ensures.known (later.0, later.1, at)
-    (rw c.in-Some-3.is at c.in_ok-counters.ensures.looked) due
+    (rw c.in-Some-3.is at c.in_ok-counters.ensures.looked) seen
     (c.shown.ensures ∙ ap (reply_of 200 Json) (text
-    ∙ ap (λ n. settled_text (record { name = n; ledger = ledger_of c.in-Some-3.counters; ready = c.ready-ready.result }) (section_view section))
+    ∙ ap (λ n. settled_text (figures_with n (ledger_of c.in-Some-3.counters) c.waiting-waiting.result) (section_view section))
     (c.in_ok-from_str.ensures.ok ∙ c.in-Some.ensures.name))))

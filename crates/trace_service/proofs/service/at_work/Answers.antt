@@ -5,7 +5,7 @@ use Rattle.machine_hub.specs.Hub.{slots_of}
 use Rattle.shared_hub.specs.Logs.{CallerState}
 use Rattle.trace_service.specs.Roster.{present_in}
 use Rattle.trace_service.proofs.Coursed.{course_from}
-use Rattle.trace_service.proofs.service.work_on.Goals as goal
+use Rattle.trace_service.proofs.service.at_work.Goals as goal
 
 pub assign_threads-requires-clause-callers : goal.assign_threads-requires-clause-callers
 assign_threads-requires-clause-callers g c =
@@ -30,8 +30,8 @@ returns-clause-course g c =
     let new : c.in-Some.own ≡ g.J.Naming.fresh =
     (All-pop P c.args.callers.items c.pop.new.self.items (Some c.in-Some.own) c.in-Some.ensures.items c.requires.new).1 in
     course_from g.D.Documents.reads c.all_work-ended.result g.J.Naming.first (present_in c.args.roster) (length c.context.result.hub.now)
-    (length g.J.Naming.slots) (g.I.Read.remaining c.args.input.now) (g.O.Write.contents c.args.output.now)
-    (g.O.Write.contents c.all_work-ended.new.output) c.context.result.caller g.J.Naming.fresh
-    c.all_work-ended.new.control.context.caller _ _ _ (ap length (c.context.ensures.hub ∙ c.requires.hub))
+    (length g.J.Naming.slots) (g.I.Read.remaining c.args.console.now.input) (g.O.Write.contents c.args.console.now.output)
+    (g.O.Write.contents c.all_work-ended.new.console.output) c.context.result.caller g.J.Naming.fresh
+    c.all_work-ended.new.control.context.caller _ _ _ (ap length (c.context.ensures.hub ∙ c.in_ok-shared.ensures.hub ∙ c.requires.hub))
     (c.context.ensures.caller ∙ new) (rw c.into_caller-own.ensures.caller at c.in_ok-callers.ensures.own_first)
     c.all_work-ended.ensures.directed

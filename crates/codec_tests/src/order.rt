@@ -1,0 +1,83 @@
+//! Spans that are canonical but for the order of their fields.
+
+use crate::texts::{bytes_of, is_found, words};
+use otlp_canonical::in_order;
+use std::alloc::Global;
+use std::test::Fail;
+
+/// A name, a span's text, and what it is in order: hexadecimal digits, `-` for no bytes, and `none` where the text has
+/// none or isn't looked at further.
+const SPANS: &str = "\
+no_bytes - none\n\
+one_field 2a016e none\n\
+in_order_already 0a01311201322a016e none\n\
+two_fields 1201320a0131 0a0131120132\n\
+# Flags where they are declared, a name at the end, a trace id there.\n\
+flags_before_the_name 0a01311201328501010000002a016e3002 0a01311201322a016e3002850101000000\n\
+a_name_at_the_end 0a013130027a002a016e 0a01312a016e30027a00\n\
+a_trace_id_at_the_end 12013222013330020a0131 0a01311201322201333002\n\
+each_field_in_reverse \
+8501010000007a02180170076a030a013160055a031201655003\
+4a030a016b4102000000000000003901000000000000003002\
+2a016e2201331a01731201320a0131 \
+0a01311201321a01732201332a016e\
+30023901000000000000004102000000000000004a030a016b\
+50035a0312016560056a030a013170077a021801850101000000\n\
+# Fields of one number keep their order.\n\
+attributes_apart 4a030a01622a016e4a030a0161 2a016e4a030a01624a030a0161\n\
+attributes_among_events 5a031201654a030a01615a031201664a030a0162 4a030a01614a030a01625a031201655a03120166\n\
+links_before_attributes 6a030a01326a030a01314a030a0161 4a030a01616a030a01326a030a0131\n\
+# What a span doesn't know stands behind all else, in its own order.\n\
+not_known a006002a016e 2a016ea00600\n\
+not_known_twice a806012a016ea00602 2a016ea80601a00602\n\
+of_another_type 20012a016e 2a016e2001\n\
+a_group 0b0c2a016e 2a016e0b0c\n\
+not_known_before_flags a00600850101000000 850101000000a00600\n\
+# Defaults that are written are left out, wherever they stand.\n\
+a_default 2a016e22000a0131 0a01312a016e\n\
+a_default_in_its_place 2a016e0a01312200 0a01312a016e\n\
+defaults_in_reverse 8501000000007000300022000a0131 0a0131\n\
+# One that stands behind its own field may take it back.\n\
+a_default_behind_its_own_field 2a016e2201332200 none\n\
+a_default_twice 2a016e22002200 none\n\
+# In order the text still isn't canonical.\n\
+a_name_twice 2a016e0a01312a016f none\n\
+a_status_twice 7a002a016e7a00 none\n\
+a_length_in_more_bytes 2a81006e0a0131 none\n\
+a_tag_in_more_bytes aa00016e0a0131 none\n\
+a_name_that_is_no_text 2a01ff0a0131 none\n\
+a_status_out_of_order 7a05180112016d0a0131 none\n\
+a_default_in_a_status 7a0218000a0131 none\n\
+# These aren't fields.\n\
+cut 2a016e0a013130 none\n\
+flags_cut 2a016e0a01318501000000 none\n\
+of_no_wire_type 2a016e0a013107 none\n";
+
+/// Whether the line's text is so in order.
+fn is_so(alloc: Global, line: &str) -> Result<bool, Fail> {
+    let (_name, text, wanted) = words(line).ok_or("a line without three words")?;
+    let text = bytes_of(alloc, text)?;
+    let found = in_order(alloc, text.as_slice(), 98)?;
+    is_found(alloc, found, wanted)
+}
+
+#[test]
+fn spans_in_order(rt: HostRuntime) -> Result<(), Fail> {
+    for line in SPANS.lines() {
+        if !line.starts_with('#') {
+            assert!(rt; is_so(rt.alloc(), line)?, "{line}");
+        }
+    }
+    Ok(())
+}
+
+#[test]
+fn order_needs_room_for_the_span(rt: HostRuntime) -> Result<(), Fail> {
+    // An attribute whose value is an array, before a trace id: four levels.
+    let text = *b"\x4a\x04\x12\x02\x2a\0\x0a\x011";
+    for (room, wanted) in [(0u32, "none"), (3, "none"), (4, "0a01314a0412022a00")] {
+        let found = in_order(rt.alloc(), &text, room)?;
+        assert!(rt; is_found(rt.alloc(), found, wanted)?);
+    }
+    Ok(())
+}

@@ -1,0 +1,110 @@
+//! How often a line is called, of which no clause speaks.
+
+use crate::handlers::Lacking;
+use export_edge::post_over;
+use http_edge::{connection_buffer, serve};
+use http_line::{Line, MemoryLine};
+use std::alloc::{AllocError, Global};
+use std::test::Fail;
+use std::thread::Threads;
+
+/// A text with so many bytes in its midst.
+#[derive(Clone, Copy)]
+struct Message {
+    head: &'static [u8],
+    body: usize,
+    tail: &'static [u8],
+}
+
+/// A line that gives as much as there is room for, and whose call number `fuse` fails.
+fn line_of(alloc: Global, message: Message, fuse: u64) -> Result<MemoryLine, AllocError> {
+    let mut input = Vec::from_slice(alloc, message.head)?;
+    input.extend_from_slice(&vec![in alloc; b'a'; message.body]?)?;
+    input.extend_from_slice(message.tail)?;
+    Ok(MemoryLine::new(input, Vec::new(alloc), Vec::new(alloc), fuse))
+}
+
+/// Whether call number `fuse` is made while a message is answered.
+fn is_made<R: Threads + Sync>(
+    rt: &R,
+    alloc: Global,
+    message: Message,
+    fuse: u64,
+) -> Result<bool, AllocError> {
+    let mut line = line_of(alloc, message, fuse)?;
+    let mut handler = Lacking {
+        alloc,
+        asked: false,
+    };
+    let mut buffer = connection_buffer(alloc)?;
+    let _ = serve(rt, alloc, &mut line, &mut handler, &mut buffer);
+    Ok(line.failures() == 1)
+}
+
+/// Whether a message is answered by so many calls of its line.
+fn is_answered_by<R: Threads + Sync>(
+    rt: &R,
+    alloc: Global,
+    message: Message,
+    calls: u64,
+) -> Result<bool, AllocError> {
+    Ok(
+        is_made(rt, alloc, message, calls)?
+            && !is_made(rt, alloc, message, calls.saturating_add(1))?,
+    )
+}
+
+#[test]
+fn a_head_that_came_whole_is_one_read(rt: HostRuntime) -> Result<(), Fail> {
+    let message = Message {
+        head: b"GET / HTTP/1.1\r\nHost: c\r\nConnection: close\r\n\r\n",
+        body: 0,
+        tail: b"",
+    };
+    assert!(rt; is_answered_by(&rt, rt.alloc(), message, 2)?);
+    Ok(())
+}
+
+/// The first read is of 4,096 bytes, of which 72 are the head's, and 128 more of 8,192 are what the others go into.
+#[test]
+fn a_body_of_a_length_is_read_by_as_much_as_there_is_room_for(rt: HostRuntime) -> Result<(), Fail> {
+    let message = Message {
+        head: b"POST / HTTP/1.1\r\nHost: c\r\nConnection: close\r\nContent-Length: 1048576\r\n\r\n",
+        body: 1_048_576,
+        tail: b"",
+    };
+    assert!(rt; is_answered_by(&rt, rt.alloc(), message, 130)?);
+    Ok(())
+}
+
+/// A head of 75 bytes, the chunk's line of 8, its bytes and 7 behind them go into 257 reads of 4,096 bytes.
+#[test]
+fn a_chunk_is_read_by_as_much_as_is_looked_at(rt: HostRuntime) -> Result<(), Fail> {
+    let message = Message {
+        head: b"POST / HTTP/1.1\r\nHost: c\r\nConnection: close\r\nTransfer-Encoding: chunked\r\n\r\n100000\r\n",
+        body: 1_048_576,
+        tail: b"\r\n0\r\n\r\n",
+    };
+    assert!(rt; is_answered_by(&rt, rt.alloc(), message, 258)?);
+    Ok(())
+}
+
+/// Whether call number `fuse` is made while a post is made and answered.
+fn is_made_of_a_post(alloc: Global, fuse: u64) -> Result<bool, AllocError> {
+    let answer = Message {
+        head: b"HTTP/1.1 200 OK\r\nContent-Length: 3\r\n\r\n",
+        body: 3,
+        tail: b"",
+    };
+    let mut line = line_of(alloc, answer, fuse)?;
+    let _ = post_over(alloc, &mut line, "h:1", b"abc");
+    Ok(line.failures() == 1)
+}
+
+/// Its head and its payload are a write each, and an answer that came whole is one read.
+#[test]
+fn a_post_is_two_writes_and_a_read(rt: HostRuntime) -> Result<(), Fail> {
+    assert!(rt; is_made_of_a_post(rt.alloc(), 3)?);
+    assert!(rt; !is_made_of_a_post(rt.alloc(), 4)?);
+    Ok(())
+}

@@ -1,0 +1,42 @@
+-- The order of a span's fields: by number, and behind all others those that a span doesn't know (canonical text is that
+-- of `otlp_trace`'s Text, over the fields of `Span` of OTLP 1.x's trace.proto).
+use Rattle.std.specs.Prelude.{◌≡◌, ◌==◌, ◌&&◌, ◌||◌, if◌then◌else◌, ℕ, nat_lt, Bool, false, not, List, ◌++◌, filter}
+use Rattle.pb_wire.specs.Grammar.{Datum, Varint, Eight, Bytes, Four, Entry}
+use Rattle.otlp_read.specs.Walk.{Piece, Pieces}
+use Rattle.otlp_canonical.specs.Defaults.{is_number, is_text}
+
+-- a message stands in the field of this number
+abbrev pub is_message : ℕ → Bool
+is_message n = n == 9 || (n == 11 || (n == 13 || n == 15))
+
+-- a span has a field of this number and wire type
+abbrev pub is_known : ℕ → Datum → Bool
+is_known n (Varint x) = is_number n
+is_known n (Eight bs) = n == 7 || n == 8
+is_known n (Bytes bs) = is_text n || is_message n
+is_known n (Four bs) = n == 16
+is_known n _ = false
+
+-- where a field stands in canonical order
+abbrev pub place_at : ℕ → Datum → ℕ
+place_at n v = if is_known n v then n else 17
+
+-- the same of the whole field
+abbrev pub place_of : Entry → ℕ
+place_of field = place_at field.number field.value
+
+-- those fields that stand at this place or behind it
+abbrev pub from : ℕ → List Piece → List Piece
+from low pieces = filter (λ p. not (nat_lt (place_of p.field) low)) pieces
+
+-- those that stand there and before another place
+abbrev pub between : ℕ → ℕ → List Piece → List Piece
+between low high pieces = filter (λ p. not (nat_lt (place_of p.field) low) && nat_lt (place_of p.field) high) pieces
+
+-- behind what stood there, the fields of the text that stand between these places, in the text's order
+pub record WithPlaces (d low high : ℕ) (text old new : List ℕ) : Type 0 where
+  pub pieces : List Piece
+  pub are : Pieces d text pieces
+  pub put : List ℕ
+  pub chosen : Pieces d put (between low high pieces)
+  pub copied : new ≡ old ++ put

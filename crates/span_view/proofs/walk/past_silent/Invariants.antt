@@ -1,0 +1,13 @@
+use Rattle.std.proofs.Common.{◌≡◌, ◌≤◌, length}
+use Rattle.span_view.specs.Fields.{told}
+use Rattle.span_view.specs.Reading.{fields_of}
+use Rattle.span_view.proofs.walk.past_silent.Given as goal
+
+abbrev pub invariant-fields : goal.invariant-fields
+invariant-fields l = record {
+  same : told (fields_of l.text) ≡ told (fields_of l.left);
+  within : length l.left ≤ length l.text;
+}
+
+abbrev pub decreases-fields : goal.decreases-fields
+decreases-fields l = length l.left
