@@ -122,8 +122,10 @@ def unit_runs(folder):
     check("all is filled in", "@" in re.sub("SystemCallFilter=.*", "", unit.read_text()), False)
     variables = dict(word.partition("=")[::2] for line in lines_of(unit, "Environment") for word in line)
     check("where it is looked after", variables["ADMIN"], "127.0.0.1:9464")
+    limits = [word for word in variables["OPTIONS"].split() if word.startswith("--")]
+    check("who rests is let go", limits, ["--client-timeout", "--request-timeout", "--back-end-timeout"])
     port = free_port()
-    variables |= {"ADMIN": f"127.0.0.1:{free_port()}", "OPTIONS": "--connections 8"}
+    variables |= {"ADMIN": f"127.0.0.1:{free_port()}", "OPTIONS": variables["OPTIONS"] + " --connections 8"}
     with BackEnd() as back_end:
         settings = root / "etc/nimchaes/settings.toml"
         settings.parent.mkdir(parents=True)

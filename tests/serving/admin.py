@@ -1,6 +1,7 @@
 """What the port for operators does."""
 
 import json
+import resource
 import socket
 import subprocess
 import threading
@@ -10,6 +11,7 @@ from pathlib import Path
 
 from serving import talk
 from serving.exposition import families
+from serving.memory import ROOMS, SPANS, addresses
 from serving.talk import (BUSY, MOST, NAMES, BackEnd, Service, body, check, head_of, in_threads, line_of, read_message,
                           tenant, wait_for)
 
@@ -26,6 +28,8 @@ METRICS = {"accepted": "otelcol_receiver_accepted_spans_total", "exported": "ote
            "queue_full": "otelcol_exporter_enqueue_failed_spans_total"}
 # The Collector's tail sampling processor has this gauge of the traces that it has in memory.
 ROWS = "otelcol_processor_tail_sampling_sampling_traces_on_memory"
+# What is told where spans come in (docs/HTTP.md), and what all else is counted under.
+STATUSES = ("200", "400", "403", "404", "405", "413", "415", "429", "431", "503", "other")
 JSON = "application/json"
 # So many scrapes are measured, one a second, and as many seconds of rest.
 SCRAPES = 10
@@ -92,6 +96,11 @@ class LookedAfter(Service):
     def metric(self, name, **labels):
         """The figure of a metric with these labels."""
         return families(self.ask("/metrics")[2].decode())[name].samples[tuple(labels.items())]
+
+    def requests(self):
+        """How many requests were answered with each status."""
+        found = families(self.ask("/metrics")[2].decode())["nimchaes_requests_total"].samples
+        return {dict(labels)["code"]: count for labels, count in found.items()}
 
     def drained(self):
         """Its end after a drain."""
@@ -227,8 +236,8 @@ def counted(folder):
     """What the service counts of its connections, requests, bytes and batches is what its clients and back ends see."""
     with BackEnd() as back_end, BackEnd(BUSY) as busy, BackEnd(None) as held, \
             LookedAfter(folder, [tenant("a", back_end), tenant("busy", busy), tenant("held", held)]) as service:
-        def by_class(name, kind):
-            return service.metric(name, **{"class": kind})
+        def answers(kind):
+            return service.metric("nimchaes_back_end_answers_total", **{"class": kind})
 
         wait_for(lambda: service.metric("nimchaes_connections_total") == service.knocks, "those at the start come")
         wait_for(lambda: service.metric("nimchaes_connections_open") == 0, "those at the start have ended")
@@ -246,15 +255,14 @@ def counted(folder):
             check("bad", read_message(peer.recv).split(b" ")[1], b"400")
         wait_for(lambda: service.metric("nimchaes_connections_open") == 0, "it has ended")
         check("taken", service.metric("nimchaes_connections_total"), float(service.knocks + 1))
-        check("taken as 2xx", by_class("nimchaes_requests_total", "2xx"), 2.0)
-        check("told as 4xx", by_class("nimchaes_requests_total", "4xx"), 2.0)
-        wait_for(lambda: by_class("nimchaes_back_end_answers_total", "2xx") > 0, "it is sent")
+        check("by their statuses", service.requests(), {**dict.fromkeys(STATUSES, 0), "200": 2, "404": 1, "400": 1})
+        wait_for(lambda: answers("2xx") > 0, "it is sent")
         idle, turns = (service.metric(f"nimchaes_{name}_total") for name in ("idle_turns", "turns"))
         check(f"{turns} turns, of which {idle} found nothing", 0 < idle < turns, True)
         check("none again", service.metric("nimchaes_retries_total"), 0.0)
         check("a post", service.post("busy", body(3, 3)), (200, b""))
         wait_for(lambda: service.metric("nimchaes_retries_total") > 1, "it is sent again")
-        check("told so", by_class("nimchaes_back_end_answers_total", "5xx") > 1, True)
+        check("told so", answers("5xx") > 1, True)
         busy.reply = talk.TAKEN
         wait_for(lambda: service.told("/tenants/busy")[1]["exported"] == 1, "it is taken")
         check("a post", service.post("held", body(4, 4)), (200, b""))
@@ -266,6 +274,57 @@ def counted(folder):
         told = service.metric("otelcol_process_memory_rss_bytes")
         check(f"memory: {told} and {resident}", 0.8 < told / resident < 1.25, True)
         check("the end", service.drained()[0], 0)
+
+
+def each_status(folder):
+    """Each status is counted under its own label, as often as clients are told it: of want of memory and after a drain
+    too."""
+    asked = (("200", head_of("a", 34) + body(1, 1)), ("400", head_of("a", 1) + b"\xff"), ("403", head_of("b", 0)),
+             ("404", b"GET /x HTTP/1.1\r\nHost: c\r\n\r\n"), ("405", b"GET /v1/traces HTTP/1.1\r\nHost: c\r\n\r\n"),
+             ("413", head_of("a", 20_971_521)), ("415", head_of("a", 0, "Content-Encoding: gzip\r\n")),
+             ("429", head_of("full", 34) + body(2, 2)), ("431", b"GET / HTTP/1.1\r\n" + b"a: b\r\n" * 65 + b"\r\n"))
+    with BackEnd() as back_end, BackEnd(None) as held, LookedAfter(
+            folder, [tenant("a", back_end), tenant("full", back_end, wait=86_400_000, most=1), tenant("held", held)],
+            parts=1) as service:
+        told = dict.fromkeys(STATUSES, 0)
+
+        def tell(status, text, peer):
+            peer.sendall(text)
+            check(f"told {status}", read_message(peer.recv)[9:12].decode(), status)
+            told[status] += 1
+
+        def counted_so(when):
+            wait_for(lambda: sum(service.requests().values()) == sum(told.values()), f"all are counted {when}")
+            check(f"by their statuses {when}", service.requests(), told)
+
+        def is_told_the_end():
+            status, _ = service.post("a", body(4, 4), kept)
+            told[str(status)] += 1
+            return status == 503
+
+        check("none yet", list(service.requests().items()), list(told.items()))
+        with service.connect() as kept:
+            for name, times in (("full", 1), ("held", 1), ("a", 12)):
+                for _ in range(times):
+                    tell("200", head_of(name, 34) + body(3, 3), kept)
+            # Each a number of times of its own.
+            for times, (status, text) in enumerate(asked, 1):
+                for _ in range(times):
+                    with service.connect() as peer:
+                        tell(status, text, peer)
+            counted_so("of each")
+            large, most = body(1, 1) * SPANS, resource.prlimit(service.run.pid, resource.RLIMIT_AS)
+            resource.prlimit(service.run.pid, resource.RLIMIT_AS, (addresses(service.run.pid) + ROOMS[0], most[1]))
+            with service.connect() as peer:
+                tell("503", head_of("a", len(large)) + large, peer)
+            resource.prlimit(service.run.pid, resource.RLIMIT_AS, most)
+            counted_so("without memory")
+            wait_for(lambda: held.posts, "a batch is held")
+            check("a drain", service.told("/drain", "POST"), (200, {"state": "draining"}))
+            wait_for(is_told_the_end, "the service ends")
+            counted_so("after a drain")
+        held.release()
+        check("the end", service.run.wait(MOST), 0)
 
 
 def with_token(folder):
@@ -319,6 +378,29 @@ def without_token(folder):
                                  stdin=subprocess.DEVNULL, capture_output=True, timeout=MOST, check=False)
             told = f"input or output fault\n{wrong}: a token is one line of letters, digits and - . _ ~ + /, with = at its end alone\n"
             check(f"with {text!r}", (run.returncode, run.stdout, run.stderr.decode()), (1, b"", told))
+
+
+def no_page_changes_anything(folder):
+    """A page of any site can have a browser post to this machine, and says so by `Origin`: it changes nothing, and may
+    ask for what can be seen. With a token it may change what whoever has the token may."""
+    file = Path(folder, "token")
+    file.write_text(TOKEN + "\n")
+    with BackEnd() as back_end:
+        document = tenant("new", back_end).encode()
+        for page in ("Origin: https://site.example\r\n", "Origin: null\r\n", "origin: http://127.0.0.1:9464\r\n", "Origin:\r\n",
+                     "Origin: https://site.example\r\nOrigin: https://site.example\r\n"):
+            with LookedAfter(folder, [tenant("a", back_end)]) as service:
+                for target, method, content in (("/drain", "POST", b""), ("/tenants", "POST", document), ("/tenants/a", "DELETE", b"")):
+                    status, _, told = service.ask(target, method, content, more=page)
+                    check(f"{method} {target} of a page", (status, told), (401, b'{"error":"the token is missing or another"}'))
+                check("it looks", service.told("/tenants", more=page), (200, {"tenants": [figures("a")]}))
+                check("it is ready", service.ask("/readyz", more=page)[0], 200)
+                check("the end", service.drained()[0], 0)
+        with LookedAfter(folder, [tenant("a", back_end)], "--admin-token-file", str(file)) as service:
+            right = f"Authorization: Bearer {TOKEN}\r\nOrigin: https://site.example\r\n"
+            check("with the token", service.ask("/tenants", "POST", document, more=right)[0], 201)
+            check("a drain", service.ask("/drain", "POST", more=right)[0], 200)
+            check("the end", service.run.wait(MOST), 0)
 
 
 def with_each_token(folder):
@@ -574,6 +656,7 @@ def scraped_often(folder):
         check("the end", service.drained()[0], 0)
 
 
-TESTS = (looked_at, scraped, in_force, counted, with_token, without_token, with_each_token, asked_in, warned, asked_out_late,
+TESTS = (looked_at, scraped, in_force, counted, each_status, with_token, without_token, no_page_changes_anything, with_each_token,
+         asked_in, warned, asked_out_late,
          drained_by_call, slow_lookers, asked_to_the_end, without_input, few_files)
 BY_HAND = (scraped_often,)

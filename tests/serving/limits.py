@@ -18,6 +18,8 @@ WHOLE = head_of("a", 34) + body(18, 1)
 # So many milliseconds of rest are too many. Beside others' work a thread may come much later to what is due.
 LIMIT = 400
 LIMITED = ("--client-timeout", str(LIMIT))
+# So many seconds are between two pieces of what never ends: well within the limit.
+DROP = 0.03
 WHOLE_IN_TIME = ("--request-timeout", str(LIMIT))
 CONNECTIONS = 300
 # With its descriptors it is within 4,096, above which some systems let no process.
@@ -212,6 +214,71 @@ def back_ends_that_rest(folder):
         check("the large one again", large in read and all(large.startswith(part) for part in read), True)
 
 
+class Endless(BackEnd):
+    """Answers each post with a front, and goes on with one piece more again and again, for as long as anybody is there.
+    Where it is told a size it reads so many bytes at a time in place of that."""
+
+    def __init__(self, front, more, size=None):
+        super().__init__()
+        if size is not None:
+            self.listener.setsockopt(socket.SOL_SOCKET, socket.SO_RCVBUF, size)
+        self.front = front
+        self.more = more
+        self.size = size
+
+    def serve(self, peer):
+        began = time.monotonic()
+        with suppress(OSError), peer:
+            if self.size is not None:
+                self.posts.append((b"", None, began))
+                while peer.recv(self.size):
+                    time.sleep(DROP)
+                return
+            self.posts.append((read_message(peer.recv), None, began))
+            peer.sendall(self.front)
+            while True:
+                peer.sendall(self.more)
+                time.sleep(DROP)
+
+
+def answers_without_end(folder):
+    """A back end whose answer never ends, in its head, in its body or in chunks, though something of it comes in time each
+    time, and one that reads a large job drop by drop: each attempt takes as long as the limit, and no longer, and has
+    failed, so that the job is tried again until its retries end. Meanwhile senders come free for another tenant's jobs,
+    and at the end of the input the service ends."""
+    head = b"HTTP/1.1 200 OK\r\n"
+    large = request((b"\1" * 16, b"\1" * 8, piece(5, b"n" * 9_000_000)))
+    kinds = {"with a length": Endless(head + b"Content-Length: 1000000\r\n\r\n", b"a"),
+             "in its head": Endless(head + b"X: ", b"a"),
+             "in chunks": Endless(head + b"Transfer-Encoding: chunked\r\n\r\n", b"1\r\na\r\n"),
+             "as fast as it can": Endless(head + b"\r\n", b"a" * 65_536),
+             "drop by drop": Endless(b"", b"", size=4096)}
+    retries = "max_elapsed_time_ms = 2000\n"
+    with ExitStack() as stack:
+        good = stack.enter_context(BackEnd())
+        sections = [tenant(f"t{number}", stack.enter_context(back_end)) + retries
+                    for number, back_end in enumerate(kinds.values())]
+        service = stack.enter_context(Service(folder, [*sections, tenant("u", good)], "--back-end-timeout", str(LIMIT),
+                                              senders=len(kinds)))
+        for number, kind in enumerate(kinds):
+            text = large if kind == "drop by drop" else body(1, 1)
+            check("a post", service.post(f"t{number}", text), (200, b""))
+        wait_for(lambda: all(back_end.posts for back_end in kinds.values()), "each sender has a job")
+        check("a post", service.post("u", body(9, 1)), (200, b""))
+        wait_for(lambda: service.report("u") == line_of("u", accepted=1, exported=1), "another's job is done")
+        wait_for(lambda: all(len(back_end.posts) >= 2 for back_end in kinds.values()), "all are tried again")
+        lost = "".join(line_of(f"t{number}", accepted=1, retry_exhausted=1) for number in range(len(kinds)))
+        check("the end", service.end(), (0, lost + line_of("u", accepted=1, exported=1), b""))
+        for kind, back_end in kinds.items():
+            times = [when for _, _, when in back_end.posts]
+            took = [later - sooner for sooner, later in zip(times, times[1:])]
+            # A busy machine takes a post late.
+            check(f"{kind}: not long before the limit", max(took) > 0.6 * LIMIT / 1000, True)
+            check(f"{kind}: not a second after it", min(took) < LIMIT / 1000 + 1, True)
+            if kind != "drop by drop":
+                check(f"{kind}: the same again", set(back_end.bodies()), {body(1, 1)})
+
+
 def no_connection(folder):
     """A back end whose queue of connections is full isn't waited for beyond the limit, and is tried again."""
     with BackEnd() as good, socket.create_server(("127.0.0.1", 0), backlog=0) as full, ExitStack() as stack:
@@ -324,4 +391,4 @@ def few_descriptors(folder):
 
 
 TESTS = (resting_clients, slow_clients, slow_requests, both_limits, unread_replies, the_end_of_resting, back_ends_that_rest,
-         no_connection, many_connections, many_threads, few_descriptors)
+         answers_without_end, no_connection, many_connections, many_threads, few_descriptors)

@@ -3,15 +3,22 @@
 import time
 from pathlib import Path
 
-from serving.talk import BackEnd, Service, body, check, tenant, wait_for
+from serving.admin import LookedAfter
+from serving.talk import BackEnd, Service, body, check, in_threads, tenant, wait_for
 
 SHARDS = 16
 SENDERS = 48
-# Turners look some sixty times a second all together, and so do senders. A thread that looked each millisecond would
-# alone make 1,000 more.
-MOST_A_SECOND = 600
+# Turners look some sixty times a second all together, and so do senders. Turners that paused shortly before each sleep
+# would make sixty more, and a thread that looked each millisecond alone 1,000.
+MOST_A_SECOND = 160
+# So many senders rest for four seconds each.
+MANY = "256"
+AT_ONCE = 0.9
 # until a span is decided on, in milliseconds
 WAIT = 5_000
+# clients that post for so many seconds as fast as they are answered
+CLIENTS = 4
+BUSY = 2
 
 
 def switches(pid):
@@ -27,9 +34,9 @@ def is_at_rest(service):
     return switches(service.run.pid) - before < MOST_A_SECOND
 
 
-def started(folder, back_end):
+def started(folder, back_end, *options):
     tenants = [tenant(f"t{number}", back_end) for number in range(2 * SHARDS)]
-    return Service(folder, tenants, shards=SHARDS, senders=SENDERS)
+    return Service(folder, tenants, *options, shards=SHARDS, senders=SENDERS)
 
 
 def rests_and_wakes(folder):
@@ -70,13 +77,44 @@ def rests_until_something_is_due(folder):
             check("status", service.end()[0], 0)
 
 
+def many_posts_share_turns(folder):
+    """Each post rings the turner of its shard, and nevertheless that makes no more than a turn a millisecond."""
+    with BackEnd() as back_end, LookedAfter(folder, [tenant("a", back_end, wait=10 * WAIT)], shards=1) as service:
+        posts = []
+
+        def client():
+            with service.connect() as peer:
+                end = time.monotonic() + BUSY
+                while time.monotonic() < end:
+                    posts.append(service.post("a", body(1, 1), peer)[0])
+
+        begun, before = time.monotonic(), service.metric("nimchaes_idle_turns_total")
+        in_threads(*[client] * CLIENTS)
+        turns = service.metric("nimchaes_idle_turns_total") - before
+        took = 1_000 * (time.monotonic() - begun)
+        check("what posts are told", set(posts), {200})
+        check(f"{turns:.0f} turns that found nothing in {took:.0f} ms, of {len(posts)} posts", turns < 1.2 * took, True)
+        check("status", service.drained()[0], 0)
+
+
+def starts_at_once(folder):
+    """Threads that wait for the others look once a second, and who comes last wakes them."""
+    with BackEnd() as back_end:
+        begun = time.monotonic()
+        with Service(folder, [tenant("a", back_end)], shards=1, senders=1, receivers=1) as service:
+            check("a post", service.post("a", body(1, 1))[0], 200)
+            check("it starts at once", time.monotonic() - begun < AT_ONCE, True)
+            check("status", service.end()[0], 0)
+
+
 def ends_at_once(folder):
-    """The end of the input wakes all who rest."""
-    with BackEnd() as back_end, started(folder, back_end) as service:
+    """The end of the input wakes all who rest, also senders that would look by themselves once in four seconds."""
+    with BackEnd() as back_end, started(folder, back_end, "--senders", MANY) as service:
         wait_for(lambda: is_at_rest(service), "it rests")
         begun = time.monotonic()
         check("status", service.end()[0], 0)
-        check("it ends at once", time.monotonic() - begun < 0.7, True)
+        check("it ends at once", time.monotonic() - begun < AT_ONCE, True)
 
 
-TESTS = (rests_and_wakes, rests_until_something_is_due, ends_at_once)
+TESTS = (rests_and_wakes, rests_until_something_is_due, many_posts_share_turns, starts_at_once,
+         ends_at_once)

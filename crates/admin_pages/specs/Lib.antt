@@ -6,3 +6,4 @@ pub mod Report
 pub mod Route
 pub mod Service
 pub mod Settings
+pub mod Status

@@ -3,6 +3,7 @@
 -- it measures the same.
 use Rattle.std.specs.Prelude.{ℕ, List, [], ◌∷◌, ◌++◌, Option, Some, None, if◌then◌else◌, codes}
 use Rattle.admin_pages.specs.Metrics.{measure_text, measures_text}
+use Rattle.admin_pages.specs.Status.{counts_by_status}
 use Rattle.admin_pages.specs.declared.counter.MetricKind.{MetricKind}
 use Rattle.admin_pages.specs.declared.counter.MetricKind.TheVariants.{Counter, Gauge}
 use Rattle.admin_pages.specs.declared.service.Measure.{Measure}
@@ -79,7 +80,7 @@ classes_of counts =
     (codes "2xx", counts.success) ∷ (codes "4xx", counts.client_error) ∷ (codes "5xx", counts.server_error)
     ∷ (codes "other", counts.other) ∷ []
 
--- the same for answers of back ends, behind a figure for batches to which no whole answer came
+-- the same of back ends' answers, which may have any status, behind a figure for batches to which no whole answer came
 abbrev pub answers_of : StatusCounts → ℕ → List (List ℕ × ℕ)
 answers_of counts failed = (codes "none", failed) ∷ classes_of counts
 
@@ -89,11 +90,12 @@ build_text version =
     measures_text (codes "nimchaes_build_info") (codes "The version that runs") Gauge (codes "version")
     ((version, 1) ∷ [])
 
--- the requests that were answered, by their statuses
-abbrev pub requests_text : StatusCounts → List ℕ
+-- the requests that were answered, by their statuses, under the label that Prometheus' own server and clients have for
+-- these
+abbrev pub requests_text : List ℕ → List ℕ
 requests_text counts =
     measures_text (codes "nimchaes_requests_total") (codes "Requests that were answered by their status") Counter
-    (codes "class") (classes_of counts)
+    (codes "code") (counts_by_status counts)
 
 -- the answers of back ends, by their statuses
 abbrev pub answers_text : StatusCounts → ℕ → List ℕ

@@ -9,6 +9,7 @@ mod report;
 mod route;
 mod service;
 mod settings;
+mod status;
 mod token;
 
 pub use crate::counter::{MetricKind, SpanCounter};
@@ -19,4 +20,5 @@ pub use crate::report::read_report;
 pub use crate::route::{AdminRoute, admin_route};
 pub use crate::service::{ServiceCounts, ServiceFigures, StatusCounts, put_service};
 pub use crate::settings::put_settled_tenant;
+pub use crate::status::{STATUS_COUNTS, status_place};
 pub use crate::token::same_token;

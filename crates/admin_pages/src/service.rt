@@ -2,10 +2,12 @@
 
 ghost use Rattle.std.specs.Prelude.{◌≡◌, ◌∷◌, ◌++◌, map, OnOk};
 ghost use Rattle.admin_pages.specs.Metrics.{sample_of};
-ghost use Rattle.admin_pages.specs.Service.{measure_view, gauge, counter, families_of, standing_of, sending_of, receiving_of, memory_text, classes_of, answers_of, build_text, requests_text, answers_text, service_text};
+ghost use Rattle.admin_pages.specs.Service.{measure_view, gauge, counter, families_of, standing_of, sending_of, receiving_of, memory_text, answers_of, build_text, requests_text, answers_text, service_text};
+ghost use Rattle.admin_pages.specs.Status.{counts_by_status};
 
 use crate::counter::MetricKind;
 use crate::metrics::{Sample, put_measure, put_measures};
+use crate::status::STATUS_COUNTS;
 use std::alloc::{AllocError, Global};
 
 /// How many there were of each class of HTTP's statuses.
@@ -33,8 +35,8 @@ pub struct ServiceCounts {
     pub received_bytes: u64,
     /// To clients.
     pub sent_bytes: u64,
-    /// Requests of clients, by what they were answered.
-    pub requests: StatusCounts,
+    /// Requests of clients by the status that they were answered with, each at its [`crate::status_place`].
+    pub requests: [u64; STATUS_COUNTS],
     /// Turns of shards, those that found nothing ready among them.
     pub turns: u64,
     pub idle_turns: u64,
@@ -110,7 +112,7 @@ pub fn put_service(
     put_each(alloc, out, &standing(figures))?;
     put_memory(alloc, out, figures.resident_bytes)?;
     put_each(alloc, out, &receiving(figures))?;
-    put_requests(alloc, out, figures.counts.requests)?;
+    put_requests(alloc, out, &figures.counts.requests)?;
     put_each(alloc, out, &sending(figures))?;
     put_answers(
         alloc,
@@ -269,8 +271,12 @@ fn put_build(alloc: Global, out: &mut Vec<u8>, version: &'static str) -> Result<
 }
 
 /// Appends the requests that were answered.
-fn put_requests(alloc: Global, out: &mut Vec<u8>, counts: StatusCounts) -> Result<(), AllocError>
-    ensures { OnOk result (out.new.items ≡ out.old.items ++ requests_text counts) }
+fn put_requests(
+    alloc: Global,
+    out: &mut Vec<u8>,
+    counts: &[u64; STATUS_COUNTS],
+) -> Result<(), AllocError>
+    ensures { OnOk result (out.new.items ≡ out.old.items ++ requests_text counts.now) }
 {
     put_measures(
         alloc,
@@ -278,8 +284,8 @@ fn put_requests(alloc: Global, out: &mut Vec<u8>, counts: StatusCounts) -> Resul
         "nimchaes_requests_total",
         "Requests that were answered by their status",
         MetricKind::Counter,
-        "class",
-        &classes(counts),
+        "code",
+        &by_status(counts),
     )
 }
 
@@ -316,15 +322,22 @@ fn answers(counts: StatusCounts, failed: u64) -> [Sample; 5]
     ]
 }
 
-/// Each class's figure.
-fn classes(counts: StatusCounts) -> [Sample; 4]
-    ensures { map sample_of result ≡ classes_of counts }
+/// Each status's figure.
+fn by_status(counts: &[u64; STATUS_COUNTS]) -> [Sample; STATUS_COUNTS]
+    ensures { map sample_of result ≡ counts_by_status counts.now }
 {
     [
-        sample("2xx", counts.success),
-        sample("4xx", counts.client_error),
-        sample("5xx", counts.server_error),
-        sample("other", counts.other),
+        sample("200", counts[0]),
+        sample("400", counts[1]),
+        sample("403", counts[2]),
+        sample("404", counts[3]),
+        sample("405", counts[4]),
+        sample("413", counts[5]),
+        sample("415", counts[6]),
+        sample("429", counts[7]),
+        sample("431", counts[8]),
+        sample("503", counts[9]),
+        sample("other", counts[10]),
     ]
 }
 

@@ -14,3 +14,5 @@ mod routes;
 mod service;
 #[cfg(test)]
 mod settings;
+#[cfg(test)]
+mod statuses;

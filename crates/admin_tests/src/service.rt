@@ -1,6 +1,8 @@
 //! Figures of a whole service as a scraper reads them.
 
-use admin_pages::{ServiceCounts, ServiceFigures, StatusCounts, put_service};
+use admin_pages::{
+    STATUS_COUNTS, ServiceCounts, ServiceFigures, StatusCounts, put_service, status_place,
+};
 use std::test::Fail;
 
 /// So many of each class, from this number on.
@@ -13,8 +15,11 @@ fn counts(first: u64) -> StatusCounts {
     }
 }
 
-/// A service whose figures are all different.
-fn figures(resident_bytes: Option<u64>) -> ServiceFigures {
+/// How many requests there are of each status, all different.
+const REQUESTS: [u64; STATUS_COUNTS] = [50, 51, 52, 53, 54, 55, 56, 57, 58, 59, 60];
+
+/// A service whose other figures are all different.
+fn figures(resident_bytes: Option<u64>, requests: [u64; STATUS_COUNTS]) -> ServiceFigures {
     ServiceFigures {
         version: "1.2.3",
         uptime: 10,
@@ -30,7 +35,7 @@ fn figures(resident_bytes: Option<u64>) -> ServiceFigures {
             connections: 15,
             received_bytes: 16,
             sent_bytes: 17,
-            requests: counts(20),
+            requests,
             turns: 28,
             idle_turns: 29,
             lane_jobs: 30,
@@ -54,10 +59,17 @@ nimchaes_connections_open 14
 nimchaes_connections_total 15
 nimchaes_received_bytes_total 16
 nimchaes_sent_bytes_total 17
-nimchaes_requests_total{class=\"2xx\"} 20
-nimchaes_requests_total{class=\"4xx\"} 21
-nimchaes_requests_total{class=\"5xx\"} 22
-nimchaes_requests_total{class=\"other\"} 23
+nimchaes_requests_total{code=\"200\"} 50
+nimchaes_requests_total{code=\"400\"} 51
+nimchaes_requests_total{code=\"403\"} 52
+nimchaes_requests_total{code=\"404\"} 53
+nimchaes_requests_total{code=\"405\"} 54
+nimchaes_requests_total{code=\"413\"} 55
+nimchaes_requests_total{code=\"415\"} 56
+nimchaes_requests_total{code=\"429\"} 57
+nimchaes_requests_total{code=\"431\"} 58
+nimchaes_requests_total{code=\"503\"} 59
+nimchaes_requests_total{code=\"other\"} 60
 nimchaes_turns_total 28
 nimchaes_idle_turns_total 29
 nimchaes_lane_jobs 30
@@ -75,7 +87,7 @@ nimchaes_back_end_answers_total{class=\"other\"} 43
 #[test]
 fn each_figure_is_a_sample(rt: HostRuntime) -> Result<(), Fail> {
     let mut text = Vec::new(rt.alloc());
-    put_service(rt.alloc(), &mut text, &figures(Some(u64::MAX)))?;
+    put_service(rt.alloc(), &mut text, &figures(Some(u64::MAX), REQUESTS))?;
     let mut samples = Vec::new(rt.alloc());
     for line in text.as_slice().split_inclusive(|byte| *byte == b'\n') {
         if !line.starts_with(b"#") {
@@ -87,9 +99,45 @@ fn each_figure_is_a_sample(rt: HostRuntime) -> Result<(), Fail> {
 }
 
 #[test]
+fn each_status_is_counted_under_its_label(rt: HostRuntime) -> Result<(), Fail> {
+    for (status, label) in [
+        (200, "200"),
+        (400, "400"),
+        (403, "403"),
+        (404, "404"),
+        (405, "405"),
+        (413, "413"),
+        (415, "415"),
+        (429, "429"),
+        (431, "431"),
+        (503, "503"),
+        (0, "other"),
+        (201, "other"),
+        (401, "other"),
+        (500, "other"),
+        (u16::MAX, "other"),
+    ] {
+        let mut requests = [0; STATUS_COUNTS];
+        requests[status_place(status)] = 7;
+        let mut text = Vec::new(rt.alloc());
+        put_service(rt.alloc(), &mut text, &figures(None, requests))?;
+        let mut sample = Vec::from_slice(rt.alloc(), b"\nnimchaes_requests_total{code=\"")?;
+        sample.extend_from_slice(label.as_bytes())?;
+        sample.extend_from_slice(b"\"} 7\n")?;
+        let length = sample.len();
+        assert!(rt;
+            text.as_slice()
+                .windows(length)
+                .any(|part| part == sample.as_slice())
+        );
+    }
+    Ok(())
+}
+
+#[test]
 fn memory_may_be_unknown(rt: HostRuntime) -> Result<(), Fail> {
     let mut text = Vec::new(rt.alloc());
-    put_service(rt.alloc(), &mut text, &figures(None))?;
+    put_service(rt.alloc(), &mut text, &figures(None, REQUESTS))?;
     let begins = b"# HELP nimchaes_build_info The version that runs\n\
 # TYPE nimchaes_build_info gauge\n\
 nimchaes_build_info{version=\"1.2.3\"} 1\n\

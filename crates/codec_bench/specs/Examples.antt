@@ -2,7 +2,7 @@
 use Rattle.std.specs.Prelude.{◌≡◌, codes, ℕ, ◌-◌, ◌^◌, List, [], ◌∷◌, map, replicate, None}
 use Rattle.otlp_trace.specs.Data.{ScopeSpansData, ResourceSpansData, RequestData}
 use Rattle.otlp_read.specs.declared.fault.ReadFault.TheVariants as read
-use Rattle.otlp_read.specs.Value.{no_span}
+use Rattle.otlp_trace.specs.Defaults.{no_span}
 use Rattle.codec_bench.specs.declared.fault.BenchFault.TheVariants.{Usage, Body, NotCanonical, InputOutput, OutOfMemory}
 use Rattle.codec_bench.specs.Round.{spans_of, in_64_bits, IsWrittenAgain, body_fault}
 use Rattle.codec_bench.specs.Status.{status_of}

@@ -10,7 +10,8 @@ use Rattle.otlp_trace.specs.Data.{any_value, array, StatusData, SpanData, Reques
 use Rattle.otlp_trace.specs.Examples.{example_resource, example_resource_bytes, example_scope, example_scope_bytes, example_span, example_span_bytes, example_request, example_bytes}
 use Rattle.otlp_trace.specs.Text.{resource_text, scope_text, span_text, request_text}
 use Rattle.otlp_read.specs.AnyValue.{no_array}
-use Rattle.otlp_read.specs.Value.{no_span, no_scope_spans, no_resource_spans, span_known, value_of}
+use Rattle.otlp_trace.specs.Defaults.{no_span, no_scope_spans, no_resource_spans}
+use Rattle.otlp_read.specs.Value.{span_known, value_of}
 use Rattle.otlp_read.specs.Nested.{Kept, NestedAny, NestedRequest}
 use Rattle.otlp_read.specs.Typed.{TypedStatus}
 

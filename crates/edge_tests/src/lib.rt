@@ -7,6 +7,8 @@ mod answer_tests;
 #[cfg(test)]
 mod answers;
 #[cfg(test)]
+mod attempts;
+#[cfg(test)]
 mod calls;
 #[cfg(test)]
 mod connections;

@@ -1,4 +1,3 @@
 pub mod Throughs
-mod Ticking
 mod Rounds
 mod Notes

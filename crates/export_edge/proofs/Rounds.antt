@@ -1,114 +1,131 @@
 -- One more round of a turner or a sender.
-use Rattle.std.proofs.Common.{◌≡◌, ◌⊎◌, ℕ, List, [], ◌∷◌, ◌++◌, map, flat_map, Option, Some, None, MatchOption, option_to_list, refl, sym, ap, subst, ◌∙◌, append_assoc, append-nil}
+use Rattle.std.proofs.Common.{◌≡◌, ℕ, false, List, [], ◌∷◌, ◌++◌, map, flat_map, Option, Some, None, MatchOption, option_to_list, refl, sym, ap, subst, ◌∙◌, append_assoc, append-nil}
 use Rattle.std.proofs.lemmas.List.{map-append}
 use Rattle.std.proofs.lemmas.List.Concat.{flat_map-append}
 use Rattle.log_positions.specs.Numbered.{items_of}
 use Rattle.job_lane.specs.declared.job.Job.{Job}
 use Rattle.job_lane.specs.Lane.{NumberedJob}
-use Rattle.export_edge.specs.Work.{Through, Ticks, Turn, moment_of, Turning, jobs_in, Posted, Given, Handed, posted_of, attempts, Hands, Sending}
-use Rattle.export_edge.proofs.Throughs.{through_more}
-use Rattle.export_edge.proofs.Ticking.{unasked, given_more, rested, may_rest, given_both}
+use Rattle.export_edge.specs.Work.{Through, BeatCall, looked, gave, paused, Turn, turn_made, job_pushed, lane_full, turn_in, push_in, pause_after, turner_calls, HoldsAround, Turning, jobs_in, Posted, Given, Handed, posted_of, hand_calls, Hands, job_sent, lane_empty, sent_in, sender_calls, Sending}
+use Rattle.export_edge.proofs.Throughs.{through_more, through_both}
 
-module _ {S B : Type 0} (turns : S → Turn → S → Type 0) (gives : B → ℕ → B → Type 0) (rests : B → B → Type 0) where
+-- what one round more adds
+pub one_more : {X Y : Type 0} (f : X → List Y) (xs : List X) (x : X) → flat_map f (xs ++ x ∷ []) ≡ flat_map f xs ++ f x
+one_more f xs x = flat_map-append f xs (x ∷ []) ∙ ap (λ v. flat_map f xs ++ v) (append-nil (f x))
+
+-- the calls of one round more
+pub called_more : {B R : Type 0} (calls : B → BeatCall → B → Type 0) (of_round : R → List BeatCall) (old mid new : B)
+    (rounds : List R) (r : R) → Through calls old (flat_map of_round rounds) mid → Through calls mid (of_round r) new
+    → Through calls old (flat_map of_round (rounds ++ r ∷ [])) new
+called_more calls of_round old mid new rounds r before more =
+    subst (λ v. Through calls old v new) (sym (one_more of_round rounds r))
+    (through_both calls old mid new (flat_map of_round rounds) (of_round r) before more)
+
+module _ {S B : Type 0} (turns : S → Turn → S → Type 0) (calls : B → BeatCall → B → Type 0) where
   -- the job that is held was pushed, or comes back
-  pub offered : (start now : S) (b0 b b' : B) (before pushes pushes' : List NumberedJob) (job : Job) (back : Option Job)
+  pub offered : (start now : S) (b0 last b b' : B) (before pushes pushes' : List NumberedJob) (job : Job) (back : Option Job)
       → MatchOption back ((n : ℕ) × (pushes' ≡ pushes ++ (n, job) ∷ [])) (λ k. (k ≡ job) × (pushes' ≡ pushes))
-      → (b' ≡ b) ⊎ rests b b'
-      → Turning turns gives rests start now b0 b before pushes (Some job)
-      → Turning turns gives rests start now b0 b' before pushes' back
-  offered start now b0 b b' before pushes pushes' job None p r t = record {
+      → MatchOption back (b' ≡ b) (λ _. calls b paused b')
+      → Turning turns calls start now b0 last before pushes (Some job)
+      → calls last (looked false) b
+      → Turning turns calls start now b0 b' before pushes' back
+  offered start now b0 last b b' before pushes pushes' job None p same t look = record {
+    rounds = t.rounds ++ job_pushed (p.0, job) ∷ [];
+    beats = called_more calls turner_calls b0 last b' t.rounds (job_pushed (p.0, job)) t.beats (b, look, same);
+    holds = through_more HoldsAround None (Some job) None t.rounds (job_pushed (p.0, job)) t.holds (refl, refl);
     made = t.made;
+    makes = one_more turn_in t.rounds (job_pushed (p.0, job)) ∙ (append-nil (flat_map turn_in t.rounds) ∙ t.makes);
     runs = t.runs;
-    moments = may_rest gives rests b0 b b' (map moment_of t.made) t.moments r;
     pushed = t.pushed ++ (p.0, job) ∷ [];
+    puts = one_more push_in t.rounds (job_pushed (p.0, job)) ∙ ap (λ v. v ++ (p.0, job) ∷ []) t.puts;
     pushes = p.1 ∙ (ap (λ v. v ++ (p.0, job) ∷ []) t.pushes ∙ append_assoc before t.pushed ((p.0, job) ∷ []));
     jobs = t.jobs ∙ (sym (map-append (λ e. e.1) t.pushed ((p.0, job) ∷ []))
         ∙ sym (append-nil (items_of (t.pushed ++ (p.0, job) ∷ []))));
   }
-  offered start now b0 b b' before pushes pushes' job (Some k) p r t = record {
+  offered start now b0 last b b' before pushes pushes' job (Some k) p rest t look = record {
+    rounds = t.rounds ++ lane_full ∷ [];
+    beats = called_more calls turner_calls b0 last b' t.rounds lane_full t.beats (b, look, (b', rest, refl));
+    holds = through_more HoldsAround None (Some job) (Some k) t.rounds lane_full t.holds (job, refl, ap (λ j. Some j) p.0);
     made = t.made;
+    makes = one_more turn_in t.rounds lane_full ∙ (append-nil (flat_map turn_in t.rounds) ∙ t.makes);
     runs = t.runs;
-    moments = may_rest gives rests b0 b b' (map moment_of t.made) t.moments r;
     pushed = t.pushed;
+    puts = one_more push_in t.rounds lane_full ∙ (append-nil (flat_map push_in t.rounds) ∙ t.puts);
     pushes = p.1 ∙ t.pushes;
     jobs = t.jobs ∙ ap (λ j. items_of t.pushed ++ j ∷ []) (sym p.0);
   }
 
   -- a turn was made, at the moment that it was
-  pub turned : (start mid new : S) (b0 b told b' : B) (before pushes : List NumberedJob) (made : Turn) (next : Option Job)
-      → turns mid made new → jobs_in made ≡ option_to_list next → gives b made.now told → (b' ≡ told) ⊎ rests told b'
-      → Turning turns gives rests start mid b0 b before pushes None
-      → Turning turns gives rests start new b0 b' before pushes next
-  turned start mid new b0 b told b' before pushes made next p gave at r t =
-      let more = given_more gives rests b0 b told (map moment_of t.made) made.now t.moments at in
-      let all = may_rest gives rests b0 told b' (map moment_of t.made ++ made.now ∷ []) more r in
-      record {
-        made = t.made ++ made ∷ [];
-        runs = through_more turns start mid new t.made made t.runs p;
-        moments = subst (λ v. Ticks gives rests b0 v b') (sym (map-append moment_of t.made (made ∷ []))) all;
-        pushed = t.pushed;
-        pushes = t.pushes;
-        jobs = flat_map-append jobs_in t.made (made ∷ [])
-            ∙ (ap (λ v. v ++ (jobs_in made ++ [])) (t.jobs ∙ append-nil (items_of t.pushed))
-            ∙ ap (λ v. items_of t.pushed ++ v) (append-nil (jobs_in made) ∙ gave));
-      }
-
-  -- it was asked whether the work is over
-  pub turner_rested : (start now : S) (b0 b b' : B) (before pushes : List NumberedJob) (held : Option Job) → rests b b'
-      → Turning turns gives rests start now b0 b before pushes held
-      → Turning turns gives rests start now b0 b' before pushes held
-  turner_rested start now b0 b b' before pushes held r t = record {
-    made = t.made;
-    runs = t.runs;
-    moments = rested gives rests b0 b b' (map moment_of t.made) t.moments r;
+  pub turned : (start mid new : S) (b0 last b told b' : B) (before pushes : List NumberedJob) (made : Turn) (next : Option Job)
+      → turns mid made new → jobs_in made ≡ option_to_list next → calls b (gave made.now) told
+      → Through calls told (pause_after made.came_to) b'
+      → Turning turns calls start mid b0 last before pushes None
+      → calls last (looked false) b
+      → Turning turns calls start new b0 b' before pushes next
+  turned start mid new b0 last b told b' before pushes made next p gave_job at rest t look = record {
+    rounds = t.rounds ++ turn_made made ∷ [];
+    beats = called_more calls turner_calls b0 last b' t.rounds (turn_made made) t.beats (b, look, (told, at, rest));
+    holds = through_more HoldsAround None None next t.rounds (turn_made made) t.holds (refl, gave_job);
+    made = t.made ++ made ∷ [];
+    makes = one_more turn_in t.rounds (turn_made made) ∙ ap (λ v. v ++ made ∷ []) t.makes;
+    runs = through_more turns start mid new t.made made t.runs p;
     pushed = t.pushed;
+    puts = one_more push_in t.rounds (turn_made made) ∙ (append-nil (flat_map push_in t.rounds) ∙ t.puts);
     pushes = t.pushes;
-    jobs = t.jobs;
+    jobs = one_more jobs_in t.made made
+        ∙ (ap (λ v. v ++ jobs_in made) (t.jobs ∙ append-nil (items_of t.pushed))
+        ∙ ap (λ v. items_of t.pushed ++ v) gave_job);
   }
 
   -- nothing was done yet
-  pub unturned : (start : S) (b : B) (before : List NumberedJob) → Turning turns gives rests start start b b before before None
+  pub unturned : (start : S) (b : B) (before : List NumberedJob) → Turning turns calls start start b b before before None
   unturned start b before = record {
+    rounds = [];
+    beats = refl;
+    holds = refl;
     made = [];
+    makes = refl;
     runs = refl;
-    moments = unasked gives rests b;
     pushed = [];
+    puts = refl;
     pushes = sym (append-nil before);
     jobs = refl;
   }
 
-module _ {B S T : Type 0} (posts : B → Posted → B → Type 0) (takes refuses : S → Given → S → Type 0) (gives : T → ℕ → T → Type 0) (rests : T → T → Type 0) where
+module _ {B S T : Type 0} (posts : B → Posted → B → Type 0) (takes refuses : S → Given → S → Type 0) (calls : T → BeatCall → T → Type 0) where
   -- a job was popped and posted, and its answer was handed in
-  pub sent : (b0 b b' : B) (s0 s s' : S) (t0 t t' : T) (before pops pops' : List NumberedJob) (n : ℕ) (h : Handed)
+  pub sent : (b0 b b' : B) (s0 s s' : S) (t0 last t t' : T) (before pops pops' : List NumberedJob) (n : ℕ) (h : Handed)
       → pops' ≡ pops ++ (n, h.post.job) ∷ [] → posts b h.post b' → Hands takes refuses s h s'
-      → Ticks gives rests t (attempts h) t'
-      → Sending posts takes refuses gives rests b0 b s0 s t0 t before pops
-      → Sending posts takes refuses gives rests b0 b' s0 s' t0 t' before pops'
-  sent b0 b b' s0 s s' t0 t t' before pops pops' n h popped posts_it hands_it ticks w =
+      → Through calls t (hand_calls h.refusals h.now) t'
+      → Sending posts takes refuses calls b0 b s0 s t0 last before pops
+      → calls last (looked false) t
+      → Sending posts takes refuses calls b0 b' s0 s' t0 t' before pops'
+  sent b0 b b' s0 s s' t0 last t t' before pops pops' n h popped posts_it hands_it called w look =
       let posting = through_more posts b0 b b' (map posted_of w.sent) h.post w.posting posts_it in
-      let moments = given_both gives rests t0 t t' (flat_map attempts w.sent) (attempts h) w.moments ticks in
-      let more = flat_map-append attempts w.sent (h ∷ [])
-      ∙ ap (λ v. flat_map attempts w.sent ++ v) (append-nil (attempts h)) in
       record {
+        rounds = w.rounds ++ job_sent h ∷ [];
+        beats = called_more calls sender_calls t0 last t' w.rounds (job_sent h) w.beats (t, look, called);
         sent = w.sent ++ h ∷ [];
+        sends = one_more sent_in w.rounds (job_sent h) ∙ ap (λ v. v ++ h ∷ []) w.sends;
         posting = subst (λ v. Through posts b0 v b') (sym (map-append posted_of w.sent (h ∷ []))) posting;
         handing = through_more (Hands takes refuses) s0 s s' w.sent h w.handing hands_it;
-        moments = subst (λ v. Ticks gives rests t0 v t') (sym more) moments;
         popped = w.popped ++ (n, h.post.job) ∷ [];
         pops = popped ∙ (ap (λ v. v ++ (n, h.post.job) ∷ []) w.pops ∙ append_assoc before w.popped ((n, h.post.job) ∷ []));
         jobs = map-append (λ q. q.post.job) w.sent (h ∷ []) ∙ (ap (λ v. v ++ h.post.job ∷ []) w.jobs
             ∙ sym (map-append (λ e. e.1) w.popped ((n, h.post.job) ∷ [])));
       }
 
-  -- there was no job, or it was asked whether the work is over
-  pub sender_rested : (b0 b : B) (s0 s : S) (t0 t t' : T) (before pops : List NumberedJob) → rests t t'
-      → Sending posts takes refuses gives rests b0 b s0 s t0 t before pops
-      → Sending posts takes refuses gives rests b0 b s0 s t0 t' before pops
-  sender_rested b0 b s0 s t0 t t' before pops r w = record {
+  -- there was no job
+  pub sender_rested : (b0 b : B) (s0 s : S) (t0 last t t' : T) (before pops : List NumberedJob) → calls t paused t'
+      → Sending posts takes refuses calls b0 b s0 s t0 last before pops
+      → calls last (looked false) t
+      → Sending posts takes refuses calls b0 b s0 s t0 t' before pops
+  sender_rested b0 b s0 s t0 last t t' before pops rest w look = record {
+    rounds = w.rounds ++ lane_empty ∷ [];
+    beats = called_more calls sender_calls t0 last t' w.rounds lane_empty w.beats (t, look, (t', rest, refl));
     sent = w.sent;
+    sends = one_more sent_in w.rounds lane_empty ∙ (append-nil (flat_map sent_in w.rounds) ∙ w.sends);
     posting = w.posting;
     handing = w.handing;
-    moments = rested gives rests t0 t t' (flat_map attempts w.sent) w.moments r;
     popped = w.popped;
     pops = w.pops;
     jobs = w.jobs;
@@ -116,12 +133,14 @@ module _ {B S T : Type 0} (posts : B → Posted → B → Type 0) (takes refuses
 
   -- nothing was done yet
   pub unsent : (b : B) (s : S) (t : T) (before : List NumberedJob)
-      → Sending posts takes refuses gives rests b b s s t t before before
+      → Sending posts takes refuses calls b b s s t t before before
   unsent b s t before = record {
+    rounds = [];
+    beats = refl;
     sent = [];
+    sends = refl;
     posting = refl;
     handing = refl;
-    moments = unasked gives rests t;
     popped = [];
     pops = sym (append-nil before);
     jobs = refl;

@@ -1,8 +1,8 @@
 -- Laws of turners' and senders' work: who takes notes of what is asked of it has, after a whole work, noted just what
 -- the work is said to be. So the steps from a first state to a last are as many as the items, and no others. Laws of
 -- this project's own.
-use Rattle.std.specs.Prelude.{◌≡◌, ℕ, List, [], ◌∷◌, ◌++◌, map}
-use Rattle.export_edge.specs.Work.{Through, Ticks, Turn, Posted, Given, Handed, taken_of, Hands}
+use Rattle.std.specs.Prelude.{◌≡◌, ℕ, List, [], ◌∷◌, ◌++◌, map, flat_map}
+use Rattle.export_edge.specs.Work.{Through, BeatCall, moments_in, Turn, moment_of, TurnerRound, turn_in, turner_calls, Posted, Given, Handed, attempts, taken_of, Hands, SenderRound, sent_in, sender_calls}
 
 -- a source that notes its turns has noted those that were made, each once and in order
 abbrev pub TurnsAreNoted : {S : Type 0} → (S → Turn → S → Type 0) → Type 0
@@ -25,10 +25,19 @@ AnswersAreNoted {S} takes refuses = (noted : S → List Given)
     → (old new : S) (sent : List Handed) → Through (Hands takes refuses) old sent new
     → noted new ≡ noted old ++ map taken_of sent
 
--- a beat that notes the moments that it gives, and nothing where it gives none, has noted just those that it is said to
--- have given
-abbrev pub MomentsAreNoted : {B : Type 0} → (B → ℕ → B → Type 0) → (B → B → Type 0) → Type 0
-MomentsAreNoted {B} gives rests = (noted : B → List ℕ)
-    → ((old new : B) (moment : ℕ) → gives old moment new → noted new ≡ noted old ++ moment ∷ [])
-    → ((old new : B) → rests old new → noted new ≡ noted old)
-    → (old new : B) (moments : List ℕ) → Ticks gives rests old moments new → noted new ≡ noted old ++ moments
+-- a beat that notes its calls has noted those that were made, each once and in order
+abbrev pub CallsAreNoted : {B : Type 0} → (B → BeatCall → B → Type 0) → Type 0
+CallsAreNoted {B} calls = (noted : B → List BeatCall)
+    → ((old new : B) (c : BeatCall) → calls old c new → noted new ≡ noted old ++ c ∷ [])
+    → (old new : B) (made : List BeatCall) → Through calls old made new → noted new ≡ noted old ++ made
+
+-- a beat that notes the moments that it gives, and nothing where it gives none, has noted just those at which a turner
+-- made its turns, and those at which a sender handed in its answers
+abbrev pub MomentsAreNoted : {B : Type 0} → (B → BeatCall → B → Type 0) → Type 0
+MomentsAreNoted {B} calls = (noted : B → List ℕ)
+    → ((old new : B) (c : BeatCall) → calls old c new → noted new ≡ noted old ++ moments_in c)
+    → (old new : B)
+    → ((rounds : List TurnerRound) → Through calls old (flat_map turner_calls rounds) new
+    → noted new ≡ noted old ++ map moment_of (flat_map turn_in rounds))
+    × ((rounds : List SenderRound) → Through calls old (flat_map sender_calls rounds) new
+    → noted new ≡ noted old ++ flat_map attempts (flat_map sent_in rounds))

@@ -1,5 +1,5 @@
 -- What turners and senders do, over their whole work. This project's own rules.
-use Rattle.std.specs.Prelude.{◌≡◌, ℕ, List, [], ◌∷◌, ◌++◌, map, flat_map, Option, Some, None, option_to_list}
+use Rattle.std.specs.Prelude.{◌≡◌, ℕ, Bool, false, List, [], ◌∷◌, ◌++◌, map, flat_map, Option, Some, None, option_to_list}
 use Rattle.log_positions.specs.Numbered.{items_of}
 use Rattle.job_lane.specs.declared.job.Job.{Job}
 use Rattle.job_lane.specs.Lane.{NumberedJob}
@@ -12,17 +12,17 @@ abbrev pub Through : {S X : Type 0} → (S → X → S → Type 0) → S → Lis
 Through step old [] new = new ≡ old
 Through {S} step old (x ∷ xs) new = (mid : S) × step old x mid × Through step mid xs new
 
--- one call of a beat: it gave this moment, or none
-abbrev pub Beats : {B : Type 0} → (B → ℕ → B → Type 0) → (B → B → Type 0) → B → Option ℕ → B → Type 0
-Beats gives rests old (Some moment) new = gives old moment new
-Beats gives rests old None new = rests old new
+-- a call of a beat: it said whether the work is over, gave a moment, or paused
+pub data BeatCall : Type 0 where
+  looked : Bool → BeatCall
+  gave : ℕ → BeatCall
+  paused : BeatCall
 
--- between two states of a beat it gave these moments, each once and in order, and no others
-pub record Ticks {B : Type 0} (gives : B → ℕ → B → Type 0) (rests : B → B → Type 0) (old : B) (moments : List ℕ)
-    (new : B) : Type 0 where
-  pub calls : List (Option ℕ)
-  pub through : Through (Beats gives rests) old calls new
-  pub are : flat_map option_to_list calls ≡ moments
+-- the moment of a call, if it gave one
+abbrev pub moments_in : BeatCall → List ℕ
+moments_in (looked over) = []
+moments_in (gave moment) = moment ∷ []
+moments_in paused = []
 
 -- a turn: its moment, and what it came to
 pub record Turn : Type 0 where
@@ -47,17 +47,67 @@ jobs_in t = job_of t.came_to
 abbrev pub moment_of : Turn → ℕ
 moment_of t = t.now
 
--- What a turner did: turns, each at the moment that the beat then gave, and their jobs, in order, are those that it
--- pushed, each once, and the one that it still holds.
-pub record Turning {S B : Type 0} (turns : S → Turn → S → Type 0) (gives : B → ℕ → B → Type 0)
-    (rests : B → B → Type 0) (old new : S) (beat beat' : B) (before after : List NumberedJob) (held : Option Job)
-    : Type 0 where
+-- a round of a turner: it made a turn, pushed a job, or found no room for the job in the lane
+pub data TurnerRound : Type 0 where
+  turn_made : Turn → TurnerRound
+  job_pushed : NumberedJob → TurnerRound
+  lane_full : TurnerRound
+
+-- the turn of a round, if it made one
+abbrev pub turn_in : TurnerRound → List Turn
+turn_in (turn_made t) = t ∷ []
+turn_in (job_pushed pushed) = []
+turn_in lane_full = []
+
+-- the job of a round, if it pushed one
+abbrev pub push_in : TurnerRound → List NumberedJob
+push_in (turn_made t) = []
+push_in (job_pushed pushed) = pushed ∷ []
+push_in lane_full = []
+
+-- behind a turn there is a pause where it had nothing to do, and none elsewhere
+abbrev pub pause_after : TurnResult → List BeatCall
+pause_after (turned.Job job) = []
+pause_after turned.Worked = []
+pause_after turned.Idle = paused ∷ []
+
+-- the calls of the beat in a round: the work is not over, a turn is made at the moment that then is, and there is a
+-- pause where nothing was to be done or the lane is full
+abbrev pub turner_calls : TurnerRound → List BeatCall
+turner_calls (turn_made t) = looked false ∷ gave t.now ∷ pause_after t.came_to
+turner_calls (job_pushed pushed) = looked false ∷ []
+turner_calls lane_full = looked false ∷ paused ∷ []
+
+-- the job that a turner holds before a round, and behind it: none before a turn, and then the turn's job, if it gave
+-- one; one that it pushes, which has then left; or one for which there is no room, which stays
+abbrev pub HoldsAround : Option Job → TurnerRound → Option Job → Type 0
+HoldsAround held (turn_made t) next = (held ≡ None) × (jobs_in t ≡ option_to_list next)
+HoldsAround held (job_pushed pushed) next = (held ≡ Some pushed.1) × (next ≡ None)
+HoldsAround held lane_full next = (job : Job) × (held ≡ Some job) × (next ≡ Some job)
+
+-- What a turner did: rounds, in which it called the beat so and no more often, from holding no job on. The jobs of its
+-- turns, in order, are those that it pushed, each once, and the one that it still holds.
+pub record Turning {S B : Type 0} (turns : S → Turn → S → Type 0) (calls : B → BeatCall → B → Type 0)
+    (old new : S) (beat beat' : B) (before after : List NumberedJob) (held : Option Job) : Type 0 where
+  pub rounds : List TurnerRound
+  pub beats : Through calls beat (flat_map turner_calls rounds) beat'
+  pub holds : Through HoldsAround None rounds held
   pub made : List Turn
+  pub makes : flat_map turn_in rounds ≡ made
   pub runs : Through turns old made new
-  pub moments : Ticks gives rests beat (map moment_of made) beat'
   pub pushed : List NumberedJob
+  pub puts : flat_map push_in rounds ≡ pushed
   pub pushes : after ≡ before ++ pushed
   pub jobs : flat_map jobs_in made ≡ items_of pushed ++ option_to_list held
+
+-- whatever was done before, this was done behind it, once the beat had said that the work is not over
+abbrev pub TurnsBehind : {S B : Type 0} → (S → Turn → S → Type 0) → (B → BeatCall → B → Type 0) → (old new : S)
+    → (beat beat' : B) → (pushed pushed' : List NumberedJob) → (held held' : Option Job) → Type 0
+TurnsBehind {S} {B} turns calls old new beat beat' pushed pushed' held held' =
+    (start : S) (b last : B) (before : List NumberedJob)
+    → Turning turns calls start old b last before pushed held
+    → calls last (looked false) beat
+    → Turning turns calls start new b beat' before pushed' held'
 
 -- a job that was posted, and what came of it
 pub record Posted : Type 0 where
@@ -111,34 +161,60 @@ pub record Hands {S : Type 0} (takes refuses : S → Given → S → Type 0) (ol
   pub refused : Through (λ s now t. refuses s (given_for h.post now) t) old h.refusals mid
   pub taken : takes mid (taken_of h) new
 
--- What a sender did: the jobs that it popped were posted, in order, each once, and to each its answer was handed in,
--- each time at the moment that the beat then gave.
+-- the calls of the beat at an attempt that was refused: its moment, and a pause
+abbrev pub refused_calls : ℕ → List BeatCall
+refused_calls now = gave now ∷ paused ∷ []
+
+-- the calls of the beat while an answer is handed in, up to the moment at which it was taken
+abbrev pub hand_calls : List ℕ → ℕ → List BeatCall
+hand_calls refusals now = flat_map refused_calls refusals ++ gave now ∷ []
+
+-- a round of a sender: it sent a job, or found none in the lane
+pub data SenderRound : Type 0 where
+  job_sent : Handed → SenderRound
+  lane_empty : SenderRound
+
+-- what a round sent, if it did
+abbrev pub sent_in : SenderRound → List Handed
+sent_in (job_sent h) = h ∷ []
+sent_in lane_empty = []
+
+-- the calls of the beat in a round: the work is not over, and then there are the attempts to hand in the answer, or a
+-- pause where the lane is empty
+abbrev pub sender_calls : SenderRound → List BeatCall
+sender_calls (job_sent h) = looked false ∷ hand_calls h.refusals h.now
+sender_calls lane_empty = looked false ∷ paused ∷ []
+
+-- What a sender did: rounds, in which it called the beat so and no more often. The jobs that it popped were posted, in
+-- order, each once, and to each its answer was handed in.
 pub record Sending {B S T : Type 0} (posts : B → Posted → B → Type 0) (takes refuses : S → Given → S → Type 0)
-    (gives : T → ℕ → T → Type 0) (rests : T → T → Type 0) (back_end back_end' : B) (sink sink' : S) (beat beat' : T)
+    (calls : T → BeatCall → T → Type 0) (back_end back_end' : B) (sink sink' : S) (beat beat' : T)
     (before after : List NumberedJob) : Type 0 where
+  pub rounds : List SenderRound
+  pub beats : Through calls beat (flat_map sender_calls rounds) beat'
   pub sent : List Handed
+  pub sends : flat_map sent_in rounds ≡ sent
   pub posting : Through posts back_end (map posted_of sent) back_end'
   pub handing : Through (Hands takes refuses) sink sent sink'
-  pub moments : Ticks gives rests beat (flat_map attempts sent) beat'
   pub popped : List NumberedJob
   pub pops : after ≡ before ++ popped
   pub jobs : map (λ h. h.post.job) sent ≡ items_of popped
 
--- whatever was sent before, this was sent behind it
+-- whatever was sent before, this was sent behind it, once the beat had said that the work is not over
 abbrev pub SendsBehind : {B S T : Type 0} → (B → Posted → B → Type 0) → (takes refuses : S → Given → S → Type 0)
-    → (T → ℕ → T → Type 0) → (T → T → Type 0) → (back_end back_end' : B) → (sink sink' : S) → (beat beat' : T)
+    → (T → BeatCall → T → Type 0) → (back_end back_end' : B) → (sink sink' : S) → (beat beat' : T)
     → (popped popped' : List NumberedJob) → Type 0
-SendsBehind {B} {S} {T} posts takes refuses gives rests back_end back_end' sink sink' beat beat' popped popped' =
-    (b : B) (s : S) (t : T) (before : List NumberedJob)
-    → Sending posts takes refuses gives rests b back_end s sink t beat before popped
-    → Sending posts takes refuses gives rests b back_end' s sink' t beat' before popped'
+SendsBehind {B} {S} {T} posts takes refuses calls back_end back_end' sink sink' beat beat' popped popped' =
+    (b : B) (s : S) (t last : T) (before : List NumberedJob)
+    → Sending posts takes refuses calls b back_end s sink t last before popped
+    → calls last (looked false) beat
+    → Sending posts takes refuses calls b back_end' s sink' t beat' before popped'
 
 -- the job was posted, and the answer to it handed in, each time at the moment that the beat then gave
 abbrev pub SendsJob : {B S T : Type 0} → (B → Posted → B → Type 0) → (takes refuses : S → Given → S → Type 0)
-    → (T → ℕ → T → Type 0) → (T → T → Type 0) → Job → (back_end back_end' : B) → (sink sink' : S) → (beat beat' : T)
-    → Type 0
-SendsJob posts takes refuses gives rests job back_end back_end' sink sink' beat beat' =
+    → (T → BeatCall → T → Type 0) → Job → (back_end back_end' : B) → (sink sink' : S) → (beat beat' : T) → Type 0
+SendsJob posts takes refuses calls job back_end back_end' sink sink' beat beat' =
     (answer : AnswerData) × (refusals : List ℕ) × (now : ℕ)
     × posts back_end (posted job answer) back_end'
     × Hands takes refuses sink (handed (posted job answer) refusals now) sink'
-    × Ticks gives rests beat (refusals ++ now ∷ []) beat'
+    × Through calls beat (hand_calls refusals now) beat'

@@ -12,7 +12,7 @@
 //! answers. The bytes of a post are OTLP/HTTP's; the rules of turners and senders are this project's own.
 #![tactic(auto)]
 
-ghost use Rattle.export_edge.specs.Law.{TurnsAreNoted, PostsAreNoted, AnswersAreNoted, MomentsAreNoted};
+ghost use Rattle.export_edge.specs.Law.{TurnsAreNoted, PostsAreNoted, AnswersAreNoted, CallsAreNoted, MomentsAreNoted};
 
 mod addresses;
 mod back_end;
@@ -48,8 +48,14 @@ pub fn answers_are_noted<S: AnswerSink>()
     ensures { AnswersAreNoted S.takes S.refuses }
 {}
 
-/// A beat that notes the moments that it gives has noted those at which a turner's turns or a sender's answers are said
-/// to have been made: a law over the definitions.
+/// A beat that notes its calls has noted those that a turner or a sender is said to have made of it: a law over the
+/// definitions.
+pub fn calls_are_noted<B: Beat>()
+    ensures { CallsAreNoted B.calls }
+{}
+
+/// A beat that notes the moments that it gives has noted those at which a turner is said to have made its turns, and a
+/// sender to have handed in its answers: a law over the definitions.
 pub fn moments_are_noted<B: Beat>()
-    ensures { MomentsAreNoted B.gives B.rests }
+    ensures { MomentsAreNoted B.calls }
 {}

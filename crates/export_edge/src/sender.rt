@@ -1,7 +1,7 @@
 //! Who takes jobs from the lane, posts them and hands in the answers.
-ghost use Rattle.std.specs.Prelude.{◌≡◌, ℕ, List, [], ◌∷◌, ◌++◌};
+ghost use Rattle.std.specs.Prelude.{◌≡◌, ℕ, List, true};
 ghost use Rattle.send_retry.specs.Class.{answer_view};
-ghost use Rattle.export_edge.specs.Work.{posted, handed, Hands, Sending, Ticks, SendsBehind, SendsJob};
+ghost use Rattle.export_edge.specs.Work.{posted, handed, Hands, Sending, Through, SendsBehind, SendsJob, looked, hand_calls};
 
 use crate::back_end::BackEnd;
 use crate::work::{AnswerRefused, AnswerSink, Beat};
@@ -10,7 +10,7 @@ use send_retry::Answer;
 use std::sync::Wait;
 
 /// Takes jobs from the lane until the work is over: posts each once, and hands in the answer to it once, under the
-/// job's own tenant and ticket. It pauses where the lane is empty.
+/// job's own tenant and ticket. It pauses where the lane is empty and where an answer isn't taken, and nowhere else.
 pub fn run_sender<B: BackEnd, S: AnswerSink, T: Beat, R: Wait>(
     rt: &R,
     lane: &Lane,
@@ -21,8 +21,9 @@ pub fn run_sender<B: BackEnd, S: AnswerSink, T: Beat, R: Wait>(
 )
     requires { seat.old.lane ≡ lane.now.name }
     ensures same { (seat.new.lane ≡ seat.old.lane) × (seat.new.pushes ≡ seat.old.pushes) }
-    ensures work { Sending B.posts S.takes S.refuses T.gives T.rests back_end.old back_end.new
-        sink.old sink.new beat.old beat.new seat.old.pops seat.new.pops }
+    ensures work { (last : T) × Sending B.posts S.takes S.refuses T.calls back_end.old back_end.new
+        sink.old sink.new beat.old last seat.old.pops seat.new.pops
+        × T.calls last (looked true) beat.new }
 {
     'rounds: for _ in rt.forever() {
         if beat.is_over() {
@@ -45,7 +46,7 @@ fn send_once<B: BackEnd, S: AnswerSink, T: Beat, R: Wait>(
     requires { seat.old.lane ≡ lane.now.name }
     ensures same { (seat.new.lane ≡ seat.old.lane) × (seat.new.pushes ≡ seat.old.pushes) }
     // Whatever was done before.
-    ensures work { SendsBehind B.posts S.takes S.refuses T.gives T.rests back_end.old back_end.new
+    ensures work { SendsBehind B.posts S.takes S.refuses T.calls back_end.old back_end.new
         sink.old sink.new beat.old beat.new seat.old.pops seat.new.pops }
 {
     match lane.pop(rt, seat) {
@@ -62,7 +63,7 @@ fn send<B: BackEnd, S: AnswerSink, T: Beat, R: Wait>(
     beat: &mut T,
     job: &Job,
 )
-    ensures { SendsJob B.posts S.takes S.refuses T.gives T.rests job.now back_end.old back_end.new
+    ensures { SendsJob B.posts S.takes S.refuses T.calls job.now back_end.old back_end.new
         sink.old sink.new beat.old beat.new }
 {
     let answer = back_end.post(job);
@@ -80,7 +81,7 @@ fn hand_in<S: AnswerSink, T: Beat, R: Wait>(
     ensures { (refusals : List ℕ) × (now : ℕ)
         × Hands S.takes S.refuses sink.old
         (handed (posted job.now (answer_view answer.now)) refusals now) sink.new
-        × Ticks T.gives T.rests beat.old (refusals ++ now ∷ []) beat.new }
+        × Through T.calls beat.old (hand_calls refusals now) beat.new }
 {
     'attempts: for _ in rt.forever() {
         let now = beat.now();

@@ -1,15 +1,14 @@
 //! Who makes turns and hands their jobs to the lane.
-ghost use Rattle.std.specs.Prelude.{◌≡◌, ◌⊎◌, ℕ, List, ◌++◌, ◌∷◌, [], MatchOption, option_to_list};
-ghost use Rattle.job_lane.specs.Lane.{NumberedJob};
-ghost use Rattle.export_edge.specs.Work.{Turn, Turning, jobs_in, job_of};
+ghost use Rattle.std.specs.Prelude.{◌≡◌, ℕ, ◌++◌, ◌∷◌, [], true, MatchOption, option_to_list};
+ghost use Rattle.export_edge.specs.Work.{Turn, Turning, TurnsBehind, Through, jobs_in, job_of, looked, gave, paused, pause_after};
 
 use crate::work::{Beat, JobSource, TurnResult};
 use job_lane::{Job, Lane, LaneSeat};
 use std::sync::Wait;
 
 /// Makes turns until the work is over, each at the moment that it then is, and hands their jobs to the lane: in order,
-/// each once. It pauses where a turn
-/// had nothing to do and where the lane is full, keeping the job meanwhile. The job that it has at the end comes back.
+/// each once. It pauses where a turn had nothing to do and where the lane is full, keeping the job meanwhile, and
+/// nowhere else. The job that it has at the end comes back.
 pub fn run_turner<S: JobSource, B: Beat, R: Wait>(
     rt: &R,
     lane: &Lane,
@@ -19,8 +18,8 @@ pub fn run_turner<S: JobSource, B: Beat, R: Wait>(
 ) -> Option<Job>
     requires { seat.old.lane ≡ lane.now.name }
     ensures same { (seat.new.lane ≡ seat.old.lane) × (seat.new.pops ≡ seat.old.pops) }
-    ensures work { Turning S.turns B.gives B.rests source.old source.new beat.old beat.new
-        seat.old.pushes seat.new.pushes result }
+    ensures work { (last : B) × Turning S.turns B.calls source.old source.new beat.old last
+        seat.old.pushes seat.new.pushes result × B.calls last (looked true) beat.new }
 {
     let mut held = None;
     'rounds: for _ in rt.forever() {
@@ -44,10 +43,8 @@ fn turn_once<S: JobSource, B: Beat, R: Wait>(
     requires { seat.old.lane ≡ lane.now.name }
     ensures same { (seat.new.lane ≡ seat.old.lane) × (seat.new.pops ≡ seat.old.pops) }
     // Whatever was done before.
-    ensures work { (start : S) (b : B) (before : List NumberedJob)
-        → Turning S.turns B.gives B.rests start source.old b beat.old before seat.old.pushes held
-        → Turning S.turns B.gives B.rests start source.new b beat.new before seat.new.pushes
-        result }
+    ensures work { TurnsBehind S.turns B.calls source.old source.new beat.old beat.new
+        seat.old.pushes seat.new.pushes held result }
 {
     match held {
         Some(job) => offer(rt, lane, seat, beat, job),
@@ -68,7 +65,8 @@ fn offer<B: Beat, R: Wait>(
     ensures pushed { MatchOption result ((n : ℕ)
         × (seat.new.pushes ≡ seat.old.pushes ++ (n, job) ∷ []))
         (λ back. (back ≡ job) × (seat.new.pushes ≡ seat.old.pushes)) }
-    ensures rests { (beat.new ≡ beat.old) ⊎ B.rests beat.old beat.new }
+    ensures pauses { MatchOption result (beat.new ≡ beat.old)
+        (λ _. B.calls beat.old paused beat.new) }
 {
     match lane.push(rt, seat, job) {
         Ok(()) => None,
@@ -84,7 +82,8 @@ fn offer<B: Beat, R: Wait>(
 fn next_job<S: JobSource, B: Beat>(source: &mut S, beat: &mut B) -> Option<Job>
     ensures { (made : Turn) × S.turns source.old made source.new
         × (jobs_in made ≡ option_to_list result)
-        × ((mid : B) × B.gives beat.old made.now mid × ((beat.new ≡ mid) ⊎ B.rests mid beat.new)) }
+        × ((mid : B) × B.calls beat.old (gave made.now) mid
+        × Through B.calls mid (pause_after made.came_to) beat.new) }
 {
     let now = beat.now();
     let turned = source.turn(now);
@@ -94,7 +93,7 @@ fn next_job<S: JobSource, B: Beat>(source: &mut S, beat: &mut B) -> Option<Job>
 /// The job that a turn gave, if it gave one. Pauses where there was nothing to do.
 fn job_in<B: Beat>(turned: TurnResult, beat: &mut B) -> Option<Job>
     ensures job { job_of turned ≡ option_to_list result }
-    ensures rests { (beat.new ≡ beat.old) ⊎ B.rests beat.old beat.new }
+    ensures pauses { Through B.calls beat.old (pause_after turned) beat.new }
 {
     match turned {
         TurnResult::Job(job) => Some(job),

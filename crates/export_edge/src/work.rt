@@ -1,7 +1,7 @@
 //! What turners and senders work with.
-ghost use Rattle.std.specs.Prelude.{ℕ, OnOk, OnErr};
+ghost use Rattle.std.specs.Prelude.{OnOk, OnErr};
 ghost use Rattle.send_retry.specs.Class.{answer_view};
-ghost use Rattle.export_edge.specs.Work.{Turn, turn_at, Given, given};
+ghost use Rattle.export_edge.specs.Work.{Turn, turn_at, Given, given, BeatCall, looked, gave, paused};
 
 use job_lane::Job;
 use send_retry::Answer;
@@ -55,21 +55,18 @@ pub trait AnswerSink {
 
 /// To what turners and senders work: what the moment is, and when their work is over.
 pub trait Beat {
-    // From the first state it gives this moment, and the second state is left.
-    ghost gives: { Self → ℕ → Self → Type 0 };
-
-    // From the first state it gives no moment, and the second state is left.
-    ghost rests: { Self → Self → Type 0 };
+    // From the first state it is called so, and the second state is left.
+    ghost calls: { Self → BeatCall → Self → Type 0 };
 
     /// Whether the work is over. A sender that has a job sends it nevertheless.
     fn is_over(&mut self) -> bool
-        ensures { rests self.old self.new };
+        ensures { calls self.old (looked result) self.new };
 
     /// The moment, in milliseconds.
     fn now(&mut self) -> u64
-        ensures { gives self.old result self.new };
+        ensures { calls self.old (gave result) self.new };
 
     /// Waits a while, about a millisecond, before the next attempt.
     fn pause(&mut self)
-        ensures { rests self.old self.new };
+        ensures { calls self.old paused self.new };
 }

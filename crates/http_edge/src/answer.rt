@@ -8,7 +8,7 @@ ghost use Rattle.http_edge.specs.AnswerBody.{IsFinal, TellsBehind};
 
 use crate::answer_body::read_answer_body;
 use crate::answer_head::{AnswerHead, AnswerHeadProgress, read_answer_head};
-use crate::wire::{EdgeFault, PartRoom, drop_front};
+use crate::wire::{AnswerRoom, EdgeFault, drop_front};
 use http_line::Line;
 use send_retry::Answer;
 use std::alloc::Global;
@@ -27,7 +27,7 @@ pub fn read_answer<L: Line>(alloc: Global, line: &mut L) -> Result<Answer, EdgeF
         → HasFailed (L.failed line.old) (L.failed line.new) }
     ensures no_write { result ≢ Err EdgeFault.WriteFailed }
 {
-    let mut room: PartRoom = [0u8; 4096];
+    let mut room: AnswerRoom = [0u8; 4096];
     let mut buffer = Vec::new(alloc);
     match read_final_head(line, &mut room, &mut buffer)? {
         None => Ok(Answer::Failed),
@@ -41,7 +41,7 @@ pub fn read_answer<L: Line>(alloc: Global, line: &mut L) -> Result<Answer, EdgeF
 /// Reads the head that no other head follows, after at most so many interim ones. None: none comes.
 fn read_final_head<L: Line>(
     line: &mut L,
-    room: &mut PartRoom,
+    room: &mut AnswerRoom,
     buffer: &mut Vec<u8>,
 ) -> Result<Option<AnswerHead>, EdgeFault>
     requires { buffer.old.items ≡ [] }
@@ -86,7 +86,7 @@ fn is_interim(status: u16) -> bool
 fn read_after<L: Line>(
     alloc: Global,
     line: &mut L,
-    room: &mut PartRoom,
+    room: &mut AnswerRoom,
     buffer: &mut Vec<u8>,
     head: AnswerHead,
 ) -> Result<Answer, EdgeFault>

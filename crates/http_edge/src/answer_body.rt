@@ -6,7 +6,7 @@ ghost use Rattle.http_edge.specs.Stages.{IsAt};
 ghost use Rattle.http_edge.specs.AnswerBody.{Keeps, HasCome, IsPlainPieces, IsChunkPieces, IsPlainBody, IsAnswerBody};
 
 use crate::chunks::{ChunkedState, Piece, next_piece};
-use crate::wire::{EdgeFault, PartRoom, Watch, drop_front, fill};
+use crate::wire::{AnswerRoom, EdgeFault, Watch, drop_front, fill};
 use http_line::Line;
 use http1::Limits;
 use http1::decode::{Decoded, Decoder};
@@ -57,7 +57,7 @@ pub(crate) enum AnswerPieces {
 pub(crate) fn read_answer_body<L: Line>(
     alloc: Global,
     line: &mut L,
-    room: &mut PartRoom,
+    room: &mut AnswerRoom,
     buffer: &mut Vec<u8>,
     framing: Framing,
 ) -> Result<Option<Vec<u8>>, EdgeFault>
@@ -97,7 +97,7 @@ fn is_chunked(framing: Framing) -> bool
 fn read_answer_chunks<L: Line>(
     alloc: Global,
     line: &mut L,
-    room: &mut PartRoom,
+    room: &mut AnswerRoom,
     buffer: &mut Vec<u8>,
 ) -> Result<Option<Vec<u8>>, EdgeFault>
     ensures on_success { IfOk result (λ found. (read : List ℕ)
@@ -204,7 +204,7 @@ fn take_plain(
 fn read_plain_body<L: Line>(
     alloc: Global,
     line: &mut L,
-    room: &mut PartRoom,
+    room: &mut AnswerRoom,
     buffer: &mut Vec<u8>,
     framing: Framing,
 ) -> Result<Option<Vec<u8>>, EdgeFault>

@@ -9,7 +9,7 @@ ghost use Rattle.http_edge.specs.AnswerBody.{IsAnswerHeadProgress};
 
 use crate::fields::{field, framing_in, number};
 use crate::single::Single;
-use crate::wire::{EdgeFault, PartRoom, Watch, fill};
+use crate::wire::{AnswerRoom, EdgeFault, Watch, fill};
 use http_line::Line;
 use http1::framing::Framing;
 use httparse::Status;
@@ -42,7 +42,7 @@ pub(crate) enum AnswerHeadProgress {
 /// Reads until a head is there, a bad one, or the end.
 pub(crate) fn read_answer_head<L: Line>(
     line: &mut L,
-    room: &mut PartRoom,
+    room: &mut AnswerRoom,
     buffer: &mut Vec<u8>,
 ) -> Result<AnswerHeadProgress, EdgeFault>
     ensures on_success { IfOk result (λ begin. (read : List ℕ)

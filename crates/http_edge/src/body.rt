@@ -8,7 +8,7 @@ ghost use Rattle.http_edge.specs.Stages.{frame_by, bytes_due, IsAt, IsPieces, Is
 
 use crate::chunks::{ChunkedState, Piece, bytes_due, next_piece};
 use crate::head::BodyKind;
-use crate::wire::{EdgeFault, PART_ROOM, Room, Watch, drop_front, fill};
+use crate::wire::{EdgeFault, READ_AT_MOST, Room, Watch, drop_front, fill};
 use http_line::Line;
 use std::alloc::{AllocError, Global};
 
@@ -200,7 +200,7 @@ fn read_chunks<L: Line>(
             },
         }
         watch.drop_front(taken);
-        let more = fill(line, buffer, &mut room[..PART_ROOM])?;
+        let more = fill(line, buffer, &mut room[..READ_AT_MOST])?;
         ended = !more;
     }
 }

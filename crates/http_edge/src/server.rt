@@ -15,13 +15,13 @@ use crate::body::{BodyRead, read_body};
 use crate::head::{Head, HeadProgress, head_at};
 use crate::message::{Allow, Handler, HttpMessage, MediaType, Reply};
 use crate::reply::{is_for_no_memory, no_memory_bytes, plain_bytes, refusal_body};
-use crate::wire::{EdgeFault, PART_ROOM, Room, Watch, fill, send};
+use crate::wire::{EdgeFault, READ_AT_MOST, Room, Watch, fill, send};
 use http_line::Line;
 use std::alloc::{AllocError, Global};
 use std::thread::Threads;
 
 /// So many bytes the longest part that is looked at has, and one read more.
-const CONNECTION_ROOM: usize = 65_536 + PART_ROOM;
+const CONNECTION_ROOM: usize = 65_536 + READ_AT_MOST;
 
 /// A buffer for one connection after another. It has room for the longest head and for the longest line of a chunk.
 pub fn connection_buffer(alloc: Global) -> Result<Vec<u8>, AllocError>
@@ -209,7 +209,7 @@ fn look<L: Line>(
             begin => return Ok(Some(begin)),
         }
     }
-    if fill(line, buffer, &mut room[..PART_ROOM])? {
+    if fill(line, buffer, &mut room[..READ_AT_MOST])? {
         return Ok(None);
     }
     Ok(Some(head_at(alloc, buffer)?))

@@ -51,10 +51,10 @@ impl From<AllocError> for EdgeFault {
 pub(crate) type Room = [u8; 8192];
 
 /// A head, a chunk and an answer are read in so many bytes at most, so that little is behind what is looked at.
-pub(crate) const PART_ROOM: usize = 4096;
+pub(crate) const READ_AT_MOST: usize = 4096;
 
 /// What an answer is read through.
-pub(crate) type PartRoom = [u8; 4096];
+pub(crate) type AnswerRoom = [u8; 4096];
 
 /// Reads once, through this room, to the end of the buffer, and says whether a byte came.
 pub(crate) fn fill<L: Line>(

@@ -8,7 +8,8 @@ use Rattle.otlp_trace.specs.Data.{SpanData}
 use Rattle.otlp_read.specs.declared.fault.ReadFault.{ReadFault}
 use Rattle.otlp_read.specs.AnyValue.{no_key_value, key_value_step}
 use Rattle.otlp_read.specs.Numbers.{utf8, int32, uint32, fixed32, fixed64}
-use Rattle.otlp_read.specs.Value.{no_span, no_event, no_link, no_status, keep_span, span_known, span_step, event_step, link_step, status_step}
+use Rattle.otlp_trace.specs.Defaults.{no_span, no_event, no_link, no_status}
+use Rattle.otlp_read.specs.Value.{keep_span, span_known, span_step, event_step, link_step, status_step}
 use Rattle.otlp_read.specs.Walk.{◌>>=◌, read_with, with_another}
 use Rattle.otlp_read.proofs.Leaves.{utf8_yes}
 use Rattle.otlp_read.proofs.Sound.{by_test}

@@ -4,7 +4,8 @@ use Rattle.otlp_trace.specs.Data.{ResourceData, ScopeData, SpanData, RequestData
 use Rattle.otlp_trace.specs.Text.{resource_text, scope_text, span_text, request_text}
 use Rattle.otlp_read.specs.RoundTrip.{IsShort, RequestReadsBack, SpanReadsBack, ResourceReadsBack, ScopeReadsBack}
 use Rattle.otlp_read.specs.Typed.{TypedResource, TypedScope, TypedSpan, TypedRequest}
-use Rattle.otlp_read.specs.Value.{no_resource, no_scope, no_span, resource_step, scope_step, span_step, IsValue}
+use Rattle.otlp_trace.specs.Defaults.{no_resource, no_scope, no_span}
+use Rattle.otlp_read.specs.Value.{resource_step, scope_step, span_step, IsValue}
 use Rattle.otlp_read.specs.Walk.{read_with}
 use Rattle.otlp_canonical.specs.Canonical.{CanonicalSpan, CanonicalResource, CanonicalScope, CanonicalRequest}
 use Rattle.otlp_canonical.specs.Parts.{Whole}

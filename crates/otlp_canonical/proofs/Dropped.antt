@@ -5,7 +5,8 @@ use Rattle.pb_wire.specs.Reading.{next_at}
 use Rattle.pb_wire.proofs.Again.{next_takes}
 use Rattle.otlp_trace.specs.Data.{SpanData}
 use Rattle.otlp_read.specs.declared.fault.ReadFault.{ReadFault}
-use Rattle.otlp_read.specs.Value.{no_span, span_step}
+use Rattle.otlp_trace.specs.Defaults.{no_span}
+use Rattle.otlp_read.specs.Value.{span_step}
 use Rattle.otlp_read.specs.Walk.{◌>>=◌, before, onward, walk, read_with}
 use Rattle.otlp_read.proofs.Laws.{begins_at}
 use Rattle.otlp_read.proofs.Opened.{opened}

@@ -5,7 +5,8 @@ use Rattle.std.specs.List.{AllByRecursion}
 use Rattle.std.specs.Str.{IsUtf8}
 use Rattle.otlp_trace.specs.Text.{some_bytes, some_number, some_signed, some_eight, some_four, embedded, repeated, key_value_text, resource_text, scope_text, status_text, event_text, link_text, span_names_text, span_times_text, span_lists_text, span_end_text, span_text, scope_spans_text, resource_spans_text, request_text}
 use Rattle.otlp_read.specs.Nested.{Kept}
-use Rattle.otlp_read.specs.Value.{no_span, resource_known, scope_known, status_known, event_known, link_known, span_known}
+use Rattle.otlp_trace.specs.Defaults.{no_span}
+use Rattle.otlp_read.specs.Value.{resource_known, scope_known, status_known, event_known, link_known, span_known}
 use Rattle.otlp_canonical.specs.Parts.{Front, Whole}
 use Rattle.otlp_canonical.specs.Sound.{Any, SoundKeyValue, SoundResource, SoundScope, SoundStatus, SoundEvent, SoundLink, SoundNames, SoundTimes, SoundLists, SoundEnd, SoundSpan, SoundScopeSpans, SoundResourceSpans, SoundRequest}
 use Rattle.otlp_canonical.proofs.Each.{all_of, some_of}

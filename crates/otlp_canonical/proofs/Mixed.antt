@@ -1,12 +1,13 @@
 -- Two fields of a span that stand at different places can change places.
-use Rattle.std.proofs.Common.{◌≡◌, ◌==◌, ℕ, Bool, true, false, not, cond, List, Option, Some, None, unwrap_or, Result, Ok, Err, refl, sym, ap, subst, ◌∙◌}
+use Rattle.std.proofs.Common.{◌≡◌, ◌==◌, ℕ, Bool, true, false, not, cond, List, Some, unwrap_or, Result, Ok, Err, refl, sym, ap, subst, ◌∙◌}
 use Rattle.std.proofs.lemmas.Bool.{eqb-true}
 use Rattle.pb_wire.specs.Grammar.{Datum, Varint, Eight, Bytes, Four, Group, Entry}
 use Rattle.otlp_trace.specs.Data.{SpanData}
 use Rattle.otlp_read.specs.declared.fault.ReadFault.{ReadFault}
 use Rattle.otlp_read.specs.AnyValue.{no_key_value, key_value_step}
 use Rattle.otlp_read.specs.Numbers.{utf8}
-use Rattle.otlp_read.specs.Value.{no_event, no_link, no_status, keep_span, span_known, span_step, event_step, link_step, status_step}
+use Rattle.otlp_trace.specs.Defaults.{no_event, no_link, no_status}
+use Rattle.otlp_read.specs.Value.{keep_span, span_known, span_step, event_step, link_step, status_step}
 use Rattle.otlp_read.specs.Walk.{◌>>=◌, read_with, with_another}
 use Rattle.otlp_read.proofs.Sound.{by_test}
 use Rattle.otlp_canonical.specs.Order.{place_at, place_of}

@@ -1,5 +1,5 @@
 -- Fields that are put in order make the span that they make as they stand.
-use Rattle.std.proofs.Common.{◌≡◌, ℕ, ◌<◌, ◌≤◌, Bool, true, false, not, ◌&&◌, nat_lt, List, [], ◌∷◌, ◌++◌, Result, Ok, refl, sym, ap, ◌∙◌, append_assoc, arith}
+use Rattle.std.proofs.Common.{◌≡◌, ℕ, ◌<◌, ◌≤◌, Bool, true, false, nat_lt, List, [], ◌∷◌, ◌++◌, Result, Ok, refl, sym, ap, ◌∙◌, append_assoc, arith}
 use Rattle.std.proofs.lemmas.Bool.Decides.{nat_tests}
 use Rattle.std.specs.List.{AllByRecursion}
 use Rattle.pb_wire.specs.Grammar.{Datum, Varint, Eight, Bytes, Four, Group}
@@ -9,8 +9,7 @@ use Rattle.otlp_read.specs.Value.{span_step}
 use Rattle.otlp_read.specs.Walk.{◌>>=◌, Piece, fold_fields}
 use Rattle.otlp_read.proofs.Laws.{bind_ok, fold_append}
 use Rattle.otlp_read.proofs.Sound.{by_test}
-use Rattle.otlp_canonical.specs.Defaults.{is_number, is_text}
-use Rattle.otlp_canonical.specs.Order.{is_message, is_known, place_at, place_of, from, between}
+use Rattle.otlp_canonical.specs.Order.{is_known, place_at, place_of, from, between}
 use Rattle.otlp_canonical.proofs.Mixed.{swapped}
 
 -- the field stands before this place

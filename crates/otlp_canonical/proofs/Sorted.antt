@@ -1,14 +1,15 @@
 -- A text's fields are put in order part by part.
-use Rattle.std.proofs.Common.{◌≡◌, ℕ, ◌-◌, ◌<◌, ◌≤◌, Bool, true, false, not, ◌&&◌, nat_lt, arith, List, [], ◌∷◌, ◌++◌, length, Option, Some, None, Result, Ok, Err, refl, sym, ap, subst, ◌∙◌, append_assoc, append-nil}
+use Rattle.std.proofs.Common.{◌≡◌, ℕ, ◌-◌, ◌<◌, ◌≤◌, Bool, true, false, not, ◌&&◌, nat_lt, arith, List, [], ◌∷◌, ◌++◌, Option, Some, Result, Ok, refl, sym, ap, subst, ◌∙◌, append_assoc, append-nil}
 use Rattle.std.proofs.lemmas.Bool.Decides.{nat_tests}
 use Rattle.std.proofs.lemmas.List.Elements.{filter-append}
 use Rattle.pb_wire.specs.declared.field.WireFault.{WireFault}
-use Rattle.pb_wire.specs.Grammar.{Entry, IsField, Begins}
+use Rattle.pb_wire.specs.Grammar.{Entry, IsField}
 use Rattle.pb_wire.specs.Reading.{next_at}
 use Rattle.pb_wire.proofs.Again.{next_takes}
 use Rattle.otlp_trace.specs.Data.{SpanData}
-use Rattle.otlp_read.specs.Value.{no_span, span_step}
-use Rattle.otlp_read.specs.Walk.{Piece, Pieces, no_pieces, more_pieces, before, fold_fields, walk, read_with}
+use Rattle.otlp_trace.specs.Defaults.{no_span}
+use Rattle.otlp_read.specs.Value.{span_step}
+use Rattle.otlp_read.specs.Walk.{Piece, Pieces, no_pieces, more_pieces, before, fold_fields, read_with}
 use Rattle.otlp_read.proofs.Laws.{begins_at, walk_pieces}
 use Rattle.otlp_read.proofs.Opened.{opened}
 use Rattle.otlp_read.proofs.Walks.{before_rest}
@@ -18,15 +19,15 @@ use Rattle.otlp_canonical.proofs.Ordered.{next_part, from_first, from_last}
 
 -- ---- fields of a text
 
-abbrev piece : Entry → List ℕ → Piece
+abbrev pub piece : Entry → List ℕ → Piece
 piece e spelled = record { field = e; spelled = spelled }
 
-pieces_append : {d : ℕ} {a b : List ℕ} {ps qs : List Piece} → Pieces d a ps → Pieces d b qs → Pieces d (a ++ b) (ps ++ qs)
+pub pieces_append : {d : ℕ} {a b : List ℕ} {ps qs : List Piece} → Pieces d a ps → Pieces d b qs → Pieces d (a ++ b) (ps ++ qs)
 pieces_append no_pieces others = others
 pieces_append {b = b} {qs = qs} (more_pieces {d = d} {front = front} {rest = rest} {field = field} {pieces = pieces} first inner) others =
     subst (λ (t : List ℕ). Pieces d t (piece field front ∷ pieces ++ qs)) (sym (append_assoc front rest b)) (more_pieces first (pieces_append inner others))
 
-one_piece : (d : ℕ) (front : List ℕ) (e : Entry) → IsField d front e → Pieces d front (piece e front ∷ [])
+pub one_piece : (d : ℕ) (front : List ℕ) (e : Entry) → IsField d front e → Pieces d front (piece e front ∷ [])
 one_piece d front e first = subst (λ (t : List ℕ). Pieces d t (piece e front ∷ [])) (append-nil front) (more_pieces first no_pieces)
 
 -- the same text has the same fields
@@ -63,17 +64,11 @@ none_passed d low high text old = record {
   so_far = record { pieces = []; are = no_pieces; put = []; chosen = no_pieces; copied = sym (append-nil old) };
 }
 
-abbrev is_in : ℕ → ℕ → Entry → Bool
+abbrev pub is_in : ℕ → ℕ → Entry → Bool
 is_in low high e = not (nat_lt (place_of e) low) && nat_lt (place_of e) high
 
-in_range : (low high : ℕ) (e : Entry) → low ≤ place_of e → place_of e < high → is_in low high e ≡ true
+pub in_range : (low high : ℕ) (e : Entry) → low ≤ place_of e → place_of e < high → is_in low high e ≡ true
 in_range low high e le lt = grind (arith, nat_tests)
-
-too_early : (low high : ℕ) (e : Entry) → place_of e < low → is_in low high e ≡ false
-too_early low high e lt = grind (arith, nat_tests)
-
-too_late : (low high : ℕ) (e : Entry) → high ≤ place_of e → is_in low high e ≡ false
-too_late low high e le = grind (arith, nat_tests)
 
 chosen_more : (low high : ℕ) (ps : List Piece) (e : Entry) (front : List ℕ) → is_in low high e ≡ true → between low high (ps ++ piece e front ∷ []) ≡ between low high ps ++ piece e front ∷ []
 chosen_more low high ps e front is =
@@ -83,7 +78,7 @@ chosen_same : (low high : ℕ) (ps : List Piece) (e : Entry) (front : List ℕ) 
 chosen_same low high ps e front not_in =
     filter-append (λ p. is_in low high p.field) ps (piece e front ∷ []) ∙ ap (λ (l : List Piece). between low high ps ++ l) (rw not_in refl) ∙ append-nil (between low high ps)
 
-put_more : (d low high : ℕ) (gone old copy longer front : List ℕ) (e : Entry) → IsField d front e → is_in low high e ≡ true → longer ≡ copy ++ front → WithPlaces d low high gone old copy → WithPlaces d low high (gone ++ front) old longer
+pub put_more : (d low high : ℕ) (gone old copy longer front : List ℕ) (e : Entry) → IsField d front e → is_in low high e ≡ true → longer ≡ copy ++ front → WithPlaces d low high gone old copy → WithPlaces d low high (gone ++ front) old longer
 put_more d low high gone old copy longer front e first is longer_is w = record {
   pieces = w.pieces ++ piece e front ∷ [];
   are = pieces_append w.are (one_piece d front e first);
@@ -92,7 +87,7 @@ put_more d low high gone old copy longer front e first is longer_is w = record {
   copied = longer_is ∙ ap (λ (t : List ℕ). t ++ front) w.copied ∙ append_assoc old w.put front;
 }
 
-put_same : (d low high : ℕ) (gone old copy front : List ℕ) (e : Entry) → IsField d front e → is_in low high e ≡ false → WithPlaces d low high gone old copy → WithPlaces d low high (gone ++ front) old copy
+pub put_same : (d low high : ℕ) (gone old copy front : List ℕ) (e : Entry) → IsField d front e → is_in low high e ≡ false → WithPlaces d low high gone old copy → WithPlaces d low high (gone ++ front) old copy
 put_same d low high gone old copy front e first not_in w = record {
   pieces = w.pieces ++ piece e front ∷ [];
   are = pieces_append w.are (one_piece d front e first);
@@ -101,7 +96,7 @@ put_same d low high gone old copy front e first not_in w = record {
   copied = w.copied;
 }
 
-passed_on : {text left : List ℕ} (gone front rest : List ℕ) → text ≡ gone ++ left → left ≡ front ++ rest → text ≡ (gone ++ front) ++ rest
+pub passed_on : {text left : List ℕ} (gone front rest : List ℕ) → text ≡ gone ++ left → left ≡ front ++ rest → text ≡ (gone ++ front) ++ rest
 passed_on gone front rest parts one = parts ∙ ap (λ (t : List ℕ). gone ++ t) one ∙ sym (append_assoc gone front rest)
 
 -- a field of this part
@@ -116,7 +111,7 @@ one_put d low high text old copy longer left rest e le lt found longer_is p =
       so_far = put_more d low high p.gone old copy longer b.front e b.first (in_range low high e le lt) (longer_is ∙ ap (λ (t : List ℕ). copy ++ t) run) p.so_far;
     }
 
-one_left : (d low high : ℕ) (text old copy left rest : List ℕ) (e : Entry) → is_in low high e ≡ false → next_at d left ≡ Ok (Some (e, rest)) → Passing d low high text old copy left → Passing d low high text old copy rest
+pub one_left : (d low high : ℕ) (text old copy left rest : List ℕ) (e : Entry) → is_in low high e ≡ false → next_at d left ≡ Ok (Some (e, rest)) → Passing d low high text old copy left → Passing d low high text old copy rest
 one_left d low high text old copy left rest e not_in found p =
     let b = next_takes d left e rest found in
     record {
@@ -124,14 +119,6 @@ one_left d low high text old copy left rest e not_in found p =
       parts = passed_on p.gone b.front rest p.parts b.parts;
       so_far = put_same d low high p.gone old copy b.front e b.first not_in p.so_far;
     }
-
--- one that stands before this part
-pub one_early : (d low high : ℕ) (text old copy left rest : List ℕ) (e : Entry) → place_of e < low → next_at d left ≡ Ok (Some (e, rest)) → Passing d low high text old copy left → Passing d low high text old copy rest
-one_early d low high text old copy left rest e lt = one_left d low high text old copy left rest e (too_early low high e lt)
-
--- one that stands behind it
-pub one_late : (d low high : ℕ) (text old copy left rest : List ℕ) (e : Entry) → high ≤ place_of e → next_at d left ≡ Ok (Some (e, rest)) → Passing d low high text old copy left → Passing d low high text old copy rest
-one_late d low high text old copy left rest e le = one_left d low high text old copy left rest e (too_late low high e le)
 
 -- the whole text
 pub all_passed : (d low high : ℕ) (text old copy left : List ℕ) → left ≡ [] → Passing d low high text old copy left → WithPlaces d low high text old copy
@@ -149,13 +136,13 @@ pub record Sorting (d low : ℕ) (text copy : List ℕ) : Type 0 where
   pub copied : Pieces d copy sorted
   pub same : (room : ℕ) (s t : SpanData) → fold_fields (span_step room) s (sorted ++ from low pieces) ≡ Ok t → fold_fields (span_step room) s pieces ≡ Ok t
 
-pub none_sorted : (d low high : ℕ) (text old new : List ℕ) → WithPlaces d low high text old new → Sorting d 0 text []
-none_sorted d low high text old new w = record {
-  pieces = w.pieces;
-  are = w.are;
+pub none_sorted : (d : ℕ) (text : List ℕ) (pieces : List Piece) → Pieces d text pieces → Sorting d 0 text []
+none_sorted d text pieces are = record {
+  pieces = pieces;
+  are = are;
   sorted = [];
   copied = no_pieces;
-  same = λ room s t made. ap (fold_fields (span_step room) s) (sym (from_first w.pieces)) ∙ made;
+  same = λ room s t made. ap (fold_fields (span_step room) s) (sym (from_first pieces)) ∙ made;
 }
 
 pub part_sorted : (d low high : ℕ) (text copy new : List ℕ) → low ≤ high → WithPlaces d low high text copy new → Sorting d low text copy → Sorting d high text new

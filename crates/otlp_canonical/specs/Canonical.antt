@@ -5,7 +5,8 @@ use Rattle.otlp_trace.specs.Data.{ResourceData, ScopeData, SpanData, RequestData
 use Rattle.otlp_trace.specs.Text.{span_text, resource_text, scope_text, request_text}
 use Rattle.otlp_read.specs.Nested.{NestedResource, NestedScope, NestedSpan, NestedRequest}
 use Rattle.otlp_read.specs.Typed.{TypedResource, TypedScope, TypedSpan, TypedRequest}
-use Rattle.otlp_read.specs.Value.{no_resource, no_scope, no_span, resource_step, scope_step, span_step, IsValue}
+use Rattle.otlp_trace.specs.Defaults.{no_resource, no_scope, no_span}
+use Rattle.otlp_read.specs.Value.{resource_step, scope_step, span_step, IsValue}
 use Rattle.otlp_read.specs.Walk.{read_with}
 
 -- With room for so many levels, its own among them, this is a span's canonical text: a reader makes a span of it, whose

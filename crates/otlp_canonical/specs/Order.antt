@@ -1,8 +1,9 @@
 -- The order of a span's fields: by number, and behind all others those that a span doesn't know (canonical text is that
 -- of `otlp_trace`'s Text, over the fields of `Span` of OTLP 1.x's trace.proto).
-use Rattle.std.specs.Prelude.{◌≡◌, ◌==◌, ◌&&◌, ◌||◌, if◌then◌else◌, ℕ, nat_lt, Bool, false, not, List, ◌++◌, filter}
+use Rattle.std.specs.Prelude.{◌≡◌, ◌==◌, ◌+◌, ◌&&◌, ◌||◌, if◌then◌else◌, ℕ, suc, nat_lt, Bool, true, false, not, List, [], ◌++◌, length, filter, slice_get, Some}
 use Rattle.pb_wire.specs.Grammar.{Datum, Varint, Eight, Bytes, Four, Entry}
 use Rattle.otlp_read.specs.Walk.{Piece, Pieces}
+use Rattle.otlp_canonical.specs.declared.order.Run.{Run}
 use Rattle.otlp_canonical.specs.Defaults.{is_number, is_text}
 
 -- a message stands in the field of this number
@@ -40,3 +41,29 @@ pub record WithPlaces (d low high : ℕ) (text old new : List ℕ) : Type 0 wher
   pub put : List ℕ
   pub chosen : Pieces d put (between low high pieces)
   pub copied : new ≡ old ++ put
+
+-- from one byte of the text to another, the fields of one place and no others
+pub record SideBySide (d place : ℕ) (text : List ℕ) (start end : ℕ) : Type 0 where
+  pub before : List ℕ
+  pub fields : List ℕ
+  pub behind : List ℕ
+  pub parts : text ≡ before ++ (fields ++ behind)
+  pub starts : start ≡ length before
+  pub ends : end ≡ length before + length fields
+  pub all : WithPlaces d place (suc place) text [] fields
+
+-- so a run has them, unless others stand between them
+abbrev pub Stands : ℕ → ℕ → List ℕ → Run → Type 0
+Stands d place text run = run.apart ≡ false → SideBySide d place text run.start run.end
+
+-- a run with one more field at its place
+abbrev pub with_one : Run → ℕ → ℕ → Run
+with_one run start end =
+    if run.start == run.end then record run { start = start; end = end }
+    else (if run.end == start then record run { end = end } else record run { apart = true })
+
+-- a text of fields, and a run for each place
+pub record AllStand (d : ℕ) (text : List ℕ) (runs : List Run) : Type 0 where
+  pub pieces : List Piece
+  pub are : Pieces d text pieces
+  pub each : (place : ℕ) (run : Run) → slice_get runs place ≡ Some run → Stands d place text run

@@ -5,7 +5,8 @@ ghost use Rattle.std.specs.Prelude.{◌≡◌, IfOk, IfSome};
 ghost use Rattle.pb_wire.specs.Grammar.{entry};
 ghost use Rattle.otlp_canonical.specs.Canonical.{CanonicalCopy};
 ghost use Rattle.otlp_canonical.specs.Defaults.{holds_default};
-ghost use Rattle.otlp_read.specs.Value.{no_span, span_step};
+ghost use Rattle.otlp_trace.specs.Defaults.{no_span};
+ghost use Rattle.otlp_read.specs.Value.{span_step};
 ghost use Rattle.otlp_read.specs.Walk.{read_with};
 
 use crate::text::is_span_text;

@@ -1,12 +1,13 @@
 //! Spans whose fields stand in another order. The Protocol Buffers encoding allows any, and some clients write fields
 //! as they are declared, a span's flags before its name.
 
-ghost use Rattle.std.specs.Prelude.{◌≡◌, ◌<◌, ◌≤◌, Ok, IfOk, IfSome};
+ghost use Rattle.std.specs.Prelude.{◌≡◌, ◌<◌, ◌≤◌, true, suc, Ok, IfOk, IfSome};
 ghost use Rattle.pb_wire.specs.Grammar.{entry};
 ghost use Rattle.otlp_trace.specs.Data.{SpanData};
 ghost use Rattle.otlp_canonical.specs.Canonical.{CanonicalCopy};
-ghost use Rattle.otlp_canonical.specs.Order.{place_of, WithPlaces};
-ghost use Rattle.otlp_read.specs.Value.{no_span, span_step};
+ghost use Rattle.otlp_canonical.specs.Order.{place_of, WithPlaces, with_one, Stands, AllStand};
+ghost use Rattle.otlp_trace.specs.Defaults.{no_span};
+ghost use Rattle.otlp_read.specs.Value.{span_step};
 ghost use Rattle.otlp_read.specs.Walk.{read_with};
 
 use crate::defaults::without_defaults;
@@ -35,79 +36,107 @@ fn place(field: Field<'_>) -> u32
     if known { field.number } else { NOT_KNOWN }
 }
 
-/// Which fields were met, and how far they are in order.
+/// Where the fields of one place stand in a text.
 #[derive(Clone, Copy)]
-struct Met {
-    /// One bit for each place.
-    places: u32,
+struct Run {
+    /// Where the first of them begins; as `end` where there is none.
+    start: usize,
 
-    /// The fields at the places before this one are in order among themselves.
-    end: u32,
+    /// Where the last of those ends that stand side by side.
+    end: usize,
+
+    /// Others stand between them.
+    apart: bool,
 }
 
-impl Met {
-    fn nothing() -> Met {
-        Met {
-            places: 0,
-            end: NO_PLACE,
+impl Run {
+    /// With one more field, behind all that were met.
+    fn and(self, start: usize, end: usize) -> Run
+        ensures { result ≡ with_one self start end }
+    {
+        if self.start == self.end {
+            Run { start, end, ..self }
+        } else if self.end == start {
+            Run { end, ..self }
+        } else {
+            Run {
+                apart: true,
+                ..self
+            }
         }
     }
 
     /// Whether one more field at this place can't be canonical: one of the kind that has one value was met already.
-    fn is_full_at(self, place: u32) -> bool
-        requires { place < 18 }
-    {
-        self.places >> place & 1 == 1 && !matches!(place, 9 | 11 | 13 | NOT_KNOWN)
-    }
-
-    /// With one more field behind the others.
-    fn and(self, place: u32) -> Met
-        requires { place < 18 }
-    {
-        let above = self.places >> (place + 1);
-        let end = if above == 0 {
-            self.end
-        } else {
-            self.end.min(place + 1 + above.trailing_zeros())
-        };
-        Met {
-            places: self.places | 1 << place,
-            end,
-        }
+    fn is_full_at(self, place: u32) -> bool {
+        self.start < self.end && !matches!(place, 9 | 11 | 13 | NOT_KNOWN)
     }
 }
 
-/// Appends the fields of the text whose places are at least `low` and below `high`, as they stand. Tells of those from
-/// `high` on before which place they are in order; none where the text isn't fields, or a field of one value stands
-/// twice.
-fn put_places(
-    copy: &mut Vec<u8>,
-    text: &[u8],
-    depth: u32,
-    low: u32,
-    high: u32,
-) -> Result<Option<u32>, AllocError>
-    ensures { IfOk result (λ found. IfSome found (λ end.
-        WithPlaces depth low high text.now copy.old.items copy.new.items)) }
+/// Where the fields of each place stand. None where they are in order already, where the text isn't fields, or where a
+/// field of one value stands twice.
+fn runs(text: &[u8], depth: u32) -> Option<[Run; 18]>
+    ensures { IfSome result (λ runs. AllStand depth text.now runs) }
 {
-    let mut met = Met::nothing();
+    let mut runs = [Run {
+        start: 0,
+        end: 0,
+        apart: false,
+    }; 18];
+    let mut left = text;
+    let mut highest = 0u32;
+    let mut in_order = true;
+    'fields: while !left.is_empty() {
+        let Ok(Some((field, rest))) = next_field(left, depth) else {
+            return None;
+        };
+        let place = place(field);
+        let run = runs[place as usize];
+        if run.is_full_at(place) {
+            return None;
+        }
+        runs[place as usize] = run.and(text.len() - left.len(), text.len() - rest.len());
+        in_order = in_order && highest <= place;
+        highest = highest.max(place);
+        left = rest;
+    }
+    if in_order { None } else { Some(runs) }
+}
+
+/// Appends the fields of the text that stand at this place, as they stand. Tells whether the whole text is fields.
+fn put_apart(copy: &mut Vec<u8>, text: &[u8], depth: u32, wanted: u32) -> Result<bool, AllocError>
+    ensures { IfOk result (λ whole. whole ≡ true
+        → WithPlaces depth wanted (suc wanted) text.now copy.old.items copy.new.items) }
+{
     let mut left = text;
     'fields: while !left.is_empty() {
         let Ok(Some((field, rest))) = next_field(left, depth) else {
-            return Ok(None);
+            return Ok(false);
         };
-        let place = place(field);
-        if place >= high {
-            if met.is_full_at(place) {
-                return Ok(None);
-            }
-            met = met.and(place);
-        } else if place >= low {
+        if place(field) == wanted {
             copy.extend_from_slice(&left[..left.len() - rest.len()])?;
         }
         left = rest;
     }
-    Ok(Some(met.end))
+    Ok(true)
+}
+
+/// The same, where the run tells how they stand.
+fn put_run(
+    copy: &mut Vec<u8>,
+    text: &[u8],
+    depth: u32,
+    place: u32,
+    run: Run,
+) -> Result<bool, AllocError>
+    requires { Stands depth place text.now run }
+    ensures { IfOk result (λ whole. whole ≡ true
+        → WithPlaces depth place (suc place) text.now copy.old.items copy.new.items) }
+{
+    if run.apart {
+        return put_apart(copy, text, depth, place);
+    }
+    copy.extend_from_slice(&text[run.start..run.end])?;
+    Ok(true)
 }
 
 /// The text with its fields in canonical order, or none where they are in order already, where it isn't fields, or
@@ -121,22 +150,16 @@ fn sorted(alloc: Global, text: &[u8], room: u32) -> Result<Option<Vec<u8>>, Allo
         return Ok(None);
     }
     let depth = 101u32.saturating_sub(room);
-    let mut nothing = Vec::new(alloc);
-    let Some(first) = put_places(&mut nothing, text, depth, 0, 0)? else {
+    let Some(runs) = runs(text, depth) else {
         return Ok(None);
     };
-    if first >= NO_PLACE {
-        return Ok(None);
-    }
     let mut copy = Vec::with_capacity(alloc, text.len())?;
-    let mut low = 0u32;
-    let mut high = first.max(1);
-    'places: while low < NO_PLACE {
-        let Some(end) = put_places(&mut copy, text, depth, low, high)? else {
+    let mut place = 0u32;
+    'places: while place < NO_PLACE {
+        if !put_run(&mut copy, text, depth, place, runs[place as usize])? {
             return Ok(None);
-        };
-        low = high;
-        high = end.max(low.saturating_add(1));
+        }
+        place += 1;
     }
     Ok(Some(copy))
 }

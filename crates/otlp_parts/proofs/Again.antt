@@ -8,7 +8,8 @@ use Rattle.otlp_trace.specs.Text.{bytes_field}
 use Rattle.otlp_read.specs.declared.fault.ReadFault.{ReadFault}
 use Rattle.otlp_read.specs.declared.fault.ReadFault.TheVariants.{Truncated, VarintTooLong, BadTag, GroupMismatch, TooDeep, NotUtf8, OutOfMemory}
 use Rattle.otlp_read.specs.Fault.{Fails}
-use Rattle.otlp_read.specs.Value.{no_resource, no_scope, no_scope_spans, scope_spans_step, no_resource_spans, resource_spans_step, merged_resource, merged_scope}
+use Rattle.otlp_trace.specs.Defaults.{no_resource, no_scope, no_scope_spans, no_resource_spans}
+use Rattle.otlp_read.specs.Value.{scope_spans_step, resource_spans_step, merged_resource, merged_scope}
 use Rattle.otlp_read.specs.Walk.{◌>>=◌, Step, numbered, walk}
 use Rattle.otlp_read.proofs.Laws.{makes}
 use Rattle.otlp_read.proofs.Opened.{opened_at}

@@ -4,7 +4,8 @@ use Rattle.otlp_trace.specs.Data.{RequestData}
 use Rattle.otlp_read.specs.declared.fault.ReadFault.{ReadFault}
 use Rattle.otlp_read.specs.declared.fault.ReadFault.TheVariants.{Truncated, VarintTooLong, BadTag, GroupMismatch, TooDeep, NotUtf8, OutOfMemory}
 use Rattle.otlp_read.specs.Fault.{Fails, Gives}
-use Rattle.otlp_read.specs.Value.{no_request, request_step, value_of, IsValue, IsFault}
+use Rattle.otlp_trace.specs.Defaults.{no_request}
+use Rattle.otlp_read.specs.Value.{request_step, value_of, IsValue, IsFault}
 use Rattle.otlp_read.specs.Walk.{◌>>=◌}
 use Rattle.otlp_read.proofs.Answered.{whole}
 use Rattle.otlp_read.proofs.Laws.{bind_ok, makes, made, stands}

@@ -13,7 +13,8 @@ use Rattle.otlp_trace.specs.Data.{SpanData, ScopeData, ResourceData, ScopeSpansD
 use Rattle.otlp_trace.specs.Text.{span_text}
 use Rattle.otlp_read.specs.declared.fault.ReadFault.{ReadFault}
 use Rattle.otlp_read.specs.Numbers.{utf8}
-use Rattle.otlp_read.specs.Value.{no_scope_spans, scope_spans_step, no_resource_spans, resource_spans_step, no_request, request_step, value_of, merged_scope, merged_resource}
+use Rattle.otlp_trace.specs.Defaults.{no_scope_spans, no_resource_spans, no_request}
+use Rattle.otlp_read.specs.Value.{scope_spans_step, resource_spans_step, request_step, value_of, merged_scope, merged_resource}
 use Rattle.otlp_read.specs.Walk.{◌>>=◌, Step, before, onward, walk_in, walk, read_with, with_another}
 use Rattle.otlp_parts.specs.ReadAs.{span_in, scope_spans_in, resource_spans_in}
 use Rattle.otlp_parts.specs.Texts.{is_valid_span, valid_texts, scope_with_spans, resource_with_spans, ScopeTexts, ResourceTexts, BodyTexts, invalid_among, invalid_in_resource, invalid_in, texts_of}

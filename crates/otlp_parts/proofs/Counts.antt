@@ -7,7 +7,8 @@ use Rattle.pb_wire.specs.Grammar.{Datum, Varint, Eight, Bytes, Four, Group, Entr
 use Rattle.otlp_trace.specs.Data.{SpanData, ScopeSpansData, ResourceSpansData, RequestData}
 use Rattle.otlp_read.specs.declared.fault.ReadFault.{ReadFault}
 use Rattle.otlp_read.specs.Numbers.{utf8}
-use Rattle.otlp_read.specs.Value.{no_scope_spans, scope_spans_step, no_resource_spans, resource_spans_step, no_request, request_step, IsValue, merged_scope, merged_resource}
+use Rattle.otlp_trace.specs.Defaults.{no_scope_spans, no_resource_spans, no_request}
+use Rattle.otlp_read.specs.Value.{scope_spans_step, resource_spans_step, request_step, IsValue, merged_scope, merged_resource}
 use Rattle.otlp_read.specs.Walk.{◌>>=◌, Step, Piece, Pieces, no_pieces, more_pieces, fold_fields, with_another, read_with}
 use Rattle.otlp_read.proofs.Laws.{bind_ok, makes}
 use Rattle.otlp_read.proofs.Opened.{opened_at}

@@ -2,7 +2,7 @@
 use Rattle.std.proofs.Common.{◌≡◌, ◌<◌, ◌^◌, ℕ, Bool, true, false, ◌&&◌, List, [], length, Option, None, IfSome, option_map, refl, sym, ap, subst, ◌∙◌}
 use Rattle.otlp_trace.specs.Data.{SpanData, ResourceData}
 use Rattle.otlp_trace.specs.Text.{span_text, resource_text}
-use Rattle.otlp_read.specs.Value.{no_span}
+use Rattle.otlp_trace.specs.Defaults.{no_span}
 use Rattle.otlp_canonical.specs.Canonical.{CanonicalSpan}
 use Rattle.span_view.specs.Facts.{AreText, facts}
 use Rattle.span_view.specs.Reading.{facts_of}

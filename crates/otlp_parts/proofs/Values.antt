@@ -5,7 +5,7 @@ use Rattle.otlp_trace.specs.Text.{span_text, resource_text, scope_text}
 use Rattle.otlp_read.specs.declared.fault.ReadFault.{ReadFault}
 use Rattle.otlp_read.specs.declared.fault.ReadFault.TheVariants.{Truncated, VarintTooLong, BadTag, GroupMismatch, TooDeep, NotUtf8, OutOfMemory}
 use Rattle.otlp_read.specs.Fault.{Fails}
-use Rattle.otlp_read.specs.Value.{no_span, no_resource, no_scope}
+use Rattle.otlp_trace.specs.Defaults.{no_span, no_resource, no_scope}
 use Rattle.otlp_canonical.specs.Canonical.{CanonicalSpan, CanonicalResource, CanonicalScope}
 use Rattle.otlp_parts.specs.ReadAs.{value_or, span_of, resource_of, scope_of}
 

@@ -7,7 +7,8 @@ use Rattle.otlp_trace.specs.Text.{bytes_field}
 use Rattle.otlp_read.specs.declared.fault.ReadFault.{ReadFault}
 use Rattle.otlp_read.specs.declared.fault.ReadFault.TheVariants.{Truncated, VarintTooLong, BadTag, GroupMismatch, TooDeep, NotUtf8, OutOfMemory}
 use Rattle.otlp_read.specs.Fault.{Fails}
-use Rattle.otlp_read.specs.Value.{no_scope_spans, scope_spans_step, no_resource_spans, resource_spans_step, no_request, request_step, value_of, IsValue, IsFault}
+use Rattle.otlp_trace.specs.Defaults.{no_scope_spans, no_resource_spans, no_request}
+use Rattle.otlp_read.specs.Value.{scope_spans_step, resource_spans_step, request_step, value_of, IsValue, IsFault}
 use Rattle.otlp_read.specs.Walk.{◌>>=◌, numbered, walk}
 use Rattle.otlp_read.proofs.Answered.{whole}
 use Rattle.otlp_read.proofs.Laws.{bind_ok, made}

@@ -4,7 +4,8 @@
 use Rattle.std.specs.Prelude.{◌≡◌, ◌≤◌, ◌-◌, ℕ, List, length, slice_range, Option, Some, Result, Ok, Err}
 use Rattle.otlp_trace.specs.Data.{SpanData, ResourceData, ScopeData, ScopeSpansData, ResourceSpansData}
 use Rattle.otlp_read.specs.declared.fault.ReadFault.{ReadFault}
-use Rattle.otlp_read.specs.Value.{no_span, span_step, no_resource, resource_step, no_scope, scope_step, no_scope_spans, scope_spans_step, no_resource_spans, resource_spans_step, merged_resource, merged_scope}
+use Rattle.otlp_trace.specs.Defaults.{no_span, no_resource, no_scope, no_scope_spans, no_resource_spans}
+use Rattle.otlp_read.specs.Value.{span_step, resource_step, scope_step, scope_spans_step, resource_spans_step, merged_resource, merged_scope}
 use Rattle.otlp_read.specs.Walk.{◌>>=◌, read_with}
 
 -- a span's text

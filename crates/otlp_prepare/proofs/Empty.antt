@@ -1,7 +1,7 @@
 -- A span of no fields, whose text is empty.
 use Rattle.std.proofs.Common.{refl, arith}
 use Rattle.otlp_trace.specs.Text.{span_text}
-use Rattle.otlp_read.specs.Value.{no_span}
+use Rattle.otlp_trace.specs.Defaults.{no_span}
 use Rattle.otlp_read.proofs.MessageSound.{empty_span, empty_span_typed}
 use Rattle.otlp_read.specs.RoundTrip.{IsShort}
 use Rattle.otlp_prepare.specs.BodySpans.{IsSpanRead}

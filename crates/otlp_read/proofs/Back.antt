@@ -9,7 +9,8 @@ use Rattle.otlp_read.specs.Nested.{NestedKeyValue, NestedResource, NestedScope, 
 use Rattle.otlp_trace.proofs.Spelled.{is_number}
 use Rattle.otlp_read.specs.Response.{no_partial_success, no_response, partial_success_step, response_step}
 use Rattle.otlp_read.specs.Typed.{TypedKeyValue, TypedResource, TypedScope, TypedStatus, TypedEvent, TypedLink, TypedSpan, TypedScopeSpans, TypedResourceSpans, TypedRequest, TypedPartialSuccess, TypedResponse}
-use Rattle.otlp_read.specs.Value.{no_resource, keep_resource, resource_known, resource_step, no_scope, keep_scope, scope_known, scope_step, no_status, keep_status, status_known, status_step, no_event, keep_event, event_known, event_step, no_link, keep_link, link_known, link_step, no_span, keep_span, span_known, span_step, no_scope_spans, scope_spans_step, no_resource_spans, resource_spans_step, no_request, request_step}
+use Rattle.otlp_trace.specs.Defaults.{no_resource, no_scope, no_status, no_event, no_link, no_span, no_scope_spans, no_resource_spans, no_request}
+use Rattle.otlp_read.specs.Value.{keep_resource, resource_known, resource_step, keep_scope, scope_known, scope_step, keep_status, status_known, status_step, keep_event, event_known, event_step, keep_link, link_known, link_step, keep_span, span_known, span_step, scope_spans_step, resource_spans_step, request_step}
 use Rattle.otlp_read.specs.Walk.{◌>>=◌, Step, walk, read_with, with_another}
 use Rattle.otlp_read.proofs.Opened.{opened_at}
 use Rattle.otlp_read.proofs.Taken.{Short, Taken, Back, then, whole, some_bytes_taken, some_string_taken, some_uint32_taken, some_int32_taken, some_int64_taken, some_eight_taken, some_four_taken, embedded_taken, repeated_taken, kept_taken}

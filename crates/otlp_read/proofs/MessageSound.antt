@@ -8,7 +8,8 @@ use Rattle.otlp_read.specs.Nested.{NestedKeyValue, NestedResource, NestedScope, 
 use Rattle.otlp_read.specs.Numbers.{int32, uint32, int64, fixed64, fixed32}
 use Rattle.otlp_read.specs.Response.{no_partial_success, no_response, partial_success_known, partial_success_step, response_known, response_step, IsResponse}
 use Rattle.otlp_read.specs.Typed.{TypedKeyValue, TypedResource, TypedScope, TypedStatus, TypedEvent, TypedLink, TypedSpan, TypedScopeSpans, TypedResourceSpans, TypedRequest, TypedPartialSuccess, TypedResponse}
-use Rattle.otlp_read.specs.Value.{no_resource, keep_resource, resource_known, resource_step, no_scope, keep_scope, scope_known, scope_step, no_status, keep_status, status_known, status_step, no_event, keep_event, event_known, event_step, no_link, keep_link, link_known, link_step, no_span, keep_span, span_known, span_step, no_scope_spans, scope_spans_known, scope_spans_step, no_resource_spans, resource_spans_known, resource_spans_step, no_request, request_known, request_step, IsValue}
+use Rattle.otlp_trace.specs.Defaults.{no_resource, no_scope, no_status, no_event, no_link, no_span, no_scope_spans, no_resource_spans, no_request}
+use Rattle.otlp_read.specs.Value.{keep_resource, resource_known, resource_step, keep_scope, scope_known, scope_step, keep_status, status_known, status_step, keep_event, event_known, event_step, keep_link, link_known, link_step, keep_span, span_known, span_step, scope_spans_known, scope_spans_step, resource_spans_known, resource_spans_step, request_known, request_step, IsValue}
 use Rattle.otlp_read.specs.Walk.{read_with}
 use Rattle.otlp_read.proofs.Laws.{made as walked}
 use Rattle.otlp_read.proofs.Sound.{AreBytes, not_known, made, read_fine, string_fine, another_fine, kept_keeps, dropped_keeps, nothing_kept, kept_more, walk_kept, Good, Reads, FieldsFine, message_reads, fresh, standing, typed_standing, each_push, int32_fits, int64_fits, uint32_fits, fixed32_fits, fixed64_fits, by_test}

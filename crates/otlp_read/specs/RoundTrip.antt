@@ -6,7 +6,8 @@ use Rattle.otlp_trace.specs.Data.{ResourceData, ScopeData, SpanData, RequestData
 use Rattle.otlp_trace.specs.Text.{resource_text, scope_text, span_text, request_text, response_text}
 use Rattle.otlp_read.specs.Nested.{NestedResource, NestedScope, NestedSpan, NestedRequest}
 use Rattle.otlp_read.specs.Response.{IsResponse}
-use Rattle.otlp_read.specs.Value.{no_resource, no_scope, no_span, resource_step, scope_step, span_step, IsValue}
+use Rattle.otlp_trace.specs.Defaults.{no_resource, no_scope, no_span}
+use Rattle.otlp_read.specs.Value.{resource_step, scope_step, span_step, IsValue}
 use Rattle.otlp_read.specs.Walk.{read_with}
 
 -- a text that a memory of 64-bit addresses holds

@@ -3,9 +3,10 @@
 -- merged, repeated fields keep their order, and each known string and message must itself be sound. Fields that aren't
 -- known, and known ones with another wire type, are kept as they were spelled, but in a request, a resource spans, a
 -- scope spans, a response and its partial success, where they are dropped.
-use Rattle.std.specs.Prelude.{ℕ, pos, ◌==◌, if◌then◌else◌, List, [], ◌++◌, Option, Some, None, unwrap_or, Result, Ok}
+use Rattle.std.specs.Prelude.{ℕ, ◌==◌, if◌then◌else◌, List, [], ◌++◌, Option, Some, None, unwrap_or, Result, Ok}
 use Rattle.pb_wire.specs.Grammar.{Varint, Eight, Bytes, Four}
 use Rattle.otlp_trace.specs.Data.{KeyValueData, ResourceData, ScopeData, StatusData, EventData, LinkData, SpanData, ScopeSpansData, ResourceSpansData, RequestData}
+use Rattle.otlp_trace.specs.Defaults.{no_resource, no_scope, no_status, no_event, no_link, no_span, no_scope_spans, no_resource_spans, no_request}
 use Rattle.otlp_read.specs.declared.fault.ReadFault.{ReadFault}
 use Rattle.otlp_read.specs.AnyValue.{no_key_value, key_value_step}
 use Rattle.otlp_read.specs.Numbers.{utf8, int32, uint32, fixed64, fixed32}
@@ -19,10 +20,6 @@ abbrev pub with_attribute : ℕ → List KeyValueData → List ℕ → Result (L
 with_attribute room others bs = with_another others (read_with key_value_step room no_key_value bs)
 
 -- ---- a resource
-
--- a resource of no fields: proto3's defaults
-abbrev pub no_resource : ResourceData
-no_resource = record { attributes = []; dropped_attributes_count = 0; unknown = [] }
 
 -- a field that a resource doesn't know, behind those that it has kept
 abbrev pub keep_resource : ResourceData → List ℕ → ResourceData
@@ -45,10 +42,6 @@ abbrev pub merged_resource : ℕ → Option ResourceData → List ℕ → Result
 merged_resource room old bs = read_with resource_step room (unwrap_or old no_resource) bs
 
 -- ---- an instrumentation scope
-
--- an instrumentation scope of no fields: proto3's defaults
-abbrev pub no_scope : ScopeData
-no_scope = record { name = []; version = []; attributes = []; dropped_attributes_count = 0; unknown = [] }
 
 -- a field that an instrumentation scope doesn't know, behind those that it has kept
 abbrev pub keep_scope : ScopeData → List ℕ → ScopeData
@@ -74,10 +67,6 @@ merged_scope room old bs = read_with scope_step room (unwrap_or old no_scope) bs
 
 -- ---- a span's status
 
--- a span's status of no fields: proto3's defaults
-abbrev pub no_status : StatusData
-no_status = record { message = []; code = pos 0; unknown = [] }
-
 -- a field that a span's status doesn't know, behind those that it has kept
 abbrev pub keep_status : StatusData → List ℕ → StatusData
 keep_status s spelled = record s { unknown = s.unknown ++ spelled }
@@ -97,10 +86,6 @@ abbrev pub merged_status : ℕ → Option StatusData → List ℕ → Result Sta
 merged_status room old bs = read_with status_step room (unwrap_or old no_status) bs
 
 -- ---- an event
-
--- an event of no fields: proto3's defaults
-abbrev pub no_event : EventData
-no_event = record { time_unix_nano = 0; name = []; attributes = []; dropped_attributes_count = 0; unknown = [] }
 
 -- a field that an event doesn't know, behind those that it has kept
 abbrev pub keep_event : EventData → List ℕ → EventData
@@ -125,18 +110,6 @@ abbrev pub with_event : ℕ → List EventData → List ℕ → Result (List Eve
 with_event room others bs = with_another others (read_with event_step room no_event bs)
 
 -- ---- a link
-
--- a link of no fields: proto3's defaults
-abbrev pub no_link : LinkData
-no_link = record {
-  trace_id = [];
-  span_id = [];
-  trace_state = [];
-  attributes = [];
-  dropped_attributes_count = 0;
-  flags = 0;
-  unknown = [];
-}
 
 -- a field that a link doesn't know, behind those that it has kept
 abbrev pub keep_link : LinkData → List ℕ → LinkData
@@ -163,28 +136,6 @@ abbrev pub with_link : ℕ → List LinkData → List ℕ → Result (List LinkD
 with_link room others bs = with_another others (read_with link_step room no_link bs)
 
 -- ---- a span
-
--- a span of no fields: proto3's defaults
-abbrev pub no_span : SpanData
-no_span = record {
-  trace_id = [];
-  span_id = [];
-  trace_state = [];
-  parent_span_id = [];
-  name = [];
-  kind = pos 0;
-  start_time_unix_nano = 0;
-  end_time_unix_nano = 0;
-  attributes = [];
-  dropped_attributes_count = 0;
-  events = [];
-  dropped_events_count = 0;
-  links = [];
-  dropped_links_count = 0;
-  status = None;
-  flags = 0;
-  unknown = [];
-}
 
 -- a field that a span doesn't know, behind those that it has kept
 abbrev pub keep_span : SpanData → List ℕ → SpanData
@@ -226,10 +177,6 @@ with_span room others bs = with_another others (read_with span_step room no_span
 
 -- ---- spans by scope and resource
 
--- a scope spans of no fields: proto3's defaults
-abbrev pub no_scope_spans : ScopeSpansData
-no_scope_spans = record { scope = None; spans = []; schema_url = [] }
-
 -- the fields of `ScopeSpans`, by number and wire type
 abbrev pub scope_spans_known : ℕ → Known ScopeSpansData
 scope_spans_known room s n (Bytes bs) =
@@ -246,10 +193,6 @@ scope_spans_step room = known_or_dropped (scope_spans_known room)
 -- one more scope spans
 abbrev pub with_scope_spans : ℕ → List ScopeSpansData → List ℕ → Result (List ScopeSpansData) ReadFault
 with_scope_spans room others bs = with_another others (read_with scope_spans_step room no_scope_spans bs)
-
--- a resource spans of no fields: proto3's defaults
-abbrev pub no_resource_spans : ResourceSpansData
-no_resource_spans = record { resource = None; scope_spans = []; schema_url = [] }
 
 -- the fields of `ResourceSpans`, by number and wire type
 abbrev pub resource_spans_known : ℕ → Known ResourceSpansData
@@ -269,10 +212,6 @@ abbrev pub with_resource_spans : ℕ → List ResourceSpansData → List ℕ →
 with_resource_spans room others bs = with_another others (read_with resource_spans_step room no_resource_spans bs)
 
 -- ---- a request
-
--- a request of no fields: proto3's defaults
-abbrev pub no_request : RequestData
-no_request = record { resource_spans = [] }
 
 -- the fields of `ExportTraceServiceRequest`, by number and wire type
 abbrev pub request_known : ℕ → Known RequestData

@@ -6,7 +6,8 @@ ghost use Rattle.otlp_trace.specs.View.{resource_view, scope_view, scope_spans_v
 ghost use Rattle.otlp_read.specs.declared.fault.ReadFault.{ReadFault};
 ghost use Rattle.otlp_read.specs.Fault.{Gives};
 ghost use Rattle.otlp_read.specs.Walk.{MergesLists};
-ghost use Rattle.otlp_read.specs.Value.{no_resource, no_scope, no_scope_spans, no_resource_spans, no_request, resource_step, scope_step, scope_spans_step, resource_spans_step, request_step, value_of, IsValue, IsFault};
+ghost use Rattle.otlp_trace.specs.Defaults.{no_resource, no_scope, no_scope_spans, no_resource_spans, no_request};
+ghost use Rattle.otlp_read.specs.Value.{resource_step, scope_step, scope_spans_step, resource_spans_step, request_step, value_of, IsValue, IsFault};
 
 use crate::fault::ReadFault;
 use crate::leaf::{keep, low32, string};

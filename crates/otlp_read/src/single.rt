@@ -3,7 +3,8 @@
 ghost use Rattle.std.specs.Prelude.{◌≤◌};
 ghost use Rattle.otlp_trace.specs.View.{resource_view, scope_view, span_view, scope_spans_view, resource_spans_view};
 ghost use Rattle.otlp_read.specs.Fault.{Gives};
-ghost use Rattle.otlp_read.specs.Value.{no_resource, resource_step, no_scope, scope_step, no_span, span_step, no_scope_spans, scope_spans_step, no_resource_spans, resource_spans_step};
+ghost use Rattle.otlp_trace.specs.Defaults.{no_resource, no_scope, no_span, no_scope_spans, no_resource_spans};
+ghost use Rattle.otlp_read.specs.Value.{resource_step, scope_step, span_step, scope_spans_step, resource_spans_step};
 ghost use Rattle.otlp_read.specs.Walk.{read_with};
 
 use crate::fault::ReadFault;

@@ -8,7 +8,8 @@ ghost use Rattle.otlp_trace.specs.Data.{StatusData, EventData, LinkData, SpanDat
 ghost use Rattle.otlp_trace.specs.View.{status_view, event_view, link_view, span_view};
 ghost use Rattle.otlp_read.specs.Fault.{Gives};
 ghost use Rattle.otlp_read.specs.Walk.{numbered};
-ghost use Rattle.otlp_read.specs.Value.{no_status, no_event, no_link, no_span, status_step, event_step, link_step, span_step};
+ghost use Rattle.otlp_trace.specs.Defaults.{no_status, no_event, no_link, no_span};
+ghost use Rattle.otlp_read.specs.Value.{status_step, event_step, link_step, span_step};
 
 use crate::fault::ReadFault;
 use crate::leaf::{keep, low32, string};

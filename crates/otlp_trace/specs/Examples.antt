@@ -4,36 +4,7 @@
 -- (https://protobuf.dev/programming-guides/encoding/). Test crates try their definitions on it.
 use Rattle.std.specs.Prelude.{ℕ, pos, List, [], ◌∷◌, ◌++◌, Some, None, codes}
 use Rattle.otlp_trace.specs.Data.{any_value, string, KeyValueData, key_value, ResourceData, ScopeData, SpanData, RequestData}
-
--- a resource of which nothing is known
-abbrev pub plain_resource : ResourceData
-plain_resource = record { attributes = []; dropped_attributes_count = 0; unknown = [] }
-
--- a scope of which nothing is known
-abbrev pub plain_scope : ScopeData
-plain_scope = record { name = []; version = []; attributes = []; dropped_attributes_count = 0; unknown = [] }
-
--- a span of no fields
-abbrev pub plain_span : SpanData
-plain_span = record {
-  trace_id = [];
-  span_id = [];
-  trace_state = [];
-  parent_span_id = [];
-  name = [];
-  kind = pos 0;
-  start_time_unix_nano = 0;
-  end_time_unix_nano = 0;
-  attributes = [];
-  dropped_attributes_count = 0;
-  events = [];
-  dropped_events_count = 0;
-  links = [];
-  dropped_links_count = 0;
-  status = None;
-  flags = 0;
-  unknown = [];
-}
+use Rattle.otlp_trace.specs.Defaults.{no_resource, no_scope, no_span}
 
 -- an attribute that is a string, with nothing kept
 abbrev pub text_attribute : List ℕ → List ℕ → KeyValueData
@@ -41,7 +12,7 @@ text_attribute key text = key_value key (any_value (string text) []) []
 
 -- the example's resource
 abbrev pub example_resource : ResourceData
-example_resource = record plain_resource {
+example_resource = record no_resource {
   attributes = text_attribute (codes "service.name") (codes "my.service") ∷ [];
 }
 
@@ -52,7 +23,7 @@ example_resource_bytes =
 
 -- its scope
 abbrev pub example_scope : ScopeData
-example_scope = record plain_scope {
+example_scope = record no_scope {
   name = codes "my.library";
   version = codes "1.0.0";
   attributes = text_attribute (codes "my.scope.attribute") (codes "some scope attribute") ∷ [];
@@ -81,7 +52,7 @@ example_parent = 0xee ∷ 0xe1 ∷ 0x9b ∷ 0x7e ∷ 0xc3 ∷ 0xc1 ∷ 0xb1 ∷ 
 
 -- its span
 abbrev pub example_span : SpanData
-example_span = record plain_span {
+example_span = record no_span {
   trace_id = example_trace_id;
   span_id = example_span_id;
   parent_span_id = example_parent;

@@ -3,7 +3,8 @@
 -- (https://protobuf.dev/programming-guides/encoding/). A field of bytes has the tag 8 n + 2 and then a length.
 use Rattle.std.specs.Prelude.{◌≡◌, codes, ℕ, List, [], ◌∷◌, Option, Some, None}
 use Rattle.otlp_trace.specs.Data.{ResourceData, ScopeData, RequestData}
-use Rattle.otlp_trace.specs.Examples.{plain_resource, plain_scope, plain_span, example_resource, example_scope, example_span, example_request, example_bytes}
+use Rattle.otlp_trace.specs.Defaults.{no_resource, no_scope, no_span}
+use Rattle.otlp_trace.specs.Examples.{example_resource, example_scope, example_span, example_request, example_bytes}
 use Rattle.span_batcher.specs.ExportText.{export_text}
 use Rattle.span_batcher.specs.Request.{PlacedSpan, written, spans_of, request_of, IsReadable}
 
@@ -20,7 +21,7 @@ example_placed = record {
 }
 
 abbrev pub dropped : ℕ → ResourceData
-dropped n = record plain_resource { dropped_attributes_count = n }
+dropped n = record no_resource { dropped_attributes_count = n }
 
 -- a span whose trace id has this one byte
 abbrev pub placed : Option ResourceData → Option ScopeData → ℕ → PlacedSpan
@@ -29,20 +30,20 @@ placed of_resource of_scope id = record {
   resource_schema_url = codes "u";
   scope = of_scope;
   scope_schema_url = codes "v";
-  span = record plain_span { trace_id = id ∷ [] };
+  span = record no_span { trace_id = id ∷ [] };
 }
 
 abbrev pub three : List PlacedSpan
-three = placed (Some (dropped 1)) None 1 ∷ placed (Some (dropped 1)) (Some plain_scope) 2 ∷ placed None None 3 ∷ []
+three = placed (Some (dropped 1)) None 1 ∷ placed (Some (dropped 1)) (Some no_scope) 2 ∷ placed None None 3 ∷ []
 
 abbrev pub three_asked : RequestData
 three_asked = record {
   resource_spans = record {
     resource = Some (dropped 1);
-    scope_spans = record { scope = None; spans = record plain_span { trace_id = 1 ∷ [] } ∷ []; schema_url = codes "v" }
+    scope_spans = record { scope = None; spans = record no_span { trace_id = 1 ∷ [] } ∷ []; schema_url = codes "v" }
         ∷ record {
-          scope = Some plain_scope;
-          spans = record plain_span { trace_id = 2 ∷ [] } ∷ [];
+          scope = Some no_scope;
+          spans = record no_span { trace_id = 2 ∷ [] } ∷ [];
           schema_url = codes "v";
         }
         ∷ [];
@@ -50,7 +51,7 @@ three_asked = record {
   }
       ∷ record {
         resource = None;
-        scope_spans = record { scope = None; spans = record plain_span { trace_id = 3 ∷ [] } ∷ []; schema_url = codes "v" }
+        scope_spans = record { scope = None; spans = record no_span { trace_id = 3 ∷ [] } ∷ []; schema_url = codes "v" }
             ∷ [];
         schema_url = codes "u";
       }
@@ -66,5 +67,5 @@ pub record Requests : Type 0 where
 
 -- a count has 32 bits
 pub record ReadablePlaces : Type 0 where
-  pub most : IsReadable (placed (Some (dropped 4294967295)) (Some plain_scope) 1)
+  pub most : IsReadable (placed (Some (dropped 4294967295)) (Some no_scope) 1)
   pub one_more : IsReadable (placed (Some (dropped 4294967296)) None 1) → ⊥

@@ -6,7 +6,7 @@ use Rattle.std.specs.Prelude.{◌≡◌, ℕ, pos, negsuc, true, List, [], ◌�
 use Rattle.pb_wire.specs.Grammar.{Varint, Bytes}
 use Rattle.otlp_trace.specs.Data.{KeyValueData, KindData, any_value, bare_key, key_value, ResourceData, SpanData}
 use Rattle.otlp_trace.specs.Data as otlp
-use Rattle.otlp_read.specs.Value.{no_span}
+use Rattle.otlp_trace.specs.Defaults.{no_span}
 use Rattle.span_view.specs.Facts.{unset, string, boolean, array, bytes, ValueFact}
 use Rattle.span_view.specs.Facts.{AttributeFact, SpanFacts, facts, AreText}
 use Rattle.span_view.specs.Reading.{facts_of}

@@ -165,10 +165,13 @@ fn what_tells_nothing_is_passed_over(rt: HostRuntime) {
     assert!(rt; tells(&rt, b"\x0a\x01\x01\x00\x12\x01\x03", b"\x01", 0));
 }
 
-/// Whether a span has these times, by one call for each and by one for both.
+/// Whether a span has these times, by one call for each, by one for both, and by one for both and the status.
 fn has_times(rt: &impl Abort, span: &[u8], start: u64, end: u64) -> bool {
     let view = checked(rt, span, b"");
-    (view.start(), view.end()) == (start, end) && view.times() == (start, end)
+    let (first, last, _status) = view.times_and_status();
+    (view.start(), view.end()) == (start, end)
+        && view.times() == (start, end)
+        && (first, last) == (start, end)
 }
 
 /// A span of fields by their tags, each with eight bytes of a number below 256.
@@ -205,6 +208,41 @@ fn times_are_told_together(rt: HostRuntime) -> Result<(), Fail> {
     Ok(())
 }
 
+/// What stands before a start of 5, between it and an end of 6, and behind that; and the status that it tells: the
+/// first, wherever it stands.
+const STATUSES: [(&[u8], &[u8], &[u8], i32); 11] = [
+    (b"", b"", b"", 0),
+    (b"", b"", b"\x7a\x02\x18\x02", 2),
+    (b"", b"", b"\x7a\x00", 0),
+    (b"", b"", b"\x4a\x00\x4a\x00\x7a\x02\x18\x02", 2),
+    (b"", b"", b"\x4a\x00\x50\x01\x4a\x00\x7a\x02\x18\x01", 1),
+    (b"", b"", b"\x7a\x02\x18\x01\x7a\x02\x18\x02", 1),
+    (b"\x7a\x02\x18\x01", b"", b"\x7a\x02\x18\x02", 1),
+    (b"\x7a\x02\x18\x01", b"", b"", 1),
+    (b"", b"\x7a\x02\x18\x01", b"\x7a\x02\x18\x02", 1),
+    // A varint of the status' number, and an attribute that is cut short, behind which no field begins.
+    (b"", b"", b"\x78\x01\x7a\x02\x18\x02", 2),
+    (b"", b"", b"\x4a\x7f\x7a\x02\x18\x02", 0),
+];
+
+#[test]
+fn times_and_status_are_told_together(rt: HostRuntime) -> Result<(), Fail> {
+    for (before, between, behind, status) in STATUSES {
+        let mut span = Vec::new(rt.alloc());
+        span.extend_from_slice(before)?;
+        span.extend_from_slice(b"\x39\x05\x00\x00\x00\x00\x00\x00\x00")?;
+        span.extend_from_slice(between)?;
+        span.extend_from_slice(b"\x41\x06\x00\x00\x00\x00\x00\x00\x00")?;
+        span.extend_from_slice(behind)?;
+        let view = checked(&rt, &span, b"");
+        assert!(rt;
+            view.times_and_status() == (5, 6, status) && view.status() == status,
+            "{status}"
+        );
+    }
+    Ok(())
+}
+
 /// What stands before a key of so many bytes in a span's attribute: an attribute of 127 bytes and one of 128, and then
 /// keys of 127 and of 128.
 const HEADS: [(&[u8], usize); 4] = [
@@ -235,6 +273,7 @@ fn short_and_long_keys_are_told_alike(rt: HostRuntime) -> Result<(), Fail> {
         let view = checked(&rt, &span, b"");
         let (key, _value) = view.attributes().next().ok_or("no attribute")?;
         assert!(rt; view.status() == 2 && key.len() == count, "at {count}");
+        assert!(rt; view.times_and_status() == (5, 6, 2), "at {count}");
         assert!(rt;
             tells_attribute(view.fields().next(), key, ValueRef::Unset),
             "at {count}"

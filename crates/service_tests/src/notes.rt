@@ -23,9 +23,7 @@ pub(crate) struct FewRounds {
 }
 
 impl Beat for FewRounds {
-    ghost gives = { λ _ _ _. Unit {0} };
-
-    ghost rests = { λ _ _. Unit {0} };
+    ghost calls = { λ _ _ _. Unit {0} };
 
     fn is_over(&mut self) -> bool {
         if self.rounds == 0 {

@@ -58,9 +58,7 @@ struct UntilAnswered<'a> {
 }
 
 impl Beat for UntilAnswered<'_> {
-    ghost gives = { λ _ _ _. Unit {0} };
-
-    ghost rests = { λ _ _. Unit {0} };
+    ghost calls = { λ _ _ _. Unit {0} };
 
     fn is_over(&mut self) -> bool {
         if self.turns == 0 {

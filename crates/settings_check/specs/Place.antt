@@ -1,5 +1,5 @@
 -- Where a document's fault is: in the first tenant that by itself, as a document, has this fault, in the first of its
--- policies of which that is so, and in the first part of that. This project's own rule.
+-- policies of which that is so, and in the first sub-policy of that. This project's own rule.
 use Rattle.std.specs.Prelude.{◌≡◌, codes, ℕ, suc, ◌+◌, ◌≤◌, true, List, [], ◌++◌, ◌⊎◌, Option, Some, None, unwrap_or, option_map, IsSome, Err, string_bytes}
 use Rattle.std.specs.Borrow.{Bor}
 use Rattle.std.specs.Fmt.{decimal}
@@ -12,15 +12,15 @@ use Rattle.settings_check.specs.declared.place.Level.{Level}
 use Rattle.settings_check.specs.declared.place.Level.TheVariants as levels
 use Rattle.settings_check.specs.declared.place.Place.{Place}
 use Rattle.settings_check.specs.Shown.{shown}
-use Rattle.settings_check.specs.Unknown.{table_in, items_in, text_in, table_of, tenant_words, kind_of, parts_of}
+use Rattle.settings_check.specs.Unknown.{table_in, items_in, text_in, table_of, tenant_words, kind_of, sub_policies_of}
 
 -- the array of one value
 abbrev pub only : Data → Data
 only d = array (item d no_items)
 
--- a policy `and` that has this part and no other
-abbrev pub with_part : Data → Data
-with_part d =
+-- a policy `and` that has this sub-policy and no other
+abbrev pub with_sub_policy : Data → Data
+with_sub_policy d =
     table (member (codes "and_sub_policy") (only d) (member (codes "type") (string (codes "and")) no_members))
 
 -- a tenant that has this policy, a name, and nothing else
@@ -29,11 +29,11 @@ with_policy d =
     table (member (codes "name") (string (codes "a"))
     (member (codes "tail_sampling") (table (member (codes "policy") (only d) no_members)) no_members))
 
--- the tenant that a tenant is, or that has this policy, or this part of one, by itself
+-- the tenant that a tenant is, or that has this policy, or this sub-policy of one, by itself
 abbrev pub tenant_with : Level → Data → Data
 tenant_with levels.Tenant d = d
 tenant_with levels.Policy d = with_policy d
-tenant_with levels.Part d = with_policy (with_part d)
+tenant_with levels.SubPolicy d = with_policy (with_sub_policy d)
 
 -- its document
 abbrev pub document_with : Level → Data → Members
@@ -69,9 +69,9 @@ table_found (Some found) = table_of found.1
 abbrev pub policies_in : Members → Items
 policies_in tenant = items_in (codes "policy") (table_in (codes "tail_sampling") tenant)
 
--- the parts of a policy, which only one of the type `and` has
-abbrev pub parts_in : Members → Items
-parts_in policy = parts_of (kind_of policy) policy
+-- the sub-policies of a policy, which only one of the type `and` has
+abbrev pub sub_policies_in : Members → Items
+sub_policies_in policy = sub_policies_of (kind_of policy) policy
 
 -- how many there are of these
 abbrev pub count_of : Items → ℕ
@@ -92,21 +92,21 @@ abbrev pub tenant_place : Option (ℕ × Data) → List ℕ
 tenant_place None = []
 tenant_place (Some found) = tenant_words found.0 (table_of found.1) ++ codes ", "
 
--- the words of a part, behind those of its policy
-abbrev pub part_place : Option (ℕ × Data) → List ℕ
-part_place None = []
-part_place (Some found) = numbered_words (codes ", part ") found.0 (table_of found.1)
+-- the words of a sub-policy, behind those of its policy
+abbrev pub sub_policy_place : Option (ℕ × Data) → List ℕ
+sub_policy_place None = []
+sub_policy_place (Some found) = numbered_words (codes ", part ") found.0 (table_of found.1)
 
--- the words of a policy and of a part of it
+-- the words of a policy and of a sub-policy of it
 abbrev pub policy_place : Option (ℕ × Data) → Option (ℕ × Data) → List ℕ
-policy_place None part = codes "a policy"
-policy_place (Some found) part = numbered_words (codes "policy ") found.0 (table_of found.1) ++ part_place part
+policy_place None sub_policy = codes "a policy"
+policy_place (Some found) sub_policy = numbered_words (codes "policy ") found.0 (table_of found.1) ++ sub_policy_place sub_policy
 
--- the tenant, the policy and the part in which a document has this fault
+-- the tenant, the policy and the sub-policy in which a document has this fault
 pub record IsWhere (fault : FaultData) (document : Members) (t p q : Option (ℕ × Data)) : Type 0 where
   pub tenant : IsFirst levels.Tenant fault 1 (items_in (codes "tenant") document) t
   pub policy : IsFirst levels.Policy fault 1 (policies_in (table_found t)) p
-  pub part : IsFirst levels.Part fault 1 (parts_in (table_found p)) q
+  pub sub_policy : IsFirst levels.SubPolicy fault 1 (sub_policies_in (table_found p)) q
 
 -- how many tenants there are, the words of the tenant, and those of the policy
 pub record PlaceData : Type 0 where

@@ -53,14 +53,14 @@ unknown_in_leaves place number (item d rest) =
     ++ unknown_in_leaves place (number + 1) rest
 
 -- the policies that a policy holds, which only one of the type `and` does
-abbrev pub parts_of : TableKind → Members → Items
-parts_of kinds.And policy = items_in (codes "and_sub_policy") policy
-parts_of _ policy = no_items
+abbrev pub sub_policies_of : TableKind → Members → Items
+sub_policies_of kinds.And policy = items_in (codes "and_sub_policy") policy
+sub_policies_of _ policy = no_items
 
 -- those of a policy, and of the policies that it holds
 abbrev pub unknown_in_policy : List ℕ → Members → List UnknownKey
 unknown_in_policy place policy =
-    unknown_in place (kind_of policy) policy ++ unknown_in_leaves place 1 (parts_of (kind_of policy) policy)
+    unknown_in place (kind_of policy) policy ++ unknown_in_leaves place 1 (sub_policies_of (kind_of policy) policy)
 
 -- those of policies, of which the first has this number
 abbrev pub unknown_in_policies : List ℕ → ℕ → Items → List UnknownKey

@@ -1,4 +1,4 @@
-//! Where a fault is: in which tenant, in which of its policies, and in which part of that.
+//! Where a fault is: in which tenant, in which of its policies, and in which sub-policy of that.
 
 ghost use Rattle.std.specs.Prelude.{◌≡◌, ◌↔◌, ◌++◌, codes, Some, Err, IfOk, IsSomeAnd, IsTrue, string_bytes};
 ghost use Rattle.toml.specs.Parse.{parse_document};
@@ -6,13 +6,13 @@ ghost use Rattle.toml.specs.View.{view, items_view};
 ghost use Rattle.tail_settings.specs.Fault.{FaultData, fault_view};
 ghost use Rattle.tail_settings.specs.Keys.{keys_of};
 ghost use Rattle.tail_settings.specs.Settings.{settings_of};
-ghost use Rattle.settings_check.specs.Place.{only, with_part, with_policy, tenant_with, document_with, IsWritable, HasAlone, IsFirst, found_view, table_found, name_words, numbered_words, tenant_place, part_place, policy_place, place_view, IsPlace};
+ghost use Rattle.settings_check.specs.Place.{only, with_sub_policy, with_policy, tenant_with, document_with, IsWritable, HasAlone, IsFirst, found_view, table_found, name_words, numbered_words, tenant_place, sub_policy_place, policy_place, place_view, IsPlace};
 ghost use Rattle.settings_check.specs.Unknown.{text_in};
 
 use crate::document::{put, put_text};
 use crate::read;
 use crate::shown::shown;
-use crate::unknown::{joined, parts, policy_kind, tenant_words};
+use crate::unknown::{joined, policy_kind, sub_policies, tenant_words};
 use std::alloc::{AllocError, Global};
 use tail_settings::{SettingsFault, load};
 use toml::{Table, Value};
@@ -24,8 +24,8 @@ pub enum Level {
     Tenant,
     /// A policy of a tenant.
     Policy,
-    /// A part of a policy `and`.
-    Part,
+    /// A sub-policy of a policy `and`.
+    SubPolicy,
 }
 
 /// Where a fault is, in words.
@@ -49,13 +49,18 @@ fn only(alloc: Global, value: Value) -> Result<Value, AllocError>
     Ok(Value::Array(values))
 }
 
-/// A policy `and` that has this part and no other.
-fn with_part(alloc: Global, part: Value) -> Result<Value, AllocError>
-    ensures { IfOk result (λ v. view v ≡ with_part (view part)) }
+/// A policy `and` that has this sub-policy and no other.
+fn with_sub_policy(alloc: Global, sub_policy: Value) -> Result<Value, AllocError>
+    ensures { IfOk result (λ v. view v ≡ with_sub_policy (view sub_policy)) }
 {
     let mut policy = Table::new(alloc);
     put_text(alloc, &mut policy, "type", "and")?;
-    put(alloc, &mut policy, "and_sub_policy", only(alloc, part)?)?;
+    put(
+        alloc,
+        &mut policy,
+        "and_sub_policy",
+        only(alloc, sub_policy)?,
+    )?;
     Ok(Value::Table(policy))
 }
 
@@ -71,7 +76,7 @@ fn with_policy(alloc: Global, policy: Value) -> Result<Value, AllocError>
     Ok(Value::Table(tenant))
 }
 
-/// The tenant that a tenant is, or that has this policy, or this part of one, by itself.
+/// The tenant that a tenant is, or that has this policy, or this sub-policy of one, by itself.
 fn tenant_with(alloc: Global, level: Level, value: &Value) -> Result<Value, AllocError>
     ensures { IfOk result (λ v. view v ≡ tenant_with level (view value.now)) }
 {
@@ -79,8 +84,8 @@ fn tenant_with(alloc: Global, level: Level, value: &Value) -> Result<Value, Allo
     match level {
         Level::Tenant => Ok(value),
         Level::Policy => with_policy(alloc, value),
-        Level::Part => {
-            let policy = with_part(alloc, value)?;
+        Level::SubPolicy => {
+            let policy = with_sub_policy(alloc, value)?;
             with_policy(alloc, policy)
         }
     }
@@ -208,30 +213,34 @@ fn tenant_place(alloc: Global, tenant: Option<(usize, &Value)>) -> Result<String
     }
 }
 
-/// The words of a part, behind those of its policy.
-fn part_place(alloc: Global, part: Option<(usize, &Value)>) -> Result<String, AllocError>
-    ensures { IfOk result (λ words. string_bytes words ≡ part_place (found_view part.entry)) }
+/// The words of a sub-policy, behind those of its policy.
+fn sub_policy_place(
+    alloc: Global,
+    sub_policy: Option<(usize, &Value)>,
+) -> Result<String, AllocError>
+    ensures { IfOk result (λ words. string_bytes words
+        ≡ sub_policy_place (found_view sub_policy.entry)) }
 {
-    match part {
-        Some((number, part)) => numbered(alloc, ", part ", number, part.as_table()),
+    match sub_policy {
+        Some((number, sub_policy)) => numbered(alloc, ", part ", number, sub_policy.as_table()),
         None => Ok(String::new(alloc)),
     }
 }
 
-/// The words of a policy and of a part of it.
+/// The words of a policy and of a sub-policy of it.
 fn policy_place(
     alloc: Global,
     policy: Option<(usize, &Value)>,
-    part: Option<(usize, &Value)>,
+    sub_policy: Option<(usize, &Value)>,
 ) -> Result<String, AllocError>
     ensures { IfOk result (λ words. string_bytes words
-        ≡ policy_place (found_view policy.entry) (found_view part.entry)) }
+        ≡ policy_place (found_view policy.entry) (found_view sub_policy.entry)) }
 {
     match policy {
         Some((number, policy)) => {
             let words = numbered(alloc, "policy ", number, policy.as_table())?;
-            let part = part_place(alloc, part)?;
-            joined(alloc, words.as_str(), part.as_str())
+            let behind = sub_policy_place(alloc, sub_policy)?;
+            joined(alloc, words.as_str(), behind.as_str())
         }
         None => String::from_str(alloc, "a policy"),
     }
@@ -250,11 +259,11 @@ pub fn locate(
     let tenant = first(alloc, Level::Tenant, tenants, fault)?;
     let policies = read::items(read::table(table(tenant), "tail_sampling"), "policy");
     let policy = first(alloc, Level::Policy, policies, fault)?;
-    let parts = parts(policy_kind(table(policy)), table(policy));
-    let part = first(alloc, Level::Part, parts, fault)?;
+    let sub_policies = sub_policies(policy_kind(table(policy)), table(policy));
+    let sub_policy = first(alloc, Level::SubPolicy, sub_policies, fault)?;
     Ok(Place {
         count: tenants.len(),
         tenant: tenant_place(alloc, tenant)?,
-        policy: policy_place(alloc, policy, part)?,
+        policy: policy_place(alloc, policy, sub_policy)?,
     })
 }

@@ -4,7 +4,7 @@ ghost use Rattle.std.specs.Prelude.{◌≡◌, ◌++◌, [], codes, unwrap_or, I
 ghost use Rattle.std.specs.Fmt.{decimal};
 ghost use Rattle.toml.specs.View.{table_view, items_view};
 ghost use Rattle.tail_settings.specs.Keys.{keys_of};
-ghost use Rattle.settings_check.specs.Unknown.{text_in, tenant_words, kind_of, parts_of, unknown_in, unknown_in_leaves, unknown_in_policy, unknown_in_policies, unknown_in_cache, unknown_in_sampling, unknown_in_section, unknown_in_tenants, unknown_of};
+ghost use Rattle.settings_check.specs.Unknown.{text_in, tenant_words, kind_of, sub_policies_of, unknown_in, unknown_in_leaves, unknown_in_policy, unknown_in_policies, unknown_in_cache, unknown_in_sampling, unknown_in_section, unknown_in_tenants, unknown_of};
 ghost use Rattle.settings_check.specs.Warning.{meant_of, hint_text, warning_text, warnings};
 ghost use Rattle.settings_check.specs.Table.{keys_of_kind};
 
@@ -133,8 +133,8 @@ fn warn_in_leaves(
 }
 
 /// The policies that a policy of this kind holds.
-pub fn parts<'a>(kind: TableKind, policy: Option<&'a Table>) -> &'a [Value]
-    ensures { items_view result.now ≡ parts_of kind (keys_of policy.entry) }
+pub fn sub_policies<'a>(kind: TableKind, policy: Option<&'a Table>) -> &'a [Value]
+    ensures { items_view result.now ≡ sub_policies_of kind (keys_of policy.entry) }
 {
     match kind {
         TableKind::And => read::items(policy, "and_sub_policy"),
@@ -155,7 +155,7 @@ fn warn_in_policy(
 {
     let kind = policy_kind(policy);
     warn_in(alloc, out, place, kind, policy)?;
-    warn_in_leaves(alloc, out, place, parts(kind, policy))
+    warn_in_leaves(alloc, out, place, sub_policies(kind, policy))
 }
 
 /// Appends warnings of a tenant's policies.

@@ -1,6 +1,6 @@
 //! The log of a shard.
 
-ghost use Rattle.std.specs.Prelude.{◌≡◌, ◌<◌, ◌+◌, ◌^◌, ◌++◌, ◌∷◌, [], map, length, true, false, IfOk, OnOk, OnErr, IsSome};
+ghost use Rattle.std.specs.Prelude.{◌≡◌, ◌<◌, ◌+◌, ◌^◌, ◌++◌, ◌∷◌, [], map, length, true, false, None, IfOk, OnOk, OnErr, IsSome};
 ghost use Rattle.std.specs.Prelude.{vec_len, vec_capacity};
 ghost use Rattle.std.specs.Arc.{arc_value};
 
@@ -81,6 +81,7 @@ impl StepLog<ShardMachine> for OptionalLog {
             map arc_value self.new.kept.items ≡ map arc_value self.old.kept.items }
         ensures on_refusal { OnErr result
             (map arc_value self.new.kept.items ≡ map arc_value self.old.kept.items) }
+        ensures used { self.new.next ≡ None }
     {
         let theirs = match self.next.take() {
             Some(next) => written(next, alloc, entry)?,

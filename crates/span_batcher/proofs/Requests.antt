@@ -12,7 +12,8 @@ use Rattle.otlp_trace.specs.Text.{bytes_field, repeated, resource_text, scope_te
 use Rattle.otlp_read.specs.Nested.{NestedSpan, NestedScopeSpans, NestedResourceSpans, NestedRequest}
 use Rattle.otlp_read.specs.RoundTrip.{IsShort, RequestReadsBack, ResourceReadsBack, ScopeReadsBack}
 use Rattle.otlp_read.specs.Typed.{TypedResource, TypedScope, TypedSpan, TypedScopeSpans, TypedResourceSpans, TypedRequest}
-use Rattle.otlp_read.specs.Value.{no_resource, no_scope, resource_step, scope_step, IsValue}
+use Rattle.otlp_trace.specs.Defaults.{no_resource, no_scope}
+use Rattle.otlp_read.specs.Value.{resource_step, scope_step, IsValue}
 use Rattle.otlp_read.specs.Walk.{read_with}
 use Rattle.span_pool.specs.Stored.{SpanTexts, same_text, same_bytes}
 use Rattle.span_batcher.specs.ExportText.{runs, same_resource, same_scope, scope_spans_field, resource_spans_field, export_text}

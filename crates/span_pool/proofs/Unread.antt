@@ -5,7 +5,8 @@ use Rattle.std.specs.Option.{IsSome}
 use Rattle.pb_wire.specs.Grammar.{Datum, Varint, Eight, Bytes, Four, Group}
 use Rattle.otlp_read.specs.AnyValue.{no_value, no_key_value}
 use Rattle.otlp_read.specs.Nested.{IsUnknown, Kept, known_of_any, known_of_key_value}
-use Rattle.otlp_read.specs.Value.{no_resource, no_span, no_status, resource_known, span_known, status_known}
+use Rattle.otlp_trace.specs.Defaults.{no_resource, no_span, no_status}
+use Rattle.otlp_read.specs.Value.{resource_known, span_known, status_known}
 use Rattle.otlp_read.specs.Walk.{Known, Piece}
 use Rattle.otlp_read.proofs.Laws.{pieces_fields}
 use Rattle.span_view.specs.Canonical.{NotInSpan, NotInStatus, NotInResource, NotInKeyValue, NotInAnyValue, Skipped}

@@ -7,7 +7,8 @@ use Rattle.otlp_trace.specs.Text.{resource_text, span_text}
 use Rattle.otlp_read.specs.AnyValue.{no_value, no_key_value}
 use Rattle.otlp_read.specs.Nested.{NestedAny, NestedKeyValue, NestedStatus, NestedResource, NestedSpan, known_of_any, known_of_key_value}
 use Rattle.otlp_read.specs.Typed.{TypedAny, TypedKind, TypedKeyValue, TypedStatus, TypedResource, TypedSpan}
-use Rattle.otlp_read.specs.Value.{no_resource, no_span, no_status, resource_known, span_known, status_known}
+use Rattle.otlp_trace.specs.Defaults.{no_resource, no_span, no_status}
+use Rattle.otlp_read.specs.Value.{resource_known, span_known, status_known}
 use Rattle.span_view.specs.Canonical.{NotInSpan, NotInStatus, NotInResource, NotInKeyValue, NotInAnyValue, SoundKind, SoundValue, SoundKeyValue, SoundStatus, SoundResource, SoundSpan, IsSpanText, IsResourceText}
 use Rattle.span_pool.specs.Stored.{bytes_of}
 use Rattle.span_pool.specs.Read.{IsReadSpan, IsReadResource}

@@ -1,6 +1,7 @@
 -- Fields with tags of one byte, read without their numbers and lengths being gone through byte by byte.
 use Rattle.std.proofs.Common.{◌≡◌, ◌≤◌, ◌<◌, ◌∙◌, ◌+◌, ◌*◌, ◌/◌, ◌%◌, ◌&&◌, ◌==◌, ◌||◌, ℕ, Bool, true, false, List, [], ◌∷◌, ◌++◌, length, take, drop, refl, sym, ap, subst, arith, length-take, length-drop}
 use Rattle.std.specs.Prelude.{if◌then◌else◌, None}
+use Rattle.std.specs.Int.{w64, from_le_bytes}
 use Rattle.std.proofs.lemmas.Bool.{eq-eqb}
 use Rattle.std.proofs.lemmas.List.{take-append-drop}
 use Rattle.pb_wire.specs.declared.field.WireType.{WireType}
@@ -48,14 +49,28 @@ module _ (text held : List ℕ) (t : ℕ) (front : text ≡ t ∷ held) (some : 
     shorter = let whole : length text ≡ length (t ∷ x ∷ rest) = ap length (front ∙ ap (λ bs. t ∷ bs) next) in omega (arith, whole);
   }
 
+  eight_begins : t % 8 ≡ 1 → 8 ≤ length held
+      → fields_of text ≡ record { number = t / 8; value = Eight (take 8 held) } ∷ fields_of (drop 8 held)
+  eight_begins kind room =
+      begins text (t ∷ take 8 held) (drop 8 held) (record { number = t / 8; value = Eight (take 8 held) })
+      (front ∙ ap (λ bs. t ∷ bs) (sym (take-append-drop 8 held)))
+      (eight_field (short_tag t types.Eight some small kind) (let size = length-take 8 held in omega (arith, size, room)))
+
   -- eight bytes
   pub eight_first : t % 8 ≡ 1 → 8 ≤ length held → IsBehind (t / 8) text (drop 8 held)
   eight_first kind room = record {
     value = Eight (take 8 held);
-    first = begins text (t ∷ take 8 held) (drop 8 held) (record { number = t / 8; value = Eight (take 8 held) })
-        (front ∙ ap (λ bs. t ∷ bs) (sym (take-append-drop 8 held)))
-        (eight_field (short_tag t types.Eight some small kind) (let size = length-take 8 held in omega (arith, size, room)));
+    first = eight_begins kind room;
     shorter = let whole : length text ≡ length (t ∷ held) = ap length front in let left = length-drop 8 held in omega (arith, whole, left);
+  }
+
+  -- the same by the number that they spell
+  pub eight_starts : t % 8 ≡ 1 → 8 ≤ length held
+      → StartsWithNumber (t / 8) text (from_le_bytes w64 (take 8 held)) (drop 8 held)
+  eight_starts kind room = record {
+    spelling = take 8 held;
+    first = eight_begins kind room;
+    spells = refl;
   }
 
   -- at most 127 bytes
@@ -132,3 +147,18 @@ pub first_content : (n : ℕ) (text content rest : List ℕ) → StartsWithBytes
 first_content n text content rest starts =
     ap (λ b. first_bytes (if b && true then Bytes content ∷ held n types.Bytes (fields_of rest) else held n types.Bytes (fields_of rest))) (sym (eq-eqb n n refl))
     ∙ ap (λ es. first_bytes (held n types.Bytes es)) (sym starts.first)
+
+-- what a field of eight bytes holds, no field of bytes does
+pub eight_passed : (n m : ℕ) (text rest : List ℕ) (one : ℕ) → StartsWithNumber n text one rest
+    → held m types.Bytes (fields_of text) ≡ held m types.Bytes (fields_of rest)
+eight_passed n m text rest one starts = ap (held m types.Bytes) starts.first ∙ by (n == m)
+  where
+    by : (b : Bool) → (if b && false then Eight starts.spelling ∷ held m types.Bytes (fields_of rest) else held m types.Bytes (fields_of rest)) ≡ held m types.Bytes (fields_of rest)
+    by true = refl
+    by false = refl
+
+-- nor do two of them
+pub eights_passed : (n k m : ℕ) (text rest left : List ℕ) (one other : ℕ) → StartsWithNumber n text one rest
+    → StartsWithNumber k rest other left → held m types.Bytes (fields_of text) ≡ held m types.Bytes (fields_of left)
+eights_passed n k m text rest left one other starts next =
+    eight_passed n m text rest one starts ∙ eight_passed k m rest left other next

@@ -1,12 +1,14 @@
 -- The fields of a text, one after the other.
 use Rattle.std.proofs.Common.{◌≡◌, ℕ, zero, suc, ◌<◌, ◌≤◌, List, [], ◌∷◌, length, map, Bor, Option, Some, None, Result, Ok, Err, refl, ap, ◌∙◌, arith}
+use Rattle.std.specs.Prelude.{◌%◌, ◌^◌, pos}
+use Rattle.std.specs.Int.{w32, cast_signed}
 use Rattle.pb_wire.specs.declared.field.WireFault.{WireFault}
 use Rattle.pb_wire.specs.declared.field.WireType.TheVariants as types
 use Rattle.pb_wire.specs.declared.field.Field.{Field}
 use Rattle.pb_wire.specs.Grammar.{Entry}
 use Rattle.pb_wire.specs.Reading.{next_at, shown}
 use Rattle.pb_wire.proofs.Whole.{next_shorter}
-use Rattle.span_view.specs.Reading.{fields_from, fields_in, fields_of, found_fields, held, all_bytes, attribute_in, attributes_in}
+use Rattle.span_view.specs.Reading.{fields_from, fields_in, fields_of, found_fields, held, first_bytes, first_varint, all_bytes, attribute_in, attributes_in, code_in}
 
 from_same : (p q : List ℕ → List Entry) (text : List ℕ) (r : Result (Option (Entry × List ℕ)) WireFault) → next_at 0 text ≡ r
     → ((rest : List ℕ) → length rest < length text → p rest ≡ q rest) → fields_from p r ≡ fields_from q r
@@ -39,3 +41,9 @@ fields_found text (Some found) e = fields_step text ∙ ap (fields_from fields_o
 -- an empty text has none
 pub no_attributes : (n : ℕ) → attributes_in n [] ≡ []
 no_attributes n = ap (λ es. map attribute_in (all_bytes (held n types.Bytes es))) (fields_step [])
+
+-- and its status is unset
+pub no_code : code_in (first_bytes (held 15 types.Bytes (fields_of []))) ≡ pos 0
+no_code =
+    ap (λ es. code_in (first_bytes (held 15 types.Bytes es))) (fields_step [])
+    ∙ ap (λ es. cast_signed w32 (first_varint (held 3 types.Varint es) % 2 ^ 32)) (fields_step [])

@@ -1,6 +1,6 @@
 //! Looking for fields in a text. Where no field begins, the text is taken to end.
 
-ghost use Rattle.std.specs.Prelude.{◌≡◌, ◌<◌, ◌≤◌, ◌==◌, true, false, length, IfSome};
+ghost use Rattle.std.specs.Prelude.{◌≡◌, ◌<◌, ◌≤◌, ◌==◌, ℕ, true, false, length, IfSome};
 ghost use Rattle.pb_wire.specs.declared.field.WireType.{WireType};
 ghost use Rattle.pb_wire.specs.declared.field.WireType.TheVariants as types;
 ghost use Rattle.pb_wire.specs.Grammar.{datum, entry};
@@ -132,7 +132,21 @@ pub fn find(text: &[u8], number: u32, kind: WireType) -> Option<(Value<'_>, &[u8
     None
 }
 
-/// The bytes in the first such field, none where there is none.
+/// The bytes in the first field of bytes with this number, none where there is none, by a search.
+fn found_bytes(text: &[u8], number: u32) -> &[u8]
+    ensures { result.now ≡ first_bytes (held number types.Bytes (fields_of text.now)) }
+{
+    let front = past_others(text, number);
+    if let Some((bytes, _)) = short_bytes(front, number) {
+        return bytes;
+    }
+    match find(front, number, WireType::Bytes) {
+        Some((Value::Bytes(bytes), _)) => bytes,
+        _ => &[],
+    }
+}
+
+/// The same, at once where the field stands first and is short.
 #[inline(always)]
 pub fn bytes(text: &[u8], number: u32) -> &[u8]
     ensures { result.now ≡ first_bytes (held number types.Bytes (fields_of text.now)) }
@@ -140,10 +154,7 @@ pub fn bytes(text: &[u8], number: u32) -> &[u8]
     if let Some((bytes, _)) = short_bytes(text, number) {
         return bytes;
     }
-    match find(text, number, WireType::Bytes) {
-        Some((Value::Bytes(bytes), _)) => bytes,
-        _ => &[],
-    }
+    found_bytes(text, number)
 }
 
 /// The number in the first such field of eight bytes, 0 where there is none.
@@ -170,15 +181,17 @@ pub fn varint(text: &[u8], number: u32) -> u64
 
 /// The text behind the fields at its front that are passed over at once, none of which has one of these numbers.
 #[inline(always)]
-fn past_others_than(text: &[u8], first: u32, second: u32) -> &[u8]
+fn past_others_than(text: &[u8], first: u32, second: u32, later: u32) -> &[u8]
     ensures first { (kind : WireType) → held first kind (fields_of text.now) ≡ held first kind
         (fields_of result.now) }
     ensures second { (kind : WireType) → held second kind (fields_of text.now) ≡ held second kind
         (fields_of result.now) }
+    ensures later { (kind : WireType) → held later kind (fields_of text.now) ≡ held later kind
+        (fields_of result.now) }
 {
     let mut left = text;
     'fields: while let Some((other, rest)) = short_field(left) {
-        if other == first || other == second {
+        if other == first || other == second || other == later {
             return left;
         }
         left = rest;
@@ -186,35 +199,54 @@ fn past_others_than(text: &[u8], first: u32, second: u32) -> &[u8]
     left
 }
 
-/// The number in the first field and the text behind it, where that field has this number and eight bytes.
+/// The number in the first field and the text behind it, where that field has this number, a tag of one byte and eight
+/// bytes. Of other fields it says nothing.
 #[inline(always)]
 fn leading_eight(text: &[u8], number: u32) -> Option<(u64, &[u8])>
     ensures { IfSome result (λ found. StartsWithNumber number text.now found.0 found.1.now) }
 {
-    let Some((field, rest)) = first_field(text) else {
+    let Some((tag, held)) = text.split_first() else {
         return None;
     };
-    if field.number != number {
+    let tag = *tag;
+    if number == 0 || tag >= 0x80 || u64::from(tag) != u64::from(number) * 8 + 1 {
         return None;
     }
-    match field.value {
-        Value::Eight(bytes) => Some((u64::from_le_bytes(bytes), rest)),
-        _ => None,
-    }
+    let Some((spelling, rest)) = held.split_first_chunk::<8>() else {
+        return None;
+    };
+    Some((u64::from_le_bytes(*spelling), rest))
 }
 
 /// The numbers in the first fields of eight bytes with these numbers, 0 where there is none, in one walk where the
-/// fields stand side by side.
-pub fn two_eights(text: &[u8], first: u32, second: u32) -> (u64, u64)
+/// fields stand side by side; and a text in which fields of bytes with a third number stand as in the whole one: the
+/// text behind the two fields then, and the whole one else.
+#[inline(always)]
+pub fn two_eights(text: &[u8], first: u32, second: u32, later: u32) -> (u64, u64, &[u8])
     requires { (first == second) ≡ false }
     ensures first { result.0 ≡ first_eight (held first types.Eight (fields_of text.now)) }
     ensures second { result.1 ≡ first_eight (held second types.Eight (fields_of text.now)) }
+    ensures later { held later types.Bytes (fields_of text.now) ≡ held later types.Bytes
+        (fields_of result.2.now) }
 {
-    let front = past_others_than(text, first, second);
-    if let Some((one, rest)) = leading_eight(front, first) {
-        if let Some((other, _)) = leading_eight(rest, second) {
-            return (one, other);
+    let front = past_others_than(text, first, second, later);
+    if let Some((one, behind)) = leading_eight(front, first) {
+        if let Some((other, rest)) = leading_eight(behind, second) {
+            return (one, other, rest);
         }
     }
-    (eight(text, first), eight(text, second))
+    (eight(text, first), eight(text, second), text)
+}
+
+/// The text behind the fields at its front that have this number and hold at most 127 bytes each.
+#[inline(always)]
+pub fn past_bytes(text: &[u8], number: u32) -> &[u8]
+    ensures { (other : ℕ) → (number == other) ≡ false → held other types.Bytes (fields_of text.now)
+        ≡ held other types.Bytes (fields_of result.now) }
+{
+    let mut left = text;
+    'fields: while let Some((_, rest)) = short_bytes(left, number) {
+        left = rest;
+    }
+    left
 }

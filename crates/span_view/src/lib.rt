@@ -3,8 +3,9 @@
 //! A [`SpanRef`] stands on two texts: a span's and its resource's, which is empty where there is no resource. It
 //! tells the span's trace id, span id, times and status, and the attributes of the span and then of the resource,
 //! each as a key and a [`ValueRef`]. It takes no memory and copies nothing. Each call walks a text at most once, and
-//! no further than to the field that it looks for; the iterators over the attributes, and over all that policies look
-//! at, walk each text once over their whole life.
+//! no further than to the field that it looks for; one that looks for several fields does so where they stand as in
+//! canonical text, and else walks it once for each of them. The iterators over the attributes, and over all that
+//! policies look at, walk each text once over their whole life.
 //!
 //! Over canonical text a view tells exactly what the span and the resource are ([`canonical_text_is_viewed`]); fields
 //! that they have kept without knowing them are skipped. Over other bytes it tells what stands first: of several

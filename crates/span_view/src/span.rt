@@ -7,7 +7,7 @@ ghost use Rattle.span_view.specs.Reading.{facts_of};
 
 use crate::attributes::Attributes;
 use crate::fields::{bytes, eight, two_eights};
-use crate::status::code_of;
+use crate::status::{code_behind, code_of};
 use crate::walk::SpanFields;
 use std::marker::Model;
 
@@ -40,6 +40,7 @@ impl<'a> SpanRef<'a> {
     }
 
     /// The bytes of the trace id, whatever their number.
+    #[inline(always)]
     pub fn trace_id(&self) -> &'a [u8]
         ensures { result.now ≡ self.now.trace_id }
     {
@@ -47,6 +48,7 @@ impl<'a> SpanRef<'a> {
     }
 
     /// The bytes of the span id, whatever their number.
+    #[inline(always)]
     pub fn span_id(&self) -> &'a [u8]
         ensures { result.now ≡ self.now.span_id }
     {
@@ -72,7 +74,19 @@ impl<'a> SpanRef<'a> {
         ensures start { result.0 ≡ self.now.start_time_unix_nano }
         ensures end { result.1 ≡ self.now.end_time_unix_nano }
     {
-        two_eights(self.span, 7, 8)
+        let (start, end, _) = two_eights(self.span, 7, 8, 15);
+        (start, end)
+    }
+
+    /// Start, end and the code of the status, in one walk where the times stand side by side and the status behind
+    /// them, as they do in canonical text.
+    pub fn times_and_status(&self) -> (u64, u64, i32)
+        ensures start { result.0 ≡ self.now.start_time_unix_nano }
+        ensures end { result.1 ≡ self.now.end_time_unix_nano }
+        ensures status { result.2 ≡ self.now.status }
+    {
+        let (start, end, rest) = two_eights(self.span, 7, 8, 15);
+        (start, end, code_behind(rest))
     }
 
     /// The code of the span's status: 0 unset, also where there is no status, 1 ok, 2 error. Other numbers are carried.

@@ -3,7 +3,7 @@
 -- opentelemetry-proto (trace, resource and common v1).
 use Rattle.std.specs.Prelude.{◌≡◌, codes, ℕ, ◌^◌, Bool, true, false, List, [], ◌∷◌, Option, Some, None}
 use Rattle.otlp_trace.specs.Data.{ResourceData}
-use Rattle.otlp_read.specs.Value.{no_span}
+use Rattle.otlp_trace.specs.Defaults.{no_span}
 use Rattle.span_pool.specs.Stored.{Origin, same_resource, same_scope}
 use Rattle.span_pool.specs.Equal.{origin_eq}
 use Rattle.span_pool.specs.Read.{IsReadResource, IsReadSpan}

@@ -31,6 +31,7 @@ impl StatusBits {
     }
 
     /// Those of the status of this number.
+    #[inline(always)]
     pub fn at(&self, status: i32) -> u64
         ensures { result ≡ bits_at self.now status }
     {
@@ -46,13 +47,18 @@ impl StatusBits {
         0
     }
 
-    /// Those of a span's status, which is looked for only where a status has bits.
-    pub fn of_span(&self, span: &SpanRef<'_>) -> u64
-        ensures { result ≡ bits_at self.now span.now.status }
+    /// A span's start and end, and those of its status, which is looked for only where a status has bits.
+    #[inline(always)]
+    pub fn of_span(&self, span: &SpanRef<'_>) -> (u64, u64, u64)
+        ensures start { result.0 ≡ span.now.start_time_unix_nano }
+        ensures end { result.1 ≡ span.now.end_time_unix_nano }
+        ensures bits { result.2 ≡ bits_at self.now span.now.status }
     {
         if self.unset == 0 && self.ok == 0 && self.error == 0 {
-            return 0;
+            let (start, end) = span.times();
+            return (start, end, 0);
         }
-        self.at(span.status())
+        let (start, end, status) = span.times_and_status();
+        (start, end, self.at(status))
     }
 }

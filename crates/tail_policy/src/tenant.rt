@@ -78,8 +78,7 @@ impl<'a> Policy for TenantPolicies<'a> {
     /// It takes no memory and is never refused.
     fn note(&self, span: &SpanRef<'_>) -> Result<TraceNote, AllocError> {
         if !self.asks {
-            let met = self.statuses.of_span(span);
-            let (start, end) = span.times();
+            let (start, end, met) = self.statuses.of_span(span);
             return Ok(TraceNote::new(met, start, end));
         }
         let SpanFacts {

@@ -43,8 +43,8 @@ Behind `serve SETTINGS`, in any order and each once at most:
                          4294967295; else none is closed for resting
   --request-timeout MS   closes a client's connection whose request isn't whole MS milliseconds after its
                          first byte, 1 to 4294967295; else it may take any time
-  --back-end-timeout MS  a back end that doesn't take a connection within MS milliseconds, 1 to
-                         4294967295, or rests for so long, has failed, and the batch is tried again;
+  --back-end-timeout MS  an attempt to which no whole answer of the back end has come within MS
+                         milliseconds, 1 to 4294967295, has failed, and the batch is tried again;
                          else it is waited for
   --admin HOST:PORT      answers there whoever looks after it: GET /, /metrics, /healthz, /readyz,
                          /tenants and /tenants/NAME, POST /tenants and /drain, DELETE /tenants/NAME;
@@ -119,7 +119,7 @@ pub struct ServeOptions<'a> {
     pub client_timeout: Option<u32>,
     /// So many milliseconds, from 1, a client's request may take.
     pub request_timeout: Option<u32>,
-    /// So many milliseconds, from 1, a back end's connection may take to come about, and then rest.
+    /// So many milliseconds, from 1, a whole attempt at a back end may take.
     pub back_end_timeout: Option<u32>,
     /// It is looked after at this address.
     pub admin: Option<&'a str>,

@@ -1,7 +1,7 @@
 -- From what a thread's work is proved to be to what it did to the shards and to the lane.
 use Rattle.std.proofs.Common.{◌≡◌, ℕ, List, [], ◌∷◌, ◌++◌, map, flat_map, Option, option_to_list, refl, sym, ap, subst, ◌∙◌}
 use Rattle.std.specs.List.{AllZip}
-use Rattle.export_edge.specs.Work.{Through, Turn, Turning, jobs_in, Posted, Given, given_for, taken_of, Hands, Handed, Sending}
+use Rattle.export_edge.specs.Work.{Through, BeatCall, Turn, Turning, jobs_in, Posted, Given, given_for, taken_of, Hands, Handed, Sending}
 use Rattle.job_lane.specs.declared.job.Job.{Job}
 use Rattle.job_lane.specs.Lane.{LaneName, SeatLists, new_seat}
 use Rattle.log_positions.specs.Numbered.{items_of}
@@ -41,12 +41,12 @@ hands_view caller shards takes refuses taken refused old h new hands = record {
 
 module _ (shards : ℕ) (lane : LaneName) (fresh : CallerState) where
   pub turner_did : {S B : Type 0} (old new : S) (before after : SeatLists) (beat last : B) (held : Option Job)
-      (caller : S → CallerState) (shard : S → ℕ) (turns : S → Turn → S → Type 0) (gives : B → ℕ → B → Type 0) (rests : B → B → Type 0)
+      (caller : S → CallerState) (shard : S → ℕ) (turns : S → Turn → S → Type 0) (calls : B → BeatCall → B → Type 0)
       → caller old ≡ fresh → before ≡ new_seat lane → after.pops ≡ before.pops
-      → Turning turns gives rests old new beat last before.pushes after.pushes held
+      → Turning turns calls old new beat last before.pushes after.pushes held
       → ((s : S) (t : Turn) (next : S) → turns s t next → (shard next ≡ shard s) × MakesTurn (caller s) (caller next) (shard s) t)
       → IsThread shards fresh (caller new) after
-  turner_did old new before after beat last held caller shard turns gives rests is empty same work says =
+  turner_did old new before after beat last held caller shard turns calls is empty same work says =
       let pushed : after.pushes ≡ work.pushed = work.pushes ∙ ap (λ (s : SeatLists). s.pushes ++ work.pushed) empty in
       turner (record {
         shard = shard old;
@@ -59,13 +59,13 @@ module _ (shards : ℕ) (lane : LaneName) (fresh : CallerState) where
       })
 
   pub sender_did : {B S T : Type 0} (old new : S) (before after : SeatLists) (back_end left : B) (beat last : T)
-      (caller : S → CallerState) (posts : B → Posted → B → Type 0) (takes refuses : S → Given → S → Type 0) (gives : T → ℕ → T → Type 0) (rests : T → T → Type 0)
+      (caller : S → CallerState) (posts : B → Posted → B → Type 0) (takes refuses : S → Given → S → Type 0) (calls : T → BeatCall → T → Type 0)
       → caller old ≡ fresh → before ≡ new_seat lane → after.pushes ≡ before.pushes
-      → Sending posts takes refuses gives rests back_end left old new beat last before.pops after.pops
+      → Sending posts takes refuses calls back_end left old new beat last before.pops after.pops
       → ((s : S) (g : Given) (next : S) → takes s g next → TakesAnswer (caller s) (caller next) shards g)
       → ((s : S) (g : Given) (next : S) → refuses s g next → RefusesAnswer (caller s) (caller next) shards g)
       → IsThread shards fresh (caller new) after
-  sender_did old new before after back_end left beat last caller posts takes refuses gives rests is empty same work taken refused =
+  sender_did old new before after back_end left beat last caller posts takes refuses calls is empty same work taken refused =
       let popped : after.pops ≡ work.popped = work.pops ∙ ap (λ (s : SeatLists). s.pops ++ work.popped) empty in
       sender (record {
         sent = work.sent;

@@ -20,7 +20,7 @@ use Rattle.tenant_shard.specs.declared.waiting.Waiting.{Waiting}
 use Rattle.trace_service.specs.Comings.{Present}
 use Rattle.trace_service.specs.InForce.{CameOf}
 use Rattle.trace_service.specs.Roster.{entry_of}
-use Rattle.trace_service.specs.Shown.{AreFigures, AreLooked, no_look, look_more, ClerkData, IsLooked, IsSeen, LooksMore, IsOfService, IsShown, let_in, not_let_in, route_in, Shows, OnlyLooks, OnlyLooksIf, is_for_figures, may_look, nothing, looked, refused, Tells, told_of, refused_reply}
+use Rattle.trace_service.specs.Shown.{AreFigures, AreLooked, no_look, look_more, AdminData, IsLooked, IsSeen, LooksMore, IsOfService, IsShown, let_in, not_let_in, route_in, Shows, OnlyLooks, OnlyLooksIf, is_for_figures, may_look, nothing, looked, refused, Tells, told_of, refused_reply}
 use Rattle.trace_service.specs.Token.{is_let_in}
 use Rattle.trace_service.proofs.Replies.{if_ok, on_err}
 
@@ -83,49 +83,49 @@ says (Ok reply) P old new same is = (is, same)
 says (Err e) P old new same is = tt
 
 -- the same by a route that is known
-pub shown_at : {E : Type 0} (r : Result Reply E) (first : SettingsData) (shards : ℕ) (clerk : ClerkData) (there route : RouteData)
+pub shown_at : {E : Type 0} (r : Result Reply E) (first : SettingsData) (shards : ℕ) (admin : AdminData) (there route : RouteData)
     (body : List ℕ) (old new : CallerState) → there ≡ route
-    → IfOk r (λ reply. Shows first shards clerk route body old new (response_of reply))
-    → IfOk r (λ reply. Shows first shards clerk there body old new (response_of reply))
-shown_at r first shards clerk there route body old new same shows =
-    subst (λ x. IfOk r (λ reply. Shows first shards clerk x body old new (response_of reply))) (sym same) shows
+    → IfOk r (λ reply. Shows first shards admin route body old new (response_of reply))
+    → IfOk r (λ reply. Shows first shards admin there body old new (response_of reply))
+shown_at r first shards admin there route body old new same shows =
+    subst (λ x. IfOk r (λ reply. Shows first shards admin x body old new (response_of reply))) (sym same) shows
 
 pub looked_at : {T E : Type 0} (r : Result T E) (shards : ℕ) (there route : RouteData) (old new : CallerState) → there ≡ route
     → OnErr r (OnlyLooksIf (is_for_figures route) shards old new) → OnErr r (OnlyLooksIf (is_for_figures there) shards old new)
 looked_at r shards there route old new same looks =
     subst (λ x. OnErr r (OnlyLooksIf (is_for_figures x) shards old new)) (sym same) looks
 
-module _ {E : Type 0} (first : SettingsData) (shards : ℕ) (clerk : ClerkData) (request : Request) (old new : CallerState)
+module _ {E : Type 0} (first : SettingsData) (shards : ℕ) (admin : AdminData) (request : Request) (old new : CallerState)
     (r : Result Reply E) where
-  pub shown_so : (route : RouteData) → route ≡ route_in request → is_let_in clerk.token request.headers route ≡ true
-      → IfOk r (λ reply. Shows first shards clerk route request.body old new (response_of reply))
-      → IfOk r (λ reply. IsShown first shards clerk request old new (response_of reply))
+  pub shown_so : (route : RouteData) → route ≡ route_in request → is_let_in admin.token request.headers route ≡ true
+      → IfOk r (λ reply. Shows first shards admin route request.body old new (response_of reply))
+      → IfOk r (λ reply. IsShown first shards admin request old new (response_of reply))
   shown_so route same may shows =
-      if_ok r (λ told. Shows first shards clerk route request.body old new told) (λ told. IsShown first shards clerk request old new told)
-      (λ told is. let_in (subst (λ x. is_let_in clerk.token request.headers x ≡ true) same may)
-      (subst (λ x. Shows first shards clerk x request.body old new told) same is)) shows
+      if_ok r (λ told. Shows first shards admin route request.body old new told) (λ told. IsShown first shards admin request old new told)
+      (λ told is. let_in (subst (λ x. is_let_in admin.token request.headers x ≡ true) same may)
+      (subst (λ x. Shows first shards admin x request.body old new told) same is)) shows
 
-  pub refused_so : (route : RouteData) → route ≡ route_in request → is_let_in clerk.token request.headers route ≡ false
+  pub refused_so : (route : RouteData) → route ≡ route_in request → is_let_in admin.token request.headers route ≡ false
       → new ≡ old → IfOk r (λ reply. response_of reply ≡ refused_reply)
-      → IfOk r (λ reply. IsShown first shards clerk request old new (response_of reply))
+      → IfOk r (λ reply. IsShown first shards admin request old new (response_of reply))
   refused_so route same may unchanged says =
-      if_ok r (λ told. told ≡ refused_reply) (λ told. IsShown first shards clerk request old new told)
-      (λ told is. not_let_in (subst (λ x. is_let_in clerk.token request.headers x ≡ false) same may) is unchanged) says
+      if_ok r (λ told. told ≡ refused_reply) (λ told. IsShown first shards admin request old new told)
+      (λ told is. not_let_in (subst (λ x. is_let_in admin.token request.headers x ≡ false) same may) is unchanged) says
 
 -- what was done where memory was refused
-module _ {T E : Type 0} (shards : ℕ) (clerk : ClerkData) (request : Request) (old new : CallerState) (r : Result T E) where
-  pub looked_so : (route : RouteData) → route ≡ route_in request → is_let_in clerk.token request.headers route ≡ true
-      → OnErr r (OnlyLooksIf (is_for_figures route) shards old new) → OnErr r (OnlyLooksIf (may_look clerk request) shards old new)
+module _ {T E : Type 0} (shards : ℕ) (admin : AdminData) (request : Request) (old new : CallerState) (r : Result T E) where
+  pub looked_so : (route : RouteData) → route ≡ route_in request → is_let_in admin.token request.headers route ≡ true
+      → OnErr r (OnlyLooksIf (is_for_figures route) shards old new) → OnErr r (OnlyLooksIf (may_look admin request) shards old new)
   looked_so route same may looks =
       subst (λ x. OnErr r (OnlyLooksIf (x && is_for_figures (route_in request)) shards old new))
-      (sym (subst (λ x. is_let_in clerk.token request.headers x ≡ true) same may))
+      (sym (subst (λ x. is_let_in admin.token request.headers x ≡ true) same may))
       (subst (λ x. OnErr r (OnlyLooksIf (is_for_figures x) shards old new)) same looks)
 
-  pub not_looked : (route : RouteData) → route ≡ route_in request → is_let_in clerk.token request.headers route ≡ false
-      → new ≡ old → OnErr r (OnlyLooksIf (may_look clerk request) shards old new)
+  pub not_looked : (route : RouteData) → route ≡ route_in request → is_let_in admin.token request.headers route ≡ false
+      → new ≡ old → OnErr r (OnlyLooksIf (may_look admin request) shards old new)
   not_looked route same may unchanged =
       subst (λ x. OnErr r (OnlyLooksIf (x && is_for_figures (route_in request)) shards old new))
-      (sym (subst (λ x. is_let_in clerk.token request.headers x ≡ false) same may)) (on_err r (new ≡ old) unchanged)
+      (sym (subst (λ x. is_let_in admin.token request.headers x ≡ false) same may)) (on_err r (new ≡ old) unchanged)
 
 -- ---- what an outcome tells
 
@@ -162,6 +162,6 @@ pub some_behind : {T E : Type 0} (r : Result T E) (P : ServiceFigures → Type 0
 some_behind (Ok t) P text a c s of is = (s, of, is)
 some_behind (Err e) P text a c s of is = tt
 
-pub of_service : (clerk mid : ClerkData) (n m : ℕ) (s : ServiceFigures) → mid ≡ clerk → n ≡ m → IsOfService mid n s → IsOfService clerk m s
-of_service clerk mid n m s same count of =
-    subst (λ k. IsOfService clerk k s) count (subst (λ c. IsOfService c n s) same of)
+pub of_service : (admin mid : AdminData) (n m : ℕ) (s : ServiceFigures) → mid ≡ admin → n ≡ m → IsOfService mid n s → IsOfService admin m s
+of_service admin mid n m s same count of =
+    subst (λ k. IsOfService admin k s) count (subst (λ c. IsOfService c n s) same of)

@@ -33,9 +33,9 @@ use Rattle.trace_service.specs.Notice.{notice_of, reply_of, not_allowed, unknown
 use Rattle.trace_service.specs.Post.{no_memory}
 use Rattle.trace_service.specs.Token.{is_let_in}
 use Rattle.trace_service.specs.declared.desk.Asked.{Asked}
-use Rattle.trace_service.specs.declared.office.AdminPort.{AdminPort}
+use Rattle.trace_service.specs.declared.admin_port.AdminPort.{AdminPort}
 use Rattle.trace_service.specs.declared.roster.Present.{Present as Entry}
-use Rattle.trace_service.specs.declared.shared.Staff.{Staff}
+use Rattle.trace_service.specs.declared.shared.ServiceLimits.{ServiceLimits}
 
 -- what an outcome tells of a tenant's spans: the counters of this ledger; or none, of one that has gone, or where what
 -- is told is no ledger's line
@@ -104,7 +104,7 @@ pub record AreFigures (first : SettingsData) (shards : ℕ) (old new : CallerSta
   pub looked : AreLooked shards old (names_in now).tenants figures new
 
 -- what stays the same of who serves there: the token that is wanted, if one is, and what is told of the service
-pub record ClerkData : Type 0 where
+pub record AdminData : Type 0 where
   pub token : Option (List ℕ)
   pub version : List ℕ
   pub receivers : ℕ
@@ -112,31 +112,31 @@ pub record ClerkData : Type 0 where
   pub lane_capacity : ℕ
 
 -- that of who serves at this port for these threads, with a lane of so much room
-abbrev pub clerk_of : AdminPort → Staff → ℕ → ClerkData
-clerk_of port staff lane_capacity = record {
+abbrev pub admin_of : AdminPort → ServiceLimits → ℕ → AdminData
+admin_of port limits lane_capacity = record {
   token = option_copied port.token;
   version = port.version.now;
-  receivers = staff.receivers;
-  senders = staff.senders;
+  receivers = limits.receivers;
+  senders = limits.senders;
   lane_capacity = lane_capacity;
 }
 
 -- figures of the whole service with so many tenants, of which only uptime, memory and counts, and whether it drains,
 -- are any
-pub record IsOfService (clerk : ClerkData) (tenants : ℕ) (service : ServiceFigures) : Type 0 where
+pub record IsOfService (admin : AdminData) (tenants : ℕ) (service : ServiceFigures) : Type 0 where
   pub tenants_are : service.tenants ≡ tenants
-  pub version : service.version.now ≡ clerk.version
-  pub receivers : service.receivers ≡ clerk.receivers
-  pub senders : service.senders ≡ clerk.senders
-  pub lane_capacity : service.lane_capacity ≡ clerk.lane_capacity
+  pub version : service.version.now ≡ admin.version
+  pub receivers : service.receivers ≡ admin.receivers
+  pub senders : service.senders ≡ admin.senders
+  pub lane_capacity : service.lane_capacity ≡ admin.lane_capacity
 
 -- all tenants' figures as metrics, and those of the service behind them
-pub record ShowsMetrics (first : SettingsData) (shards : ℕ) (clerk : ClerkData) (old new : CallerState)
+pub record ShowsMetrics (first : SettingsData) (shards : ℕ) (admin : AdminData) (old new : CallerState)
     (told : Response) : Type 0 where
   pub figures : List TenantData
   pub looked : AreFigures first shards old new figures
   pub service : ServiceFigures
-  pub of_service : IsOfService clerk (length figures) service
+  pub of_service : IsOfService admin (length figures) service
   pub reply : told ≡ reply_of 200 media.Metrics (metrics_text figures ++ service_text service)
 
 -- all tenants' figures as JSON
@@ -203,24 +203,24 @@ abbrev pub refused_reply : Response
 refused_reply = notice_of 401 (codes "error") (codes "the token is missing or another")
 
 -- What whoever is let in is told, by what is asked for with this body, and which steps were made meanwhile.
-abbrev pub Shows : SettingsData → ℕ → ClerkData → RouteData → List ℕ → CallerState → CallerState → Response → Type 0
-Shows first shards clerk Page body old new told = (told ≡ page_reply) × (new ≡ old)
-Shows first shards clerk Metrics body old new told = ShowsMetrics first shards clerk old new told
-Shows first shards clerk Health body old new told = (told ≡ notice_of 200 (codes "state") (codes "ok")) × (new ≡ old)
-Shows first shards clerk Readiness body old new told = TellsReadiness told × (new ≡ old)
-Shows first shards clerk Drain body old new told = (told ≡ drained_reply) × (new ≡ old)
-Shows first shards clerk Tenants body old new told = ShowsTenants first shards old new told
-Shows first shards clerk Add body old new told = ((asked : Asked) × TellsAdding asked body told) × (new ≡ old)
-Shows first shards clerk (Tenant name) body old new told = ShowsTenant first shards name old new told
-Shows first shards clerk (Retire name) body old new told = TellsGoing first name told × (new ≡ old)
-Shows first shards clerk NoSuchPath body old new told =
+abbrev pub Shows : SettingsData → ℕ → AdminData → RouteData → List ℕ → CallerState → CallerState → Response → Type 0
+Shows first shards admin Page body old new told = (told ≡ page_reply) × (new ≡ old)
+Shows first shards admin Metrics body old new told = ShowsMetrics first shards admin old new told
+Shows first shards admin Health body old new told = (told ≡ notice_of 200 (codes "state") (codes "ok")) × (new ≡ old)
+Shows first shards admin Readiness body old new told = TellsReadiness told × (new ≡ old)
+Shows first shards admin Drain body old new told = (told ≡ drained_reply) × (new ≡ old)
+Shows first shards admin Tenants body old new told = ShowsTenants first shards old new told
+Shows first shards admin Add body old new told = ((asked : Asked) × TellsAdding asked body told) × (new ≡ old)
+Shows first shards admin (Tenant name) body old new told = ShowsTenant first shards name old new told
+Shows first shards admin (Retire name) body old new told = TellsGoing first name told × (new ≡ old)
+Shows first shards admin NoSuchPath body old new told =
     (told ≡ notice_of 404 (codes "error") (codes "no such path")) × (new ≡ old)
-Shows first shards clerk (OtherMethod methods) body old new told = (told ≡ not_allowed methods) × (new ≡ old)
+Shows first shards admin (OtherMethod methods) body old new told = (told ≡ not_allowed methods) × (new ≡ old)
 
 -- the same of a reply of the code
-abbrev pub ShowsReply : SettingsData → ℕ → ClerkData → RouteData → List ℕ → CallerState → CallerState → Reply → Type 0
-ShowsReply first shards clerk route body old new reply =
-    Shows first shards clerk route body old new (response_of reply)
+abbrev pub ShowsReply : SettingsData → ℕ → AdminData → RouteData → List ℕ → CallerState → CallerState → Reply → Type 0
+ShowsReply first shards admin route body old new reply =
+    Shows first shards admin route body old new (response_of reply)
 
 -- what a request asks for
 abbrev pub route_in : Request → RouteData
@@ -239,19 +239,19 @@ OnlyLooksIf true shards old new = OnlyLooks shards old new
 OnlyLooksIf false shards old new = new ≡ old
 
 -- a request may have counters asked for: it is let in, and asks for figures
-abbrev pub may_look : ClerkData → Request → Bool
-may_look clerk request =
-    is_let_in clerk.token request.headers (route_in request) && is_for_figures (route_in request)
+abbrev pub may_look : AdminData → Request → Bool
+may_look admin request =
+    is_let_in admin.token request.headers (route_in request) && is_for_figures (route_in request)
 
 -- A request is answered so: by its route, where it is let in, and else refused; or memory was refused, and nothing was
 -- done but that counters were asked for.
-pub data IsShown (first : SettingsData) (shards : ℕ) (clerk : ClerkData) (request : Request) (old new : CallerState)
+pub data IsShown (first : SettingsData) (shards : ℕ) (admin : AdminData) (request : Request) (old new : CallerState)
     (told : Response) : Type 0 where
-  let_in : is_let_in clerk.token request.headers (route_in request) ≡ true
-      → Shows first shards clerk (route_in request) request.body old new told
-      → IsShown first shards clerk request old new told
-  not_let_in : is_let_in clerk.token request.headers (route_in request) ≡ false
+  let_in : is_let_in admin.token request.headers (route_in request) ≡ true
+      → Shows first shards admin (route_in request) request.body old new told
+      → IsShown first shards admin request old new told
+  not_let_in : is_let_in admin.token request.headers (route_in request) ≡ false
       → told ≡ refused_reply → new ≡ old
-      → IsShown first shards clerk request old new told
-  without_memory : OnlyLooksIf (may_look clerk request) shards old new → told ≡ no_memory
-      → IsShown first shards clerk request old new told
+      → IsShown first shards admin request old new told
+  without_memory : OnlyLooksIf (may_look admin request) shards old new → told ≡ no_memory
+      → IsShown first shards admin request old new told

@@ -1,7 +1,9 @@
--- The token that a request of whoever looks after a service gives (RFC 6750), and whether it is let in.
-use Rattle.std.specs.Prelude.{ℕ, Bool, true, false, ◌&&◌, ◌||◌, nat_le, List, length, take, drop, Option, Some, None, option_and_then, if◌then◌else◌, codes, bytes_eq}
-use Rattle.admin_pages.specs.Route.{RouteData, Page, Health}
-use Rattle.http1.specs.Fields.{Header}
+-- The token that a request of whoever looks after a service gives (RFC 6750), whether a page of a browser asks (RFC
+-- 6454), and whether the request is let in.
+use Rattle.std.specs.Prelude.{ℕ, Bool, true, false, not, ◌&&◌, ◌||◌, nat_le, List, length, take, drop, Option, Some, None, option_and_then, if◌then◌else◌, codes, bytes_eq}
+use Rattle.std.specs.List.{list_any}
+use Rattle.admin_pages.specs.Route.{RouteData, Page, Health, Drain, Add, Retire}
+use Rattle.http1.specs.Fields.{Header, is_named}
 use Rattle.http1.specs.Text.{eq_ignore_case}
 use Rattle.http_edge.specs.Fields.{field, only}
 
@@ -15,11 +17,22 @@ bearer value =
 abbrev pub token_of : List Header → Option (List ℕ)
 token_of headers = option_and_then bearer (only (field (codes "authorization") headers))
 
--- the token that is given is the one that is wanted, byte for byte, if one is
-abbrev pub is_wanted : Option (List ℕ) → Option (List ℕ) → Bool
-is_wanted None given = true
-is_wanted (Some wanted) None = false
-is_wanted (Some wanted) (Some given) = bytes_eq wanted given
+-- the token that is given is the one that is wanted, byte for byte
+abbrev pub is_wanted : List ℕ → Option (List ℕ) → Bool
+is_wanted wanted None = false
+is_wanted wanted (Some given) = bytes_eq wanted given
+
+-- a page asks: a browser puts `Origin` into each request that may change something (RFC 6454, section 7.3); more than
+-- one such field is no leave either
+abbrev pub is_from_page : List Header → Bool
+is_from_page headers = list_any (is_named (codes "origin")) headers
+
+-- a change is asked for: that the service ends, or that a tenant comes or goes
+abbrev pub is_change : RouteData → Bool
+is_change Drain = true
+is_change Add = true
+is_change (Retire name) = true
+is_change _ = false
 
 -- what is shown to whoever reaches the address, since it tells nothing of any tenant
 abbrev pub is_for_all : RouteData → Bool
@@ -27,6 +40,8 @@ is_for_all Page = true
 is_for_all Health = true
 is_for_all _ = false
 
--- a request with these fields is let in at this route
+-- A request with these fields is let in at this route. Where no token is wanted no page may change anything, since it
+-- may be any site's (own rule).
 abbrev pub is_let_in : Option (List ℕ) → List Header → RouteData → Bool
-is_let_in wanted headers route = is_for_all route || is_wanted wanted (token_of headers)
+is_let_in None headers route = not (is_change route && is_from_page headers)
+is_let_in (Some wanted) headers route = is_for_all route || is_wanted wanted (token_of headers)

@@ -30,15 +30,15 @@ pub(crate) fn assign_threads<'h, J: Naming, R: Wait + Clock>(
     requires new { All (λ c. c ≡ J.fresh) callers.items }
     requires enough { vec_len callers ≤ vec_len seats }
     ensures places { IfOk result (λ workers. map (λ w. (w.role, w.context.shard)) workers.items
-        ≡ places (length shared.now.hub.now) shared.now.staff.senders shared.now.staff.admins
+        ≡ places (length shared.now.hub.now) shared.now.limits.senders shared.now.limits.admins
         (vec_len callers)) }
     ensures count { IfOk result (λ workers. vec_len workers ≡ vec_len callers) }
     ensures idle { IfOk result (λ workers.
         All (λ w. (w.context.caller ≡ J.fresh) × (w.seat ≡ new_seat J.lane)) workers.items) }
 {
     let shards = shared.hub.shards();
-    let senders = shared.staff.senders as usize;
-    let admins = shared.staff.admins as usize;
+    let senders = shared.limits.senders as usize;
+    let admins = shared.limits.admins as usize;
     let mut workers = Vec::new(shared.alloc);
     while let Some(caller) = callers.pop() {
         let Some(seat) = seats.pop() else {

@@ -185,7 +185,7 @@ impl<'b, C: Clock> ServiceBeat<'b, C> {
 
     /// A beat like this, for who makes chores.
     pub fn of_chores(&self) -> ServiceBeat<'b, C> {
-        self.with(Rest::of_chores(), self.behind_turners())
+        self.with(Rest::of_chores(self.signals.paces()), self.behind_turners())
     }
 
     /// A beat like this, for a sender.
@@ -220,12 +220,10 @@ impl<'b, C: Clock> ServiceBeat<'b, C> {
 }
 
 impl<C: Wait + Clock> Beat for ServiceBeat<'_, C> {
-    ghost use Rattle.std.specs.Prelude.{◌≡◌, ◌≤◌};
+    ghost use Rattle.trace_service.specs.Moments.{RisesBy};
 
     // The moment that it gives is its last one, and not below the one before.
-    ghost gives = { λ old moment new. (old.last ≤ moment) × (new.last ≡ moment) };
-
-    ghost rests = { λ old new. new.last ≡ old.last };
+    ghost calls = { λ old call new. RisesBy old.last call new.last };
 
     fn is_over(&mut self) -> bool {
         self.rest.look();
@@ -244,7 +242,8 @@ impl<C: Wait + Clock> Beat for ServiceBeat<'_, C> {
         let took = now.saturating_sub(self.begun);
         match self.pace.pause(self.clock, self.signals.reserve()) {
             Pause::None => {}
-            Pause::Short => Rest::of_attempts().pause(self.clock, took, 0),
+            Pause::Short => Rest::short().pause(self.clock, took, 0),
+            Pause::AsLong => Rest::of_attempts().pause(self.clock, took, 0),
             Pause::Usual => self.rest.pause(self.clock, took, self.pace.left(now)),
         }
         self.begun = self.elapsed();

@@ -221,20 +221,19 @@ impl<'h, J: Naming, R: Wait + Clock> WorkerContext<'h, J, R> {
         self.teller.sate();
     }
 
-    /// While memory is short the moments of this tenant's shard don't wait for the clock's, until `calm`, so that the
-    /// tenant's spans leave one batch after another.
+    /// While memory is short the moments of this tenant's shard don't wait for the clock's, until `calm`, so that what
+    /// the tenant holds by now leaves one batch after another.
     pub fn hurry(&self, tenant: u32) {
-        let most = self.settings.lock(self.rt).longest_wait(tenant);
+        let now = self.beat().now();
+        let longest = self.settings.lock(self.rt).longest_wait(tenant);
         if let Some(pace) = self.signals().paces().shard(self.shard_of(tenant)) {
-            pace.hurry(most);
+            pace.hurry(now.saturating_add(longest));
         }
     }
 
-    /// The moments of this tenant's shard go on as the clock's do.
-    pub fn calm(&self, tenant: u32) {
-        if let Some(pace) = self.signals().paces().shard(self.shard_of(tenant)) {
-            pace.calm();
-        }
+    /// The moments of all shards go on as the clock's do.
+    pub fn calm(&self) {
+        self.signals().paces().calm();
     }
 
     /// Whether the tenant holds no span.

@@ -40,7 +40,7 @@ pub(crate) struct Control<'h, J: Naming, R, D> {
     pub documents: &'h D,
     pub listener: &'h TcpListener,
     /// Where whoever looks after the service comes in.
-    pub office: Option<&'h TcpListener>,
+    pub admin: Option<&'h TcpListener>,
     pub context: WorkerContext<'h, J, R>,
     pub beat: ServiceBeat<'h, R>,
 }
@@ -80,15 +80,15 @@ where
         observer.observe(Stage::Closing);
         self.beat.signals().end();
         wake_at_last(self.rt, self.listener, is_woken);
-        self.wake_office();
+        self.wake_admin();
         heard?;
         Ok(lost)
     }
 
     /// Wakes who waits for whoever looks after the service.
-    fn wake_office(&self) {
-        if let Some(office) = self.office {
-            wake_at_last(self.rt, office, false);
+    fn wake_admin(&self) {
+        if let Some(admin) = self.admin {
+            wake_at_last(self.rt, admin, false);
         }
     }
 
@@ -182,18 +182,25 @@ where
     }
 
     /// These tenants take no spans any more, and all send what they hold. A drain writes all batches in its one step:
-    /// where memory for these is refused it is its shard's turner that makes them fewer, one after another. Who drains
-    /// stays behind turners meanwhile: at a moment ahead of theirs it would write batches that they don't yet hand out.
+    /// where memory for these is refused it is turners that make them fewer, one after another. Who drains stays behind
+    /// turners meanwhile: at a moment ahead of theirs it would write batches that they don't yet hand out.
     fn drain_all(&mut self, tenants: &[Present])
         ensures drained { AreDrained (length self.old.context.hub.now) self.old.context.caller
             self.old.beat.last (map (λ tenant. tenant.number) tenants.now) self.new.context.caller
             self.new.beat.last }
         ensures hub { self.new.context.hub ≡ self.old.context.hub }
     {
+        self.hurry(tenants);
+        for tenant in tenants {
+            self.make(tenant.number, Chore::Drain);
+        }
+        self.context.calm();
+    }
+
+    /// While memory is short nobody waits with these tenants' spans for the clock.
+    fn hurry(&self, tenants: &[Present]) {
         for tenant in tenants {
             self.context.hurry(tenant.number);
-            self.make(tenant.number, Chore::Drain);
-            self.context.calm(tenant.number);
         }
     }
 

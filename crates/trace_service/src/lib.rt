@@ -13,12 +13,13 @@
 
 ghost use Rattle.trace_service.specs.Jobs.{PoppedWereGiven};
 
+mod admin_handler;
+mod admin_port;
 mod assignment;
 mod beat;
 mod beside;
 mod changes;
 mod chore;
-mod clerk;
 mod comings;
 mod context;
 mod control;
@@ -35,7 +36,6 @@ mod lingering;
 mod memory;
 mod naming;
 mod notice;
-mod office;
 mod options;
 mod pace;
 mod patient;
@@ -53,11 +53,11 @@ mod teller;
 mod visit;
 mod workers;
 
+pub use crate::admin_port::{ADMINS, AdminPort};
 pub use crate::course::{Observer, Stage};
 pub use crate::desk::{AdminDesk, DeskInput, DeskOutput};
 pub use crate::documents::{DeskDocuments, Documents};
 pub use crate::gates::Gates;
-pub use crate::office::{ADMINS, AdminPort};
 pub use crate::options::ServiceOptions;
 pub use crate::post::post_body;
 pub use crate::service::{ServiceFault, run_service};

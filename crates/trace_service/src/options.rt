@@ -21,7 +21,7 @@ pub struct ServiceOptions {
     /// So long a client may take for a request, from its first byte on, before its connection is closed; without it for
     /// ever. Not 0.
     pub request_timeout: Option<Duration>,
-    /// So long a connection to a back end may take to come about, and so long it may rest then, before the job's
-    /// attempt has failed; without it for ever. Not 0.
+    /// So long a whole attempt at a job may take, from connecting to its back end to the end of the answer, before it
+    /// has failed; without it for ever. Not 0.
     pub back_end_timeout: Option<Duration>,
 }

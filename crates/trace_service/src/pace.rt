@@ -25,9 +25,10 @@ pub(crate) struct ShardPace {
     reached: AtomicU64,
     // When something is due next by the time alone, as it was behind the last turn; 0 where that found something.
     due: AtomicU64,
-    // By how many milliseconds they are ahead of the clock's, and may be while somebody is in a hurry, else 0.
+    // By how many milliseconds they are ahead of the clock's.
     ahead: AtomicU64,
-    most_ahead: AtomicU64,
+    // Up to which moment they don't wait for the clock's while somebody is in a hurry, else 0.
+    hurried_to: AtomicU64,
 }
 
 impl ShardPace {
@@ -39,7 +40,7 @@ impl ShardPace {
             reached: AtomicU64::new(0),
             due: AtomicU64::new(0),
             ahead: AtomicU64::new(0),
-            most_ahead: AtomicU64::new(0),
+            hurried_to: AtomicU64::new(0),
         }
     }
 
@@ -55,16 +56,25 @@ impl ShardPace {
         self.is_slow() && now.saturating_sub(reached.max(idle_until)) > MOST_BEHIND
     }
 
-    /// While memory is short they go on to what is due next without waiting for the clock's, until `calm`. They get
-    /// ahead of these by so many milliseconds at most.
-    pub fn hurry(&self, most: u64) {
-        self.most_ahead.store(most, Ordering::SeqCst);
+    /// While memory is short they go on to what is due next without waiting for the clock's, up to this moment, until
+    /// all are calm.
+    pub fn hurry(&self, to: u64) {
+        let before = self.hurried_to.load(Ordering::SeqCst);
+        self.hurried_to.store(before.max(to), Ordering::SeqCst);
     }
 
     /// They go on as the clock's do, and stay as far ahead of these as they are: batches that wait formed at such
     /// moments, before which no turn hands them out.
-    pub fn calm(&self) {
-        self.most_ahead.store(0, Ordering::SeqCst);
+    fn calm(&self) {
+        self.hurried_to.store(0, Ordering::SeqCst);
+    }
+
+    /// Whether nothing is left of what somebody is in a hurry for, if anybody is: no job is under way, and nothing is
+    /// due up to that moment.
+    fn is_through(&self) -> bool {
+        let to = self.hurried_to.load(Ordering::SeqCst);
+        let is_sent = self.jobs.load(Ordering::SeqCst) == 0;
+        to == 0 || is_sent && self.due.load(Ordering::SeqCst) > to
     }
 
     /// The moment that they would have come to, where the clock's is this.
@@ -73,12 +83,12 @@ impl ShardPace {
     }
 
     /// When something is due next, once they were put ahead of the clock's to that, which is this. None where nobody is
-    /// in a hurry, or it is too far ahead.
+    /// in a hurry for it.
     fn put_ahead(&self, clock: u64) -> Option<u64> {
         let due = self.due.load(Ordering::SeqCst);
         let ahead = due.saturating_sub(clock);
-        let most = self.most_ahead.load(Ordering::SeqCst);
-        if ahead <= self.ahead.load(Ordering::SeqCst) || ahead > most {
+        let to = self.hurried_to.load(Ordering::SeqCst);
+        if ahead <= self.ahead.load(Ordering::SeqCst) || due > to {
             return None;
         }
         self.ahead.store(ahead, Ordering::SeqCst);
@@ -136,6 +146,23 @@ impl Paces {
         }
     }
 
+    /// Nobody is in a hurry any more.
+    pub fn calm(&self) {
+        for pace in self.shards.as_slice() {
+            pace.calm();
+        }
+    }
+
+    /// Whether nothing is left of what somebody is in a hurry for, if anybody is.
+    pub fn are_through(&self) -> bool {
+        for pace in self.shards.as_slice() {
+            if !pace.is_through() {
+                return false;
+            }
+        }
+        true
+    }
+
     /// The moment up to which all have come that are slow.
     fn reached(&self) -> u64 {
         let mut least = u64::MAX;
@@ -178,6 +205,8 @@ pub(crate) enum Pause {
     None,
     /// For a millisecond.
     Short,
+    /// For as long as what was refused memory took.
+    AsLong,
     /// As where memory isn't short.
     Usual,
 }
@@ -271,7 +300,7 @@ impl<'b> Pace<'b> {
 
     fn turner_pause(&mut self, shard: &ShardPace, is_enough: bool) -> Pause {
         if shard.is_refused.load(Ordering::SeqCst) {
-            return Pause::Short;
+            return Pause::AsLong;
         }
         if !is_enough && self.jobs != 0 && self.waits < PATIENCE {
             self.waits += 1;

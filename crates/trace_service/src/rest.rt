@@ -1,5 +1,6 @@
 //! How threads that have nothing to do rest, and what wakes them.
 
+use crate::pace::Paces;
 use std::alloc::{AllocError, Global};
 use std::sync::{Condvar, Wait};
 use std::thread;
@@ -11,6 +12,9 @@ const NAP: u64 = 1;
 /// Of those who listen alike each rests so many milliseconds for each one there is, unless it is rung: all together
 /// look some sixty times a second, so that a ring that nobody heard costs little.
 const LOOK: u64 = 16;
+
+/// Who makes chores rests so many times as long as what it tried took.
+const CHORE_REST: u64 = 4;
 
 /// Who waits for the start looks so often, in milliseconds, whether more have come.
 const START_LOOK: u64 = 1_000;
@@ -80,8 +84,9 @@ impl Bells {
 #[derive(Clone, Copy)]
 enum Place<'b> {
     Nowhere,
-    // Rests so many times as long as what was tried took.
-    Attempts(u64),
+    // Rests as long as what was tried took.
+    Attempts,
+    Chores(&'b Paces),
     Shard { bell: &'b Condvar, bells: &'b Bells },
     Lane(&'b Bells),
     Start(&'b Bells),
@@ -93,6 +98,8 @@ pub(crate) struct Rest<'b> {
     place: Place<'b>,
     // How many rings there were when it last looked for work.
     heard: u64,
+    // How many rings there were when it last paused.
+    rings_at_pause: u64,
     // Whether it asked what the moment is since it last looked.
     is_timed: bool,
 }
@@ -106,13 +113,14 @@ impl<'b> Rest<'b> {
     /// That of who tries again where memory is refused: as long as what it tried took, so that much work that comes to
     /// nothing doesn't keep others from the shard for most of the time.
     pub fn of_attempts() -> Rest<'b> {
-        Rest::at(Place::Attempts(1))
+        Rest::at(Place::Attempts)
     }
 
-    /// That of who makes chores, where a drain may be much work that comes to nothing: four times as long, so that
-    /// turners, by whom memory comes back, have the shard for most of the time.
-    pub fn of_chores() -> Rest<'b> {
-        Rest::at(Place::Attempts(4))
+    /// That of who makes chores, where a drain may be much work that comes to nothing: some times as long, so that
+    /// turners, by whom memory comes back, have the shard for most of the time. Where these are in a hurry it ends once
+    /// they are through.
+    pub fn of_chores(paces: &'b Paces) -> Rest<'b> {
+        Rest::at(Place::Chores(paces))
     }
 
     /// That of who waits for the start.
@@ -137,6 +145,7 @@ impl<'b> Rest<'b> {
         Rest {
             place,
             heard: 0,
+            rings_at_pause: 0,
             is_timed: false,
         }
     }
@@ -145,7 +154,7 @@ impl<'b> Rest<'b> {
     pub fn look(&mut self) {
         self.is_timed = false;
         self.heard = match self.place {
-            Place::Nowhere | Place::Attempts(_) => return,
+            Place::Nowhere | Place::Attempts | Place::Chores(_) => return,
             Place::Shard { bell, bells: _ } => bell.notifications(),
             Place::Lane(bells) => bells.lane.notifications(),
             Place::Start(bells) => bells.start.notifications(),
@@ -158,15 +167,14 @@ impl<'b> Rest<'b> {
     }
 
     /// Pauses: for long only where it found no work and nothing was rung since it looked, and a turner for no longer
-    /// than so many milliseconds are left until something is due. A turner's pause begins with a short one that no ring
-    /// cuts off, so that many rings don't make many turns. What was tried since the moment was asked for, or since the
-    /// last pause, took so many milliseconds.
+    /// than so many milliseconds are left until something is due. Where its bell was rung since its last pause a
+    /// turner's begins with a short one that no ring cuts off, so that many rings don't make many turns. What was tried
+    /// since the moment was asked for, or since the last pause, took so many milliseconds.
     pub fn pause<R: Wait + Clock>(&mut self, rt: &R, took: u64, left: u64) {
         match self.place {
             Place::Shard { bell, bells } if self.is_timed => {
-                nap(rt);
-                let longest = share_of(bells.shards.len() as u64).min(left.saturating_sub(NAP));
-                bell.sleep(rt, self.heard, Duration::from_millis(longest));
+                let longest = share_of(bells.shards.len() as u64).min(left);
+                self.pause_at(rt, bell, longest.max(NAP));
             }
             Place::Lane(bells) if !self.is_timed => {
                 let longest = share_of(u64::from(bells.senders));
@@ -177,11 +185,37 @@ impl<'b> Rest<'b> {
             Place::Start(bells) => bells
                 .start
                 .sleep(rt, self.heard, Duration::from_millis(START_LOOK)),
-            Place::Attempts(times) => {
-                let longest = NAP.max(took.saturating_mul(times));
-                thread::sleep(rt, Duration::from_millis(longest));
+            Place::Attempts => thread::sleep(rt, Duration::from_millis(NAP.max(took))),
+            Place::Chores(paces) => {
+                let longest = NAP.max(took.saturating_mul(CHORE_REST));
+                rest_beside(rt, paces, longest);
             }
             _ => nap(rt),
+        }
+    }
+
+    /// A turner's pause, of so many milliseconds at most.
+    fn pause_at<R: Wait + Clock>(&mut self, rt: &R, bell: &Condvar, longest: u64) {
+        let rings = bell.notifications();
+        let mut left = longest;
+        if rings != self.rings_at_pause {
+            self.rings_at_pause = rings;
+            nap(rt);
+            left = left.saturating_sub(NAP);
+        }
+        bell.sleep(rt, self.heard, Duration::from_millis(left));
+    }
+}
+
+/// Rests for so many milliseconds, and where turners weren't through before no longer than until they are.
+fn rest_beside<R: Clock>(rt: &R, paces: &Paces, longest: u64) {
+    if paces.are_through() {
+        return thread::sleep(rt, Duration::from_millis(longest));
+    }
+    for _ in 0..longest {
+        nap(rt);
+        if paces.are_through() {
+            return;
         }
     }
 }

@@ -28,7 +28,7 @@ use crate::naming::Naming;
 use crate::options::ServiceOptions;
 use crate::reports::write_audit;
 use crate::roster::Roster;
-use crate::shared::{Shared, Staff, Workplace};
+use crate::shared::{ServiceLimits, Shared, Workplace};
 use crate::start::{Console, ServiceStart};
 use crate::workers::{Worker, work_all};
 use job_lane::{Lane, LaneKeeper, LaneSeat};
@@ -115,11 +115,11 @@ where
         (O.contents console.new.output)) }
 {
     let global = &settings.global;
-    let staff = Staff::of(global, &start.options, start.admin.is_some());
+    let limits = ServiceLimits::of(global, &start.options, start.admin.is_some());
     let workers = global.shards as usize
-        + staff.senders as usize
-        + staff.receivers as usize
-        + staff.admins as usize;
+        + limits.senders as usize
+        + limits.receivers as usize
+        + limits.admins as usize;
     let ServiceOptions { audit, keys, .. } = start.options;
     let lane_size = global.lane_size as usize;
     // Who reads the input has a caller too, and no seat.
@@ -140,7 +140,7 @@ where
         lane_keeper,
         seats,
     };
-    run_named::<Brand, R, D, I, O, L>(start, settings, staff, opened, console)
+    run_named::<Brand, R, D, I, O, L>(start, settings, limits, opened, console)
 }
 
 /// A hub and a lane, with what they are closed with, a caller for each thread, and a seat for each that works.
@@ -158,7 +158,7 @@ struct Opened {
 fn run_named<J, R, D, I, O, L>(
     start: &ServiceStart<'_, R, D>,
     settings: Settings,
-    staff: Staff,
+    limits: ServiceLimits,
     opened: Opened,
     console: &mut Console<I, O, L>,
 ) -> Result<u64, ServiceFault>
@@ -200,10 +200,10 @@ where
         seats,
     } = opened;
     let roster = Roster::of(start.alloc, &settings)?;
-    let workplace = Workplace::<J>::new(start.alloc, settings, hub, lane, staff.senders)?;
+    let workplace = Workplace::<J>::new(start.alloc, settings, hub, lane, limits.senders)?;
     // All that is lent together is lent for as long as the workplace stands.
     let (callers, seats, ended) = at_work::<J, R, D, I, O, L>(
-        &*start, &workplace, staff, roster, callers, seats, console,
+        &*start, &workplace, limits, roster, callers, seats, console,
     )?;
     console.observer.observe(Stage::Ended);
     let Workplace { hub, lane, .. } = workplace;
@@ -251,7 +251,7 @@ fn end_hub<R: Wait>(
 fn at_work<'h, J, R, D, I, O, L>(
     start: &'h ServiceStart<'h, R, D>,
     workplace: &'h Workplace<J>,
-    staff: Staff,
+    limits: ServiceLimits,
     roster: Roster,
     mut callers: Vec<Caller>,
     seats: Vec<LaneSeat>,
@@ -281,7 +281,7 @@ where
         (I.remaining console.old.input) J.fresh (O.contents console.old.output, 0) r.0.items
         (O.contents console.new.output, lost))) }
 {
-    let shared = Shared::at(start, workplace, staff, callers.len())?;
+    let shared = Shared::at(start, workplace, limits, callers.len())?;
     let shards = shared.hub.shards();
     prove!(0 < shards);
     // Who has served to the end says so, whatever memory there is by then.
@@ -297,7 +297,7 @@ where
         roster,
         documents: start.documents,
         listener: shared.entrance.listener(),
-        office: shared.office_listener(),
+        admin: shared.admin_listener(),
         context: shared.context(own, 0),
         beat: shared.beat.of_chores(),
     };

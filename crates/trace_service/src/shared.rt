@@ -4,12 +4,12 @@ ghost use Rattle.std.specs.Prelude.{◌≡◌, ◌<◌, ◌≤◌, IfOk, length,
 ghost use Rattle.machine_hub.specs.Hub.{slots_of};
 ghost use Rattle.tail_settings.specs.Settings.{settings_view};
 
+use crate::admin_port::{ADMINS, AdminEntrance, admin_entrance_of};
 use crate::beat::{ServiceBeat, Signals};
 use crate::context::WorkerContext;
 use crate::entrance::Entrance;
 use crate::in_force::InForce;
 use crate::naming::Naming;
-use crate::office::{ADMINS, Office, office_of};
 use crate::options::ServiceOptions;
 use crate::start::ServiceStart;
 use crate::visit::Patience;
@@ -24,23 +24,27 @@ use tail_settings::{GlobalSettings, Settings};
 
 /// How many threads there are of a kind, and how long they wait for those outside. It stays as the settings change.
 #[derive(Clone, Copy, Debug)]
-pub(crate) struct Staff {
+pub(crate) struct ServiceLimits {
     pub senders: u32,
     pub receivers: u32,
     /// Those that serve whoever looks after the service.
     pub admins: u32,
     /// For a client, by a receiver.
     pub patience: Patience,
-    /// For a back end, by a sender.
+    /// For a back end in a whole attempt, by a sender.
     pub back_end_timeout: Option<Duration>,
     /// For the notes of one body, the one that it came to among them.
     pub parts: u32,
     pub ghost parts_range: { (0 < parts) × (parts ≤ 16) },
 }
 
-impl Staff {
+impl ServiceLimits {
     /// As the options say, and else the settings.
-    pub fn of(global: &GlobalSettings, options: &ServiceOptions, is_looked_after: bool) -> Staff
+    pub fn of(
+        global: &GlobalSettings,
+        options: &ServiceOptions,
+        is_looked_after: bool,
+    ) -> ServiceLimits
         ensures senders { result.senders ≡ unwrap_or options.now.senders global.now.senders }
         ensures receivers { result.receivers ≡ unwrap_or options.now.connections
             global.now.receivers }
@@ -51,7 +55,7 @@ impl Staff {
         ensures request { result.patience.request ≡ options.now.request_timeout }
         ensures back_end { result.back_end_timeout ≡ options.now.back_end_timeout }
     {
-        Staff {
+        ServiceLimits {
             senders: options.senders.unwrap_or(global.senders),
             receivers: options.connections.unwrap_or(global.receivers),
             admins: admins_of(is_looked_after),
@@ -112,12 +116,12 @@ pub(crate) struct Shared<'h, J: Naming, R> {
     pub rt: &'h R,
     pub alloc: Global,
     pub settings: &'h Mutex<InForce<J>>,
-    pub staff: Staff,
+    pub limits: ServiceLimits,
     pub hub: &'h SharedHub,
     pub lane: &'h Lane,
     pub entrance: Entrance<'h>,
     /// Where it is looked after, if anywhere.
-    pub office: Option<Office<'h>>,
+    pub admin: Option<AdminEntrance<'h>>,
     pub beat: ServiceBeat<'h, R>,
     /// How many threads there are.
     pub threads: usize,
@@ -130,7 +134,7 @@ impl<'h, J: Naming, R: Wait + Clock> Shared<'h, J, R> {
     pub fn at<D>(
         start: &'h ServiceStart<'h, R, D>,
         workplace: &'h Workplace<J>,
-        staff: Staff,
+        limits: ServiceLimits,
         threads: usize,
     ) -> io::Result<Shared<'h, J, R>>
         ensures hub { IfOk result (λ shared. shared.hub.now ≡ workplace.now.hub) }
@@ -141,20 +145,20 @@ impl<'h, J: Naming, R: Wait + Clock> Shared<'h, J, R> {
             rt: start.rt,
             alloc: start.alloc,
             settings: &workplace.settings,
-            staff,
+            limits,
             hub: &workplace.hub,
             lane: &workplace.lane,
-            entrance: Entrance::new(start.listener, staff.patience),
-            office: office_of(start.admin),
+            entrance: Entrance::new(start.listener, limits.patience),
+            admin: admin_entrance_of(start.admin),
             beat: ServiceBeat::new(start.rt, &workplace.signals, since),
             threads,
         })
     }
 
     /// Where whoever looks after the service comes in.
-    pub fn office_listener(&self) -> Option<&'h TcpListener> {
-        match &self.office {
-            Some(office) => Some(office.port.listener),
+    pub fn admin_listener(&self) -> Option<&'h TcpListener> {
+        match &self.admin {
+            Some(admin) => Some(admin.port.listener),
             None => None,
         }
     }
@@ -172,7 +176,7 @@ impl<'h, J: Naming, R: Wait + Clock> Shared<'h, J, R> {
             self.rt,
             self.alloc,
             self.settings,
-            self.staff.parts,
+            self.limits.parts,
             self.hub,
             caller,
             shard,

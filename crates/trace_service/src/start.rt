@@ -1,6 +1,6 @@
 //! What a service is started with.
 
-use crate::office::AdminPort;
+use crate::admin_port::AdminPort;
 use crate::options::ServiceOptions;
 use std::alloc::Global;
 use std::net::TcpListener;

@@ -1,8 +1,9 @@
 //! What threads count of what they do, for whoever looks after the service.
 
-use admin_pages::{ServiceCounts, StatusCounts};
+use admin_pages::{STATUS_COUNTS, ServiceCounts, StatusCounts, status_place};
 use export_edge::TurnResult;
 use send_retry::{Answer, Verdict, classify};
+use std::array;
 use std::sync::atomic::{AtomicU64, Ordering};
 
 /// A number that only grows.
@@ -27,7 +28,34 @@ impl Count {
     }
 }
 
-/// How many there were of each class of HTTP's statuses.
+/// How many requests were answered with each status that a client can be told, and how many with any other.
+#[derive(Drop)]
+struct RequestTally {
+    // Each at its status's place.
+    counts: [Count; STATUS_COUNTS],
+}
+
+impl RequestTally {
+    fn new() -> RequestTally {
+        RequestTally {
+            counts: array::from_fn(|_| Count::new()),
+        }
+    }
+
+    fn note(&self, status: u16) {
+        self.counts[status_place(status)].add(1);
+    }
+
+    fn counts(&self) -> [u64; STATUS_COUNTS] {
+        let mut counts = [0; STATUS_COUNTS];
+        for (number, count) in counts.iter_mut().zip(self.counts.iter()) {
+            *number = count.get();
+        }
+        counts
+    }
+}
+
+/// How many answers of back ends there were of each class of HTTP's statuses.
 #[derive(Drop)]
 struct StatusTally {
     success: Count,
@@ -75,7 +103,7 @@ pub(crate) struct Tally {
     connections_ended: Count,
     received_bytes: Count,
     sent_bytes: Count,
-    requests: StatusTally,
+    requests: RequestTally,
     // Turns that weren't refused memory, and those of them that found nothing ready.
     turns: Count,
     idle_turns: Count,
@@ -97,7 +125,7 @@ impl Tally {
             connections_ended: Count::new(),
             received_bytes: Count::new(),
             sent_bytes: Count::new(),
-            requests: StatusTally::new(),
+            requests: RequestTally::new(),
             turns: Count::new(),
             idle_turns: Count::new(),
             jobs: Count::new(),

@@ -5,8 +5,8 @@ ghost use Rattle.std.specs.Thread.{IsSync};
 ghost use Rattle.job_lane.specs.Lane.{new_seat};
 ghost use Rattle.trace_service.specs.Jobs.{IsThread};
 
+use crate::admin_handler::{AdminHandler, serve_all};
 use crate::beat::ServiceBeat;
-use crate::clerk::{Clerk, serve_all};
 use crate::context::WorkerContext;
 use crate::counted::Counted;
 use crate::entrance::Entrance;
@@ -149,7 +149,7 @@ where
                 settings: shared.settings,
                 tally: shared.beat.signals().tally(),
             };
-            let limit = shared.staff.back_end_timeout;
+            let limit = shared.limits.back_end_timeout;
             let over_tcp = TcpBackEnd::new(shared.rt, shared.alloc, back_ends, limit);
             let signals = worker.context.signals();
             let mut back_end = PatientBackEnd::new(shared.rt, shared.alloc, signals, over_tcp);
@@ -179,17 +179,17 @@ where
     R: Net<Listener = TcpListener, Stream = TcpStream> + Threads + Wait + Clock + Sync,
     ensures { worker.new.seat ≡ worker.old.seat }
 {
-    let Some(office) = &shared.office else {
+    let Some(admin) = &shared.admin else {
         return;
     };
-    let mut clerk = Clerk {
+    let mut handler = AdminHandler {
         context: &mut worker.context,
-        port: office.port,
-        staff: shared.staff,
+        port: admin.port,
+        limits: shared.limits,
         lane_capacity: shared.lane.capacity(),
     };
     let buffer = &mut worker.buffer;
-    serve_all(shared.rt, &office.entrance, &mut clerk, buffer);
+    serve_all(shared.rt, &admin.entrance, &mut handler, buffer);
 }
 
 /// Says that this thread is there, and waits for the others. False where ten seconds pass in which none comes, or the

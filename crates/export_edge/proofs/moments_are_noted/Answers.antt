@@ -1,5 +1,5 @@
-use Rattle.export_edge.proofs.Ticking.{moments_noted}
+use Rattle.export_edge.proofs.Notes.{moments_noted}
 use Rattle.export_edge.proofs.moments_are_noted.Goals as goal
 
 pub returns : goal.returns
-returns g c = moments_noted g.B.Beat.gives g.B.Beat.rests
+returns g c = moments_noted g.B.Beat.calls

@@ -18,7 +18,8 @@ use Rattle.otlp_read.specs.declared.fault.ReadFault.{ReadFault}
 use Rattle.otlp_read.specs.Numbers.{utf8}
 use Rattle.otlp_read.specs.Walk.{Known, Piece, no_pieces, more_pieces, walk_in, walk, read_with}
 use Rattle.otlp_read.specs.AnyValue.{read_any, read_array, read_list, read_key_value}
-use Rattle.otlp_read.specs.Value.{no_span, span_known, value_of}
+use Rattle.otlp_trace.specs.Defaults.{no_span}
+use Rattle.otlp_read.specs.Value.{span_known, value_of}
 use Rattle.otlp_read.specs.Nested.{Kept, IsUnknown}
 use Rattle.otlp_read.proofs.Laws.{pieces_fields}
 use Rattle.codec_tests.proofs.definitions.definitions_on_small_inputs.Goals as goal

@@ -6,5 +6,5 @@ returns g c = (
   turn_at c.now-now.result c.turn-turned.result,
   c.turn-turned.ensures,
   c.job_in.ensures.job,
-  (c.now-now.new.self, c.now-now.ensures, c.job_in.ensures.rests),
+  (c.now-now.new.self, c.now-now.ensures, c.job_in.ensures.pauses),
 )

@@ -1,27 +1,23 @@
 use Rattle.std.proofs.Common.{refl, ◌∙◌}
-use Rattle.export_edge.proofs.Rounds.{unturned, turner_rested}
+use Rattle.export_edge.proofs.Rounds.{unturned}
 use Rattle.export_edge.proofs.turner.run_turner.Goals as goal
 
 pub rounds-init : goal.rounds-init
 rounds-init g c = record {
   lane = refl;
   pops = refl;
-  work = unturned g.S.JobSource.turns g.B.Beat.gives g.B.Beat.rests c.args.source.now c.args.beat.now c.args.seat.now.pushes;
+  work = unturned g.S.JobSource.turns g.B.Beat.calls c.args.source.now c.args.beat.now c.args.seat.now.pushes;
 }
 
 pub rounds-preserved : goal.rounds-preserved
 rounds-preserved g c =
     let before = c.rounds.invariant in
-    let rested = turner_rested g.S.JobSource.turns g.B.Beat.gives g.B.Beat.rests c.args.source.now c.rounds.source
-    c.args.beat.now c.rounds.beat c.is_over.new.self c.args.seat.now.pushes c.rounds.seat.pushes c.rounds.held
-    c.if-is_over.ensures before.work in
     record {
       lane = c.turn_once-held.ensures.same.0 ∙ before.lane;
       pops = c.turn_once-held.ensures.same.1 ∙ before.pops;
-      work = c.turn_once-held.ensures.work c.args.source.now c.args.beat.now c.args.seat.now.pushes rested;
+      work = c.turn_once-held.ensures.work c.args.source.now c.args.beat.now c.rounds.beat c.args.seat.now.pushes
+          before.work c.if-is_over.ensures;
     }
 
 pub returns-then-is_over-clause-work : goal.returns-then-is_over-clause-work
-returns-then-is_over-clause-work g c = turner_rested g.S.JobSource.turns g.B.Beat.gives g.B.Beat.rests c.args.source.now
-    c.rounds.source c.args.beat.now c.rounds.beat c.is_over.new.self c.args.seat.now.pushes c.rounds.seat.pushes
-    c.rounds.held c.if-is_over.ensures c.rounds.invariant.work
+returns-then-is_over-clause-work g c = (c.rounds.beat, c.rounds.invariant.work, c.if-is_over.ensures)

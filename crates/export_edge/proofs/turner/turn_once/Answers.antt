@@ -2,13 +2,14 @@ use Rattle.export_edge.proofs.Rounds.{offered, turned}
 use Rattle.export_edge.proofs.turner.turn_once.Goals as goal
 
 pub returns-in-Some-clause-work : goal.returns-in-Some-clause-work
-returns-in-Some-clause-work g c = λ start b before t.
-    offered g.S.JobSource.turns g.B.Beat.gives g.B.Beat.rests start c.args.source.now b c.args.beat.now c.offer.new.beat
+returns-in-Some-clause-work g c = λ start b last before t look.
+    offered g.S.JobSource.turns g.B.Beat.calls start c.args.source.now b last c.args.beat.now c.offer.new.beat
     before c.args.seat.now.pushes c.offer.new.seat.pushes c.in-Some.job c.offer.result c.offer.ensures.pushed
-    c.offer.ensures.rests (rw c.in-Some.is at t)
+    c.offer.ensures.pauses (rw c.in-Some.is at t) look
 
 pub returns-in-None-clause-work : goal.returns-in-None-clause-work
-returns-in-None-clause-work g c = λ start b before t.
+returns-in-None-clause-work g c = λ start b last before t look.
     let e = c.next_job.ensures in
-    turned g.S.JobSource.turns g.B.Beat.gives g.B.Beat.rests start c.args.source.now c.next_job.new.source b c.args.beat.now
-    e.3.0 c.next_job.new.beat before c.args.seat.now.pushes e.0 c.next_job.result e.1 e.2 e.3.1 e.3.2 (rw c.in-None.is at t)
+    turned g.S.JobSource.turns g.B.Beat.calls start c.args.source.now c.next_job.new.source b last c.args.beat.now
+    e.3.0 c.next_job.new.beat before c.args.seat.now.pushes e.0 c.next_job.result e.1 e.2 e.3.1 e.3.2
+    (rw c.in-None.is at t) look

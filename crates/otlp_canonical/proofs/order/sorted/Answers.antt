@@ -1,7 +1,6 @@
-use Rattle.std.proofs.Common.{rules, arith, ◌≡◌, ◌-◌, ◌<◌, ◌≤◌, true, is_some, [], subst, ℕ}
-use Rattle.otlp_canonical.specs.Order.{WithPlaces}
-use Rattle.otlp_canonical.proofs.Parts.{of_some}
-use Rattle.otlp_canonical.proofs.Sorted.{none_sorted, part_sorted, sorted_read}
+use Rattle.std.proofs.Common.{rules, arith, ◌≡◌, ◌+◌, ◌-◌, suc, [], subst, ℕ}
+use Rattle.otlp_canonical.specs.Order.{WithPlaces, AllStand}
+use Rattle.otlp_canonical.proofs.Sorted.{Sorting, none_sorted, part_sorted, sorted_read}
 use Rattle.otlp_canonical.proofs.order.sorted.Goals as goal
 
 pub places-init : goal.places-init
@@ -9,20 +8,20 @@ places-init c =
     let d = c.saturating_sub-depth.result in
     let at : d ≡ 101 - c.args.room = search rules in
     let none : c.in_ok-copy.copy.items ≡ [] = search rules in
-    let some : is_some c.in_ok-first.field-0 ≡ true = search rules in
-    let put : WithPlaces d 0 0 c.args.text.now c.new-nothing.result.items c.put_places.new.copy.items = of_some c.in_ok-first.field-0 c.in_ok-first.ensures some in
-    let there : WithPlaces (101 - c.args.room) 0 0 c.args.text.now c.new-nothing.result.items c.put_places.new.copy.items = subst (λ (n : ℕ). WithPlaces n 0 0 c.args.text.now c.new-nothing.result.items c.put_places.new.copy.items) at put in
-    rw none (record { up = λ lt. omega arith; so_far = none_sorted (101 - c.args.room) 0 0 c.args.text.now c.new-nothing.result.items c.put_places.new.copy.items there })
+    let all : AllStand d c.args.text.now c.in-Some.runs = c.in-Some.ensures in
+    let there : AllStand (101 - c.args.room) c.args.text.now c.in-Some.runs = subst (λ (n : ℕ). AllStand n c.args.text.now c.in-Some.runs) at all in
+    rw none (none_sorted (101 - c.args.room) c.args.text.now there.pieces there.are)
 
 pub places-preserved : goal.places-preserved
 places-preserved c =
     let d = c.saturating_sub-depth.result in
     let at : d ≡ 101 - c.args.room = search rules in
-    let some : is_some c.in_ok-end.field-0 ≡ true = search rules in
-    let put : WithPlaces d c.places.low c.places.high c.args.text.now c.places.copy.items c.put_places-in-places.new.copy.items = of_some c.in_ok-end.field-0 c.in_ok-end.ensures some in
-    let there : WithPlaces (101 - c.args.room) c.places.low c.places.high c.args.text.now c.places.copy.items c.put_places-in-places.new.copy.items = subst (λ (n : ℕ). WithPlaces n c.places.low c.places.high c.args.text.now c.places.copy.items c.put_places-in-places.new.copy.items) at put in
-    let up : c.places.low < c.places.high = c.places.invariant.up (omega arith) in
-    record { up = λ lt. omega (arith, lt); so_far = part_sorted (101 - c.args.room) c.places.low c.places.high c.args.text.now c.places.copy.items c.put_places-in-places.new.copy.items (omega arith) there c.places.invariant.so_far }
+    let low = c.places.place in
+    let new = c.put_run.new.copy.items in
+    let put : WithPlaces d low (suc low) c.args.text.now c.places.copy.items new = c.in_ok-put_run.ensures c.if-not-branch.false in
+    let there : WithPlaces (101 - c.args.room) low (suc low) c.args.text.now c.places.copy.items new = subst (λ (n : ℕ). WithPlaces n low (suc low) c.args.text.now c.places.copy.items new) at put in
+    let next : suc low ≡ low + 1 = omega arith in
+    subst (λ (n : ℕ). Sorting (101 - c.args.room) n c.args.text.now new) next (part_sorted (101 - c.args.room) low (suc low) c.args.text.now c.places.copy.items new (omega arith) there c.places.invariant)
 
 pub returns : goal.returns
-returns c span made = sorted_read c.args.room c.places.low c.args.text.now c.places.copy.items (omega arith) (omega arith) c.places.invariant.so_far span made
+returns c span made = sorted_read c.args.room c.places.place c.args.text.now c.places.copy.items (omega arith) (omega arith) c.places.invariant span made

@@ -1,12 +1,9 @@
-use Rattle.std.proofs.Common.{◌-◌, ◌<◌}
+use Rattle.std.proofs.Common.{◌-◌}
 use Rattle.otlp_canonical.proofs.Sorted.{Sorting}
 use Rattle.otlp_canonical.proofs.order.sorted.Given as goal
 
 abbrev pub invariant-places : goal.invariant-places
-invariant-places l = record {
-  up : l.low < 18 → l.low < l.high;
-  so_far : Sorting (101 - l.room) l.low l.text l.copy.items;
-}
+invariant-places l = Sorting (101 - l.room) l.place l.text l.copy.items
 
 abbrev pub decreases-places : goal.decreases-places
-decreases-places l = 18 - l.low
+decreases-places l = 18 - l.place

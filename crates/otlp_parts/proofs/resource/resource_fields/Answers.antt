@@ -2,7 +2,7 @@ use Rattle.std.proofs.Common.{◌≡◌, ◌<◌, ◌^◌, ℕ, List, Result, le
 use Rattle.otlp_read.specs.declared.fault.ReadFault.{ReadFault}
 use Rattle.otlp_trace.specs.Data.{ResourceData}
 use Rattle.otlp_trace.specs.Text.{bytes_field}
-use Rattle.otlp_read.specs.Value.{no_resource_spans}
+use Rattle.otlp_trace.specs.Defaults.{no_resource_spans}
 use Rattle.otlp_parts.specs.ReadAs.{value_or, resource_of, resource_among}
 use Rattle.otlp_parts.proofs.Again.{resource_alone}
 use Rattle.otlp_parts.proofs.Values.{ok_of}

@@ -1,6 +1,6 @@
 use Rattle.std.proofs.Common.{ℕ, List, [], sym, subst}
 use Rattle.otlp_trace.specs.Text.{span_text}
-use Rattle.otlp_read.specs.Value.{no_span}
+use Rattle.otlp_trace.specs.Defaults.{no_span}
 use Rattle.span_view.specs.Facts.{AreText}
 use Rattle.span_view.specs.Reading.{facts_of}
 use Rattle.span_pool.specs.Stored.{bytes_of}

@@ -1,5 +1,6 @@
 use Rattle.otlp_trace.specs.View.{request_view}
-use Rattle.otlp_read.specs.Value.{request_step, no_request}
+use Rattle.otlp_trace.specs.Defaults.{no_request}
+use Rattle.otlp_read.specs.Value.{request_step}
 use Rattle.otlp_read.proofs.Answered.{answered_value, answered_only, answered_fault}
 use Rattle.otlp_read.proofs.request.read_request.Goals as goal
 

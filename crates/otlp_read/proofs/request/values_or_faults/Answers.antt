@@ -1,4 +1,5 @@
-use Rattle.otlp_read.specs.Value.{request_step, no_request}
+use Rattle.otlp_trace.specs.Defaults.{no_request}
+use Rattle.otlp_read.specs.Value.{request_step}
 use Rattle.otlp_read.proofs.Inside.{message_by_fields}
 use Rattle.otlp_read.proofs.Laws.{fold_append}
 use Rattle.otlp_read.proofs.request.values_or_faults.Goals as goal

@@ -4,7 +4,8 @@ use Rattle.otlp_trace.specs.Data.{RequestData}
 use Rattle.otlp_trace.specs.Text.{request_text}
 use Rattle.otlp_read.specs.Nested.{NestedRequest}
 use Rattle.otlp_read.specs.Typed.{TypedRequest}
-use Rattle.otlp_read.specs.Value.{no_request, request_step, IsValue}
+use Rattle.otlp_trace.specs.Defaults.{no_request}
+use Rattle.otlp_read.specs.Value.{request_step, IsValue}
 use Rattle.otlp_read.proofs.Back.{request_back}
 use Rattle.otlp_read.proofs.Laws.{makes}
 use Rattle.otlp_read.proofs.MessageSound.{request_sound, response_sound}

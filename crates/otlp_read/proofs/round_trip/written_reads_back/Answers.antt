@@ -1,6 +1,7 @@
 use Rattle.otlp_trace.specs.Text.{request_text, response_text}
 use Rattle.otlp_read.specs.Response.{response_step, no_response}
-use Rattle.otlp_read.specs.Value.{request_step, no_request}
+use Rattle.otlp_trace.specs.Defaults.{no_request}
+use Rattle.otlp_read.specs.Value.{request_step}
 use Rattle.otlp_read.proofs.Back.{resource_back, scope_back, span_back, request_back, response_back}
 use Rattle.otlp_read.proofs.Laws.{makes}
 use Rattle.otlp_read.proofs.round_trip.written_reads_back.Goals as goal

@@ -9,4 +9,5 @@ fields-preserved c =
     record {
       first = λ kind. c.fields.invariant.first kind ∙ other_passed c.args.first c.in-Some.other kind c.fields.left.now c.in-Some.rest.now behind (ne_eqb c.in-Some.other c.args.first c.if-other-first.false);
       second = λ kind. c.fields.invariant.second kind ∙ other_passed c.args.second c.in-Some.other kind c.fields.left.now c.in-Some.rest.now behind (ne_eqb c.in-Some.other c.args.second c.if-other-second.false);
+      later = λ kind. c.fields.invariant.later kind ∙ other_passed c.args.later c.in-Some.other kind c.fields.left.now c.in-Some.rest.now behind (ne_eqb c.in-Some.other c.args.later c.if-other-later.false);
     }

@@ -7,6 +7,7 @@ abbrev pub invariant-fields : goal.invariant-fields
 invariant-fields l = record {
   first : (kind : WireType) → held l.first kind (fields_of l.text) ≡ held l.first kind (fields_of l.left);
   second : (kind : WireType) → held l.second kind (fields_of l.text) ≡ held l.second kind (fields_of l.left);
+  later : (kind : WireType) → held l.later kind (fields_of l.text) ≡ held l.later kind (fields_of l.left);
 }
 
 abbrev pub decreases-fields : goal.decreases-fields

@@ -10,13 +10,13 @@ pub returns-in-Turner : goal.returns-in-Turner
 returns-in-Turner g c =
     let ran = c.run_turner-held in
     turner_did (length g.J.Naming.slots) g.J.Naming.lane g.J.Naming.fresh c.args.worker.now.context ran.new.source c.args.worker.now.seat ran.new.seat _ _ _
-    (λ w. w.caller) (λ w. w.shard) _ _ _ c.requires.fresh c.requires.new ran.ensures.same.1 ran.ensures.work (λ s t next is. is)
+    (λ w. w.caller) (λ w. w.shard) _ _ c.requires.fresh c.requires.new ran.ensures.same.1 ran.ensures.work.1 (λ s t next is. is)
 
 pub returns-in-Sender : goal.returns-in-Sender
 returns-in-Sender g c =
     let ran = c.run_sender in
     sender_did (length g.J.Naming.slots) g.J.Naming.lane g.J.Naming.fresh c.args.worker.now.context ran.new.sink c.args.worker.now.seat ran.new.seat _ _ _ _
-    (λ w. w.caller) _ _ _ _ _ c.requires.fresh c.requires.new ran.ensures.same.1 ran.ensures.work
+    (λ w. w.caller) _ _ _ _ c.requires.fresh c.requires.new ran.ensures.same.1 ran.ensures.work.1
     (λ s given next is. subst (λ n. TakesAnswer s.caller next.caller n given) (ap length s.hub_is) is)
     (λ s given next is. subst (λ n. RefusesAnswer s.caller next.caller n given) (ap length s.hub_is) is)
 

@@ -16,11 +16,11 @@ returns-then-not-self c =
     let span = c.args.span.now in
     let none : ask_attributes c.args.self.now ≡ false =
     ap (λ ps. ask_attributes ps) (sym c.self.view_is) ∙ sym c.self.invariant.asked ∙ c.if-not-self.true in
-    let met : c.of_span-met.result ≡ bits_of (span_meets span) (leaves_in c.args.self.now) =
-    c.of_span-met.ensures
+    let met : c.of_span-start.result.2 ≡ bits_of (span_meets span) (leaves_in c.args.self.now) =
+    c.of_span-start.ensures.bits
     ∙ ap (λ s. bits_at s span.status) (c.self.invariant.by_status ∙ ap status_bits_of c.self.view_is)
     ∙ status_alone c.args.self.now span none in
-    c.new.ensures ∙ rw (met, c.times-start.ensures.start, c.times-start.ensures.end) refl
+    c.new.ensures ∙ rw (met, c.of_span-start.ensures.start, c.of_span-start.ensures.end) refl
 
 pub returns : goal.returns
 unfolding note_of

@@ -1,9 +1,0 @@
-use Rattle.std.proofs.Common.{length}
-use Rattle.otlp_canonical.proofs.Sorted.{Passing}
-use Rattle.otlp_canonical.proofs.order.put_places.Given as goal
-
-abbrev pub invariant-fields : goal.invariant-fields
-invariant-fields l = Passing l.depth l.low l.high l.text l.fn.copy.items l.copy.items l.left
-
-abbrev pub decreases-fields : goal.decreases-fields
-decreases-fields l = length l.left

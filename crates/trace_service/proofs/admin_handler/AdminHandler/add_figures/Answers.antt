@@ -1,0 +1,24 @@
+use Rattle.std.proofs.Common.{◌≡◌, ◌∙◌, map, length, option_map, string_bytes}
+use Rattle.admin_pages.specs.Figures.{tenant_of}
+use Rattle.drop_ledger.specs.Ledger.{ledger_of}
+use Rattle.trace_service.proofs.Replies.{on_err}
+use Rattle.trace_service.proofs.Shown.{looks_more, on_ok, one_looked, one_refused}
+use Rattle.trace_service.proofs.admin_handler.AdminHandler.add_figures.Goals as goal
+
+pub returns-in_err-counters-clause-looks : goal.returns-in_err-counters-clause-looks
+returns-in_err-counters-clause-looks g c =
+    on_err c.from_residual.result _
+    (one_refused (length c.args.self.now.context.now.hub.now) _ c.args.tenant.now.number _ c.in_err-counters.ensures.refused)
+
+pub returns : goal.returns
+returns g c =
+    let look = c.in_ok-counters.ensures.looked in
+    let seen = rw c.counters.ensures.hub at c.waiting-waiting.ensures.seen in
+    record {
+      looked = on_ok c.push_figures.result _ _
+          (looks_more _ c.args.tenant.now _ _ _ _ (map tenant_of c.push_figures.new.figures.items) _ _ look seen c.waiting-waiting.ensures.caller)
+          c.push_figures.ensures;
+      looks = on_err c.push_figures.result _ (rw c.waiting-waiting.ensures.caller (one_looked _ _ c.args.tenant.now.number _ _ look));
+      hub = c.waiting-waiting.ensures.hub ∙ c.counters.ensures.hub;
+      same = c.waiting-waiting.ensures.same ∙ c.counters.ensures.same;
+    }

@@ -1,0 +1,34 @@
+use Rattle.std.proofs.Common.{length, map, refl, subst, ◌∙◌}
+use Rattle.std.proofs.lemmas.List.{take_all}
+use Rattle.admin_pages.specs.Figures.{tenant_of}
+use Rattle.trace_service.specs.Roster.{entry_of}
+use Rattle.trace_service.specs.Shown.{AreLooked, no_look}
+use Rattle.trace_service.proofs.Replies.{on_err}
+use Rattle.trace_service.proofs.Shown.{all_looked, looked_more, looks_then}
+use Rattle.trace_service.proofs.admin_handler.AdminHandler.figures_of.Goals as goal
+
+pub loop-tenant-init : goal.loop-tenant-init
+loop-tenant-init g c = record { same = refl; hub = refl; looked = rw c.new-figures.ensures.items no_look }
+
+pub loop-tenant-preserved : goal.loop-tenant-preserved
+loop-tenant-preserved g c =
+    let before = c.loop-tenant.invariant in
+    let told = c.in_ok-add_figures.ensures.looked in
+    record {
+      same = c.add_figures.ensures.same ∙ before.same;
+      hub = c.add_figures.ensures.hub ∙ before.hub;
+      looked = looked_more _ _ c.args.tenants.now c.loop-tenant.tenant-index c.tenant-item.result _ _ _ told.0 told.1 _
+          c.loop-tenant-test.true c.tenant-item.is before.looked (rw before.hub at told.2) (rw before.hub at told.3) told.4;
+    }
+
+pub returns-in_err-add_figures-clause-looks : goal.returns-in_err-add_figures-clause-looks
+returns-in_err-add_figures-clause-looks g c =
+    let before = c.loop-tenant.invariant in
+    on_err c.from_residual.result _
+    (looks_then _ _ _ (all_looked _ _ before.looked) (rw before.hub at c.in_err-add_figures.ensures.looks))
+
+pub returns-clause-looked : goal.returns-clause-looked
+returns-clause-looked g c =
+    subst (λ ts. AreLooked (length c.args.self.now.context.now.hub.now) c.args.self.now.context.now.caller (map entry_of ts)
+    (map tenant_of c.loop-tenant.figures.items) c.loop-tenant.self.context.now.caller)
+    (take_all c.loop-tenant.tenant-index c.args.tenants.now c.loop-tenant-test.false) c.loop-tenant.invariant.looked

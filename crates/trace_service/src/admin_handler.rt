@@ -1,0 +1,558 @@
+//! Who serves those that look after the service.
+
+ghost use Rattle.std.specs.Prelude.{◌≡◌, ◌%◌, ◌++◌, Option, None, length, map, option_copied, option_map, string_bytes, IfOk, IfSome, OnOk, OnErr};
+ghost use Rattle.admin_pages.specs.Figures.{tenant_of};
+ghost use Rattle.admin_pages.specs.Route.{route_view};
+ghost use Rattle.admin_pages.specs.Service.{service_text};
+ghost use Rattle.admin_pages.specs.declared.service.ServiceFigures.{ServiceFigures};
+ghost use Rattle.drop_ledger.specs.Ledger.{ledger_of};
+ghost use Rattle.http_edge.specs.Seen.{header_of, response_of, seen};
+ghost use Rattle.machine_hub.specs.Hub.{IsRefusedOn};
+ghost use Rattle.trace_service.specs.Changed.{TellsAdding};
+ghost use Rattle.trace_service.specs.Receiving.{IsTalk};
+ghost use Rattle.trace_service.specs.Roster.{entry_of};
+ghost use Rattle.trace_service.specs.Shown.{AreFigures, AreLooked, IsKnown, IsLooked, IsNobody, IsOfService, IsSeen, IsShown, OnlyLooks, LooksMore, OnlyLooksIf, ShowsMetrics, ShowsReply, ShowsTenant, ShowsTenants, Tells, TellsGoing, TellsReadiness, admin_of, drained_reply, is_for_figures, may_look, page_reply, refused_reply, told_of};
+ghost use Rattle.trace_service.specs.Token.{bearer, is_change, is_for_all, is_from_page, is_let_in, is_wanted, token_of};
+ghost use Rattle.trace_service.specs.declared.desk.Asked.{Asked as AskedCode};
+
+use crate::admin_port::AdminPort;
+use crate::beat::Signals;
+use crate::changes::{added, retired};
+use crate::context::WorkerContext;
+use crate::entrance::Entrance;
+use crate::lingering::linger;
+use crate::memory::resident_bytes;
+use crate::naming::Naming;
+use crate::notice::{notice, other_method, shown, unknown};
+use crate::post::without_memory;
+use crate::roster::Present;
+use crate::shared::ServiceLimits;
+use crate::visit::{Client, Visit};
+use admin_page::PAGE;
+use admin_pages::{
+    AdminRoute, ServiceFigures, TenantFigures, admin_route, put_service, put_settled_tenant,
+    put_tenant_metrics, put_tenants, read_report, same_token,
+};
+use export_edge::Beat;
+use http_edge::{EdgeFault, Handler, Header, HttpMessage, MediaType, Reply, only_value, serve};
+use http_line::StreamLine;
+use http1::text::eq_ignore_case;
+use otlp_front::path;
+use shared_hub::HubFault;
+use std::alloc::{AllocError, Global};
+use std::str;
+use std::sync::Wait;
+use std::thread::Threads;
+use std::time::{Clock, Duration};
+use tenant_shard::{Outcome, Waiting};
+
+/// For so many seconds is waited until a line of the input is answered.
+const LONGEST_ANSWER: u64 = 5;
+
+/// Who serves those that look after the service: by the steps of a thread's own caller, and by lines of the input.
+#[derive(Drop)]
+pub(crate) struct AdminHandler<'c, 'h, J: Naming, R> {
+    pub context: &'c mut WorkerContext<'h, J, R>,
+    pub port: AdminPort<'h>,
+    /// How many threads the service has, and how long they wait.
+    pub limits: ServiceLimits,
+    pub lane_capacity: usize,
+}
+
+impl<'c, 'h, J: Naming, R: Wait + Clock> Handler for AdminHandler<'c, 'h, J, R> {
+    ghost use Rattle.std.specs.Prelude.{◌≡◌, length};
+    ghost use Rattle.trace_service.specs.Shown.{IsShown, admin_of};
+
+    ghost answers = { λ old request told new.
+        IsShown J.first (length old.context.now.hub.now)
+        (admin_of old.port old.limits old.lane_capacity) request old.context.now.caller
+        new.context.now.caller told
+        × (admin_of new.port new.limits new.lane_capacity
+        ≡ admin_of old.port old.limits old.lane_capacity) };
+
+    fn handle<T: Threads + Sync>(&mut self, _rt: &T, message: HttpMessage) -> Reply {
+        match self.answer(message) {
+            Ok(reply) => reply,
+            Err(AllocError) => without_memory(self.context.alloc()),
+        }
+    }
+}
+
+impl<'c, 'h, J: Naming, R: Wait + Clock> AdminHandler<'c, 'h, J, R> {
+    fn signals(&self) -> &'h Signals {
+        self.context.signals()
+    }
+
+    /// Serves the next who comes in at this door, unless the work is over. Pauses where none does.
+    fn serve_next<T: Threads + Sync>(&mut self, rt: &T, door: &Entrance<'h>, buffer: &mut Vec<u8>) {
+        match door.admit(self.context.rt(), self.signals()) {
+            Some(client) if !self.signals().is_over() => self.serve(rt, &client, buffer),
+            Some(_) => {}
+            None => self.context.beat().pause(),
+        }
+    }
+
+    /// Serves a client to its end.
+    fn serve<T: Threads + Sync>(&mut self, rt: &T, client: &Client, buffer: &mut Vec<u8>)
+        ensures { IsTalk ⟦<AdminHandler<'c, 'h, J, R> as Handler>⟧.answers self.old self.new }
+    {
+        let mut beat = self.context.beat();
+        let mut line = StreamLine::new(Visit::new(self.context.rt(), client));
+        match serve(rt, self.context.alloc(), &mut line, self, buffer) {
+            Ok(()) | Err(EdgeFault::OutOfMemory) => linger(&client.stream, &mut beat),
+            Err(_) => {}
+        }
+    }
+
+    /// The answer to a message.
+    fn answer(&mut self, message: HttpMessage) -> Result<Reply, AllocError>
+        ensures shown { IfOk result (λ reply. IsShown J.first (length self.old.context.now.hub.now)
+            (admin_of self.old.port self.old.limits self.old.lane_capacity) (seen message)
+            self.old.context.now.caller self.new.context.now.caller (response_of reply)) }
+        ensures looks { OnErr result (OnlyLooksIf (may_look
+            (admin_of self.old.port self.old.limits self.old.lane_capacity) (seen message))
+            (length self.old.context.now.hub.now) self.old.context.now.caller
+            self.new.context.now.caller) }
+        ensures same { admin_of self.new.port self.new.limits self.new.lane_capacity
+            ≡ admin_of self.old.port self.old.limits self.old.lane_capacity }
+    {
+        let HttpMessage {
+            method,
+            target,
+            headers,
+            body,
+        } = message;
+        let asked = admin_route(method.as_str(), path(target.as_slice()));
+        if self.is_let_in(headers.as_slice(), &asked) {
+            self.show(asked, body)
+        } else {
+            not_let_in(self.context.alloc())
+        }
+    }
+
+    /// Whether a message with these fields is let in there: it has the token that is wanted, and where none is it isn't
+    /// a page that asks for a change.
+    fn is_let_in(&self, headers: &[Header], asked: &AdminRoute<'_>) -> bool
+        ensures { result ≡ is_let_in (option_copied self.now.port.token)
+            (map header_of headers.now) (route_view asked.now) }
+    {
+        match self.port.token {
+            Some(wanted) => is_for_all(asked) || is_wanted(wanted, token_in(headers)),
+            None => !(is_change(asked) && is_from_page(headers)),
+        }
+    }
+
+    /// What is asked for, of who is let in. A tenant that is to come has this document.
+    fn show(&mut self, asked: AdminRoute<'_>, document: Vec<u8>) -> Result<Reply, AllocError>
+        ensures shown { IfOk result (ShowsReply J.first (length self.old.context.now.hub.now)
+            (admin_of self.old.port self.old.limits self.old.lane_capacity) (route_view asked.entry)
+            document.items self.old.context.now.caller self.new.context.now.caller) }
+        ensures looks { OnErr result (OnlyLooksIf (is_for_figures (route_view asked.entry))
+            (length self.old.context.now.hub.now) self.old.context.now.caller
+            self.new.context.now.caller) }
+        ensures same { admin_of self.new.port self.new.limits self.new.lane_capacity
+            ≡ admin_of self.old.port self.old.limits self.old.lane_capacity }
+    {
+        match asked {
+            AdminRoute::Page => page(self.context.alloc()),
+            AdminRoute::Metrics => self.metrics(),
+            AdminRoute::Health => notice(self.context.alloc(), 200, "state", "ok"),
+            AdminRoute::Readiness => self.readiness(),
+            AdminRoute::Drain => self.drain(),
+            AdminRoute::Tenants => self.tenants(),
+            AdminRoute::Add => self.add(document),
+            AdminRoute::Tenant(name) => self.tenant(name),
+            AdminRoute::Retire(name) => self.retire(name),
+            AdminRoute::NoSuchPath => notice(self.context.alloc(), 404, "error", "no such path"),
+            AdminRoute::OtherMethod(methods) => other_method(self.context.alloc(), methods),
+        }
+    }
+
+    /// Whether spans are taken.
+    fn readiness(&self) -> Result<Reply, AllocError>
+        ensures { IfOk result (λ reply. TellsReadiness (response_of reply)) }
+    {
+        let alloc = self.context.alloc();
+        if self.is_draining() {
+            notice(alloc, 503, "state", "draining")
+        } else {
+            notice(alloc, 200, "state", "ready")
+        }
+    }
+
+    fn is_draining(&self) -> bool {
+        self.port.desk.is_ended(self.context.rt()) || self.signals().is_closing()
+    }
+
+    /// All figures of the tenants that are present, in the order of their numbers. Of a tenant that goes meanwhile
+    /// there are none.
+    fn figures(&mut self) -> Result<Vec<TenantFigures>, AllocError>
+        ensures looked { IfOk result (λ figures.
+            AreFigures J.first (length self.old.context.now.hub.now) self.old.context.now.caller
+            self.new.context.now.caller (map tenant_of figures.items)) }
+        ensures looks { OnErr result (OnlyLooks (length self.old.context.now.hub.now)
+            self.old.context.now.caller self.new.context.now.caller) }
+        ensures same { admin_of self.new.port self.new.limits self.new.lane_capacity
+            ≡ admin_of self.old.port self.old.limits self.old.lane_capacity }
+    {
+        let tenants = self.context.tenants()?;
+        self.figures_of(tenants.as_slice())
+    }
+
+    /// The figures of these tenants.
+    fn figures_of(&mut self, tenants: &[Present]) -> Result<Vec<TenantFigures>, AllocError>
+        ensures looked { IfOk result (λ figures. AreLooked (length self.old.context.now.hub.now)
+            self.old.context.now.caller (map entry_of tenants.now) (map tenant_of figures.items)
+            self.new.context.now.caller) }
+        ensures looks { OnErr result (OnlyLooks (length self.old.context.now.hub.now)
+            self.old.context.now.caller self.new.context.now.caller) }
+        ensures same { admin_of self.new.port self.new.limits self.new.lane_capacity
+            ≡ admin_of self.old.port self.old.limits self.old.lane_capacity }
+    {
+        let mut figures = Vec::new(self.context.alloc());
+        for tenant in tenants {
+            self.add_figures(tenant, &mut figures)?;
+        }
+        Ok(figures)
+    }
+
+    /// Appends the figures of a tenant, unless it has gone.
+    fn add_figures(
+        &mut self,
+        tenant: &Present,
+        figures: &mut Vec<TenantFigures>,
+    ) -> Result<(), AllocError>
+        ensures looked { OnOk result (LooksMore (length self.old.context.now.hub.now) tenant.now
+            self.old.context.now.caller self.new.context.now.caller
+            (map tenant_of figures.old.items) (map tenant_of figures.new.items)) }
+        ensures looks { OnErr result (OnlyLooks (length self.old.context.now.hub.now)
+            self.old.context.now.caller self.new.context.now.caller) }
+        ensures hub { self.new.context.now.hub ≡ self.old.context.now.hub }
+        ensures same { admin_of self.new.port self.new.limits self.new.lane_capacity
+            ≡ admin_of self.old.port self.old.limits self.old.lane_capacity }
+    {
+        let counters = self.counters(tenant.number)?;
+        let waiting = self.waiting(tenant.number);
+        push_figures(figures, tenant, counters, waiting)
+    }
+
+    /// The counters of the tenant of this number. None where it has gone.
+    fn counters(&mut self, tenant: u32) -> Result<Option<[u64; 14]>, AllocError>
+        ensures looked { IfOk result (λ counters. IsLooked self.old.context.now.caller
+            self.new.context.now.caller (length self.old.context.now.hub.now) tenant
+            (option_map ledger_of counters)) }
+        ensures refused { OnErr result (IsRefusedOn self.old.context.now.caller
+            self.new.context.now.caller (tenant % length self.old.context.now.hub.now)) }
+        ensures hub { self.new.context.now.hub ≡ self.old.context.now.hub }
+        ensures same { admin_of self.new.port self.new.limits self.new.lane_capacity
+            ≡ admin_of self.old.port self.old.limits self.old.lane_capacity }
+    {
+        match self.context.look(tenant) {
+            Ok(outcome) => Ok(told_counters(&outcome)),
+            Err(HubFault::OutOfMemory) => Err(AllocError),
+            Err(HubFault::Behind { .. } | HubFault::OtherEntry { .. }) => unreachable!(),
+        }
+    }
+
+    /// How many rows the tenant of this number has, and when something of it is due next, in milliseconds since the
+    /// start, after all that this thread had asked of its shard.
+    fn waiting(&mut self, tenant: u32) -> Waiting
+        ensures seen { IsSeen self.old.context.now.caller (length self.old.context.now.hub.now)
+            tenant result }
+        ensures caller { self.new.context.now.caller ≡ self.old.context.now.caller }
+        ensures hub { self.new.context.now.hub ≡ self.old.context.now.hub }
+        ensures same { admin_of self.new.port self.new.limits self.new.lane_capacity
+            ≡ admin_of self.old.port self.old.limits self.old.lane_capacity }
+    {
+        self.context.waiting(tenant)
+    }
+
+    /// All figures, for a scraper.
+    fn metrics(&mut self) -> Result<Reply, AllocError>
+        ensures shown { IfOk result (λ reply. ShowsMetrics J.first
+            (length self.old.context.now.hub.now)
+            (admin_of self.old.port self.old.limits self.old.lane_capacity)
+            self.old.context.now.caller self.new.context.now.caller (response_of reply)) }
+        ensures looks { OnErr result (OnlyLooks (length self.old.context.now.hub.now)
+            self.old.context.now.caller self.new.context.now.caller) }
+        ensures same { admin_of self.new.port self.new.limits self.new.lane_capacity
+            ≡ admin_of self.old.port self.old.limits self.old.lane_capacity }
+    {
+        let alloc = self.context.alloc();
+        let figures = self.figures()?;
+        let mut text = Vec::new(alloc);
+        put_tenant_metrics(alloc, &mut text, figures.as_slice())?;
+        self.put_service(&mut text, figures.len() as u64)?;
+        Ok(shown(200, MediaType::Metrics, text))
+    }
+
+    /// Appends the figures of the whole service.
+    fn put_service(&mut self, text: &mut Vec<u8>, tenants: u64) -> Result<(), AllocError>
+        ensures behind { OnOk result ((service : ServiceFigures)
+            × IsOfService (admin_of self.old.port self.old.limits self.old.lane_capacity) tenants
+            service × (text.new.items ≡ text.old.items ++ service_text service)) }
+        ensures caller { self.new.context.now.caller ≡ self.old.context.now.caller }
+        ensures same { admin_of self.new.port self.new.limits self.new.lane_capacity
+            ≡ admin_of self.old.port self.old.limits self.old.lane_capacity }
+    {
+        let figures = self.service_figures(tenants);
+        put_service(self.context.alloc(), text, &figures)
+    }
+
+    /// The figures of the whole service, where so many tenants are present.
+    fn service_figures(&mut self, tenants: u64) -> ServiceFigures
+        ensures of_service { IsOfService (admin_of self.old.port self.old.limits
+            self.old.lane_capacity) tenants result }
+        ensures caller { self.new.context.now.caller ≡ self.old.context.now.caller }
+        ensures same { admin_of self.new.port self.new.limits self.new.lane_capacity
+            ≡ admin_of self.old.port self.old.limits self.old.lane_capacity }
+    {
+        let uptime = self.context.uptime() / 1000;
+        let resident_bytes = match self.port.status {
+            Some(status) => resident_bytes(self.context.rt(), status),
+            None => None,
+        };
+        ServiceFigures {
+            version: self.port.version,
+            uptime,
+            tenants,
+            is_draining: self.is_draining(),
+            resident_bytes,
+            receivers: u64::from(self.limits.receivers),
+            senders: u64::from(self.limits.senders),
+            lane_capacity: self.lane_capacity as u64,
+            counts: self.signals().tally().counts(),
+        }
+    }
+
+    /// All tenants' figures.
+    fn tenants(&mut self) -> Result<Reply, AllocError>
+        ensures shown { IfOk result (λ reply. ShowsTenants J.first
+            (length self.old.context.now.hub.now) self.old.context.now.caller
+            self.new.context.now.caller (response_of reply)) }
+        ensures looks { OnErr result (OnlyLooks (length self.old.context.now.hub.now)
+            self.old.context.now.caller self.new.context.now.caller) }
+        ensures same { admin_of self.new.port self.new.limits self.new.lane_capacity
+            ≡ admin_of self.old.port self.old.limits self.old.lane_capacity }
+    {
+        let alloc = self.context.alloc();
+        let figures = self.figures()?;
+        let mut text = Vec::new(alloc);
+        put_tenants(alloc, &mut text, figures.as_slice())?;
+        Ok(shown(200, MediaType::Json, text))
+    }
+
+    /// The figures of the tenant of this name, and its settings.
+    fn tenant(&mut self, name: &[u8]) -> Result<Reply, AllocError>
+        ensures shown { IfOk result (λ reply. ShowsTenant J.first
+            (length self.old.context.now.hub.now) name.now self.old.context.now.caller
+            self.new.context.now.caller (response_of reply)) }
+        ensures looks { OnErr result (OnlyLooks (length self.old.context.now.hub.now)
+            self.old.context.now.caller self.new.context.now.caller) }
+        ensures same { admin_of self.new.port self.new.limits self.new.lane_capacity
+            ≡ admin_of self.old.port self.old.limits self.old.lane_capacity }
+    {
+        let alloc = self.context.alloc();
+        let Some((name, number)) = self.find(name) else {
+            return unknown(alloc);
+        };
+        let Some(section) = self.context.section(number)? else {
+            return unknown(alloc);
+        };
+        let Some(counters) = self.counters(number)? else {
+            return unknown(alloc);
+        };
+        let waiting = self.waiting(number);
+        let figures = TenantFigures {
+            name: String::from_str(alloc, name)?,
+            counters,
+            rows: waiting.rows,
+            ready: waiting.tenant_ready,
+        };
+        let mut text = Vec::new(alloc);
+        put_settled_tenant(alloc, &mut text, &figures, &section)?;
+        Ok(shown(200, MediaType::Json, text))
+    }
+
+    /// The number of the tenant of this name, and its name as a text.
+    fn find<'n>(&self, name: &'n [u8]) -> Option<(&'n str, u32)>
+        ensures name { IfSome result (λ found. found.0.now ≡ name.entry.now) }
+        ensures known { IfSome result (λ found. IsKnown J.first name.entry.now found.1) }
+        ensures nobody { result ≡ None → IsNobody J.first name.entry.now }
+    {
+        match str::from_utf8(name) {
+            Ok(name) => {
+                let number = self.context.number(name)?;
+                Some((name, number))
+            }
+            Err(_) => None,
+        }
+    }
+
+    /// Ends the input.
+    fn drain(&self) -> Result<Reply, AllocError>
+        ensures { IfOk result (λ reply. response_of reply ≡ drained_reply) }
+    {
+        self.port.desk.end(self.context.rt());
+        notice(self.context.alloc(), 200, "state", "draining")
+    }
+
+    /// Asks that the tenant of a document comes.
+    fn add(&self, document: Vec<u8>) -> Result<Reply, AllocError>
+        ensures { IfOk result (λ reply. (asked : AskedCode) × TellsAdding asked document.items
+            (response_of reply)) }
+    {
+        let alloc = self.context.alloc();
+        let line = Vec::from_slice(alloc, b"add posted\n")?;
+        let copy = Vec::from_slice(alloc, document.as_slice())?;
+        let asked = self.port.desk.ask(
+            self.context.rt(),
+            line,
+            copy,
+            Duration::from_secs(LONGEST_ANSWER),
+        );
+        added(alloc, asked, document.as_slice())
+    }
+
+    /// Asks that the tenant of this name goes.
+    fn retire(&self, name: &[u8]) -> Result<Reply, AllocError>
+        ensures { IfOk result (λ reply. TellsGoing J.first name.now (response_of reply)) }
+    {
+        let alloc = self.context.alloc();
+        let Some((name, _)) = self.find(name) else {
+            return unknown(alloc);
+        };
+        let line = format!(in alloc; "retire {name}\n")?.into_bytes();
+        let nothing = Vec::new(alloc);
+        let asked = self.port.desk.ask(
+            self.context.rt(),
+            line,
+            nothing,
+            Duration::from_secs(LONGEST_ANSWER),
+        );
+        retired(alloc, asked, name)
+    }
+}
+
+/// Serves those who come, one after another, until the work is over.
+pub(crate) fn serve_all<'c, 'h, J, R>(
+    rt: &R,
+    door: &Entrance<'h>,
+    admin: &mut AdminHandler<'c, 'h, J, R>,
+    buffer: &mut Vec<u8>,
+)
+where
+    J: Naming,
+    R: Threads + Wait + Clock + Sync,
+{
+    'clients: for _ in rt.forever() {
+        if admin.signals().is_over() {
+            return;
+        }
+        admin.serve_next(rt, door, buffer);
+    }
+    unreachable!()
+}
+
+/// The counters that an outcome tells. None where it tells none.
+fn told_counters(outcome: &Outcome) -> Option<[u64; 14]>
+    ensures { Tells outcome.now (option_map ledger_of result) }
+{
+    match outcome {
+        Outcome::Report(_, counters) => read_report(counters.as_slice()),
+        _ => None,
+    }
+}
+
+/// Appends the figures of a tenant, where there are any.
+fn push_figures(
+    figures: &mut Vec<TenantFigures>,
+    tenant: &Present,
+    counters: Option<[u64; 14]>,
+    waiting: Waiting,
+) -> Result<(), AllocError>
+    ensures { OnOk result (map tenant_of figures.new.items ≡ told_of
+        (map tenant_of figures.old.items) (string_bytes tenant.now.name)
+        (option_map ledger_of counters) waiting) }
+{
+    let Some(counters) = counters else {
+        return Ok(());
+    };
+    let name = tenant.name.clone()?;
+    figures.push(TenantFigures {
+        name,
+        counters,
+        rows: waiting.rows,
+        ready: waiting.tenant_ready,
+    })?;
+    Ok(())
+}
+
+/// The page to look at.
+fn page(alloc: Global) -> Result<Reply, AllocError>
+    ensures { IfOk result (λ reply. response_of reply ≡ page_reply) }
+{
+    let page = Vec::from_slice(alloc, PAGE.as_bytes())?;
+    Ok(shown(200, MediaType::Html, page))
+}
+
+/// The reply to who isn't let in.
+fn not_let_in(alloc: Global) -> Result<Reply, AllocError>
+    ensures { IfOk result (λ reply. response_of reply ≡ refused_reply) }
+{
+    notice(alloc, 401, "error", "the token is missing or another")
+}
+
+/// Whether it is shown to whoever reaches the address: it tells nothing of any tenant.
+fn is_for_all(asked: &AdminRoute<'_>) -> bool
+    ensures { result ≡ is_for_all (route_view asked.now) }
+{
+    matches!(asked, AdminRoute::Page | AdminRoute::Health)
+}
+
+/// Whether a change is asked for: that the service ends, or that a tenant comes or goes.
+fn is_change(asked: &AdminRoute<'_>) -> bool
+    ensures { result ≡ is_change (route_view asked.now) }
+{
+    matches!(
+        asked,
+        AdminRoute::Drain | AdminRoute::Add | AdminRoute::Retire(_)
+    )
+}
+
+/// Whether a page that a browser shows asks. It may be any site's: a form posts wherever it likes.
+fn is_from_page(headers: &[Header]) -> bool
+    ensures { result ≡ is_from_page (map header_of headers.now) }
+{
+    headers
+        .iter()
+        .any(|header| eq_ignore_case(&header.name, b"origin"))
+}
+
+/// Whether this token is the one that is wanted.
+fn is_wanted(wanted: &[u8], given: Option<&[u8]>) -> bool
+    ensures { result ≡ is_wanted wanted.now (option_copied given.entry) }
+{
+    match given {
+        Some(given) => same_token(wanted, given),
+        None => false,
+    }
+}
+
+/// The token of a message, if it has one.
+fn token_in(headers: &[Header]) -> Option<&[u8]>
+    ensures { option_copied result ≡ token_of (map header_of headers.now) }
+{
+    bearer(only_value(headers, b"authorization")?)
+}
+
+/// The token of credentials, if their scheme is the one for tokens.
+fn bearer(credentials: &[u8]) -> Option<&[u8]>
+    ensures { option_copied result ≡ bearer credentials.now }
+{
+    if credentials.len() >= 7 && eq_ignore_case(&credentials[..7], b"bearer ") {
+        Some(&credentials[7..])
+    } else {
+        None
+    }
+}

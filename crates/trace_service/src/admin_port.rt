@@ -1,0 +1,62 @@
+//! Where a service is looked after.
+
+use crate::desk::AdminDesk;
+use crate::entrance::Entrance;
+use crate::visit::Patience;
+use std::fs::File;
+use std::net::TcpListener;
+use std::sync::Mutex;
+use std::time::Duration;
+
+/// So many threads serve those who look after the service, so that one that waits, for a client or for a tenant that
+/// goes, holds up nobody else.
+pub const ADMINS: u32 = 8;
+
+/// So many seconds a connection may rest: a page that asks every two seconds doesn't keep a thread between.
+const LONGEST_REST: u64 = 1;
+
+/// So many seconds a request may take.
+const LONGEST_REQUEST: u64 = 5;
+
+/// Where a service is looked after: at an address of its own.
+#[derive(Clone, Copy)]
+pub struct AdminPort<'a> {
+    pub listener: &'a TcpListener,
+    /// The service's input is read there.
+    pub desk: &'a AdminDesk,
+    /// Whoever asks has to have it. Without it whoever reaches the address may ask.
+    pub token: Option<&'a [u8]>,
+    /// Linux's `/proc/self/status`, where there is one.
+    pub status: Option<&'a Mutex<File>>,
+    /// What runs, as metrics tell it.
+    pub version: &'static str,
+}
+
+/// The same, as its threads share it.
+#[derive(Drop)]
+pub(crate) struct AdminEntrance<'h> {
+    pub port: AdminPort<'h>,
+    pub entrance: Entrance<'h>,
+}
+
+impl<'h> AdminEntrance<'h> {
+    /// At this port.
+    pub fn at(port: AdminPort<'h>) -> AdminEntrance<'h> {
+        let patience = Patience {
+            rest: Some(Duration::from_secs(LONGEST_REST)),
+            request: Some(Duration::from_secs(LONGEST_REQUEST)),
+        };
+        AdminEntrance {
+            port,
+            entrance: Entrance::to_the_end(port.listener, patience),
+        }
+    }
+}
+
+/// Where a service is looked after that has this port, if any.
+pub(crate) fn admin_entrance_of<'h>(port: Option<AdminPort<'h>>) -> Option<AdminEntrance<'h>> {
+    match port {
+        Some(port) => Some(AdminEntrance::at(port)),
+        None => None,
+    }
+}
