@@ -74,7 +74,7 @@ MAN = $(PREFIX)/share/man/man1
 UNITS = $(PREFIX)/lib/systemd/system
 EXAMPLES = $(PREFIX)/share/doc/nimchaes/examples
 
-# Puts the program that is built, its manual page, its unit for systemd and settings to start from below DESTDIR. It
+# Puts the program that is built, its manual page, its unit for systemd and examples to start from below DESTDIR. It
 # proves and builds nothing, so that root needs no toolchain.
 install:
 	@test -x $(BUILT) || { echo 'make: $(BUILT) is not there yet: make trace_collector builds it' >&2; exit 1; }
@@ -84,6 +84,8 @@ install:
 	sed -e 's|@BIN@|$(BIN)|g' -e 's|@ETC@|$(ETC)|g' packaging/nimchaes.service.in > $(DESTDIR)$(UNITS)/nimchaes.service
 	chmod 644 $(DESTDIR)$(MAN)/trace_collector.1 $(DESTDIR)$(UNITS)/nimchaes.service
 	install -m 644 examples/start.toml $(DESTDIR)$(EXAMPLES)/settings.toml
+	install -m 644 examples/prometheus.yml examples/alerts.yml examples/nginx.conf $(DESTDIR)$(EXAMPLES)
+	install -m 755 examples/collector-run $(DESTDIR)$(EXAMPLES)
 
 # A package for Debian of all that, in out/.
 deb: trace_collector

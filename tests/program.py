@@ -177,6 +177,8 @@ NO_HOST = "has no host before its port\n"
 ENOUGH = "[global]\nsenders = 10\n"
 LISTENING = "warning: table global: listen "
 SENDING = "warning: tenant a: endpoint "
+NAMED_BY = "warning: table global: tenant_header is "
+OTHERWISE = ", which a request has for another purpose: hardly any can name a tenant by it\n"
 DOUBTS = [
     ("", ENOUGH + TENANT),
     (FEW_SENDERS.replace("is 4", "is 9"), "[global]\nsenders = 9\n" + TENANT),
@@ -185,6 +187,9 @@ DOUBTS = [
     ("warning: table global: receivers is 1, and there are 2 tenants: each client that keeps its connection keeps a receiver\n",
      "[global]\nreceivers = 1\nsenders = 20\n" + TENANT + TENANT.replace('"a"', '"b"')),
     ("", "[global]\nreceivers = 2\nsenders = 20\n" + TENANT + TENANT.replace('"a"', '"b"')),
+    *((f"{NAMED_BY}{field}{OTHERWISE}" if doubtful else "", f'{ENOUGH}tenant_header = "{field}"\n{TENANT}') for field, doubtful in (
+        ("connection", 1), ("content-encoding", 1), ("content-length", 1), ("content-type", 1), ("expect", 1), ("host", 1),
+        ("transfer-encoding", 1), ("x-host", 0), ("hosts", 0), ("content", 0), ("authorization", 0))),
     *((f"{LISTENING}{address} {wrong}" if wrong else "", f'{ENOUGH}listen = "{address}"\n{TENANT}') for address, wrong in (
         ("http://0.0.0.0:4318", SCHEME), ("unix:///run/socket", SCHEME), ("://", SCHEME), ("0.0.0.0", NO_PORT), ("4318", NO_PORT),
         ("0.0.0.0:", NO_PORT), ("0.0.0.0:65536", NO_PORT), ("0.0.0.0:4318/", NO_PORT), ("0.0.0.0:-1", NO_PORT),
@@ -276,6 +281,12 @@ FROM_THE_COLLECTOR = {
          "batch": LARGE, "sending_queue": {"queue_size": 200, "num_consumers": 4},
          "retry_on_failure": {**RETRIES, "max_elapsed_time_ms": 1}},
         {"name": "others", "endpoint": "10.1.0.9:4318", "tail_sampling": AT_ONCE, "batch": LARGE}]),
+    "tempo.toml": ({"listen": "127.0.0.1:14318", "senders": 12}, [
+        {"name": name, "endpoint": endpoint, "max_spans": 400_000, "tail_sampling": AT_ONCE,
+         "batch": {"send_batch_size": 2000, "timeout_ms": 2000, "send_batch_max_size": 4000},
+         "sending_queue": {"queue_size": 700, "num_consumers": 4},
+         "retry_on_failure": {**RETRIES, "initial_interval_ms": 1000, "max_elapsed_time_ms": 600_000}}
+        for name, endpoint in (("shop", "127.0.0.1:4401"), ("bank", "127.0.0.1:4402"), ("anonymous", "127.0.0.1:4403"))]),
 }
 
 

@@ -693,7 +693,7 @@ def by_sdk(folder):
 
 def by_promtool(folder):
     """What Prometheus' own tool finds wrong with the form of metrics: nothing, with spans and without, and with a
-    thousand tenants."""
+    thousand tenants. Nor with the examples for it, whose alerts name metrics that there are."""
     with BackEnd() as back_end:
         sections = [tenant(f"t-{number}.{number}_X", back_end) for number in range(999)] + [tenant("a", back_end)]
         for count in (1, len(sections)):
@@ -706,6 +706,12 @@ def by_promtool(folder):
                                           timeout=MOST, check=False)
                     check("promtool", (done.returncode, done.stdout, done.stderr), (0, b"", b""))
                 service.drained()
+    for_prometheus = HERE / "examples/prometheus.yml"
+    done = subprocess.run(["promtool", "check", "config", str(for_prometheus)], capture_output=True, timeout=MOST, check=False)
+    check("promtool of examples/", (done.returncode, done.stderr), (0, b""))
+    named = re.findall(r"\b(?:nimchaes|otelcol)_\w+", for_prometheus.with_name("alerts.yml").read_text())
+    told = re.findall(r"^# TYPE (\w+) ", text.decode(), re.MULTILINE)
+    check("metrics that alerts name and nobody tells", set(named) - set(told), set())
 
 
 class Prometheus:

@@ -11,7 +11,7 @@ from pathlib import Path
 
 from serving import talk
 from serving.exposition import families
-from serving.memory import ROOMS, SPANS, addresses
+from serving.memory import ROOMS, SPANS, addresses, bytes_of
 from serving.talk import (BUSY, MOST, NAMES, BackEnd, Service, body, check, head_of, in_threads, line_of, read_message,
                           tenant, wait_for)
 
@@ -328,7 +328,7 @@ def each_status(folder):
 
 
 def with_token(folder):
-    """Whoever asks has to have the token, but for the page and its health."""
+    """Whoever asks has to have the token, but for the page, and whether it runs and is ready."""
     file = Path(folder, "token")
     file.write_text(TOKEN + "\n")
     with BackEnd() as back_end, \
@@ -338,13 +338,13 @@ def with_token(folder):
                  f"Authorization: Bearer {TOKEN[:-1]}M\r\n", f"Authorization: Bearer {TOKEN}\r\n" * 2)
         for more in wrong:
             for target, method in (("/metrics", "GET"), ("/tenants", "GET"), ("/tenants/a", "DELETE"),
-                                   ("/readyz", "GET"), ("/drain", "POST"), ("/tenants", "POST"), ("/nothing", "GET"),
+                                   ("/drain", "POST"), ("/tenants", "POST"), ("/nothing", "GET"),
                                    ("/drain", "GET")):
                 status, fields, content = service.ask(target, method, more=more)
                 check(f"{method} {target} with {more!r}",
                       (status, fields.get("www-authenticate"), fields["content-type"], content),
                       (401, "Bearer", JSON, b'{"error":"the token is missing or another"}'))
-        for target in ("/", "/healthz"):
+        for target in ("/", "/healthz", "/readyz"):
             check(f"{target} without", service.ask(target)[0], 200)
         for scheme in ("Bearer", "bearer", "BEARER"):
             right = f"Authorization: {scheme} {TOKEN}\r\n"
@@ -415,6 +415,39 @@ def with_each_token(folder):
                 check("with it", service.ask("/tenants", more=right)[0], 200)
                 check("a drain", service.ask("/drain", "POST", more=right)[0], 200)
                 check("the end", service.run.wait(MOST), 0)
+
+
+def in_bytes(folder):
+    """A request has no more bytes than it may, its head among them. Who sends more is told nothing, with the token or
+    without, and as much as that is all that is held of it."""
+    most = 1_048_576
+    file = Path(folder, "token")
+    file.write_text(TOKEN + "\n")
+
+    def told(service, message):
+        with suppress(ConnectionError), service.to_admin() as peer:
+            peer.sendall(message)
+            return read_message(peer.recv)
+        return b""
+
+    with BackEnd() as back_end, LookedAfter(folder, [tenant("a", back_end)], "--admin-token-file", str(file)) as service:
+        right = f"Authorization: Bearer {TOKEN}\r\n"
+        head = f"POST /tenants HTTP/1.1\r\nHost: admin\r\n{right}"
+        room = most - len(f"{head}Content-Length: {most - 200}\r\n\r\n")
+        for length, status in ((room, b"HTTP/1.1 201"), (room + 1, b"")):
+            document = tenant("new", back_end).encode().ljust(length, b"#")
+            message = f"{head}Content-Length: {length}\r\n\r\n".encode() + document
+            check(f"a document of {length} bytes", told(service, message)[:12], status)
+        chunk = b"10000\r\n" + b"#" * 65_536 + b"\r\n"
+        check("chunks without an end", told(service, f"{head}Transfer-Encoding: chunked\r\n\r\n".encode() + chunk * 32), b"")
+        check("it came", service.hear(), "added new 1\n")
+        before = bytes_of(service.run.pid, "VmHWM")
+        large = b"POST /tenants HTTP/1.1\r\nHost: admin\r\nContent-Length: 20000000\r\n\r\n" + b"#" * 20_000_000
+        in_threads(*[lambda: check("20 MB without the token", told(service, large), b"")] * 8)
+        taken = bytes_of(service.run.pid, "VmHWM") - before
+        check(f"memory for eight of them: {taken}", taken < 8 * 3 * most, True)
+        check("with it", service.ask("/drain", "POST", more=right)[0], 200)
+        check("the end", (service.run.stdout.read().decode(), service.run.wait(MOST)), (line_of("a") + line_of("new"), 0))
 
 
 def asked_in(folder):
@@ -494,6 +527,26 @@ def asked_out_late(folder):
         check("it went", service.hear(), line_of("slow", accepted=1, exported=1))
         wait_for(lambda: service.told("/tenants/a", "DELETE")[0] == 200, "the other may go")
         check("the end", service.drained()[0], 0)
+
+
+def drained_beside_one_that_goes(folder):
+    """A tenant that goes and whose back end doesn't answer keeps no other from being drained: it stays."""
+    with BackEnd() as back_end, BackEnd(None) as held, \
+            LookedAfter(folder, [tenant("a", back_end, wait=86_400_000), tenant("held", held)]) as service:
+        for name in ("a", "held"):
+            check("a post", service.post(name, body(1, 1)), (200, b""))
+        wait_for(lambda: held.posts, "it is sent")
+        told = []
+        asking = threading.Thread(target=lambda: told.append(service.told("/tenants/held", "DELETE")))
+        asking.start()
+        wait_for(lambda: service.post("held", b"")[0] == 503, "it goes")
+        check("a drain", service.told("/drain", "POST"), (200, {"state": "draining"}))
+        wait_for(lambda: back_end.posts, "the other is drained")
+        asking.join(MOST)
+        check("it stays", told, [(409, {"error": "the tenant stays: it holds spans"})])
+        held.release()
+        check("the end", (service.run.stdout.read().decode(), service.run.wait(MOST)),
+              ("refused held 26\n" + line_of("a", accepted=1, exported=1) + line_of("held", accepted=1, exported=1), 0))
 
 
 def drained_by_call(folder):
@@ -657,6 +710,6 @@ def scraped_often(folder):
 
 
 TESTS = (looked_at, scraped, in_force, counted, each_status, with_token, without_token, no_page_changes_anything, with_each_token,
-         asked_in, warned, asked_out_late,
+         in_bytes, asked_in, warned, asked_out_late, drained_beside_one_that_goes,
          drained_by_call, slow_lookers, asked_to_the_end, without_input, few_files)
 BY_HAND = (scraped_often,)

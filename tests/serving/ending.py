@@ -1,7 +1,6 @@
 """How the service ends when its input does."""
 
 import os
-import re
 import resource
 import signal
 import socket
@@ -16,7 +15,7 @@ from serving import talk
 from serving.talk import (BUSY, TAKEN, BackEnd, Service, body, check, globals_of, head_of, line_of, listening_port,
                           read_message, request, tenant, wait_for)
 
-OPERATING = Path(__file__).resolve().parent.parent.parent / "docs" / "OPERATING.md"
+SCRIPT = Path(__file__).resolve().parent.parent.parent / "examples" / "collector-run"
 
 
 def drained(folder):
@@ -77,9 +76,15 @@ def with_clients(folder):
             back_end.release()
             check("reports", service.hear(), line_of("a", accepted=taken, exported=taken))
             check("it waits for its clients", service.run.poll(), None)
-            check("who comes late", service.post("a", body(4, 4), idle)[0], 503)
-            idle.settimeout(10)
-            check("is let go", idle.recv(1), b"")
+            for _ in range(60):     # the last report is heard a moment before the service is over
+                idle.settimeout(60)
+                check("who comes late", service.post("a", body(4, 4), idle)[0], 503)
+                idle.settimeout(1)
+                with suppress(TimeoutError):
+                    check("is let go", idle.recv(1), b"")
+                    break
+            else:
+                check("is let go", "kept", "let go")
         check("the end", service.end(), (0, "", b""))
         check("spans", b"".join(back_end.bodies()).count(b"\x0a\x10"), taken)
 
@@ -310,9 +315,9 @@ def failing_input(folder):
 
 
 def started_by_a_script(folder):
-    """The script of docs/OPERATING.md holds the input open, passes lines on, and ends the service in order when it is
-    told to stop."""
-    script = re.search(r"```sh\n(#!/bin/sh\n# collector-run.*?)```", OPERATING.read_text(), re.DOTALL)[1]
+    """The script of examples/ holds the input open, passes lines on, and ends the service in order when it is told to
+    stop."""
+    script = SCRIPT.read_text()
     for there, here in (("/run/collector/", f"{folder}/"), ("/etc/collector.toml", f"{folder}/settings.toml"),
                         ("/usr/local/bin/trace_collector", talk.program)):
         check(f"{there} stands in the script", there in script, True)

@@ -76,13 +76,16 @@ def accepted(service):
 def refused_while_made_ready(folder):
     """A body is posted again and again, each time with room for more addresses, from hardly enough for its bytes to
     what it takes. Who is told 200 has all its spans counted. Before that memory is refused, also while it is made
-    ready: the client is told 503, and with the same room one span is taken, so what the body took was given back."""
+    ready: the client is told 503, and with the same room one span is taken, so what the body took was given back.
+    That is asked of a service that is up, as one is that has replied once: while it starts its threads there has to be
+    room for them, else it ends, and who is connected already is told nothing."""
     text = body(1, 1) * SPANS
     with BackEnd() as back_end, Service(folder, [tenant("a", back_end, policies=ERRORS, most=10 * SPANS)], shards=1,
                                         receivers=1, senders=1, parts=1) as service:
+        check("it is up", service.post("a", body(3, 3)), (200, b""))
         process = service.run.pid
         most = resource.prlimit(process, resource.RLIMIT_AS)
-        counted, refused, status = 0, 0, 0
+        counted, refused, status = accepted(service), 0, 0
         for room in ROOMS:
             resource.prlimit(process, resource.RLIMIT_AS, (addresses(process) + room, most[1]))
             status, _ = service.post("a", text)

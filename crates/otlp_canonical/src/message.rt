@@ -62,6 +62,7 @@ impl Canonical for KeyValue {
 
     ghost sound = { SoundKeyValue };
 
+    #[inline(always)]
     fn check(text: &[u8], room: u32) -> Option<()> {
         key_value(text, room)
     }

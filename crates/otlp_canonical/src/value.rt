@@ -1,7 +1,8 @@
 //! Attributes and their values, which hold others. A value goes to its member, an array or a list to each of its
 //! values.
 
-ghost use Rattle.std.specs.Prelude.{◌≡◌, ℕ, IfSome};
+ghost use Rattle.std.specs.Prelude.{◌≡◌, ◌<◌, ℕ, IfSome};
+ghost use Rattle.std.specs.Str.{IsUtf8};
 ghost use Rattle.otlp_trace.specs.Text.{any_text, kind_text, array_text, list_text, key_value_text};
 ghost use Rattle.otlp_canonical.specs.Parts.{Whole, Front};
 ghost use Rattle.otlp_canonical.specs.Sound.{SoundAny, SoundKind, SoundArray, SoundList, SoundKeyValue};
@@ -137,10 +138,38 @@ fn list(text: &[u8], room: u32) -> Option<()>
     Some(())
 }
 
-/// Goes over a key with a string behind which nothing stands, which most attributes are. Where all of it is ASCII, as
-/// tags and short lengths are, it is looked at once for all.
+/// What stands behind a bool or a number.
 #[inline(always)]
-fn string_pair(text: &[u8], room: u32) -> Option<()>
+fn scalar(text: &[u8]) -> Option<&[u8]>
+    ensures { (room : ℕ) → IfSome result
+        (λ rest. Front kind_text (SoundKind room) text.now rest.now) }
+{
+    let first = text.first()?;
+    match *first {
+        0x10 => boolean(text),
+        0x18 => int(text),
+        0x21 => double(text),
+        _ => None,
+    }
+}
+
+/// Goes over a key whose value is a bool or a number behind which nothing stands, and over that value.
+fn scalar_pair(key: &[u8], value: &[u8]) -> Option<()>
+    ensures key { IfSome result (λ u. IsUtf8 key.now) }
+    ensures value { (room : ℕ) → 0 < room → IfSome result
+        (λ u. Whole any_text (SoundAny room) value.now) }
+{
+    let rest = scalar(value)?;
+    if !rest.is_empty() {
+        return None;
+    }
+    if is_utf8(key) { Some(()) } else { None }
+}
+
+/// Goes over a key with a string, a bool or a number behind which nothing stands, which most attributes are. Where all
+/// of one with a string is ASCII, as tags and short lengths are, it is looked at once for all.
+#[inline(always)]
+fn plain_pair(text: &[u8], room: u32) -> Option<()>
     ensures { IfSome result (λ u. Whole key_value_text (SoundKeyValue room) text.now) }
 {
     if room < 2 {
@@ -154,7 +183,9 @@ fn string_pair(text: &[u8], room: u32) -> Option<()>
     if !end.is_empty() {
         return None;
     }
-    let (string, more) = bytes_field(value, 1)?;
+    let Some((string, more)) = bytes_field(value, 1) else {
+        return scalar_pair(key, value);
+    };
     if !more.is_empty() {
         return None;
     }
@@ -173,14 +204,11 @@ fn string_pair(text: &[u8], room: u32) -> Option<()>
 
 /// Goes over a key with or without a value.
 #[cycle(any)]
-pub fn key_value(text: &[u8], room: u32) -> Option<()>
+fn any_pair(text: &[u8], room: u32) -> Option<()>
     ensures { IfSome result (λ u. Whole key_value_text (SoundKeyValue room) text.now) }
 {
     if room == 0 {
         return None;
-    }
-    if string_pair(text, room).is_some() {
-        return Some(());
     }
     let key = some_string(text, 1)?;
     if !begins(key, 2) {
@@ -191,4 +219,16 @@ pub fn key_value(text: &[u8], room: u32) -> Option<()>
     any(value, room - 1)?;
     unknown::<KeyValue>(rest, room - 1)?;
     Some(())
+}
+
+/// The same. Most are plain, and take no call.
+#[cycle(any)]
+#[inline(always)]
+pub fn key_value(text: &[u8], room: u32) -> Option<()>
+    ensures { IfSome result (λ u. Whole key_value_text (SoundKeyValue room) text.now) }
+{
+    if plain_pair(text, room).is_some() {
+        return Some(());
+    }
+    any_pair(text, room)
 }

@@ -1,5 +1,8 @@
 -- The ids of a span that its canonical text tells.
-use Rattle.std.proofs.Common.{◌≡◌, ◌<◌, ◌^◌, ℕ, Bool, true, false, ◌&&◌, List, [], length, Option, None, IfSome, option_map, refl, sym, ap, subst, ◌∙◌}
+use Rattle.std.proofs.Common.{◌≡◌, ◌<◌, ◌^◌, ◌==◌, ◌++◌, ◌∷◌, ℕ, Bool, true, false, ◌&&◌, List, [], length, Option, None, IfSome, option_map, refl, sym, ap, subst, ◌∙◌}
+use Rattle.std.proofs.lemmas.List.Folds.{list_all-append}
+use Rattle.std.proofs.Math.Bool.{and-false}
+use Rattle.std.specs.List.{list_all}
 use Rattle.otlp_trace.specs.Data.{SpanData, ResourceData}
 use Rattle.otlp_trace.specs.Text.{span_text, resource_text}
 use Rattle.otlp_trace.specs.Defaults.{no_span}
@@ -36,3 +39,10 @@ valid_then x t s b trace span first second = second ∙ ap (λ (a : Bool). a && 
 
 pub valid_else : (x : SpanData) (t : List ℕ) (b : Bool) → t ≡ x.trace_id → b ≡ false → false ≡ is_id 16 t → b ≡ is_valid_span x
 valid_else x t b trace none first = none ∙ ap (λ (a : Bool). a && is_id 8 x.span_id) first ∙ both_ids x t x.span_id trace refl
+
+-- bytes of which the last isn't zero
+pub ends_otherwise : (xs rest : List ℕ) (x : ℕ) → xs ≡ rest ++ (x ∷ []) → (x == 0) ≡ false → false ≡ list_all (λ byte. byte == 0) xs
+ends_otherwise xs rest x is not =
+    let last : list_all (λ (byte : ℕ). byte == 0) (x ∷ []) ≡ false = ap (λ (b : Bool). b && true) not in
+    sym (ap (list_all (λ byte. byte == 0)) is ∙ list_all-append (λ byte. byte == 0) rest (x ∷ [])
+    ∙ ap (λ (b : Bool). list_all (λ byte. byte == 0) rest && b) last ∙ and-false (list_all (λ byte. byte == 0) rest))

@@ -33,49 +33,48 @@ fn no_parts(alloc: Global) -> BodyParts
     }
 }
 
-/// What was read, with the parts of one more resource spans.
-fn with_parts(before: BodyParts, parts: ResourceParts) -> Result<BodyParts, AllocError>
-    ensures { IfOk result (λ after. body_parts_view after ≡ record (body_parts_view before) {
-      resources = map resource_parts_view before.resources.items ++ resource_parts_view parts ∷ [];
+/// Takes the parts of one more resource spans.
+fn add_parts(body: &mut BodyParts, parts: ResourceParts) -> Result<(), AllocError>
+    ensures { IfOk result (λ taken. body_parts_view body.new ≡ record (body_parts_view body.old) {
+      resources = map resource_parts_view body.old.resources.items
+          ++ resource_parts_view parts ∷ [];
     }) }
 {
-    let mut body = before;
     let parts = parts.like(body.resources.last())?;
     // A list of one takes the room of one: many bodies have one resource.
     if body.resources.is_empty() {
         body.resources.reserve_exact(1)?;
     }
     body.resources.push(parts)?;
-    Ok(body)
+    Ok(())
 }
 
-/// What was read, with one more resource spans.
+/// Takes one more resource spans.
 #[tactic(auto, using(crate::proofs::WithSpans::resource_left_out))]
-fn with_resource_spans(
+fn add_resource_spans(
     alloc: Global,
-    before: BodyParts,
+    body: &mut BodyParts,
     text: &Bytes,
     start: usize,
     end: usize,
     sliced: &mut usize,
-) -> Result<BodyParts, ReadFault>
+) -> Result<(), ReadFault>
     requires order { start ≤ end }
     requires within { end ≤ length text.now }
-    ensures exact { Gives body_parts_view result
-        (resource_spans_onto (body_parts_view before) (slice_range text.now start end)) }
-    ensures sliced_within { IfOk result (λ after. sliced.new + body_size (body_parts_view before)
-        ≤ sliced.old + body_size (body_parts_view after)) }
+    ensures exact { Gives (λ taken. body_parts_view body.new) result
+        (resource_spans_onto (body_parts_view body.old) (slice_range text.now start end)) }
+    ensures sliced_within { IfOk result (λ taken. sliced.new + body_size (body_parts_view body.old)
+        ≤ sliced.old + body_size (body_parts_view body.new)) }
 {
     let inside = text.slice(start..end)?;
     let resource = walk_fields(alloc, no_resource(alloc), &inside, BODY_ROOM - 1, sliced)?;
-    let mut body = before;
     body.invalid = body.invalid.saturating_add(resource.invalid);
     // A resource is kept for its spans alone.
     if resource.scopes.is_empty() {
-        return Ok(body);
+        return Ok(());
     }
     let parts = resource_parts(alloc, resource, sliced)?;
-    Ok(with_parts(body, parts)?)
+    Ok(add_parts(body, parts)?)
 }
 
 impl Walked for BodyParts {
@@ -88,20 +87,20 @@ impl Walked for BodyParts {
     ghost size = { body_size };
 
     fn field(
-        self,
+        &mut self,
         alloc: Global,
         text: &Bytes,
         end: usize,
         field: Field<'_>,
         sliced: &mut usize,
-    ) -> Result<BodyParts, ReadFault> {
+    ) -> Result<(), ReadFault> {
         if let Value::Bytes(bytes) = field.value {
             if field.number == 1 {
                 let start = end - bytes.len();
-                return with_resource_spans(alloc, self, text, start, end, sliced);
+                return add_resource_spans(alloc, self, text, start, end, sliced);
             }
         }
-        Ok(self)
+        Ok(())
     }
 }
 

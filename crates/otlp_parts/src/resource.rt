@@ -20,6 +20,7 @@ use otlp_read::{ReadFault, read_resource, read_resource_spans};
 use otlp_trace::{ResourceSpans, put_bytes_field};
 use pb_wire::{Field, Value};
 use std::alloc::Global;
+use std::mem;
 
 /// The levels that a resource in a body has room for, its own among them, and so a scope spans.
 const RESOURCE_ROOM: u32 = 99;
@@ -200,39 +201,38 @@ fn next_scope(
     Ok(parts)
 }
 
-/// What was read, with one more scope spans.
+/// Takes one more scope spans.
 #[tactic(auto, using(crate::proofs::WithSpans::scope_taken, crate::proofs::WithSpans::scope_left_out))]
-fn with_scope_spans(
+fn add_scope_spans(
     alloc: Global,
-    before: ResourceReading,
+    reading: &mut ResourceReading,
     text: &Bytes,
     start: usize,
     end: usize,
     sliced: &mut usize,
-) -> Result<ResourceReading, ReadFault>
+) -> Result<(), ReadFault>
     requires order { start ≤ end }
     requires within { end ≤ length text.now }
-    ensures exact { Gives resource_reading_view result
-        (scope_spans_onto (resource_reading_view before) (slice_range text.now start end)) }
-    ensures sliced_within { IfOk result (λ after. sliced.new + scopes_size
-        (map scope_parts_view before.scopes.items) ≤ sliced.old + scopes_size
-        (map scope_parts_view after.scopes.items)) }
+    ensures exact { Gives (λ taken. resource_reading_view reading.new) result
+        (scope_spans_onto (resource_reading_view reading.old) (slice_range text.now start end)) }
+    ensures sliced_within { IfOk result (λ taken. sliced.new + scopes_size
+        (map scope_parts_view reading.old.scopes.items) ≤ sliced.old + scopes_size
+        (map scope_parts_view reading.new.scopes.items)) }
 {
     let inside = text.slice(start..end)?;
     let scope = walk_fields(alloc, no_scope(alloc), &inside, RESOURCE_ROOM, sliced)?;
-    let mut reading = before;
     reading.invalid = reading.invalid.saturating_add(scope.invalid);
     // A scope is kept for its spans alone.
     if scope.spans.is_empty() {
-        return Ok(reading);
+        return Ok(());
     }
-    let parts = next_scope(alloc, &reading, scope, sliced)?;
+    let parts = next_scope(alloc, reading, scope, sliced)?;
     // A list of one takes the room of one: most resources have one scope.
     if reading.scopes.is_empty() {
         reading.scopes.reserve_exact(1)?;
     }
     reading.scopes.push(parts)?;
-    Ok(reading)
+    Ok(())
 }
 
 impl Walked for ResourceReading {
@@ -245,28 +245,28 @@ impl Walked for ResourceReading {
     ghost size = { λ k. scopes_size k.scopes };
 
     fn field(
-        self,
+        &mut self,
         alloc: Global,
         text: &Bytes,
         end: usize,
         field: Field<'_>,
         sliced: &mut usize,
-    ) -> Result<ResourceReading, ReadFault> {
-        let mut reading = self;
+    ) -> Result<(), ReadFault> {
         if let Value::Bytes(bytes) = field.value {
             let start = end - bytes.len();
             if field.number == 1 {
-                reading.resource = resource_again(alloc, reading.resource, text, start, end)?;
-                return Ok(reading);
+                let before = mem::replace(&mut self.resource, FoundResource::Missing);
+                self.resource = resource_again(alloc, before, text, start, end)?;
+                return Ok(());
             }
             if field.number == 2 {
-                return with_scope_spans(alloc, reading, text, start, end, sliced);
+                return add_scope_spans(alloc, self, text, start, end, sliced);
             }
             if field.number == 3 {
-                reading.schema_url = string(text, start, end)?;
-                return Ok(reading);
+                self.schema_url = string(text, start, end)?;
+                return Ok(());
             }
         }
-        Ok(reading)
+        Ok(())
     }
 }

@@ -20,6 +20,7 @@ use otlp_read::{ReadFault, read_scope, read_scope_spans};
 use otlp_trace::{ScopeSpans, put_bytes_field};
 use pb_wire::{Field, Value};
 use std::alloc::Global;
+use std::mem;
 
 /// The levels that a scope in a body has room for, its own among them.
 const SCOPE_ROOM: u32 = 98;
@@ -178,23 +179,22 @@ pub fn scope_parts(
     })
 }
 
-/// What was read, with one more span.
-fn with_span(
+/// Takes one more span.
+fn add_span(
     alloc: Global,
-    before: ScopeReading,
+    reading: &mut ScopeReading,
     text: &Bytes,
     start: usize,
     end: usize,
     sliced: &mut usize,
-) -> Result<ScopeReading, ReadFault>
+) -> Result<(), ReadFault>
     requires order { start ≤ end }
     requires within { end ≤ length text.now }
-    ensures exact { Gives scope_reading_view result
-        (span_onto (scope_reading_view before) (slice_range text.now start end)) }
-    ensures sliced_within { IfOk result (λ after.
-        sliced.new + texts_size before.spans.items ≤ sliced.old + texts_size after.spans.items) }
+    ensures exact { Gives (λ taken. scope_reading_view reading.new) result
+        (span_onto (scope_reading_view reading.old) (slice_range text.now start end)) }
+    ensures sliced_within { IfOk result (λ taken. sliced.new + texts_size reading.old.spans.items
+        ≤ sliced.old + texts_size reading.new.spans.items) }
 {
-    let mut reading = before;
     match span_part(alloc, text, start, end, sliced)? {
         Some(span) => {
             // A list of one takes the room of one: what shares nothing may have a scope of its own.
@@ -202,13 +202,10 @@ fn with_span(
                 reading.spans.reserve_exact(1)?;
             }
             reading.spans.push(span)?;
-            Ok(reading)
         }
-        None => {
-            reading.invalid = reading.invalid.saturating_add(1);
-            Ok(reading)
-        }
+        None => reading.invalid = reading.invalid.saturating_add(1),
     }
+    Ok(())
 }
 
 impl Walked for ScopeReading {
@@ -221,28 +218,28 @@ impl Walked for ScopeReading {
     ghost size = { λ k. texts_size k.spans };
 
     fn field(
-        self,
+        &mut self,
         alloc: Global,
         text: &Bytes,
         end: usize,
         field: Field<'_>,
         sliced: &mut usize,
-    ) -> Result<ScopeReading, ReadFault> {
-        let mut reading = self;
+    ) -> Result<(), ReadFault> {
         if let Value::Bytes(bytes) = field.value {
             let start = end - bytes.len();
             if field.number == 1 {
-                reading.scope = scope_again(alloc, reading.scope, text, start, end)?;
-                return Ok(reading);
+                let before = mem::replace(&mut self.scope, FoundScope::Missing);
+                self.scope = scope_again(alloc, before, text, start, end)?;
+                return Ok(());
             }
             if field.number == 2 {
-                return with_span(alloc, reading, text, start, end, sliced);
+                return add_span(alloc, self, text, start, end, sliced);
             }
             if field.number == 3 {
-                reading.schema_url = string(text, start, end)?;
-                return Ok(reading);
+                self.schema_url = string(text, start, end)?;
+                return Ok(());
             }
         }
-        Ok(reading)
+        Ok(())
     }
 }

@@ -31,9 +31,16 @@ fn room_for(size: usize) -> usize {
 }
 
 /// Whether all bytes are zero.
+#[tactic(auto, using(crate::proofs::Ids::ends_otherwise))]
 fn is_zero(bytes: &[u8]) -> bool
     ensures { result ≡ list_all (λ byte. byte == 0) bytes.now }
 {
+    // An id that was a smaller number begins with zeros, and ends otherwise.
+    if let Some((last, _)) = bytes.split_last() {
+        if *last != 0 {
+            return false;
+        }
+    }
     for byte in bytes {
         if *byte != 0 {
             return false;
@@ -91,8 +98,26 @@ fn copied_part(copy: Vec<u8>) -> Result<Option<Bytes>, ReadFault>
     Ok(Some(part))
 }
 
-/// A span's canonical text, none where the span isn't valid: where it stands, or a copy in order and without the
+/// The canonical text of a span that isn't canonical, none where it isn't valid: a copy in order and without the
 /// defaults that are written in it, or written of what is read.
+fn written_part(alloc: Global, text: &[u8]) -> Result<Option<Bytes>, ReadFault>
+    ensures { Gives (λ part. part) result (kept_span text.now) }
+{
+    if let Some(copy) = canonical_copy(alloc, text)? {
+        let part = copied_part(copy)?;
+        return Ok(part);
+    }
+    let span = read_span(alloc, text, SPAN_ROOM)?;
+    if !is_valid(&span) {
+        return Ok(None);
+    }
+    let mut written = Vec::with_capacity(alloc, room_for(text.len()))?;
+    write_span(alloc, &mut written, &span)?;
+    let part = Bytes::from_vec(written)?;
+    Ok(Some(part))
+}
+
+/// A span's canonical text, none where the span isn't valid: where it stands, or one that is made.
 pub fn span_part(
     alloc: Global,
     text: &Bytes,
@@ -106,24 +131,13 @@ pub fn span_part(
     ensures sliced_within { IfOk result (λ part. sliced.new ≤ sliced.old + text_size part) }
 {
     let bytes = &text.as_slice()[start..end];
-    if is_span_text(bytes, SPAN_ROOM) {
-        if !is_valid_text(bytes) {
-            return Ok(None);
-        }
-        *sliced = sliced.saturating_add(bytes.len());
-        let part = text.slice(start..end)?;
-        return Ok(Some(part));
+    if !is_span_text(bytes, SPAN_ROOM) {
+        return written_part(alloc, bytes);
     }
-    if let Some(copy) = canonical_copy(alloc, bytes)? {
-        let part = copied_part(copy)?;
-        return Ok(part);
-    }
-    let span = read_span(alloc, bytes, SPAN_ROOM)?;
-    if !is_valid(&span) {
+    if !is_valid_text(bytes) {
         return Ok(None);
     }
-    let mut written = Vec::with_capacity(alloc, room_for(bytes.len()))?;
-    write_span(alloc, &mut written, &span)?;
-    let part = Bytes::from_vec(written)?;
+    *sliced = sliced.saturating_add(bytes.len());
+    let part = text.slice(start..end)?;
     Ok(Some(part))
 }

@@ -22,23 +22,24 @@ pub trait Walked: Drop {
     // how many bytes the texts have that may be slices
     ghost size: { Data → ℕ };
 
-    /// The message after one more field, which ends at `end` of the text. The bytes that are kept as slices are added
-    /// to `sliced`.
+    /// Takes one more field, which ends at `end` of the text. The bytes that are kept as slices are added to `sliced`.
+    /// After a fault nothing is known of the message.
     fn field(
-        self,
+        &mut self,
         alloc: Global,
         text: &Bytes,
         end: usize,
         field: Field<'_>,
         sliced: &mut usize,
-    ) -> Result<Self, ReadFault>
+    ) -> Result<(), ReadFault>
         requires within { end ≤ length text.now }
         requires stands { (content : List ℕ) → datum field.value ≡ bytes_datum content
             → Stands text.now end content }
         ensures exact { (room : ℕ) (spelled : List ℕ) →
-            Gives view result (step room (view self) (entry field.entry) spelled) }
-        ensures sliced_within { IfOk result
-            (λ after. sliced.new + size (view self) ≤ sliced.old + size (view after)) };
+            Gives (λ taken. view self.new) result
+            (step room (view self.old) (entry field.entry) spelled) }
+        ensures sliced_within { IfOk result (λ taken.
+            sliced.new + size (view self.old) ≤ sliced.old + size (view self.new)) };
 }
 
 /// Goes on reading a message, where there is room for so many levels, its own among them.
@@ -61,7 +62,7 @@ pub fn walk_fields<M: Walked>(
     let mut left = text.as_slice();
     'fields: while let Some((field, rest)) = next_field(left, 101 - room)? {
         let end = text.len() - rest.len();
-        value = value.field(alloc, text, end, field, sliced)?;
+        value.field(alloc, text, end, field, sliced)?;
         left = rest;
     }
     Ok(value)

@@ -1,5 +1,5 @@
 -- Bodies are equal where what they are is.
-use Rattle.std.proofs.Common.{◌≡◌, ℕ, ℤ, pos, negsuc, List, [], ◌∷◌, map, length, get_or, drop, refl, sym, ap, subst, ◌∙◌, Bool, true, false, eqb, arith, Option, Some, None, suc, ◌<◌, ◌≤◌, ◌+◌, ◌≢◌}
+use Rattle.std.proofs.Common.{◌≡◌, ℕ, ℤ, pos, negsuc, List, [], ◌∷◌, map, length, get_or, drop, refl, sym, ap, subst, ◌∙◌, Bool, true, false, eqb, arith, suc, ◌<◌, ◌≤◌, ◌+◌, ◌≢◌}
 use Rattle.std.proofs.lemmas.List.{drop_more, drop_all}
 use Rattle.std.proofs.lemmas.Bool.Decides.{nat_tests, Decides-eqb}
 use Rattle.std.specs.Bool.{one_answer}

@@ -3,5 +3,6 @@ pub mod Equals
 mod Read
 mod Empty
 mod Adding
+mod Gathered
 mod Joined
 mod Valued

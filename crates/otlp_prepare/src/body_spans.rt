@@ -1,7 +1,7 @@
 //! The spans of a body's parts, one after the other, and what stands round them.
 
 ghost use Rattle.std.specs.Prelude.{◌≡◌, ◌<◌, ◌≤◌, ◌++◌, length, map, IfOk, OnOk, Some, None};
-ghost use Rattle.std.specs.List.{AllByRecursion};
+ghost use Rattle.std.specs.List.{AllByRecursion, flat_map};
 ghost use Rattle.otlp_read.specs.RoundTrip.{IsShort};
 ghost use Rattle.otlp_parts.specs.Parts.{body_parts_view, resource_parts_view, scope_parts_view, scopes_in, spans_in};
 ghost use Rattle.span_pool.specs.Stored.{bytes_of};
@@ -10,6 +10,7 @@ ghost use Rattle.otlp_prepare.specs.BodySpans.{IsValidRead, IsScopeRead, IsResou
 
 use crate::noted::SpanOrigin;
 use crate::origin_text::OriginText;
+use crate::reversed::first_of;
 use crate::unnoted::UnnotedSpan;
 use bytes::Bytes;
 use otlp_parts::{BodyParts, PartText, ResourceParts, ScopeList, ScopeParts, SpanTexts};
@@ -17,6 +18,9 @@ use span_pool::read_spans_are_viewed;
 use std::alloc::{AllocError, Global};
 use tail_policy::{PolicyByParts, ResourceBits, TenantPolicies, views_of_parts};
 use text_pool::SharedBytes;
+
+/// How many of the last origins are looked at for the scope of one more.
+const LOOKED_AT: usize = 4;
 
 /// The spans of a body and what stands round them.
 #[derive(Drop)]
@@ -118,8 +122,22 @@ fn outer_of(
     })
 }
 
-/// What stands round the spans of a scope of this resource. Texts that are the same as in the last one are shared with
-/// it: resources and scopes come again and again.
+/// The latest of the last few origins that has this scope, or else the last one. Where resources have the same scopes
+/// in the same order, it is that of the resource before.
+fn latest_like<'a>(origins: &'a [SpanOrigin], scope: &PartText) -> Option<&'a SpanOrigin> {
+    if let Some(scope) = scope.as_ref() {
+        let from = origins.len().saturating_sub(LOOKED_AT);
+        for origin in origins[from..].iter().rev() {
+            if origin.scope.has(scope) {
+                return Some(origin);
+            }
+        }
+    }
+    origins.last()
+}
+
+/// What stands round the spans of a scope of this resource. Texts that are the same as in this other one are shared
+/// with it: resources and scopes come again and again.
 fn origin_of(
     alloc: Global,
     missing: &OriginText,
@@ -215,7 +233,7 @@ fn add_scope(
         outer,
         &scope.scope,
         &scope.schema_url,
-        found.origins.last(),
+        latest_like(found.origins.as_slice(), &scope.scope),
     )?;
     let index = found.origins.len();
     found.origins.push(origin)?;
@@ -279,7 +297,31 @@ fn add_resource(
     }
 }
 
-/// The spans of a body, in its order, each with what its resource tells the policies.
+/// Appends the spans of several resources. Each resource spans is let go of once its spans were found.
+fn add_resources(
+    alloc: Global,
+    policies: &TenantPolicies<'_>,
+    found: &mut BodySpans,
+    missing: &OriginText,
+    groups: Vec<ResourceParts>,
+) -> Result<(), AllocError>
+    requires missing { missing.now ≡ None }
+    requires read { AllByRecursion IsGroupRead (map resource_parts_view groups.items) }
+    requires found { AreFound policies.now found.old.origins.items found.old.parts.items }
+    ensures { OnOk result (Adds policies.now
+        (flat_map arrivals_in_resource (map resource_parts_view groups.items))
+        found.old.origins.items found.old.parts.items found.new.origins.items
+        found.new.parts.items) }
+{
+    for group in groups {
+        add_resource(alloc, policies, found, missing, group)?;
+    }
+    Ok(())
+}
+
+/// The spans of a body, in its order, each with what its resource tells the policies. Of many resource spans so many
+/// are taken at a time that what was read takes less memory as what is found takes more.
+#[tactic(auto, using(crate::proofs::Gathered::all_whole))]
 pub fn found_in(
     alloc: Global,
     policies: &TenantPolicies<'_>,
@@ -299,8 +341,11 @@ pub fn found_in(
         origins: Vec::new(alloc),
         parts: Vec::new(alloc),
     };
-    for group in body.resources {
-        add_resource(alloc, policies, &mut found, &missing, group)?;
+    let mut left = body.resources;
+    left.reverse();
+    'pieces: while !left.is_empty() {
+        let now = first_of(&mut left)?;
+        add_resources(alloc, policies, &mut found, &missing, now)?;
     }
     Ok(found)
 }

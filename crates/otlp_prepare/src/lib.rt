@@ -21,6 +21,7 @@ mod notes;
 mod origin_text;
 mod prepared;
 mod refusal;
+mod reversed;
 mod unnoted;
 
 pub use body::prepare;

@@ -1,20 +1,18 @@
 //! The notes of spans.
 
-ghost use Rattle.std.specs.Prelude.{◌≡◌, ◌<◌, ◌≤◌, ◌++◌, List, [], map, length, reverse, IfOk, OnOk};
+ghost use Rattle.std.specs.Prelude.{◌≡◌, ◌<◌, ◌≤◌, List, [], map, length, IfOk};
 ghost use Rattle.span_view.specs.Reading.{facts_of};
 ghost use Rattle.tail_settings.specs.Policy.{PolicyData};
 ghost use Rattle.otlp_prepare.specs.BodySpans.{own_note, noted};
 
 use crate::noted::NotedSpan;
+use crate::reversed::{AT_A_TIME, first_of};
 use crate::unnoted::UnnotedSpan;
 use span_view::SpanRef;
 use std::alloc::{AllocError, Global};
 use std::thread::Threads;
 use tail_notes::note_all;
 use tail_policy::{TenantPolicies, TraceNote};
-
-/// The most spans whose notes are made at a time, in all threads.
-const NOTED: usize = 4096;
 
 /// What each span tells by itself.
 fn own_views(alloc: Global, parts: &[UnnotedSpan]) -> Result<Vec<SpanRef<'_>>, AllocError>
@@ -71,21 +69,6 @@ fn noted_at_once<R: Threads + Sync>(
     with_notes(alloc, parts, own)
 }
 
-/// The first of spans that stand in reverse, at most `NOTED`, in order. Their memory is given back.
-fn first_of(left: &mut Vec<UnnotedSpan>) -> Result<Vec<UnnotedSpan>, AllocError>
-    ensures front { IfOk result (λ now. reverse left.old.items ≡
-        now.items ++ reverse left.new.items) }
-    ensures fewer { OnOk result (0 < length left.old.items
-        → length left.new.items < length left.old.items) }
-    ensures few { IfOk result (λ now. length now.items ≤ 4096) }
-{
-    let at = left.len().saturating_sub(NOTED);
-    let mut now = left.split_off(at)?;
-    left.shrink_to_fit();
-    now.reverse();
-    Ok(now)
-}
-
 /// Spans with their notes, in order, made in at most `threads` threads: of so many at a time that what is made of them
 /// takes the memory that they had.
 #[tactic(auto, using(crate::proofs::Lists::none_made, crate::proofs::Lists::all_made))]
@@ -99,6 +82,10 @@ pub fn noted_in<R: Threads + Sync>(
     requires { (0 < threads) × (threads ≤ 16) }
     ensures { IfOk result (λ spans. spans.items ≡ map (noted policies.now) parts.items) }
 {
+    // Most bodies have no more, so that nothing of them is moved.
+    if parts.len() <= AT_A_TIME {
+        return noted_at_once(rt, alloc, policies, parts, threads);
+    }
     let mut spans = Vec::with_capacity(alloc, parts.len())?;
     let mut left = parts;
     left.reverse();

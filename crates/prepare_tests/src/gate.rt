@@ -94,7 +94,7 @@ fn the_first_part_waits_for_the_second(rt: HostRuntime) -> Result<(), Fail> {
 
 #[test]
 fn one_part_waits_in_vain(rt: HostRuntime) -> Result<(), Fail> {
-    let gate = Gate::closed(10_000);
+    let gate = Gate::closed(2_000);
     let spans = [checked(&rt, b""), checked(&rt, LATER)];
     let notes = note_all(&rt, rt.alloc(), &gate, &spans, 1)?;
     assert_eq!(rt; notes.len(), 2);

@@ -2,7 +2,7 @@
 
 ghost use Rattle.std.specs.Prelude.{◌≡◌, ◌++◌, IfOk, OnOk, string_bytes};
 ghost use Rattle.tail_settings.specs.Settings.{settings_view};
-ghost use Rattle.settings_check.specs.Doubts.{address_line, endpoint_line, endpoint_lines, receivers_line, consumers_of, senders_line, doubts_of};
+ghost use Rattle.settings_check.specs.Doubts.{address_line, endpoint_line, endpoint_lines, receivers_line, consumers_of, senders_line, has_purpose, header_line, doubts_of};
 
 use crate::address::address_fault;
 use crate::unknown::joined;
@@ -61,6 +61,36 @@ fn senders_line(alloc: Global, senders: u32, consumers: u64) -> Result<String, A
     Ok(line)
 }
 
+/// Whether the service reads a header field for another purpose than a tenant's name.
+fn has_purpose(field: &str) -> bool
+    ensures { result ≡ has_purpose field.now }
+{
+    matches!(
+        field,
+        "connection"
+            | "content-encoding"
+            | "content-length"
+            | "content-type"
+            | "expect"
+            | "host"
+            | "transfer-encoding"
+    )
+}
+
+/// The line of a field for the tenant's name that is there for another purpose.
+fn header_line(alloc: Global, field: &str) -> Result<String, AllocError>
+    ensures { IfOk result (λ line. string_bytes line ≡ header_line field.now) }
+{
+    if !has_purpose(field) {
+        return Ok(String::new(alloc));
+    }
+    let line = format!(in alloc;
+        "warning: table global: tenant_header is {field}, which a request has for another purpose: hardly any can name \
+         a tenant by it\n"
+    )?;
+    Ok(line)
+}
+
 /// The line of a tenant's back end.
 fn endpoint_line(alloc: Global, name: &str, endpoint: &str) -> Result<String, AllocError>
     ensures { IfOk result (λ line. string_bytes line ≡ endpoint_line name.now endpoint.now) }
@@ -93,8 +123,10 @@ pub fn doubts(alloc: Global, settings: &Settings) -> Result<String, AllocError>
     let listen = address_line(alloc, "table global: listen", global.listen.as_str())?;
     let receivers = receivers_line(alloc, global.receivers, settings.tenants_len())?;
     let senders = senders_line(alloc, global.senders, consumers(settings))?;
+    let header = header_line(alloc, global.tenant_header.as_str())?;
     let head = joined(alloc, listen.as_str(), receivers.as_str())?;
-    let mut lines = joined(alloc, head.as_str(), senders.as_str())?;
+    let counts = joined(alloc, head.as_str(), senders.as_str())?;
+    let mut lines = joined(alloc, counts.as_str(), header.as_str())?;
     put_endpoint_lines(alloc, &mut lines, settings)?;
     Ok(lines)
 }

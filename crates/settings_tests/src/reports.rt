@@ -66,13 +66,13 @@ type = \"always_sample\"
 ";
 
 /// A document that has each doubt: a listener without a port, fewer receivers than tenants, fewer senders than the
-/// eleven consumers, and back ends with a scheme and without a host.
+/// eleven consumers, a field that no request has for a tenant's name, and back ends with a scheme and without a host.
 const DOUBTFUL: &str = "tenant = [
     { name = \"a\", endpoint = \"http://10.0.0.1:4318\", tail_sampling.policy = [{ type = \"always_sample\" }] },
     { name = \"b\", endpoint = \":4318\", sending_queue.num_consumers = 1,
       tail_sampling.policy = [{ type = \"always_sample\" }] },
 ]
-global = { listen = \"127.0.0.1\", receivers = 1, senders = 10 }
+global = { listen = \"127.0.0.1\", receivers = 1, senders = 10, tenant_header = \"host\" }
 ";
 
 /// What is told of them.
@@ -81,6 +81,8 @@ const DOUBTS: &str =
 warning: table global: receivers is 1, and there are 2 tenants: each client that keeps its connection keeps a receiver
 warning: table global: senders is 10, and the tenants' num_consumers are 11 together: back ends that don't answer can \
      keep every sender
+warning: table global: tenant_header is host, which a request has for another purpose: hardly any can name a \
+     tenant by it
 warning: tenant a: endpoint http://10.0.0.1:4318 has a scheme, where a host, a colon and a port are wanted
 warning: tenant b: endpoint :4318 has no host before its port
 ";

@@ -6,9 +6,9 @@ use Rattle.std.proofs.lemmas.Bool.{eq-eqb}
 use Rattle.std.proofs.lemmas.List.{take-append-drop}
 use Rattle.pb_wire.specs.declared.field.WireType.{WireType}
 use Rattle.pb_wire.specs.declared.field.WireType.TheVariants as types
-use Rattle.pb_wire.specs.Grammar.{Datum, Varint, Eight, Bytes, Four, Group, Entry, last_byte, IsVarint, code, IsTag, IsField, varint_field, eight_field, bytes_field}
+use Rattle.pb_wire.specs.Grammar.{Datum, Varint, Eight, Bytes, Four, Group, Entry, last_byte, more_bytes, IsVarint, code, IsTag, IsField, varint_field, eight_field, bytes_field, four_field}
 use Rattle.pb_wire.proofs.Again.{next_again}
-use Rattle.span_view.specs.Fields.{told_by, told_and, told}
+use Rattle.span_view.specs.Fields.{start, end, told_by, told_and, told}
 use Rattle.span_view.specs.Reading.{fields_from, fields_of, is_kind, held, first_bytes, first_eight}
 use Rattle.span_view.specs.Short.{IsBehind, StartsWithBytes, StartsWithNumber, may_tell}
 use Rattle.span_view.proofs.Walks.{fields_step}
@@ -86,6 +86,31 @@ module _ (text held : List ℕ) (t : ℕ) (front : text ≡ t ∷ held) (some : 
         shorter = let whole : length text ≡ length (t ∷ n ∷ rest) = ap length (front ∙ ap (λ bs. t ∷ bs) next) in let left = length-drop n rest in omega (arith, whole, left);
       }
 
+-- number 16 with four bytes
+flags_tag : IsTag (133 ∷ 1 ∷ []) 16 types.Four
+flags_tag = record {
+  spelled = record {
+    whole = 133;
+    spelled = more_bytes {b = 133} {high = 1} {text = 1 ∷ []} (omega arith) (last_byte (omega arith));
+    short = omega arith;
+    kept = refl;
+  };
+  numbered = omega arith;
+  fits = omega arith;
+}
+
+pub flags_first : (text behind held : List ℕ) → text ≡ 133 ∷ behind → behind ≡ 1 ∷ held → 4 ≤ length held
+    → IsBehind 16 text (drop 4 held)
+flags_first text behind held front next room =
+    let parts : text ≡ 133 ∷ 1 ∷ held = front ∙ ap (λ bs. 133 ∷ bs) next in
+    record {
+      value = Four (take 4 held);
+      first = begins text (133 ∷ 1 ∷ take 4 held) (drop 4 held) (record { number = 16; value = Four (take 4 held) })
+          (parts ∙ ap (λ bs. 133 ∷ 1 ∷ bs) (sym (take-append-drop 4 held)))
+          (four_field flags_tag (let size = length-take 4 held in omega (arith, size, room)));
+      shorter = let whole : length text ≡ length (133 ∷ 1 ∷ held) = ap length parts in let left = length-drop 4 held in omega (arith, whole, left);
+    }
+
 -- what bytes stand in it doesn't matter to what passes over the field
 pub passed : {n : ℕ} {text content rest : List ℕ} → StartsWithBytes n text content rest → IsBehind n text rest
 passed {content = content} starts = record { value = Bytes content; first = starts.first; shorter = starts.shorter }
@@ -125,6 +150,21 @@ pub silent_passed : (n : ℕ) (text rest : List ℕ) → IsBehind n text rest �
     → told (fields_of text) ≡ told (fields_of rest)
 silent_passed n text rest behind is =
     ap told behind.first ∙ ap (λ fact. told_and fact (told (fields_of rest))) (silent n behind.value is)
+
+-- a time that stands first is told first
+pub start_told : (text rest : List ℕ) (time : ℕ) → StartsWithNumber 7 text time rest
+    → told (fields_of text) ≡ start time ∷ told (fields_of rest)
+start_told text rest time starts =
+    ap told starts.first ∙ ap (λ n. start n ∷ told (fields_of rest)) (sym starts.spells)
+
+pub end_told : (text rest : List ℕ) (time : ℕ) → StartsWithNumber 8 text time rest
+    → told (fields_of text) ≡ end time ∷ told (fields_of rest)
+end_told text rest time starts =
+    ap told starts.first ∙ ap (λ n. end n ∷ told (fields_of rest)) (sym starts.spells)
+
+-- an empty text tells nothing
+pub empty_told : (text : List ℕ) → text ≡ [] → told (fields_of text) ≡ []
+empty_told text empty = ap (λ bs. told (fields_of bs)) empty ∙ ap told (fields_step [])
 
 -- of two fields of eight bytes that stand side by side each is the first of its number
 pub first_number : (n : ℕ) (text rest : List ℕ) (one : ℕ) → StartsWithNumber n text one rest

@@ -22,8 +22,25 @@ pub fn first_field(text: &[u8]) -> Option<(Field<'_>, &[u8])>
     }
 }
 
+/// The number of the first field and the text behind it, where it has number 16 and four bytes, as a span's flags have.
+/// Of other fields it says nothing.
+fn flags(text: &[u8]) -> Option<(u32, &[u8])>
+    ensures { IfSome result (λ found. IsBehind found.0 text.now found.1.now) }
+{
+    let Some((first, behind)) = text.split_first() else {
+        return None;
+    };
+    let Some((second, held)) = behind.split_first() else {
+        return None;
+    };
+    if *first != 0x85 || *second != 1 || held.len() < 4 {
+        return None;
+    }
+    Some((16, held.split_at(4).1))
+}
+
 /// The number of the first field and the text behind it, where the field's tag has one byte and what it holds is eight
-/// bytes, a number of one byte or at most 127 bytes. Of other fields it says nothing.
+/// bytes, a number of one byte or at most 127 bytes, and of a span's flags. Of other fields it says nothing.
 #[inline(always)]
 pub fn short_field(text: &[u8]) -> Option<(u32, &[u8])>
     ensures { IfSome result (λ found. IsBehind found.0 text.now found.1.now) }
@@ -33,7 +50,7 @@ pub fn short_field(text: &[u8]) -> Option<(u32, &[u8])>
     };
     let tag = *tag;
     if tag < 8 || tag >= 0x80 {
-        return None;
+        return flags(text);
     }
     let number = u32::from(tag / 8);
     if tag % 8 == 1 {
@@ -202,7 +219,7 @@ fn past_others_than(text: &[u8], first: u32, second: u32, later: u32) -> &[u8]
 /// The number in the first field and the text behind it, where that field has this number, a tag of one byte and eight
 /// bytes. Of other fields it says nothing.
 #[inline(always)]
-fn leading_eight(text: &[u8], number: u32) -> Option<(u64, &[u8])>
+pub fn leading_eight(text: &[u8], number: u32) -> Option<(u64, &[u8])>
     ensures { IfSome result (λ found. StartsWithNumber number text.now found.0 found.1.now) }
 {
     let Some((tag, held)) = text.split_first() else {

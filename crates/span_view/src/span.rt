@@ -6,7 +6,7 @@ ghost use Rattle.span_view.specs.Fields.{first_start, first_end, first_status, a
 ghost use Rattle.span_view.specs.Reading.{facts_of};
 
 use crate::attributes::Attributes;
-use crate::fields::{bytes, eight, two_eights};
+use crate::fields::{bytes, eight, past_bytes, two_eights};
 use crate::status::{code_behind, code_of};
 use crate::walk::SpanFields;
 use std::marker::Model;
@@ -32,6 +32,7 @@ impl<'a> Model for SpanRef<'a> {
 impl<'a> SpanRef<'a> {
     /// A view of a span by its text, and by its resource's, which is empty where there is none. Both are canonical, or
     /// at least have keys and strings that are UTF-8 (`is_text`).
+    #[inline(always)]
     pub fn of(span: &'a [u8], resource: &'a [u8]) -> SpanRef<'a>
         requires text { AreText (facts_of span.now resource.now).attributes }
         ensures { result ≡ facts_of span.now resource.now }
@@ -52,7 +53,7 @@ impl<'a> SpanRef<'a> {
     pub fn span_id(&self) -> &'a [u8]
         ensures { result.now ≡ self.now.span_id }
     {
-        bytes(self.span, 2)
+        bytes(past_bytes(self.span, 1), 2)
     }
 
     /// Nanoseconds since 1970.
@@ -102,8 +103,10 @@ impl<'a> SpanRef<'a> {
     {
         Attributes::of(self.span, self.resource)
     }
+
     /// What policies look at, field by field: the fields of the span and then those of its resource, each of which is
     /// come by once. Of several of one kind the first counts, but for attributes, and where there is none it is 0.
+    #[inline(always)]
     pub fn fields(&self) -> SpanFields<'a>
         ensures start { first_start result ≡ self.now.start_time_unix_nano }
         ensures end { first_end result ≡ self.now.end_time_unix_nano }

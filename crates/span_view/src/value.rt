@@ -59,6 +59,9 @@ pub fn next_attribute(text: &[u8], number: u32) -> Option<(&[u8], &[u8])>
     ensures attributes { attributes_in number text.now ≡ found_attributes number result }
     ensures shorter { IfSome result (λ found. length found.1.now < length text.now) }
 {
+    if text.is_empty() {
+        return None;
+    }
     match find(text, number, WireType::Bytes) {
         Some((Value::Bytes(attribute), rest)) => Some((attribute, rest)),
         _ => None,

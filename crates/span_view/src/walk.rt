@@ -1,6 +1,6 @@
 //! What a span and its resource tell policies, in one walk.
 
-ghost use Rattle.std.specs.Prelude.{◌≡◌, ◌≤◌, [], length, option_map};
+ghost use Rattle.std.specs.Prelude.{◌≡◌, ◌≤◌, [], length, option_map, Some, IfSome};
 ghost use Rattle.pb_wire.specs.Grammar.{datum};
 ghost use Rattle.span_view.specs.Facts.{AreText};
 ghost use Rattle.span_view.specs.Fields.{told_by, told, told_and, told_of, attributes_told, field_shown, found_told};
@@ -8,7 +8,7 @@ ghost use Rattle.span_view.specs.Reading.{fields_of, facts_of};
 ghost use Rattle.span_view.specs.Short.{may_tell};
 
 use crate::attribute::AttributeRef;
-use crate::fields::{first_field, short_bytes, short_field};
+use crate::fields::{first_field, leading_eight, short_bytes, short_field};
 use crate::status::code_of;
 use crate::value::next_attribute;
 use pb_wire::{Field, Value};
@@ -86,16 +86,28 @@ fn past_silent(text: &[u8]) -> &[u8]
     left
 }
 
-/// What the first field of a span's text that tells something tells, and the text behind it.
+/// The time that the first field of a span's text tells and the text behind it, where the field's tag has one byte. Of
+/// other fields it says nothing.
+#[tactic(auto, using(crate::proofs::Short::start_told, crate::proofs::Short::end_told))]
 #[inline(always)]
-fn next_told(text: &[u8]) -> Option<(SpanField<'_>, &[u8])>
+fn leading_time(text: &[u8]) -> Option<(SpanField<'_>, &[u8])>
+    ensures { IfSome result (λ found. told (fields_of text.now) ≡ found_told (Some found)) }
+{
+    if let Some((time, rest)) = leading_eight(text, 7) {
+        return Some((SpanField::Start(time), rest));
+    }
+    if let Some((time, rest)) = leading_eight(text, 8) {
+        return Some((SpanField::End(time), rest));
+    }
+    None
+}
+
+/// What the first field of a span's text that tells something tells and the text behind it, by a search.
+fn searched(text: &[u8]) -> Option<(SpanField<'_>, &[u8])>
     requires text { AreText (attributes_told (told (fields_of text.now))) }
     ensures { told (fields_of text.now) ≡ found_told result }
 {
-    if let Some((attribute, rest)) = short_bytes(text, 9) {
-        return Some((SpanField::Attribute(AttributeRef::of(attribute)), rest));
-    }
-    let mut left = past_silent(text);
+    let mut left = text;
     'fields: while let Some((field, rest)) = first_field(left) {
         if let Some(told) = told_by(field) {
             return Some((told, rest));
@@ -105,8 +117,28 @@ fn next_told(text: &[u8]) -> Option<(SpanField<'_>, &[u8])>
     None
 }
 
+/// The same, at once where the field is an attribute or a time and those before it are short.
+#[inline(always)]
+fn next_told(text: &[u8]) -> Option<(SpanField<'_>, &[u8])>
+    requires text { AreText (attributes_told (told (fields_of text.now))) }
+    ensures { told (fields_of text.now) ≡ found_told result }
+{
+    if let Some((attribute, rest)) = short_bytes(text, 9) {
+        return Some((SpanField::Attribute(AttributeRef::of(attribute)), rest));
+    }
+    let front = past_silent(text);
+    if front.is_empty() {
+        return None;
+    }
+    if let Some(time) = leading_time(front) {
+        return Some(time);
+    }
+    searched(front)
+}
+
 impl<'a> SpanFields<'a> {
     /// Of these texts, a span's and its resource's.
+    #[inline(always)]
     pub fn of(span: &'a [u8], resource: &'a [u8]) -> SpanFields<'a>
         requires text { AreText (facts_of span.now resource.now).attributes }
         ensures { result ≡ told_of span.now resource.now }

@@ -88,6 +88,7 @@ pub fn fact_bits(policies: &[PolicySpec], fact: Fact<'_>) -> u64
 }
 
 /// The same of an attribute. Where its key has no mark, neither its value nor a policy is looked at.
+#[inline(always)]
 pub fn attribute_bits(policies: &[PolicySpec], marks: &[bool], pair: &AttributeRef<'_>) -> u64
     requires ready { IsReady (map policy_view policies.now) marks.now }
     ensures { result ≡ bits_of (fact_meets (attribute pair.now))

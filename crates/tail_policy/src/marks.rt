@@ -10,6 +10,7 @@ use tail_settings::{LeafPolicy, PolicySpec};
 pub const COUNT: usize = 256;
 
 /// The mark of a key, by its length and its last byte.
+#[inline(always)]
 pub fn mark(key: &str) -> usize
     ensures mark { result ≡ mark_of key.now }
     ensures below { result < 256 }

@@ -42,6 +42,7 @@ fn above(bits: u64, count: usize) -> u64
 }
 
 impl TraceNote {
+    #[inline(always)]
     pub fn new(met: u64, start: u64, end: u64) -> TraceNote
         ensures { result ≡ record { met = met; start = start; end = end } }
     {
@@ -62,6 +63,7 @@ impl TraceNote {
 
     /// The note of the same span or spans with a resource that tells this.
     #[tactic(auto, unfolding(crate::specs::Parts::with_resource))]
+    #[inline(always)]
     pub fn with_resource(self, resource: ResourceBits) -> TraceNote
         ensures { result ≡ with_resource resource self }
     {

@@ -1,6 +1,6 @@
 //! An input or an output of which it is remembered how it failed.
 
-ghost use Rattle.std.specs.Prelude.{◌≡◌, ◌≢◌, None, Some};
+ghost use Rattle.std.specs.Prelude.{◌≡◌, ◌≢◌, ◌+◌, ◌-◌, ◌^◌, min, None, Some};
 ghost use Rattle.std.specs.IoError.{error_kind};
 ghost use Rattle.std.specs.declared.io.ErrorKind.TheVariants as kinds;
 
@@ -50,6 +50,10 @@ impl<S> Watched<S> {
         ensures stream { self.new.stream ≡ self.old.stream }
         ensures fault { error_kind error.now ≢ kinds.Interrupted
             → self.new.fault ≡ Some (error_kind error.now) }
+        ensures counted { error_kind error.now ≢ kinds.Interrupted
+            → self.new.failed ≡ min (self.old.failed + 1) (2 ^ 64 - 1) }
+        ensures interrupted { error_kind error.now ≡ kinds.Interrupted
+            → (self.new.fault ≡ self.old.fault) × (self.new.failed ≡ self.old.failed) }
     {
         let kind = error.kind();
         if kind != ErrorKind::Interrupted {

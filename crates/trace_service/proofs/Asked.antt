@@ -43,33 +43,33 @@ retires_nobody present line name text none = record {
   no_going = λ other same. no_other present (codes "retire ") name other (sym text ∙ same) none;
 }
 
-module _ (reads : Reads) (first : SettingsData) (shards : ℕ) (line : List ℕ) (present : Present) (old : CallerState) (before : ℕ)
+module _ (port : Bool) (reads : Reads) (first : SettingsData) (shards : ℕ) (line : List ℕ) (present : Present) (old : CallerState) (before : ℕ)
     (so_far : Output) (name : List ℕ) (left : Present) (new : CallerState) (last : ℕ) (written : Output) where
   report_of : (found : Option ℕ) → number_of present name ≡ found → line ≡ codes "report " ++ name
       → IsReportedOf shards name found old before so_far new last written
-      → IsAnswered reads first shards line present old before so_far present new last written
+      → IsAnswered port reads first shards line present old before so_far present new last written
   report_of (Some tenant) is text told = reports name tenant text is told refl
   report_of None is text told = asks_nothing (report_of_nobody present line name text is) told.0 told.1 told.2 refl
 
   pub answers_report : line ≡ codes "report " ++ name
       → IsReportedOf shards name (number_of present name) old before so_far new last written
-      → IsAnswered reads first shards line present old before so_far present new last written
+      → IsAnswered port reads first shards line present old before so_far present new last written
   answers_report text told = report_of (number_of present name) refl text told
 
   pub answers_add : line ≡ codes "add " ++ name → last ≡ before
       → ((told : List ℕ) × IsAdded reads first shards name present old left new told × IsPut so_far written told)
-      → IsAnswered reads first shards line present old before so_far left new last written
+      → IsAnswered port reads first shards line present old before so_far left new last written
   answers_add text same told = adds name told.0 text told.1 told.2 same
 
   retirement_of : (found : Option ℕ) → number_of present name ≡ found → line ≡ codes "retire " ++ name
-      → IsRetiredOf shards name found present old before so_far left new last written
-      → IsAnswered reads first shards line present old before so_far left new last written
+      → IsRetiredOf port shards name found present old before so_far left new last written
+      → IsAnswered port reads first shards line present old before so_far left new last written
   retirement_of (Some tenant) is text told = retires name tenant text is told
   retirement_of None is text told = asks_nothing (retires_nobody present line name text is) told.1 told.2 told.3 told.0
 
   pub answers_retire : line ≡ codes "retire " ++ name
-      → IsRetiredOf shards name (number_of present name) present old before so_far left new last written
-      → IsAnswered reads first shards line present old before so_far left new last written
+      → IsRetiredOf port shards name (number_of present name) present old before so_far left new last written
+      → IsAnswered port reads first shards line present old before so_far left new last written
   answers_retire text told = retirement_of (number_of present name) refl text told
 
 -- whoever finds nobody under a name that a line asks for has found that it asks for nothing

@@ -1,5 +1,5 @@
 -- The shards whose logs are told at the end.
-use Rattle.std.proofs.Common.{◌≡◌, ℕ, zero, suc, List, [], ◌∷◌, replicate, true, Some, All, refl, sym, ap, ◌∙◌}
+use Rattle.std.proofs.Common.{◌≡◌, ℕ, zero, suc, List, [], ◌∷◌, replicate, Bool, Some, All, refl, sym, ap, ◌∙◌}
 use Rattle.std.specs.Prelude.{slice_get}
 use Rattle.std.proofs.lemmas.List.Elements.{All-nil, All-cons}
 use Rattle.tail_settings.specs.Settings.{SettingsData}
@@ -10,16 +10,16 @@ use Rattle.shard_machine.specs.MachineState.{MachineState, MachineDoes}
 use Rattle.shared_hub.specs.Logs.{CallerState, LoggedShard}
 use Rattle.shared_hub.specs.Shards.{AreOpened, kept}
 
-keeps_at : (homes : List (Home MachineState)) (n k : ℕ) (home : Home MachineState) → kept homes ≡ replicate n true → slice_get homes k ≡ Some home → home.keeps ≡ true
-keeps_at [] n k home all at = absurd (cc)
-keeps_at (x ∷ homes) zero k home all at = absurd (cc)
-keeps_at (x ∷ homes) (suc n) zero home all at =
-    let own : x.keeps ≡ true = cc in
+keeps_at : (homes : List (Home MachineState)) (keeps : Bool) (n k : ℕ) (home : Home MachineState) → kept homes ≡ replicate n keeps → slice_get homes k ≡ Some home → home.keeps ≡ keeps
+keeps_at [] keeps n k home all at = absurd (cc)
+keeps_at (x ∷ homes) keeps zero k home all at = absurd (cc)
+keeps_at (x ∷ homes) keeps (suc n) zero home all at =
+    let own : x.keeps ≡ keeps = cc in
     let is : x ≡ home = cc in
     ap (λ (h : Home MachineState). h.keeps) (sym is) ∙ own
-keeps_at (x ∷ homes) (suc n) (suc k) home all at =
-    let rest : kept homes ≡ replicate n true = cc in
-    keeps_at homes n k home rest at
+keeps_at (x ∷ homes) keeps (suc n) (suc k) home all at =
+    let rest : kept homes ≡ replicate n keeps = cc in
+    keeps_at homes keeps n k home rest at
 
 all_from_each : {X : Type 0} (P : X → Type 0) (xs : List X) → ((k : ℕ) (x : X) → slice_get xs k ≡ Some x → P x) → All P xs
 all_from_each P [] each = All-nil P
@@ -31,7 +31,7 @@ module _ (table : SettingsData) (homes : List (Home MachineState)) (callers : Li
       let here = shard_run MachineDoes homes callers shards runs k s at in
       here.2.run.0 ∙ (opens.each k here.0 here.1).0
 
-  pub are_kept : (n : ℕ) → kept homes ≡ replicate n true → All (λ s. s.keeps ≡ true) shards
-  are_kept n all = all_from_each (λ s. s.keeps ≡ true) shards (λ k s at.
+  pub are_kept : (keeps : Bool) (n : ℕ) → kept homes ≡ replicate n keeps → All (λ s. s.keeps ≡ keeps) shards
+  are_kept keeps n all = all_from_each (λ s. s.keeps ≡ keeps) shards (λ k s at.
       let here = shard_run MachineDoes homes callers shards runs k s at in
-      here.2.run.1 ∙ keeps_at homes n k here.0 all here.1)
+      here.2.run.1 ∙ keeps_at homes keeps n k here.0 all here.1)

@@ -1,10 +1,6 @@
 -- From what who reads the input did to what the service comes to.
-use Rattle.std.proofs.Common.{◌≡◌, ℕ, List, ◌∷◌, map, Option, Result, Ok, Err, IfOk, OnOk, Bool, true, All, replicate, sym, subst}
-use Rattle.machine_hub.specs.declared.view.Home.{Home}
-use Rattle.machine_hub.specs.Hub.{AreShardRuns}
-use Rattle.shard_machine.specs.MachineState.{MachineState, MachineDoes}
-use Rattle.shared_hub.specs.Logs.{CallerState, LoggedShard}
-use Rattle.shared_hub.specs.Shards.{kept}
+use Rattle.std.proofs.Common.{◌≡◌, ℕ, List, ◌∷◌, map, Option, Result, Ok, Err, IfOk, OnOk, Bool, sym, subst}
+use Rattle.shared_hub.specs.Logs.{CallerState}
 use Rattle.tail_settings.specs.Settings.{SettingsData}
 use Rattle.trace_service.specs.Comings.{Present}
 use Rattle.trace_service.specs.Commands.{AreDrained, AreEmptyOn, AreReported, AreCommandsRead}
@@ -13,7 +9,6 @@ use Rattle.trace_service.specs.Output.{Output}
 use Rattle.trace_service.specs.Roster.{entry_of}
 use Rattle.trace_service.specs.declared.roster.Present.{Present as Entry}
 use Rattle.trace_service.specs.Whole.{IsDirected, IsCourse}
-use Rattle.trace_service.proofs.Audited.{are_kept}
 use Rattle.trace_service.proofs.Present.{number, numbers}
 
 -- what a result tells that is Ok
@@ -25,18 +20,18 @@ given_with : {T E : Type 0} (P : T → Type 0) (r : Result T E) (x : T) → r �
 given_with P r x is p = subst (λ s. IfOk s P) is p
 
 -- the parts of it, one after the other, where the input didn't fail
-pub directed : {T E : Type 0} (reads : Reads) (heard : Result T E) (x : T) (first : SettingsData) (shards : ℕ) (present : Present)
+pub directed : {T E : Type 0} (port : Bool) (reads : Reads) (heard : Result T E) (x : T) (first : SettingsData) (shards : ℕ) (present : Present)
     (tenants : List Entry) (input : Option (List ℕ)) (so_far text written : Output) (c0 c1 c2 c3 : CallerState) (m0 m1 m2 m3 : ℕ)
-    → heard ≡ Ok x → OnOk heard (AreCommandsRead reads first shards input present c0 m0 so_far (map entry_of tenants) c1 m1 text)
+    → heard ≡ Ok x → OnOk heard (AreCommandsRead port reads first shards input present c0 m0 so_far (map entry_of tenants) c1 m1 text)
     → AreDrained shards c1 m1 (map number tenants) c2 m2 → AreEmptyOn c2 shards (map number tenants)
     → AreReported shards c2 m2 text (map entry_of tenants) c3 m3 written
-    → IsDirected reads first present shards input c0 m0 so_far c3 m3 written
-directed reads heard x first shards present tenants input so_far text written c0 c1 c2 c3 m0 m1 m2 m3 h read drained empty reported = record {
+    → IsDirected port reads first present shards input c0 m0 so_far c3 m3 written
+directed port reads heard x first shards present tenants input so_far text written c0 c1 c2 c3 m0 m1 m2 m3 h read drained empty reported = record {
   left = map entry_of tenants;
   after_input = c1;
   input_end = m1;
   text = text;
-  heard = given_ok {P = AreCommandsRead reads first shards input present c0 m0 so_far (map entry_of tenants) c1 m1 text} heard x h read;
+  heard = given_ok {P = AreCommandsRead port reads first shards input present c0 m0 so_far (map entry_of tenants) c1 m1 text} heard x h read;
   after_drains = c2;
   drain_end = m2;
   drained = subst (λ ns. AreDrained shards c1 m1 ns c2 m2) (sym (numbers tenants)) drained;
@@ -45,33 +40,26 @@ directed reads heard x first shards present tenants input so_far text written c0
 }
 
 -- the caller was a new one, of so many shards, and is the first of all
-pub course_from : {E : Type 0} (reads : Reads) (r : Result ℕ E) (settings : SettingsData) (present : Present) (all shards : ℕ)
-    (input so_far written : Option (List ℕ)) (old fresh new : CallerState) (before last : ℕ) (callers : List CallerState) → all ≡ shards → old ≡ fresh
+pub course_from : {E : Type 0} (mine port : Bool) (reads : Reads) (r : Result ℕ E) (settings : SettingsData) (present : Present) (all shards : ℕ)
+    (input so_far written : Option (List ℕ)) (old fresh new : CallerState) (before last : ℕ) (callers : List CallerState) → mine ≡ port → all ≡ shards → old ≡ fresh
     → (others : List CallerState) × (callers ≡ new ∷ others)
-    → IfOk r (λ lost. IsDirected reads settings present all input old before (so_far, 0) new last (written, lost))
-    → IfOk r (λ lost. IsCourse reads settings present shards input fresh (so_far, 0) callers (written, lost))
-course_from reads (Ok x) settings present all shards input so_far written old fresh new before last callers same is own directed = record {
+    → IfOk r (λ lost. IsDirected mine reads settings present all input old before (so_far, 0) new last (written, lost))
+    → IfOk r (λ lost. IsCourse port reads settings present shards input fresh (so_far, 0) callers (written, lost))
+course_from mine port reads (Ok x) settings present all shards input so_far written old fresh new before last callers looked_after same is own directed = record {
   before = before;
   last = last;
   own = new;
   others = own.0;
   callers_are = own.1;
-  directed = rw (same, is) at directed;
+  directed = rw (looked_after, same, is) at directed;
 }
-course_from reads (Err e) settings present all shards input so_far written old fresh new before last callers same is own directed = tt
+course_from mine port reads (Err e) settings present all shards input so_far written old fresh new before last callers looked_after same is own directed = tt
 
 -- the same where the input didn't fail, of so many shards, of that new caller and of those tenants
-pub course_told : {E : Type 0} (reads : Reads) (r : Result ℕ E) (lost : ℕ) (settings table : SettingsData) (tenants present : Present) (slots shards : ℕ)
+pub course_told : {E : Type 0} (port : Bool) (reads : Reads) (r : Result ℕ E) (lost : ℕ) (settings table : SettingsData) (tenants present : Present) (slots shards : ℕ)
     (input so_far written : Option (List ℕ)) (first fresh : CallerState) (callers : List CallerState) → r ≡ Ok lost → settings ≡ table → tenants ≡ present
     → slots ≡ shards → first ≡ fresh
-    → IfOk r (λ n. IsCourse reads settings tenants slots input first (so_far, 0) callers (written, n))
-    → IsCourse reads table present shards input fresh (so_far, 0) callers (written, lost)
-course_told reads r lost settings table tenants present slots shards input so_far written first fresh callers is named those same new course =
-    rw (named, those, same, new) at (given_with (λ n. IsCourse reads settings tenants slots input first (so_far, 0) callers (written, n)) r lost is course)
-
--- all logs keep where they were to
-pub kept_if : (table : SettingsData) (homes : List (Home MachineState)) (callers : List CallerState) (shards : List LoggedShard)
-    (runs : AreShardRuns MachineDoes homes callers shards) (n : ℕ) (audit : Bool) → kept homes ≡ replicate n audit → audit ≡ true
-    → All (λ s. s.keeps ≡ true) shards
-kept_if table homes callers shards runs n audit keeps is =
-    are_kept table homes callers shards runs n (subst (λ b. kept homes ≡ replicate n b) is keeps)
+    → IfOk r (λ n. IsCourse port reads settings tenants slots input first (so_far, 0) callers (written, n))
+    → IsCourse port reads table present shards input fresh (so_far, 0) callers (written, lost)
+course_told port reads r lost settings table tenants present slots shards input so_far written first fresh callers is named those same new course =
+    rw (named, those, same, new) at (given_with (λ n. IsCourse port reads settings tenants slots input first (so_far, 0) callers (written, n)) r lost is course)

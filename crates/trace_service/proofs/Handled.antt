@@ -29,12 +29,12 @@ module _ (before last : ℕ) (old new : CallerState) (shards : ℕ) (body : List
   sent_to (refuse due) now tenant own is sent = absurd is
 
   nobody_there : (found : Option SectionData) (number : ℕ) (refusal : RouteRefusal) → IsTenant found number (Nowhere refusal)
-      → new ≡ old → MayTell (response_for refusal) told → IsSent found before last old new shards number body told
-  nobody_there (Some section) number refusal is same tells = absurd is
-  nobody_there None number refusal is same tells = (same, subst (λ due. MayTell due told) is tells)
+      → new ≡ old → last ≡ before → MayTell (response_for refusal) told → IsSent found before last old new shards number body told
+  nobody_there (Some section) number refusal is same stays tells = absurd is
+  nobody_there None number refusal is same stays tells = (same, stays, subst (λ due. MayTell due told) is tells)
 
   -- a message was refused that the route leads to no tenant
   pub sent_nowhere : (route : Route) (now : SettingsData) (refusal : RouteRefusal) → IsWhere route now (Nowhere refusal)
-      → new ≡ old → MayTell (response_for refusal) told → IsSentBy route now before last old new shards body told
-  sent_nowhere (post number) now refusal is same tells = nobody_there (section_at now number) number refusal is same tells
-  sent_nowhere (refuse due) now refusal is same tells = (same, subst (λ d. MayTell d told) is tells)
+      → new ≡ old → last ≡ before → MayTell (response_for refusal) told → IsSentBy route now before last old new shards body told
+  sent_nowhere (post number) now refusal is same stays tells = nobody_there (section_at now number) number refusal is same stays tells
+  sent_nowhere (refuse due) now refusal is same stays tells = (same, stays, subst (λ d. MayTell d told) is tells)

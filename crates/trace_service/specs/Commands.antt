@@ -117,54 +117,55 @@ left_by outcome tenant present =
     if stays outcome then present else filter (λ other. not (other.0 == tenant)) present
 
 -- A tenant was to go: it was drained, then it was seen to hold no span, then it was to retire, and what came of that
--- was written under its name. These are present then.
-pub record IsRetired (name : List ℕ) (present : Present) (old new : CallerState) (shards tenant before last : ℕ)
-    (so_far : Output) (left : Present) (written : Output) : Type 0 where
+-- was written under its name. These are present then. Only a service that has a port for operators, where its end may
+-- be asked for meanwhile, need not have seen that it holds none.
+pub record IsRetired (port : Bool) (name : List ℕ) (present : Present) (old new : CallerState)
+    (shards tenant before last : ℕ) (so_far : Output) (left : Present) (written : Output) : Type 0 where
   pub after_drain : CallerState
   pub drain_end : ℕ
   pub drain : Outcome
   pub drained : IsMade old after_drain shards tenant before drain_end (step_of Drain tenant) drain
-  pub empty : IsEmptyOn after_drain (tenant % shards) tenant true
+  pub empty : port ≡ false → IsEmptyOn after_drain (tenant % shards) tenant true
   pub outcome : Outcome
   pub made : IsMade after_drain new shards tenant drain_end last (step_of Retire tenant) outcome
   pub left_are : left ≡ left_by outcome tenant present
   pub line : IsPut so_far written (outcome_line name outcome)
 
 -- so it was with the tenant of this number, where there is one, and else nothing was done
-abbrev pub IsRetiredOf : ℕ → List ℕ → Option ℕ → Present → CallerState → ℕ → Output → Present → CallerState → ℕ
-    → Output → Type 0
-IsRetiredOf shards name (Some tenant) present old before so_far left new last written =
-    IsRetired name present old new shards tenant before last so_far left written
-IsRetiredOf shards name None present old before so_far left new last written =
+abbrev pub IsRetiredOf : Bool → ℕ → List ℕ → Option ℕ → Present → CallerState → ℕ → Output → Present → CallerState
+    → ℕ → Output → Type 0
+IsRetiredOf port shards name (Some tenant) present old before so_far left new last written =
+    IsRetired port name present old new shards tenant before last so_far left written
+IsRetiredOf port shards name None present old before so_far left new last written =
     (left ≡ present) × (new ≡ old) × (last ≡ before) × (written ≡ so_far)
 
 -- Of the tenants that are present the line was answered: by the report of the one for whose counters it asks; by what
 -- came of its tenant's coming or going; or by nothing, where it asks for nothing. These are present then.
-pub data IsAnswered (reads : Reads) (first : SettingsData) (shards : ℕ) (line : List ℕ) (present : Present)
-    (old : CallerState) (before : ℕ) (so_far : Output) (left : Present) (new : CallerState) (last : ℕ)
-    (written : Output) : Type 0 where
+pub data IsAnswered (port : Bool) (reads : Reads) (first : SettingsData) (shards : ℕ) (line : List ℕ)
+    (present : Present) (old : CallerState) (before : ℕ) (so_far : Output) (left : Present) (new : CallerState)
+    (last : ℕ) (written : Output) : Type 0 where
   reports : (name : List ℕ) (tenant : ℕ) → line ≡ codes "report " ++ name → number_of present name ≡ Some tenant
       → IsReported name old new shards tenant before last so_far written → left ≡ present
-      → IsAnswered reads first shards line present old before so_far left new last written
+      → IsAnswered port reads first shards line present old before so_far left new last written
   adds : (path told : List ℕ) → line ≡ codes "add " ++ path → IsAdded reads first shards path present old left new told
       → IsPut so_far written told → last ≡ before
-      → IsAnswered reads first shards line present old before so_far left new last written
+      → IsAnswered port reads first shards line present old before so_far left new last written
   retires : (name : List ℕ) (tenant : ℕ) → line ≡ codes "retire " ++ name → number_of present name ≡ Some tenant
-      → IsRetired name present old new shards tenant before last so_far left written
-      → IsAnswered reads first shards line present old before so_far left new last written
+      → IsRetired port name present old new shards tenant before last so_far left written
+      → IsAnswered port reads first shards line present old before so_far left new last written
   asks_nothing : AsksNothing present line → new ≡ old → last ≡ before → written ≡ so_far → left ≡ present
-      → IsAnswered reads first shards line present old before so_far left new last written
+      → IsAnswered port reads first shards line present old before so_far left new last written
 
 -- these lines were answered, one after the other
-pub data AreAnswered (reads : Reads) (first : SettingsData) (shards : ℕ) (present : Present) (old : CallerState)
-    (before : ℕ) (so_far : Output)
+pub data AreAnswered (port : Bool) (reads : Reads) (first : SettingsData) (shards : ℕ) (present : Present)
+    (old : CallerState) (before : ℕ) (so_far : Output)
     : List (List ℕ) → Present → CallerState → ℕ → Output → Type 0 where
-  no_answer : AreAnswered reads first shards present old before so_far [] present old before so_far
+  no_answer : AreAnswered port reads first shards present old before so_far [] present old before so_far
   answer_more : (lines : List (List ℕ)) (known : Present) (mid : CallerState) (between : ℕ) (text : Output)
       (line : List ℕ) (left : Present) (new : CallerState) (last : ℕ) (written : Output)
-      → AreAnswered reads first shards present old before so_far lines known mid between text
-      → IsAnswered reads first shards line known mid between text left new last written
-      → AreAnswered reads first shards present old before so_far (lines ++ line ∷ []) left new last written
+      → AreAnswered port reads first shards present old before so_far lines known mid between text
+      → IsAnswered port reads first shards line known mid between text left new last written
+      → AreAnswered port reads first shards present old before so_far (lines ++ line ∷ []) left new last written
 
 -- these are the text's first lines, and that is what stands behind them
 pub data AreFirst (text : List ℕ) : List (List ℕ) → List ℕ → Type 0 where
@@ -173,12 +174,12 @@ pub data AreFirst (text : List ℕ) : List (List ℕ) → List ℕ → Type 0 wh
       → TakesLine rest (Some after) line true → AreFirst text (lines ++ line ∷ []) after
 
 -- all lines of the input were answered: of one that is known these are all its lines. These tenants are present then
-pub record AreCommandsRead (reads : Reads) (first : SettingsData) (shards : ℕ) (input : Option (List ℕ))
-    (present : Present) (old : CallerState) (before : ℕ) (so_far : Output) (left : Present)
+pub record AreCommandsRead (port : Bool) (reads : Reads) (first : SettingsData) (shards : ℕ)
+    (input : Option (List ℕ)) (present : Present) (old : CallerState) (before : ℕ) (so_far : Output) (left : Present)
     (new : CallerState) (last : ℕ) (written : Output) : Type 0 where
   pub lines : List (List ℕ)
   pub known : IfSome input (λ text. AreFirst text lines [])
-  pub answered : AreAnswered reads first shards present old before so_far lines left new last written
+  pub answered : AreAnswered port reads first shards present old before so_far lines left new last written
 
 -- each of these tenants was seen to hold no span
 abbrev pub AreEmptyOn : CallerState → ℕ → List ℕ → Type 0

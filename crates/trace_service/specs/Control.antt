@@ -1,6 +1,6 @@
 -- What who reads the input does, in the code's terms: where it works, its list of tenants, and what its output got,
 -- before it and then. This project's own rule.
-use Rattle.std.specs.Prelude.{ℕ, List, length, string_bytes, Option}
+use Rattle.std.specs.Prelude.{ℕ, List, length, string_bytes, Bool, Option, is_some}
 use Rattle.otlp_front.specs.Route.{number_of}
 use Rattle.tail_settings.specs.Settings.{SettingsData}
 use Rattle.trace_service.specs.declared.control.Control.{Control}
@@ -19,22 +19,22 @@ module _ {J R D : Type 0} {n : Ghosts J} where
   abbrev pub Directs : Reads → SettingsData → Option (List ℕ) → Control J R D n → Output → Control J R D n → Output
       → Type 0
   Directs reads first input old so_far new written =
-      IsDirected reads first (present_in old.roster) (length old.context.hub.now) input old.context.caller
-      old.beat.last so_far new.context.caller new.beat.last written
+      IsDirected (is_some old.admin) reads first (present_in old.roster) (length old.context.hub.now) input
+      old.context.caller old.beat.last so_far new.context.caller new.beat.last written
 
   -- all lines of the input were answered
-  abbrev pub ReadsCommands : Reads → SettingsData → Option (List ℕ) → Control J R D n → Roster → Output
+  abbrev pub ReadsCommands : Bool → Reads → SettingsData → Option (List ℕ) → Control J R D n → Roster → Output
       → Control J R D n → Roster → Output → Type 0
-  ReadsCommands reads first input old known so_far new left written =
-      AreCommandsRead reads first (length old.context.hub.now) input (present_in known) old.context.caller
+  ReadsCommands port reads first input old known so_far new left written =
+      AreCommandsRead port reads first (length old.context.hub.now) input (present_in known) old.context.caller
       old.beat.last so_far (present_in left) new.context.caller new.beat.last written
 
   -- this line was answered
-  abbrev pub Answers : Reads → SettingsData → List ℕ → Control J R D n → Roster → Output → Control J R D n → Roster
-      → Output → Type 0
-  Answers reads first line old known so_far new left written =
-      IsAnswered reads first (length old.context.hub.now) line (present_in known) old.context.caller old.beat.last
-      so_far (present_in left) new.context.caller new.beat.last written
+  abbrev pub Answers : Bool → Reads → SettingsData → List ℕ → Control J R D n → Roster → Output → Control J R D n
+      → Roster → Output → Type 0
+  Answers port reads first line old known so_far new left written =
+      IsAnswered port reads first (length old.context.hub.now) line (present_in known) old.context.caller
+      old.beat.last so_far (present_in left) new.context.caller new.beat.last written
 
   -- one report of this tenant was made and written
   abbrev pub Reports : Entry → Control J R D n → Output → Control J R D n → Output → Type 0
@@ -56,7 +56,8 @@ module _ {J R D : Type 0} {n : Ghosts J} where
       (present_in left) new.context.caller line × IsPut so_far written line
 
   -- the tenant of this name was to go, and what came of it was written; or there is none, and nothing was done
-  abbrev pub RetiresNamed : List ℕ → Control J R D n → Roster → Output → Control J R D n → Roster → Output → Type 0
-  RetiresNamed name old known so_far new left written =
-      IsRetiredOf (length old.context.hub.now) name (number_of (present_in known) name) (present_in known)
+  abbrev pub RetiresNamed : Bool → List ℕ → Control J R D n → Roster → Output → Control J R D n → Roster → Output
+      → Type 0
+  RetiresNamed port name old known so_far new left written =
+      IsRetiredOf port (length old.context.hub.now) name (number_of (present_in known) name) (present_in known)
       old.context.caller old.beat.last so_far (present_in left) new.context.caller new.beat.last written

@@ -19,3 +19,4 @@ pub mod Changed
 pub mod Shown
 pub mod Whole
 pub mod Control
+pub mod Visit

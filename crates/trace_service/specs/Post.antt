@@ -64,11 +64,13 @@ pub data IsPosted (old new : CallerState) (shards now tenant : ℕ) (section : S
 abbrev pub IsSent : Option SectionData → ℕ → ℕ → CallerState → CallerState → ℕ → ℕ → List ℕ → Response → Type 0
 IsSent (Some section) before last old new shards tenant body told =
     (now : ℕ) × Rises before (now ∷ []) last × IsPosted old new shards now tenant section body told
-IsSent None before last old new shards tenant body told = (new ≡ old) × MayTell unknown_tenant told
+IsSent None before last old new shards tenant body told =
+    (new ≡ old) × (last ≡ before) × MayTell unknown_tenant told
 
 -- a message that goes to no tenant is refused, and makes no step; the body of one that goes to a tenant is posted
 abbrev pub IsSentBy : Route → SettingsData → ℕ → ℕ → CallerState → CallerState → ℕ → List ℕ → Response → Type 0
-IsSentBy (refuse due) settings before last old new shards body told = (new ≡ old) × MayTell due told
+IsSentBy (refuse due) settings before last old new shards body told =
+    (new ≡ old) × (last ≡ before) × MayTell due told
 IsSentBy (post tenant) settings before last old new shards body told =
     IsSent (section_at settings tenant) before last old new shards tenant body told
 

@@ -2,7 +2,7 @@
 -- 6454), and whether the request is let in.
 use Rattle.std.specs.Prelude.{ℕ, Bool, true, false, not, ◌&&◌, ◌||◌, nat_le, List, length, take, drop, Option, Some, None, option_and_then, if◌then◌else◌, codes, bytes_eq}
 use Rattle.std.specs.List.{list_any}
-use Rattle.admin_pages.specs.Route.{RouteData, Page, Health, Drain, Add, Retire}
+use Rattle.admin_pages.specs.Route.{RouteData, Page, Health, Readiness, Drain, Add, Retire}
 use Rattle.http1.specs.Fields.{Header, is_named}
 use Rattle.http1.specs.Text.{eq_ignore_case}
 use Rattle.http_edge.specs.Fields.{field, only}
@@ -38,6 +38,7 @@ is_change _ = false
 abbrev pub is_for_all : RouteData → Bool
 is_for_all Page = true
 is_for_all Health = true
+is_for_all Readiness = true
 is_for_all _ = false
 
 -- A request with these fields is let in at this route. Where no token is wanted no page may change anything, since it

@@ -1,5 +1,5 @@
 -- What a service comes to, from its start to its end. This project's own rule.
-use Rattle.std.specs.Prelude.{◌≡◌, ℕ, ◌≤◌, List, ◌∷◌, length, map, Bool, true, Option, Some, slice_get, All}
+use Rattle.std.specs.Prelude.{◌≡◌, ℕ, ◌≤◌, List, ◌∷◌, length, map, Bool, Option, Some, Result, IfOk, slice_get, All}
 use Rattle.atomic_table.specs.Seated.{TableId}
 use Rattle.job_lane.specs.Lane.{SeatLists, IsWholeRun}
 use Rattle.machine_hub.specs.declared.view.Home.{Home}
@@ -18,13 +18,14 @@ use Rattle.trace_service.specs.Output.{Output}
 
 -- What who reads the input did, by calls of one caller and in this order: all lines of the input were answered, each
 -- tenant that was present then was drained, each was seen to hold no span, and each one's report was written.
-pub record IsDirected (reads : Reads) (first : SettingsData) (present : Present) (shards : ℕ) (input : Option (List ℕ))
-    (old : CallerState) (before : ℕ) (so_far : Output) (new : CallerState) (last : ℕ) (written : Output) : Type 0 where
+pub record IsDirected (port : Bool) (reads : Reads) (first : SettingsData) (present : Present) (shards : ℕ)
+    (input : Option (List ℕ)) (old : CallerState) (before : ℕ) (so_far : Output) (new : CallerState) (last : ℕ)
+    (written : Output) : Type 0 where
   pub left : Present
   pub after_input : CallerState
   pub input_end : ℕ
   pub text : Output
-  pub heard : AreCommandsRead reads first shards input present old before so_far left after_input input_end text
+  pub heard : AreCommandsRead port reads first shards input present old before so_far left after_input input_end text
   pub after_drains : CallerState
   pub drain_end : ℕ
   pub drained : AreDrained shards after_input input_end (map (λ tenant. tenant.0) left) after_drains drain_end
@@ -32,31 +33,38 @@ pub record IsDirected (reads : Reads) (first : SettingsData) (present : Present)
   pub told : AreReported shards after_drains drain_end text left new last written
 
 -- of a hub's callers, which had made no call, one did that
-pub record IsCourse (reads : Reads) (first : SettingsData) (present : Present) (shards : ℕ) (input : Option (List ℕ))
-    (fresh : CallerState) (so_far : Output) (callers : List CallerState) (written : Output)
+pub record IsCourse (port : Bool) (reads : Reads) (first : SettingsData) (present : Present) (shards : ℕ)
+    (input : Option (List ℕ)) (fresh : CallerState) (so_far : Output) (callers : List CallerState) (written : Output)
     : Type 0 where
   pub before : ℕ
   pub last : ℕ
   pub own : CallerState
   pub others : List CallerState
   pub callers_are : callers ≡ own ∷ others
-  pub directed : IsDirected reads first present shards input fresh before so_far own last written
+  pub directed : IsDirected port reads first present shards input fresh before so_far own last written
 
--- What a service did to its shards, and what it wrote: there was a hub of the settings' shards, and one of its callers,
--- which had made no call before, read the input and wrote what its calls at these shards gave. All callers' calls at a
--- shard are one run of it, log or not, of which each tenant was told what its pipeline alone answers to its own steps,
--- and from its first want of memory on one history. The other callers were threads', with all seats of one lane: the
--- jobs that were pushed there are those of turns that these callers made, each that was popped is one of them, and so
--- many were popped and so many are left. Where an audit is asked for the logs keep, and their lines were written last,
--- each shard's under its number. So many of what was to be written were lost: where that is none, all was written.
-pub record IsServed (reads : Reads) (table : SettingsData) (audit : Bool) (input so_far written : Option (List ℕ))
-    (lost : ℕ) : Type 0 where
+-- so it was where the input didn't fail: so many answers were lost, and none before
+abbrev pub IsCourseIfOk : {E : Type 0} → Bool → Reads → SettingsData → Present → ℕ → Option (List ℕ) → CallerState
+    → Option (List ℕ) → List CallerState → Option (List ℕ) → Result ℕ E → Type 0
+IsCourseIfOk port reads first present shards input fresh so_far callers written result =
+    IfOk result (λ lost. IsCourse port reads first present shards input fresh (so_far, 0) callers (written, lost))
+
+-- What a service did to its shards, and what it wrote, with a port for operators or without: there was a hub of the
+-- settings' shards, and one of its callers, which had made no call before, read the input and wrote what its calls at
+-- these shards gave. All callers' calls at a shard are one run of it, log or not, of which each tenant was told what
+-- its pipeline alone answers to its own steps, and from its first want of memory on one history. The other callers were
+-- threads', with all seats of one lane: the jobs that were pushed there are those of turns that these callers made,
+-- each that was popped is one of them, and so many were popped and so many are left. Where an audit is asked for the
+-- logs keep, and their lines were written last, each shard's under its number; else they keep nothing. So many of what
+-- was to be written were lost: where that is none, all was written.
+pub record IsServed (port : Bool) (reads : Reads) (table : SettingsData) (audit : Bool)
+    (input so_far written : Option (List ℕ)) (lost : ℕ) : Type 0 where
   pub slots : List TableId
   pub homes : List (Home MachineState)
   pub opened : AreOpened table homes
   pub callers : List CallerState
   pub text : Output
-  pub course : IsCourse reads table (names_in table).tenants table.global.shards input (new_caller slots homes)
+  pub course : IsCourse port reads table (names_in table).tenants table.global.shards input (new_caller slots homes)
       (so_far, 0) callers text
   pub shards : List LoggedShard
   pub calls : AreShardRuns MachineDoes homes callers shards
@@ -71,5 +79,5 @@ pub record IsServed (reads : Reads) (table : SettingsData) (audit : Bool) (input
   pub logged : AreLogged table shards
   pub count : length shards ≡ table.global.shards
   pub numbered : (k : ℕ) (s : LoggedShard) → slice_get shards k ≡ Some s → s.number ≡ k
-  pub kept : audit ≡ true → All (λ s. s.keeps ≡ true) shards
+  pub kept : All (λ s. s.keeps ≡ audit) shards
   pub lines : IsFollowed audit (audit_text shards) text (written, lost)

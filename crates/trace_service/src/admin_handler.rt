@@ -393,6 +393,7 @@ impl<'c, 'h, J: Naming, R: Wait + Clock> AdminHandler<'c, 'h, J, R> {
     fn drain(&self) -> Result<Reply, AllocError>
         ensures { IfOk result (λ reply. response_of reply ≡ drained_reply) }
     {
+        self.signals().ask_end();
         self.port.desk.end(self.context.rt());
         notice(self.context.alloc(), 200, "state", "draining")
     }
@@ -507,7 +508,10 @@ fn not_let_in(alloc: Global) -> Result<Reply, AllocError>
 fn is_for_all(asked: &AdminRoute<'_>) -> bool
     ensures { result ≡ is_for_all (route_view asked.now) }
 {
-    matches!(asked, AdminRoute::Page | AdminRoute::Health)
+    matches!(
+        asked,
+        AdminRoute::Page | AdminRoute::Health | AdminRoute::Readiness
+    )
 }
 
 /// Whether a change is asked for: that the service ends, or that a tenant comes or goes.

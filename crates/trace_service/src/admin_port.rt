@@ -1,5 +1,7 @@
 //! Where a service is looked after.
 
+ghost use Rattle.std.specs.Prelude.{◌≡◌, is_some};
+
 use crate::desk::AdminDesk;
 use crate::entrance::Entrance;
 use crate::visit::Patience;
@@ -17,6 +19,10 @@ const LONGEST_REST: u64 = 1;
 
 /// So many seconds a request may take.
 const LONGEST_REQUEST: u64 = 5;
+
+/// So many bytes a request may have. It is whole before its token is looked at, so whoever reaches the address can have
+/// all threads hold as many; a document of settings has far fewer.
+const LARGEST_REQUEST: u64 = 1_048_576;
 
 /// Where a service is looked after: at an address of its own.
 #[derive(Clone, Copy)]
@@ -45,6 +51,7 @@ impl<'h> AdminEntrance<'h> {
         let patience = Patience {
             rest: Some(Duration::from_secs(LONGEST_REST)),
             request: Some(Duration::from_secs(LONGEST_REQUEST)),
+            bytes: Some(LARGEST_REQUEST),
         };
         AdminEntrance {
             port,
@@ -54,7 +61,9 @@ impl<'h> AdminEntrance<'h> {
 }
 
 /// Where a service is looked after that has this port, if any.
-pub(crate) fn admin_entrance_of<'h>(port: Option<AdminPort<'h>>) -> Option<AdminEntrance<'h>> {
+pub(crate) fn admin_entrance_of<'h>(port: Option<AdminPort<'h>>) -> Option<AdminEntrance<'h>>
+    ensures { is_some result ≡ is_some port.entry }
+{
     match port {
         Some(port) => Some(AdminEntrance::at(port)),
         None => None,

@@ -17,6 +17,7 @@ use std::time::{Clock, Instant};
 pub(crate) struct Signals {
     // How many threads are at their work.
     here: AtomicUsize,
+    end_asked: AtomicBool,
     closing: AtomicBool,
     over: AtomicBool,
     bells: Bells,
@@ -32,6 +33,7 @@ impl Signals {
     pub fn new(alloc: Global, shards: usize, senders: u32) -> Result<Signals, AllocError> {
         Ok(Signals {
             here: AtomicUsize::new(0),
+            end_asked: AtomicBool::new(false),
             closing: AtomicBool::new(false),
             over: AtomicBool::new(false),
             bells: Bells::new(alloc, shards, senders)?,
@@ -108,6 +110,16 @@ impl Signals {
     /// How many threads are at their work.
     pub fn here(&self) -> usize {
         self.here.load(Ordering::SeqCst)
+    }
+
+    /// The service is to end: no tenant that goes is waited for any longer, since all are drained.
+    pub fn ask_end(&self) {
+        self.end_asked.store(true, Ordering::SeqCst);
+    }
+
+    /// Whether the service is to end.
+    pub fn is_end_asked(&self) -> bool {
+        self.end_asked.load(Ordering::SeqCst)
     }
 
     /// No more connections are to be served.

@@ -1,6 +1,6 @@
 //! Tenants that come and go while the service runs, as lines of the input ask.
 
-ghost use Rattle.std.specs.Prelude.{◌≡◌, ◌<◌, ◌%◌, Ok, length, string_bytes, vec_len, vec_capacity, true, IfOk, IfErr};
+ghost use Rattle.std.specs.Prelude.{◌≡◌, ◌<◌, ◌%◌, Ok, length, string_bytes, vec_len, vec_capacity, true, false, IfOk, IfErr};
 ghost use Rattle.std.specs.IoError.{error_kind};
 ghost use Rattle.shared_hub.specs.Logs.{IsEmptyOn};
 ghost use Rattle.tail_settings.specs.Fault.{fault_view};
@@ -198,15 +198,17 @@ where
     }
 
     /// Has the tenant of this name send what it holds, waits until that is done, lets it go, and prints what came of
-    /// it. Meanwhile no other line is answered. Where there is no tenant of this name nothing is done.
+    /// it. Meanwhile no other line is answered. A service that is looked after may be told there to end before that is
+    /// done: then the tenant stays. Where there is no tenant of this name nothing is done.
     pub fn retire<O: Write>(
         &mut self,
         roster: &mut Roster,
         output: &mut O,
         lost: &mut u64,
         name: &[u8],
+        is_looked_after: bool,
     )
-        ensures retired { RetiresNamed name.now self.old roster.old
+        ensures retired { RetiresNamed is_looked_after name.now self.old roster.old
             (O.contents output.old, lost.old) self.new roster.new
             (O.contents output.new, lost.new) }
         ensures hub { self.new.context.hub ≡ self.old.context.hub }
@@ -216,7 +218,7 @@ where
         };
         let number = tenant.number;
         self.make(number, Chore::Drain);
-        self.await_tenant(number);
+        self.await_tenant(number, is_looked_after);
         let outcome = self.make(number, Chore::Retire);
         let line = self.line_again(CommandReply::Outcome {
             name: tenant.name.as_str(),
@@ -226,16 +228,20 @@ where
         write_text(output, line.as_slice(), lost);
     }
 
-    /// Waits until this tenant holds no span.
-    fn await_tenant(&mut self, tenant: u32)
-        ensures empty { IsEmptyOn self.old.context.caller (tenant % length self.old.context.hub.now)
-            tenant true }
+    /// Waits until this tenant holds no span, or where the service is looked after until it is told there to end: else
+    /// a back end that hangs would keep all others from being drained.
+    fn await_tenant(&mut self, tenant: u32, is_looked_after: bool)
+        ensures empty { is_looked_after ≡ false → IsEmptyOn self.old.context.caller
+            (tenant % length self.old.context.hub.now) tenant true }
         ensures caller { self.new.context.caller ≡ self.old.context.caller }
         ensures last { self.new.beat.last ≡ self.old.beat.last }
         ensures hub { self.new.context.hub ≡ self.old.context.hub }
     {
         'looks: for _ in self.rt.forever() {
             if self.context.is_empty(tenant) {
+                return;
+            }
+            if is_looked_after && self.context.signals().is_end_asked() {
                 return;
             }
             self.beat.again().pause();

@@ -157,9 +157,10 @@ impl<'h, J: Naming, R: Wait + Clock> WorkerContext<'h, J, R> {
     /// Asks for this tenant's counters. No turner is told: what is due after it is due by the time, and its shard's
     /// turner looks for that by itself.
     pub fn look(&mut self, tenant: u32) -> Result<Outcome, HubFault>
-        ensures call { IfOk result (λ outcome. (now : ℕ) × (receipt : Option Receipt)
+        ensures call { IfOk result (λ outcome. (receipt : Option Receipt)
             × IsStepOn self.old.caller self.new.caller (tenant % length self.old.hub.now)
-            (steps.Report tenant now) outcome receipt) }
+            (steps.Report tenant self.new.beat.last) outcome receipt) }
+        ensures moment { self.old.beat.last ≤ self.new.beat.last }
         ensures on_refusal { OnErr result (IsRefusedOn self.old.caller self.new.caller
             (tenant % length self.old.hub.now)) }
         ensures fault { IfErr result (λ fault. fault ≡ faults.OutOfMemory) }

@@ -70,7 +70,15 @@ where
         let mut roster = mem::replace(&mut self.roster, Roster::new(self.alloc));
         observer.observe(Stage::Serving);
         let mut lost = 0;
-        let heard = self.read_commands(&mut roster, input, output, &mut lost, observer);
+        let is_looked_after = self.admin.is_some();
+        let heard = self.read_commands(
+            &mut roster,
+            input,
+            output,
+            &mut lost,
+            observer,
+            is_looked_after,
+        );
         observer.observe(Stage::Draining);
         self.drain_all(roster.tenants());
         self.beat.signals().close();
@@ -100,10 +108,11 @@ where
         output: &mut O,
         lost: &mut u64,
         observer: &mut L,
+        is_looked_after: bool,
     ) -> Result<(), ServiceFault>
         ensures commands_read { OnOk result
-            (ReadsCommands D.reads J.first (I.remaining input.old) self.old roster.old
-            (O.contents output.old, lost.old) self.new roster.new
+            (ReadsCommands is_looked_after D.reads J.first (I.remaining input.old) self.old
+            roster.old (O.contents output.old, lost.old) self.new roster.new
             (O.contents output.new, lost.new)) }
         ensures hub { self.new.context.hub ≡ self.old.context.hub }
     {
@@ -116,7 +125,7 @@ where
                 let line = line.as_slice();
                 observer.observe(Stage::Skipped { line });
             }
-            self.run_command(roster, output, lost, line.as_slice());
+            self.run_command(roster, output, lost, line.as_slice(), is_looked_after);
         }
         unreachable!()
     }
@@ -128,8 +137,9 @@ where
         output: &mut O,
         lost: &mut u64,
         line: &[u8],
+        is_looked_after: bool,
     )
-        ensures answered { Answers D.reads J.first line.now self.old roster.old
+        ensures answered { Answers is_looked_after D.reads J.first line.now self.old roster.old
             (O.contents output.old, lost.old) self.new roster.new
             (O.contents output.new, lost.new) }
         ensures hub { self.new.context.hub ≡ self.old.context.hub }
@@ -141,7 +151,7 @@ where
             return self.add(roster, output, lost, path);
         }
         if let Some(name) = line.strip_prefix(b"retire ".as_slice()) {
-            self.retire(roster, output, lost, name);
+            self.retire(roster, output, lost, name, is_looked_after);
         }
     }
 

@@ -1,6 +1,6 @@
 //! The service, from its start to its end.
 
-ghost use Rattle.std.specs.Prelude.{◌≡◌, ◌<◌, ◌+◌, length, All, IfOk, replicate, vec_len};
+ghost use Rattle.std.specs.Prelude.{◌≡◌, ◌<◌, ◌+◌, length, All, IfOk, is_some, replicate, vec_len};
 ghost use Rattle.std.specs.IoError.{error_kind};
 ghost use Rattle.std.specs.Thread.{IsSync};
 ghost use Rattle.job_lane.specs.Lane.{new_seat};
@@ -14,7 +14,7 @@ ghost use Rattle.trace_service.specs.Control.{Directs};
 ghost use Rattle.trace_service.specs.Fault.{IsOfLine};
 ghost use Rattle.trace_service.specs.Jobs.{AreThreads, IsThread};
 ghost use Rattle.trace_service.specs.Roster.{present_in};
-ghost use Rattle.trace_service.specs.Whole.{IsCourse, IsServed};
+ghost use Rattle.trace_service.specs.Whole.{IsCourseIfOk, IsServed};
 ghost use Rattle.trace_service.specs.declared.service.ServiceFault.TheVariants as faults;
 
 use crate::assignment::{assign_threads, collect_callers};
@@ -110,8 +110,8 @@ where
     I: BufRead,
     O: Write,
     L: Observer,
-    ensures { IfOk result (IsServed D.reads (settings_view settings) start.now.options.audit
-        (I.remaining console.old.input) (O.contents console.old.output)
+    ensures { IfOk result (IsServed (is_some start.now.admin) D.reads (settings_view settings)
+        start.now.options.audit (I.remaining console.old.input) (O.contents console.old.output)
         (O.contents console.new.output)) }
 {
     let global = &settings.global;
@@ -187,8 +187,8 @@ where
     requires new { All (λ c. c ≡ J.fresh) opened.callers.items }
     requires shards { length J.slots ≡ settings.global.shards }
     requires enough { vec_len opened.callers ≡ 1 + vec_len opened.seats }
-    ensures { IfOk result (IsServed D.reads (settings_view settings) start.now.options.audit
-        (I.remaining console.old.input) (O.contents console.old.output)
+    ensures { IfOk result (IsServed (is_some start.now.admin) D.reads (settings_view settings)
+        start.now.options.audit (I.remaining console.old.input) (O.contents console.old.output)
         (O.contents console.new.output)) }
 {
     let Opened {
@@ -276,10 +276,9 @@ where
     ensures same_lane { IfOk result (λ r. All (λ s. s.lane ≡ J.lane) r.1.items) }
     ensures all_seats { IfOk result (λ r. vec_len r.1 ≡ vec_len seats) }
     ensures threads { IfOk result (λ r. AreThreads (length J.slots) J.fresh r.0.items r.1.items) }
-    ensures course { IfOk result (λ r. IfOk r.2
-        (λ lost. IsCourse D.reads J.first (present_in roster) (length J.slots)
-        (I.remaining console.old.input) J.fresh (O.contents console.old.output, 0) r.0.items
-        (O.contents console.new.output, lost))) }
+    ensures course { IfOk result (λ r. IsCourseIfOk (is_some start.now.admin) D.reads J.first
+        (present_in roster) (length J.slots) (I.remaining console.old.input) J.fresh
+        (O.contents console.old.output) r.0.items (O.contents console.new.output) r.2) }
 {
     let shared = Shared::at(start, workplace, limits, callers.len())?;
     let shards = shared.hub.shards();

@@ -1,6 +1,6 @@
 //! What all threads share.
 
-ghost use Rattle.std.specs.Prelude.{◌≡◌, ◌<◌, ◌≤◌, IfOk, length, unwrap_or, if◌then◌else◌};
+ghost use Rattle.std.specs.Prelude.{◌≡◌, ◌<◌, ◌≤◌, None, IfOk, length, unwrap_or, if◌then◌else◌};
 ghost use Rattle.machine_hub.specs.Hub.{slots_of};
 ghost use Rattle.tail_settings.specs.Settings.{settings_view};
 
@@ -53,6 +53,7 @@ impl ServiceLimits {
         ensures parts { result.parts ≡ global.now.parts }
         ensures rest { result.patience.rest ≡ options.now.client_timeout }
         ensures request { result.patience.request ≡ options.now.request_timeout }
+        ensures bytes { result.patience.bytes ≡ None }
         ensures back_end { result.back_end_timeout ≡ options.now.back_end_timeout }
     {
         ServiceLimits {
@@ -62,6 +63,7 @@ impl ServiceLimits {
             patience: Patience {
                 rest: options.client_timeout,
                 request: options.request_timeout,
+                bytes: None,
             },
             back_end_timeout: options.back_end_timeout,
             parts: global.parts,
@@ -128,7 +130,7 @@ pub(crate) struct Shared<'h, J: Naming, R> {
 }
 
 impl<'h, J: Naming, R: Wait + Clock> Shared<'h, J, R> {
-    ghost use Rattle.std.specs.Prelude.{◌≡◌, ◌<◌, IfOk, length};
+    ghost use Rattle.std.specs.Prelude.{◌≡◌, ◌<◌, IfOk, is_some, length};
 
     /// So many threads share this workplace, from now on.
     pub fn at<D>(
@@ -139,6 +141,7 @@ impl<'h, J: Naming, R: Wait + Clock> Shared<'h, J, R> {
     ) -> io::Result<Shared<'h, J, R>>
         ensures hub { IfOk result (λ shared. shared.hub.now ≡ workplace.now.hub) }
         ensures lane { IfOk result (λ shared. shared.lane.now ≡ workplace.now.lane) }
+        ensures admin { IfOk result (λ shared. is_some shared.admin ≡ is_some start.now.admin) }
     {
         let since = Instant::now(start.rt)?;
         Ok(Shared {
@@ -156,7 +159,9 @@ impl<'h, J: Naming, R: Wait + Clock> Shared<'h, J, R> {
     }
 
     /// Where whoever looks after the service comes in.
-    pub fn admin_listener(&self) -> Option<&'h TcpListener> {
+    pub fn admin_listener(&self) -> Option<&'h TcpListener>
+        ensures { is_some result ≡ is_some self.now.admin }
+    {
         match &self.admin {
             Some(admin) => Some(admin.port.listener),
             None => None,

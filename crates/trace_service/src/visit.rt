@@ -1,4 +1,7 @@
-//! A client's connection, and how long it may take.
+//! A client's connection, how long it may take, and how many bytes.
+
+ghost use Rattle.std.specs.Prelude.{◌≡◌, ◌+◌, ◌-◌, ◌^◌, min};
+ghost use Rattle.trace_service.specs.Visit.{is_within};
 
 use crate::beat::Signals;
 use std::io;
@@ -6,13 +9,15 @@ use std::io::{ErrorKind, Read, Write};
 use std::net::TcpStream;
 use std::time::{Clock, Duration, Instant};
 
-/// How long is waited for a client. None is for ever; no limit is 0.
+/// How long is waited for a client, and for how many bytes. None is for ever, and for any number; no limit is 0.
 #[derive(Clone, Copy, Debug)]
 pub(crate) struct Patience {
     /// For more of what it sends, or until it takes more of a reply.
     pub rest: Option<Duration>,
     /// For a whole request, from its first byte on.
     pub request: Option<Duration>,
+    /// Of a request, its head among them, and of what comes before its reply is begun.
+    pub bytes: Option<u64>,
 }
 
 /// Who came in.
@@ -27,8 +32,9 @@ pub(crate) struct Client<'h> {
 const INTERIM: &[u8] = b"HTTP/1.1 1";
 
 /// A client's connection as it is served. What is read from a reply on, or from the start, is a request until the next
-/// reply is begun: a read of it that would end later than it may fails. Once the work is over the connection ends where
-/// a request would begin: so who asks again and again doesn't keep the service from ending.
+/// reply is begun: a read of it that would end later than it may fails, and one by which it has more bytes than it may.
+/// Once the work is over the connection ends where a request would begin: so who asks again and again doesn't keep the
+/// service from ending.
 #[derive(Drop)]
 pub(crate) struct Visit<'v, R> {
     rt: &'v R,
@@ -41,6 +47,8 @@ pub(crate) struct Visit<'v, R> {
     began: Option<Instant>,
     // Whether the last read had what was left to a request as its limit.
     is_cut: bool,
+    // How many bytes of the request were read. At 2^64 - 1 it stays.
+    come: u64,
 }
 
 impl<'v, R: Clock> Visit<'v, R> {
@@ -54,6 +62,7 @@ impl<'v, R: Clock> Visit<'v, R> {
             is_asked: false,
             began: None,
             is_cut: false,
+            come: 0,
         }
     }
 
@@ -77,6 +86,18 @@ impl<'v, R: Clock> Visit<'v, R> {
         let rest = self.patience.rest.unwrap_or(left);
         self.stream.set_read_timeout(Some(rest.min(left)))
     }
+
+    /// Counts what a read brought. False where the request has more bytes than it may.
+    fn note_read(&mut self, count: u64) -> bool
+        ensures come { self.new.come ≡ min (self.old.come + count) (2 ^ 64 - 1) }
+        ensures within { result ≡ is_within self.new.come self.old.patience.bytes }
+    {
+        self.come = self.come.saturating_add(count);
+        match self.patience.bytes {
+            Some(most) => self.come <= most,
+            None => true,
+        }
+    }
 }
 
 impl<R: Clock> Read for Visit<'_, R> {
@@ -90,6 +111,9 @@ impl<R: Clock> Read for Visit<'_, R> {
         if self.began.is_none() && self.patience.request.is_some() {
             self.began = Instant::now(self.rt).ok();
         }
+        if !self.note_read(count as u64) {
+            return Err(io::Error::from(ErrorKind::FileTooLarge));
+        }
         Ok(count)
     }
 }
@@ -97,6 +121,7 @@ impl<R: Clock> Read for Visit<'_, R> {
 impl<R: Clock> Write for Visit<'_, R> {
     fn write(&mut self, buf: &[u8]) -> io::Result<usize> {
         self.began = None;
+        self.come = 0;
         self.is_asked = buf.starts_with(INTERIM);
         self.stream.write(buf)
     }

@@ -232,17 +232,18 @@ impl<'h, J: Naming, R: Wait + Clock> Reception for WorkerContext<'h, J, R> {
 
     type Door = Entrance<'h>;
 
+    ghost use Rattle.std.specs.Prelude.{◌≡◌};
     ghost use Rattle.trace_service.specs.Receiving.{IsTalk};
 
-    // What threads told one another and who comes is not known.
-    ghost looks = { λ _ _ _. Unit {0} };
+    // What threads told one another and who comes is not known; no shard is called meanwhile.
+    ghost looks = { λ old _ new. new.caller ≡ old.caller };
 
-    ghost takes = { λ _ _ _. Unit {0} };
+    ghost takes = { λ old _ new. new.caller ≡ old.caller };
 
     // Over whatever connection, what is written are this context's replies to what is read.
     ghost serves = { λ old _ new. IsTalk ⟦<WorkerContext<'h, J, R> as Handler>⟧.answers old new };
 
-    ghost rests = { λ _ _. Unit {0} };
+    ghost rests = { λ old new. new.caller ≡ old.caller };
 
     fn is_closing(&mut self) -> bool {
         self.signals().is_closing()

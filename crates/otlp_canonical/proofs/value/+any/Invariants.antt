@@ -17,7 +17,10 @@ abbrev pub decreases-list : goal.decreases-list
 decreases-list l = 2 * l.room
 
 abbrev pub decreases-key_value : goal.decreases-key_value
-decreases-key_value l = 2 * l.room
+decreases-key_value l = 2 * l.room + 1
+
+abbrev pub decreases-any_pair : goal.decreases-any_pair
+decreases-any_pair l = 2 * l.room
 
 -- what is left is an array's text, and then so is the whole
 abbrev pub invariant-array-values : goal.invariant-array-values

@@ -28,11 +28,11 @@ returns-in_err-field-clause-exact g c =
     let p = err_from_is_err_and c.from_residual.result c.from_residual.ensures.1 in
     stops g.M.Walked.view c.fields.invariant.read.kept c.in_err-field.ensures.exact p.1 p.2
 
-pub returns-in_err-value-clause-exact : goal.returns-in_err-value-clause-exact
-returns-in_err-value-clause-exact g c =
-    let p = err_from_is_err_and c.from_residual-in_err-value.result c.from_residual-in_err-value.ensures.1 in
+pub returns-in_err-field-2-clause-exact : goal.returns-in_err-field-2-clause-exact
+returns-in_err-field-2-clause-exact g c =
+    let p = err_from_is_err_and c.from_residual-in_err-field-2.result c.from_residual-in_err-field-2.ensures.1 in
     let found : next_at (101 - c.args.room) c.fields.left.now ≡ Ok (Some (entry c.in-Some.field, c.in-Some.rest.now)) = search rules in
-    fails g.M.Walked.view c.fields.invariant.read.kept found (c.in_err-value.ensures.exact (c.args.room - 1) _) p.1 p.2
+    fails g.M.Walked.view c.fields.invariant.read.kept found (c.in_err-field-2.ensures.exact (c.args.room - 1) _) p.1 p.2
 
 pub field-requires-clause-stands : goal.field-requires-clause-stands
 field-requires-clause-stands g c content is =
@@ -46,11 +46,11 @@ fields-preserved g c =
     let begins : Begins (101 - c.args.room) c.fields.left.now (entry c.in-Some.field) c.in-Some.rest.now = next_takes (101 - c.args.room) c.fields.left.now (entry c.in-Some.field) c.in-Some.rest.now found in
     record {
       read = record {
-        kept = goes_on c.fields.invariant.read.kept found (c.in_ok-value.ensures.exact (c.args.room - 1) _);
+        kept = goes_on c.fields.invariant.read.kept found (c.in_ok-field-2.ensures.exact (c.args.room - 1) _);
         taken = c.fields.invariant.read.taken ++ begins.front;
         parts = c.fields.invariant.read.parts ∙ ap (λ (t : List ℕ). c.fields.invariant.read.taken ++ t) begins.parts ∙ sym (append_assoc c.fields.invariant.read.taken begins.front c.in-Some.rest.now);
       };
-      held = let more = c.in_ok-value.ensures.sliced_within in let before = c.fields.invariant.held in omega (arith, more, before);
+      held = let more = c.in_ok-field-2.ensures.sliced_within in let before = c.fields.invariant.held in omega (arith, more, before);
     }
 
 pub returns-clause-exact : goal.returns-clause-exact

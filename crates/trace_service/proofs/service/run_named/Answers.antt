@@ -1,12 +1,12 @@
-use Rattle.std.proofs.Common.{◌≡◌, ◌∙◌, ℕ, sym, subst, ap, length, All, arith}
+use Rattle.std.proofs.Common.{◌≡◌, ◌∙◌, ℕ, is_some, sym, subst, ap, length, All, arith}
 use Rattle.job_lane.specs.Lane.{LaneName, LaneShape, SeatLists}
 use Rattle.machine_hub.specs.Hub.{new_caller}
 use Rattle.otlp_front.specs.Route.{names_in}
 use Rattle.trace_service.specs.Audit.{audit_text, IsFollowed}
 use Rattle.trace_service.specs.Output.{Output}
 use Rattle.trace_service.specs.Roster.{present_in}
-use Rattle.trace_service.proofs.Audited.{are_numbered}
-use Rattle.trace_service.proofs.Coursed.{course_told, kept_if}
+use Rattle.trace_service.proofs.Audited.{are_kept, are_numbered}
+use Rattle.trace_service.proofs.Coursed.{course_told}
 use Rattle.trace_service.proofs.Jobs.{threads_told}
 use Rattle.tail_settings.specs.Settings.{settings_view}
 use Rattle.trace_service.proofs.service.run_named.Goals as goal
@@ -35,7 +35,7 @@ returns g c =
       opened = c.requires.opened;
       callers = callers;
       text = text before;
-      course = course_told g.D.Documents.reads c.in_ok-callers.ended before g.J.Naming.first table (present_in c.in_ok-roster.roster) (names_in table).tenants (length slots) table.global.shards
+      course = course_told (is_some c.args.start.now.admin) g.D.Documents.reads c.in_ok-callers.ended before g.J.Naming.first table (present_in c.in_ok-roster.roster) (names_in table).tenants (length slots) table.global.shards
           (g.I.Read.remaining c.args.console.now.input) (g.O.Write.contents c.args.console.now.output) written g.J.Naming.fresh (new_caller slots homes) callers
           c.in_ok-ended.was (sym c.requires.first) c.in_ok-roster.ensures c.requires.shards c.requires.fresh c.in_ok-callers.ensures.course;
       shards = shards;
@@ -52,7 +52,7 @@ returns g c =
       logged = c.end_hub-shards.ensures.logged table c.requires.opened;
       count = runs.count ∙ c.requires.opened.count;
       numbered = are_numbered table homes callers shards runs c.requires.opened;
-      kept = kept_if table homes callers shards runs table.global.shards c.args.start.now.options.audit c.requires.keeps;
+      kept = are_kept table homes callers shards runs c.args.start.now.options.audit table.global.shards c.requires.keeps;
       lines = subst (λ lost. IsFollowed c.args.start.now.options.audit (audit_text shards) (text lost) ended) found
           (rw c.as_slice.ensures.value at c.in_ok-write_audit.ensures);
     }

@@ -15,7 +15,7 @@ pub returns-in-Ok-Nowhere : goal.returns-in-Ok-Nowhere
 returns-in-Ok-Nowhere g c =
     let found = c.in-Ok-Nowhere.ensures in
     let message = seen c.args.message in
-    handled found.0 found.1 (sent_nowhere _ _ _ _ _ message.body _ (route_of (names_in found.0) message) found.0 c.in-Ok-Nowhere.refusal (rw c.in-Ok-Nowhere.field-0-is at found.2) refl c.refused.ensures)
+    handled found.0 found.1 (sent_nowhere _ _ _ _ _ message.body _ (route_of (names_in found.0) message) found.0 c.in-Ok-Nowhere.refusal (rw c.in-Ok-Nowhere.field-0-is at found.2) refl refl c.refused.ensures)
 
 pub returns-in-Err : goal.returns-in-Err
 returns-in-Err g c = not_copied refl refl c.without_memory.ensures

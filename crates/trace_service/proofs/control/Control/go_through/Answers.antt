@@ -1,4 +1,4 @@
-use Rattle.std.proofs.Common.{length, ◌∙◌}
+use Rattle.std.proofs.Common.{is_some, length, ◌∙◌}
 use Rattle.trace_service.specs.Roster.{present_in}
 use Rattle.trace_service.proofs.Coursed.{directed}
 use Rattle.trace_service.proofs.control.Control.go_through.Goals as goal
@@ -9,11 +9,11 @@ returns g c =
     let drained = c.drain_all.ensures in
     let waited = c.await_empty.ensures in
     let hub = drained.hub ∙ heard.hub in
-    directed g.D.Documents.reads c.read_commands-heard.result _ g.J.Naming.first (length c.args.self.now.context.hub.now) (present_in c.args.self.now.roster)
+    directed (is_some c.args.self.now.admin) g.D.Documents.reads c.read_commands-heard.result _ g.J.Naming.first (length c.args.self.now.context.hub.now) (present_in c.args.self.now.roster)
     c.read_commands-heard.new.roster.tenants.items _ _
     (g.O.Write.contents c.read_commands-heard.new.output, c.read_commands-heard.new.lost) _
     _ c.read_commands-heard.new.self.context.caller c.drain_all.new.self.context.caller _
     _ c.read_commands-heard.new.self.beat.last c.drain_all.new.self.beat.last _
-    c.in_ok-heard.was (rw c.replace-roster.ensures.value at heard.commands_read)
+    c.in_ok-heard.was (rw (c.is_some-is_looked_after.ensures, c.replace-roster.ensures.value) at heard.commands_read)
     (rw (heard.hub, c.tenants.ensures) at drained.drained) (rw (hub, c.tenants-2.ensures) at waited.empty)
     (rw (waited.hub ∙ hub, waited.caller, waited.last, c.tenants-3.ensures) at c.print_reports.ensures.reported)

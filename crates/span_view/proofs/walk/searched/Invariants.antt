@@ -1,7 +1,7 @@
 use Rattle.std.proofs.Common.{◌≡◌, ◌≤◌, length}
 use Rattle.span_view.specs.Fields.{told}
 use Rattle.span_view.specs.Reading.{fields_of}
-use Rattle.span_view.proofs.walk.next_told.Given as goal
+use Rattle.span_view.proofs.walk.searched.Given as goal
 
 abbrev pub invariant-fields : goal.invariant-fields
 invariant-fields l = record {

@@ -4,12 +4,12 @@ use Rattle.otlp_parts.specs.declared.held.ResourceReading.{ResourceReading}
 use Rattle.otlp_parts.specs.Kept.{counted, kept_resource_in, kept_resource_texts}
 use Rattle.otlp_parts.specs.Parts.{body_parts_view, resource_parts_view, resource_reading_view}
 use Rattle.otlp_parts.proofs.WithSpans.{reading_onto}
-use Rattle.otlp_parts.proofs.body.with_resource_spans.Goals as goal
+use Rattle.otlp_parts.proofs.body.add_resource_spans.Goals as goal
 
 pub returns-clause-exact : goal.returns-clause-exact
 returns-clause-exact c =
-    let before = body_parts_view c.args.before in
-    let after = body_parts_view c.in_ok-with_parts.field-0 in
+    let before = body_parts_view c.args.body.now in
+    let after = body_parts_view c.add_parts.new.body in
     let bytes = slice_range c.args.text.now c.args.start c.args.end in
     let reading : ResourceReading = c.in_ok-resource.resource in
     let read : kept_resource_in bytes ≡ Ok (resource_reading_view reading) = search rules in
