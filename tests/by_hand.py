@@ -15,6 +15,7 @@ KNOWN = [
     ("otlp_prepare/src/noted.rt", "SpanOrigin", {"PartialEq"}, "`same_origin`, of which `prepared_eq` is made"),
     ("otlp_prepare/src/prepared.rt", "Prepared", {"PartialEq"}, "`prepared_eq` of its specs/Equal"),
     ("otlp_trace/src/octets.rt", "Octets", {"Clone", "PartialEq", "Eq"}, "byte for byte, as of lists"),
+    ("text_slice/src/text_slice.rt", "TextSlice", {"PartialEq", "Eq"}, "byte for byte, as of lists"),
     ("otlp_trace/src/repeated.rt", "Repeated", {"PartialEq", "Eq"}, "value for value, as of lists"),
 ]
 FOUND = [

@@ -20,7 +20,7 @@ import tempfile
 import threading
 from pathlib import Path
 
-from replay.make_script import attribute, number_field, piece, span
+from replay.make_script import attribute, number_field, piece, span, time_field
 
 ROOT = Path(__file__).resolve().parent.parent
 MOST = 2.2
@@ -28,6 +28,9 @@ ALL = '[[tenant.tail_sampling.policy]]\ntype = "always_sample"\n'
 NONE = '[[tenant.tail_sampling.policy]]\ntype = "status_code"\nstatus_codes = ["ERROR"]\n'
 SOME_VALUE = piece(1, b"v")
 ERROR = piece(15, number_field(3, 2))
+LINK = piece(1, b"\1" * 16) + piece(2, b"\2" * 8)
+# of what is posted at moment 0, once its wait is over
+DUE = "turn 0 1000\n"
 
 
 def batches(size, timeout=0, consumers=1000):
@@ -60,7 +63,7 @@ def post(moment, text, name="a"):
 def resources_and_spans(n):
     """n spans of one trace under a resource with a text of 30 n bytes: a product of both would be four times as much."""
     body = request([ids(1, at) for at in range(n)], attribute(1, "k", "v" * 30 * n))
-    return tenant(), post(0, body) + "turn 0 1000\n", "job a 1 "
+    return tenant(), post(0, body) + DUE, "job a 1 "
 
 
 def attributes(n):
@@ -69,7 +72,7 @@ def attributes(n):
     wanted = "".join(f'[[tenant.tail_sampling.policy]]\ntype = "string_attribute"\nkey = "{last}"\nvalues = ["{value}"]\n'
                      for value in "wxyzv")
     body = request([ids(1, 1) + b"".join(attribute(9, f"key-{at:08}", "v") for at in range(n))])
-    return tenant(policies=wanted), post(0, body) + "turn 0 1000\n", "job a 1 "
+    return tenant(policies=wanted), post(0, body) + DUE, "job a 1 "
 
 
 def nesting(n):
@@ -78,25 +81,56 @@ def nesting(n):
     for _ in range(47):
         value = piece(5, piece(1, value))
     body = request([ids(1, 1) + piece(9, piece(1, b"k") + piece(2, value)) * n])
-    return tenant(), post(0, body) + "turn 0 1000\n", "job a 1 "
+    return tenant(), post(0, body) + DUE, "job a 1 "
 
 
 def unknown_fields(n):
     """One span of n unknown fields, which stand before its ids, so that it is written anew."""
-    return tenant(), post(0, request([number_field(100, 1) * n + ids(1, 1)])) + "turn 0 1000\n", "job a 1 "
+    return tenant(), post(0, request([number_field(100, 1) * n + ids(1, 1)])) + DUE, "job a 1 "
+
+
+def spans_reversed(n):
+    """n spans whose fields stand in reverse order, so that each is copied in order."""
+    fields = [piece(5, b"name"), number_field(6, 2), time_field(7, 1), time_field(8, 2), attribute(9, "k", "v"), ERROR]
+    return tenant(), post(0, request([b"".join([*reversed(fields), ids(1, at)]) for at in range(n)])) + DUE, "job a 1 "
+
+
+def spans_with_defaults(n):
+    """n spans with a trace state of no bytes and a kind of 0, which are copied without them."""
+    defaults = piece(3, b"") + number_field(6, 0)
+    return tenant(), post(0, request([ids(1, at) + defaults for at in range(n)])) + DUE, "job a 1 "
+
+
+def spans_sorted_for_nothing(n):
+    """n spans in reverse order with a name twice, each of which is read as a message and written anew."""
+    name = piece(5, b"name")
+    others = name + ERROR + attribute(9, "k", "v") + name
+    return tenant(), post(0, request([others + ids(1, at) for at in range(n)])) + DUE, "job a 1 "
+
+
+def fields_in_turn(n):
+    """One span of n attributes, n events, n links and n unknown fields in turn, before its ids."""
+    turn = (piece(13, LINK) + number_field(100, 1) + piece(11, time_field(1, 1)) + attribute(9, "k", "v"))
+    return tenant(), post(0, request([turn * n + ids(1, 1)])) + DUE, "job a 1 "
+
+
+def fields_reversed(n):
+    """One span of n links, then n events, then n attributes, and then its ids."""
+    fields = (piece(13, LINK), piece(11, time_field(1, 1)), attribute(9, "k", "v"))
+    return tenant(), post(0, request([b"".join(field * n for field in fields) + ids(1, 1)])) + DUE, "job a 1 "
 
 
 def resource_again(n):
     """A resource that stands n times, merged."""
     body = piece(1, piece(1, attribute(1, "k", "v")) * n + piece(2, piece(2, ids(1, 1))))
-    return tenant(), post(0, body) + "turn 0 1000\n", "job a 1 "
+    return tenant(), post(0, body) + DUE, "job a 1 "
 
 
 def different_resources(n):
     """n resources with a span of a trace each, as long as a resource with a name is; half of them stand twice."""
     body = b"".join(piece(1, piece(1, attribute(1, "k", f"v-{at % (n // 2):08}")) + piece(2, piece(2, ids(1, at))))
                     for at in range(n))
-    return tenant(), post(0, body) + "turn 0 1000\n", "job a 1 "
+    return tenant(), post(0, body) + DUE, "job a 1 "
 
 
 def empty_spans(n):
@@ -119,7 +153,7 @@ def chosen_traces(n):
 def due_at_once(n):
     """n traces of one body, all due in one turn, kept and cut into batches of 100 spans."""
     body = request([ids(at + 1, at) for at in range(n)])
-    return tenant(more=batches(100, timeout=200)), post(0, body) + "turn 0 1000\n" * (n // 100), "job a 1 "
+    return tenant(more=batches(100, timeout=200)), post(0, body) + DUE * (n // 100), "job a 1 "
 
 
 def due_and_pending(n):
@@ -128,10 +162,16 @@ def due_and_pending(n):
     return tenant(more=""), post(0, body) + "turn 0 1000\nturn 0 1200\n", "job a 1 "
 
 
+def due_and_turned(n):
+    """The same, and as many turns as there are traces, of which all but the first ones find nothing to do."""
+    body = request([ids(at + 1, at) for at in range(n)])
+    return tenant(more=""), post(0, body) + DUE * n + "turn 0 1200\n" * n, "job a 1 "
+
+
 def due_and_dropped(n):
-    """The same, of which the last alone is kept."""
+    """The same traces, of which the last alone is kept."""
     body = request([*(ids(at + 1, at) for at in range(n)), ids(n + 1, n) + ERROR])
-    return tenant(policies=NONE), post(0, body) + "turn 0 1000\n", "job a 1 "
+    return tenant(policies=NONE), post(0, body) + DUE, "job a 1 "
 
 
 def pushed_out(n):
@@ -142,7 +182,7 @@ def pushed_out(n):
 def late_spans(n):
     """n posts of a span to a trace that was kept already."""
     one = request([ids(1, 1)])
-    return tenant(more=batches(1)), post(0, one) + "turn 0 1000\n" + post(1000, one) * n, "job a 1 "
+    return tenant(more=batches(1)), post(0, one) + DUE + post(1000, one) * n, "job a 1 "
 
 
 def remembered(n):
@@ -155,7 +195,7 @@ def remembered(n):
 
 def posts_of_a_trace(n):
     """n posts of a span to one trace, which is kept."""
-    return (tenant(), "".join(post(0, request([ids(1, at)])) for at in range(n)) + "turn 0 1000\n", "job a 1 ")
+    return (tenant(), "".join(post(0, request([ids(1, at)])) for at in range(n)) + DUE, "job a 1 ")
 
 
 def drained(n):
@@ -168,7 +208,7 @@ def many_tenants(n):
     """n tenants in one shard: a post each, and then a turn each."""
     names = [f"tenant-{at}" for at in range(n)]
     return ("".join(tenant(name, traces=1000).replace("2000000", "2000") for name in names),
-            "".join(post(0, request([ids(1, 1)]), name) for name in names) + "turn 0 1000\n" * n, f"job tenant-{n - 1} 1 ")
+            "".join(post(0, request([ids(1, 1)]), name) for name in names) + DUE * n, f"job tenant-{n - 1} 1 ")
 
 
 def many_policies(n):
@@ -177,7 +217,7 @@ def many_policies(n):
     wanted = "".join(f'[[tenant.tail_sampling.policy]]\ntype = "string_attribute"\nkey = "http.route-{at}"\n'
                      f"values = [{values}]\n" for at in range(n))
     body = request([span(1, at) for at in range(50)])
-    return tenant(policies=wanted), post(0, body) * 20 + "turn 0 1000\n", "worked a\n"
+    return tenant(policies=wanted), post(0, body) * 20 + DUE, "worked a\n"
 
 
 def many_batches(n):
@@ -192,7 +232,7 @@ def many_retries(n):
     body = request([ids(at + 1, at) for at in range(n)])
     busy = "".join(f"answer a 1000 {at} 0 503 9 -\n" for at in range(1, n + 1))
     taken = "".join(f"answer a 99000 {at} 0 200 - -\n" for at in range(n + 1, 2 * n + 1))
-    return (tenant(more=batches(1)), post(0, body) + "turn 0 1000\n" * n + busy + "turn 0 99000\n" * n + taken,
+    return (tenant(more=batches(1)), post(0, body) + DUE * n + busy + "turn 0 99000\n" * n + taken,
             "done a\n")
 
 
@@ -212,6 +252,11 @@ SHAPES = {
     "attributes of a span": (attributes, 12_500),
     "nested attributes": (nesting, 500),
     "unknown fields": (unknown_fields, 25_000),
+    "spans in reverse order": (spans_reversed, 4_000),
+    "spans with defaults": (spans_with_defaults, 8_000),
+    "spans sorted for nothing": (spans_sorted_for_nothing, 4_000),
+    "fields of a span in turn": (fields_in_turn, 8_000),
+    "fields of a span reversed": (fields_reversed, 8_000),
     "a resource that stands again": (resource_again, 10_000),
     "different resources": (different_resources, 10_000),
     "empty spans": (empty_spans, 50_000),
@@ -219,6 +264,7 @@ SHAPES = {
     "traces of chosen ids": (chosen_traces, 4_000),
     "rows due at once, kept": (due_at_once, 8_000),
     "rows due at once, in no batch": (due_and_pending, 4_000),
+    "rows due at once, a turn each": (due_and_turned, 1_000),
     "rows due at once, dropped": (due_and_dropped, 8_000),
     "rows pushed out": (pushed_out, 4_000),
     "late spans": (late_spans, 4_000),

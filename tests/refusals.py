@@ -26,6 +26,7 @@ WORDS = TYPES | {"OutOfMemory", REPLY}
 # the file under crates/, the function, how often, and why
 KNOWN = [
     ("settings_check/src/read.rt", "document", 1, "the TOML reader's error says that it is want of memory"),
+    ("text_slice/src/text_slice.rt", "whole", 1, "a place in a block has 32 bits, and this block has more bytes"),
     ("tenant_pipeline/src/outbox.rt", "offer", 1, "the queue gives the batch back with its want of memory"),
     ("tail_settings/src/document.rt", "table", 1, "the TOML reader's error says that it is want of memory"),
     ("trace_collector_program/src/serve.rt", "from", 1, "a thread wasn't started for want of what one is started with"),

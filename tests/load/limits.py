@@ -4,8 +4,8 @@
 
     memory  under limits of its addresses (`prlimit --as`), from what it needs at rest to ample, it is posted bodies of
             200 spans as fast as they are answered. Then the load ends, and it is looked at within how many seconds
-            everything has left that it counts as accepted, how long a report took at most meanwhile, and how long its
-            end took after the end of its input
+            everything has left that it counts as accepted, how long a report took at most meanwhile, whether all threads
+            are there, and how long its end took after the end of its input
     ending  while clients rest, others send a byte a second, ten tenants' back ends take posts and don't answer, and
             another tenant is posted spans, the input ends: within how many seconds that tenant's spans came, all
             reports were printed, and the service was gone
@@ -35,13 +35,15 @@ HELD = ("undecided", "pending", "queued", "active")
 # the longest that anything may take after a load, and after the end of the input
 LEFT, ENDED = 10, 10
 NAME = b"n" * 400
+FIRST = b"\1FIRST\1\1"
+# Some 460 bytes a span, each trace of twelve; FIRST is where a post's number is to stand.
+BODY = talk.request(*((FIRST + (at // 12 + 1).to_bytes(8, "big"), (at + 1).to_bytes(8, "big"), piece(5, NAME))
+                      for at in range(SPANS)))
 faults = []
 
 
 def body(number):
-    """Some 460 bytes a span, each trace of twelve."""
-    return talk.request(*(((number * SPANS + at // 12).to_bytes(16, "big"), (at + 1).to_bytes(8, "big"),
-                           piece(5, NAME)) for at in range(SPANS)))
+    return BODY.replace(FIRST, number.to_bytes(8, "big"))
 
 
 class Client:
@@ -116,17 +118,17 @@ def settings_of(port, back_end):
 
 
 def at_rest(words):
-    """The addresses that it needs at rest, in MB."""
+    """The addresses that it needs at rest, in MB, and how many threads it has."""
     port = free_port()
     with measure.BackEnd(words.others, words.load) as back_end, tempfile.TemporaryDirectory() as folder:
         with Measured(words, folder, port, settings_of(port, back_end.port), words.options) as service:
             # All its threads are there by then, each with what it took at its start.
             time.sleep(2)
-            return service.kilobytes("VmPeak") // 1024 + 1
+            return service.kilobytes("VmPeak") // 1024 + 1, len(service.threads())
 
 
-def under(words, most):
-    """A row's figures where the service has so many MB of addresses."""
+def under(words, most, threads):
+    """A row's figures where the service has so many MB of addresses, and is to have so many threads."""
     port = free_port()
     with measure.BackEnd(words.others, words.load) as back_end, tempfile.TemporaryDirectory() as folder:
         try:
@@ -137,6 +139,9 @@ def under(words, most):
             return [str(fault).strip()] + [""] * 6
         with service:
             told = loaded(port, words.seconds, 4)
+            there = len(service.threads())
+            if there != threads:
+                faults.append(f"{most} MB: {there} threads of {threads} are there")
             heard = Heard(service)
             try:
                 left, longest, counts = until_empty(heard, LEFT)
@@ -163,11 +168,11 @@ def compare(most, told, counts, came, good):
 
 
 def memory(words):
-    least = at_rest(words)
+    least, threads = at_rest(words)
     head("Options", "Addresses, MB", "told 200, 503, broken, others", "accepted", "came", "all left within, s",
          "a report at most, s", "its end, s", "Status")
     for room in words.room:
-        row(words.name, least + room, *under(words, least + room))
+        row(words.name, least + room, *under(words, least + room, threads))
 
 
 def ending_sections(good, bad):

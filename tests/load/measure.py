@@ -162,7 +162,7 @@ def measured(words, load, folder, tenants, connections, rate):
         with Service(words.own, port, *program) as service:
             wait_for(service.is_up, "the service is up")
             before = service.seconds()
-            post = on(others, load, "post", *map(str, (port, tenants, connections, rate, words.seconds, SPANS)))
+            post = on(others, load, "post", *map(str, (port, tenants, connections, rate, words.seconds, words.spans)))
             with subprocess.Popen(post, stdout=subprocess.PIPE, text=True) as run:
                 time.sleep(words.seconds / 2)
                 half, sent = time.monotonic(), back_end.spans()
@@ -199,6 +199,7 @@ def main():
     asked.add_argument("--tenants", type=int, nargs="+", default=TENANTS)
     asked.add_argument("--connections", type=int, nargs="+", default=CONNECTIONS)
     asked.add_argument("--rates", type=int, nargs="+", default=(RATE, 0), help="requests a second, 0: all it takes")
+    asked.add_argument("--spans", type=int, default=SPANS, help="spans a body")
     add_processors(asked)
     words = asked.parse_args()
     wrong = 0

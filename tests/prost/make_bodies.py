@@ -1,9 +1,12 @@
 #!/usr/bin/env python3
 """make_bodies.py STORED FOLDER: bodies to make ready, and to decode and encode by prost.
 
-request.pb is the stored body. Of its spans each tenth (tenth.pb) or each (anew.pb) has an empty trace state first, so that
-its text isn't canonical. Half of oneN.pb and scopesN.pb, of some N bytes, is attributes of one resource, half is spans of
-30 bytes, in one scope or each in a scope of its own. emptyN.pb is spans of no fields."""
+request.pb is the stored body. Of its spans each tenth (tenth.pb) or each (anew.pb) has an empty trace state first, so
+that its text isn't canonical. Half of oneN.pb and scopesN.pb, of some N bytes, is attributes of one resource, half is
+spans of 30 bytes, in one scope or each in a scope of its own. emptyN.pb is spans of no fields. Each of the others has
+100 spans of some 480 bytes, with 19 fields each: in their order (ordered.pb), with the flags before the name
+(flags.pb), there with a count of 0 besides (count.pb), with the name at the end (last.pb), in reverse order
+(reverse.pb), and so with the name twice (twice.pb)."""
 import pathlib
 import struct
 import sys
@@ -101,6 +104,55 @@ def empty(size):
     return piece(1, piece(2, piece(2, b"") * (size // 2)))
 
 
+TEXTS = (("http.request.method", "GET"), ("http.route", "/v1/orders/{order}/items/{item}"), ("url.scheme", "https"),
+         ("server.address", "orders.internal.example"), ("network.protocol.version", "1.1"),
+         ("customer.tier", "silver"), ("user_agent.original", "orders-client/4.2 (linux)"),
+         ("code.function.name", "orders::items::read"), ("url.path", "/v1/orders/1a2b3c4d/items/77"),
+         ("thread.name", "pool-1"))
+
+
+def mixed(number):
+    """Another number for each number: the steps of splitmix64, as tests/load/post.rs has them."""
+    for shift, factor in ((30, 0xBF58476D1CE4E5B9), (27, 0x94D049BB133111EB), (31, 1)):
+        number = (number ^ number >> shift) * factor % 2**64
+    return number
+
+
+def text_attribute(key, value):
+    return piece(1, key.encode()) + piece(2, piece(1, value.encode()))
+
+
+def full_fields(index):
+    """A span's 19 fields in their order, each with its number."""
+    trace = mixed(1 << 12 | index // 12)
+    name = b"GET /v1/orders/{order}/items/{item}"
+    ids = [(1, struct.pack(">QQ", trace, mixed(2**64 - 1 - trace))), (2, struct.pack(">Q", mixed(index + 1))),
+           (4, struct.pack(">Q", mixed(index + 7))), (5, name)]
+    times = [(number, varint(number << 3 | 1) + struct.pack("<Q", moment + index))
+             for number, moment in ((7, 1_700_000_000_000_000_000), (8, 1_700_000_000_025_000_000))]
+    return [*((number, piece(number, text)) for number, text in ids), (6, varint(6 << 3) + varint(2)), *times,
+            *((9, piece(9, text_attribute(key, value))) for key, value in TEXTS), (15, piece(15, b"")),
+            (16, varint(16 << 3 | 5) + struct.pack("<I", 1))]
+
+
+NO_COUNT = (14, varint(14 << 3) + varint(0))
+ORDERS = {
+    "ordered": lambda fields: fields,
+    "flags": lambda fields: fields[:3] + fields[-1:] + fields[3:-1],
+    "count": lambda fields: fields[:3] + fields[-1:] + [NO_COUNT] + fields[3:-1],
+    "last": lambda fields: [field for field in fields if field[0] != 5] + fields[3:4],
+    "reverse": lambda fields: sorted(fields, key=lambda field: -field[0]),
+    "twice": lambda fields: [(5, piece(5, b"n")), *ORDERS["reverse"](fields)],
+}
+
+
+def ordered(order):
+    """A body of a hundred such spans, in this order."""
+    spans = (b"".join(text for _, text in order(full_fields(index))) for index in range(100))
+    resource = piece(1, text_attribute("service.name", "orders"))
+    return piece(1, piece(1, resource) + piece(2, b"".join(piece(2, text) for text in spans)))
+
+
 def main():
     stored, folder = pathlib.Path(sys.argv[1]).read_bytes(), pathlib.Path(sys.argv[2])
     bodies = {"request": stored, "tenth": anew(stored, 10), "anew": anew(stored, 1)}
@@ -108,6 +160,7 @@ def main():
         bodies[f"one{size}"] = one(size)
         bodies[f"scopes{size}"] = scopes(size)
     bodies["empty4194304"] = empty(4194304)
+    bodies |= {name: ordered(order) for name, order in ORDERS.items()}
     for name, body in bodies.items():
         (folder / f"{name}.pb").write_bytes(body)
         print(name, len(body))

@@ -7,8 +7,9 @@ from pathlib import Path
 from replay.make_script import piece
 from serving.talk import ERRORS, BackEnd, Service, body, check, in_threads, tenant, wait_for
 
-# Each of these spans has a resource of its own, so that a body takes many times its bytes while it is made ready.
-SPANS = 150_000
+# Each of these spans has a resource of its own, so that a body takes many times its bytes while it is made ready, and more
+# than what the service keeps back.
+SPANS = 400_000
 ROOMS = [int(8_000_000 * 1.4 ** step) for step in range(16)]
 
 BODY = 1_000_000

@@ -2,11 +2,12 @@
 
 import itertools
 import re
+import resource
 import tempfile
 import threading
 import time
 from collections import Counter
-from functools import partial
+from contextlib import contextmanager
 from pathlib import Path
 
 from replay.make_script import piece
@@ -30,6 +31,11 @@ HELD = ("undecided", "pending", "queued", "active")
 LONG = 60_000
 ENDED = 30
 FULL = (128, 256)
+# Of one that isn't given any more addresses so many bytes are taken beside: all that it keeps back, and what others let go.
+TAKEN = 64 << 20
+# what is posted to each tenant then, and until its spans are decided on
+FEW = 4
+LATE = 8_000
 HOW = {"shards": 2, "receivers": CLIENTS, "senders": 2, "parts": 1}
 # the C library gives each thread memory of its own, or what is free in that of one is there for all others
 HEAPS = {"heaps of their own": (), "one heap": ("env", "MALLOC_ARENA_MAX=1")}
@@ -52,8 +58,13 @@ def needed(folder, back_end, heaps, *options):
     """How many bytes of addresses it needs at rest."""
     with Service(folder, sections(back_end), *options, under=heaps, **HOW) as service:
         check("a post", service.post("a", body(1, 1))[0], 200)
-        status = Path(f"/proc/{service.run.pid}/status").read_text()
-        return 1024 * int(re.search(r"VmPeak:\s*(\d+)", status)[1])
+        return addresses(service, "VmPeak")
+
+
+def addresses(service, which="VmSize"):
+    """How many bytes of addresses it has, or had at most."""
+    status = Path(f"/proc/{service.run.pid}/status").read_text()
+    return 1024 * int(re.search(rf"{which}:\s*(\d+)", status)[1])
 
 
 class Client:
@@ -92,9 +103,8 @@ def left(service, name, end):
     return counts
 
 
-def leaves(what, service, back_end, clients, stood):
-    """All that was accepted leaves in time, reports come, a post is taken again, and the end of the input ends it. A
-    service of which no report comes any more stands still, and is told to `stood`."""
+def leaves(what, service, back_end, clients):
+    """All that was accepted leaves in time, reports come, a post is taken again, and the end of the input ends it."""
     end = time.monotonic() + SOON
     all_told = Counter()
     for name, own in zip("ab", (clients[::2], clients[1::2])):
@@ -102,7 +112,7 @@ def leaves(what, service, back_end, clients, stood):
         all_told += told
         counts = left(service, name, end)
         if not counts:
-            stood.append(what)
+            check(f"{what}: a report", "none", "one")
             return
         accepted = counts["accepted"]
         check(f"{what}: {name} was told", sorted(set(told) - {200, 503, 0}), [])
@@ -125,42 +135,63 @@ def taken_again(service, end):
     return status
 
 
-def under(heaps, most, what, text, stood, *options):
+def under(heaps, most, what, text, *options):
     """One service under a limit of so many bytes of addresses."""
     with tempfile.TemporaryDirectory() as folder, BackEnd() as back_end:
         with Service(folder, sections(back_end), *options, under=(*heaps, "prlimit", f"--as={most}"),
                      **HOW) as service:
             clients = [Client(service, number, text) for number in range(CLIENTS)]
             in_threads(*(client.run for client in clients))
-            # Whoever waits for what it prints waits no longer.
-            watch = threading.Timer(2 * SOON, service.run.kill)
-            watch.daemon = True
-            watch.start()
-            leaves(what, service, back_end, clients, stood)
-            watch.cancel()
+            with at_most(2 * SOON, service):
+                leaves(what, service, back_end, clients)
+
+
+@contextmanager
+def at_most(seconds, service):
+    """Whoever waits for what it prints waits no longer."""
+    watch = threading.Timer(seconds, service.run.kill)
+    watch.daemon = True
+    watch.start()
+    yield
+    watch.cancel()
 
 
 def leaves_by_itself(folder, *options):
     """Under each of eight limits, from what it needs at rest to ample, a service that was posted more than it had
     memory for sends all that it took once the load is over, tells reports meanwhile, takes posts again, and ends:
-    whether its threads share their memory or not. With heaps of their own and little memory one of some fifty stands
-    still (docs/UNPROVED.md, "Threads"), since a thread can't use what is free in another's heap. So one of these sixteen
-    may, and it is tried once more."""
+    whether its threads share their memory or not."""
     text = large()
-    works = {}
+    works = []
     for name, heaps in HEAPS.items():
         with BackEnd() as back_end:
             least = needed(folder, back_end, heaps, *options)
-        for room in ROOM:
-            what = f"{name}, {room} MB more"
-            works[what] = partial(under, heaps, least + (room << 20), what, text)
-    stood, again = [], []
-    names = list(works)
-    for at in range(0, len(names), AT_A_TIME):
-        in_threads(*(partial(works[what], stood, *options) for what in names[at:at + AT_A_TIME]))
-    check(f"services that stand still, of which one may: {stood}", len(stood) <= 1, True)
-    in_threads(*(partial(works[what], again, *options) for what in stood))
-    check("services that stand still twice", again, [])
+        works += [lambda heaps=heaps, most=least + (room << 20), what=f"{name}, {room} MB more":
+                  under(heaps, most, what, text, *options) for room in ROOM]
+    for at in range(0, len(works), AT_A_TIME):
+        in_threads(*works[at:at + AT_A_TIME])
+
+
+def leaves_without_addresses(folder):
+    """All addresses are taken that a service may have, the reserve's too, before its shards had anything to send. What
+    it took leaves nevertheless, and it ends: each turner and sender has a heap of its own from the start, with free
+    addresses that nobody else can take."""
+    text = large()
+    with BackEnd() as back_end, Service(folder, sections(back_end, LATE), **HOW) as service:
+        for count, name in itertools.product(range(FEW), "ab"):
+            check("a post", service.post(name, text.replace(FIRST, count.to_bytes(8, "big")))[0], 200)
+        for name in "ab":
+            check(f"{name} waits", counts_of(service, name)["undecided"], FEW * SPANS)
+        resource.prlimit(service.run.pid, resource.RLIMIT_AS, (addresses(service) - TAKEN, resource.RLIM_INFINITY))
+        end = time.monotonic() + LATE / 1_000 + SOON
+        with at_most(LATE / 1_000 + 2 * SOON, service):
+            for name in "ab":
+                counts = left(service, name, end)
+                check(f"{name} has left without addresses", {place: counts[place] for place in (*HELD, "exported")},
+                      dict.fromkeys(HELD, 0) | {"exported": FEW * SPANS})
+                if not counts:
+                    return
+            check("a post without addresses", taken_again(service, end), 200)
+            check("the end without addresses", service.end()[0], 0)
 
 
 def filled(service, text):
@@ -219,5 +250,5 @@ def leaves_with_an_audit(folder):
     leaves_by_itself(folder, "--audit")
 
 
-TESTS = (leaves_by_itself, drains_while_full)
+TESTS = (leaves_by_itself, leaves_without_addresses, drains_while_full)
 BY_HAND = (leaves_with_an_audit,)

@@ -1,5 +1,5 @@
 //! Tests of what reads and writes OTLP's traces, over public functions: `pb_wire`, `otlp_trace`, `otlp_read`,
-//! `otlp_canonical` and `otlp_parts`. Texts are those of the Protocol Buffers encoding guide
+//! `otlp_canonical`, `otlp_parts` and `text_slice`. Texts are those of the Protocol Buffers encoding guide
 //! (<https://protobuf.dev/programming-guides/encoding/>), were spelled by hand by it and by the field numbers of
 //! opentelemetry-proto, or come from Protocol Buffers' own libraries (tests/otlp).
 #![tactic(auto)]
@@ -22,6 +22,8 @@ mod order;
 mod parts;
 #[cfg(test)]
 mod reading;
+#[cfg(test)]
+mod slices;
 #[cfg(test)]
 mod texts;
 #[cfg(test)]

@@ -1,11 +1,11 @@
 //! The parts of a body as one text.
 
-use bytes::Bytes;
 use otlp_parts::{
     BodyParts, PartText, ResourceParts, ScopeList, ScopeParts, SpanTexts, read_parts,
 };
 use std::alloc::Global;
 use std::test::Fail;
+use text_slice::TextSlice;
 
 /// Appends what is told, the bytes as hexadecimal digits, and a semicolon.
 fn put(alloc: Global, out: &mut String, what: &str, bytes: &[u8]) -> Result<(), Fail> {
@@ -70,7 +70,7 @@ fn listed(alloc: Global, parts: &BodyParts) -> Result<String, Fail> {
 /// The parts of a body: `resource_` and its text where there is one, `of_` and the URL of its schema; in it `scope_`,
 /// `in_` and each `span_` likewise; last how many spans were left out. Or `fault_` and its number.
 pub fn parts_of(alloc: Global, body: &[u8]) -> Result<String, Fail> {
-    let body = Bytes::copy_from_slice(alloc, body)?;
+    let body = TextSlice::copy_from_slice(alloc, body)?;
     match read_parts(alloc, &body) {
         Ok(parts) => listed(alloc, &parts),
         Err(fault) => {

@@ -1,9 +1,10 @@
 //! Whose memory parts have.
 
 use bytes::Bytes;
-use otlp_parts::read_parts;
+use otlp_parts::{BodyParts, read_parts};
 use std::alloc::Global;
 use std::test::Fail;
+use text_slice::TextSlice;
 
 /// A body of 34 bytes: one span of 28, which is valid and canonical.
 const SPAN: [u8; 34] = *b"\x0a\x20\x12\x1e\x12\x1c\
@@ -22,9 +23,15 @@ fn with_dropped(alloc: Global, count: u8) -> Result<Bytes, Fail> {
     Ok(Bytes::from_vec(body)?)
 }
 
+/// The parts of the body, which alone hold it beside the caller.
+fn read(alloc: Global, body: &Bytes) -> Result<BodyParts, Fail> {
+    let text = TextSlice::of(alloc, body.clone()?)?;
+    Ok(read_parts(alloc, &text)?)
+}
+
 /// How many bytes of the body's parts are slices of it, which hold it where there are any.
 fn sliced(alloc: Global, body: &Bytes) -> Result<usize, Fail> {
-    let parts = read_parts(alloc, body)?;
+    let parts = read(alloc, body)?;
     if body.is_unique() != (parts.sliced == 0) {
         return Err("the body is held without slices of it, or not held by them".into());
     }

@@ -71,7 +71,7 @@ found_resource_view (found_resource.Again several) = resource_among several.fiel
 abbrev pub scope_reading_view : ScopeReading → KeptScope
 scope_reading_view f = record {
   scope = found_scope_view f.scope;
-  schema_url = f.schema_url;
+  schema_url = bytes_of f.schema_url;
   spans = f.spans.items;
   invalid = f.invalid;
 }
@@ -80,7 +80,7 @@ scope_reading_view f = record {
 abbrev pub resource_reading_view : ResourceReading → KeptResource
 resource_reading_view f = record {
   resource = found_resource_view f.resource;
-  schema_url = f.schema_url;
+  schema_url = bytes_of f.schema_url;
   scopes = map scope_parts_view f.scopes.items;
   invalid = f.invalid;
 }

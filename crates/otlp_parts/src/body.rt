@@ -14,10 +14,10 @@ use crate::copies::copied_body;
 use crate::parts::{BodyParts, ResourceParts};
 use crate::resource::{no_resource, resource_parts};
 use crate::walk::{Walked, walk_fields};
-use bytes::Bytes;
 use otlp_read::ReadFault;
 use pb_wire::{Field, Value};
 use std::alloc::{AllocError, Global};
+use text_slice::TextSlice;
 
 /// The levels that a body has room for, its own among them.
 const BODY_ROOM: u32 = 101;
@@ -54,7 +54,7 @@ fn add_parts(body: &mut BodyParts, parts: ResourceParts) -> Result<(), AllocErro
 fn add_resource_spans(
     alloc: Global,
     body: &mut BodyParts,
-    text: &Bytes,
+    text: &TextSlice,
     start: usize,
     end: usize,
     sliced: &mut usize,
@@ -66,7 +66,7 @@ fn add_resource_spans(
     ensures sliced_within { IfOk result (λ taken. sliced.new + body_size (body_parts_view body.old)
         ≤ sliced.old + body_size (body_parts_view body.new)) }
 {
-    let inside = text.slice(start..end)?;
+    let inside = text.slice(start, end)?;
     let resource = walk_fields(alloc, no_resource(alloc), &inside, BODY_ROOM - 1, sliced)?;
     body.invalid = body.invalid.saturating_add(resource.invalid);
     // A resource is kept for its spans alone.
@@ -89,7 +89,7 @@ impl Walked for BodyParts {
     fn field(
         &mut self,
         alloc: Global,
-        text: &Bytes,
+        text: &TextSlice,
         end: usize,
         field: Field<'_>,
         sliced: &mut usize,
@@ -105,7 +105,7 @@ impl Walked for BodyParts {
 }
 
 /// The parts, where they stand if these make up half of the body, and else copies.
-fn body_parts(alloc: Global, body: &Bytes) -> Result<BodyParts, ReadFault>
+fn body_parts(alloc: Global, body: &TextSlice) -> Result<BodyParts, ReadFault>
     ensures exact { Gives body_parts_view result (kept_of body.now) }
     ensures short { length body.now < 2 ^ 64 }
     ensures sliced { IfOk result (λ parts. parts.sliced ≤ body_size (body_parts_view parts)) }
@@ -126,7 +126,7 @@ fn body_parts(alloc: Global, body: &Bytes) -> Result<BodyParts, ReadFault>
 
 /// The parts of a body. Where slices of it make up less than half of it, all parts are copies. After a fault, or where
 /// memory is refused, nothing is left of what was read.
-pub fn read_parts(alloc: Global, body: &Bytes) -> Result<BodyParts, ReadFault>
+pub fn read_parts(alloc: Global, body: &TextSlice) -> Result<BodyParts, ReadFault>
     // The parts are those of the body's value.
     ensures value { IfOk result (λ parts. ArePartsOf body.now (body_parts_view parts)) }
 

@@ -5,8 +5,8 @@ ghost use Rattle.otlp_parts.specs.Parts.{body_parts_view, resource_parts_view, s
 
 use crate::part_text::PartText;
 use crate::parts::{BodyParts, ResourceParts, ScopeList, ScopeParts, SpanTexts};
-use bytes::Bytes;
 use std::alloc::{AllocError, Global};
+use text_slice::TextSlice;
 
 /// The same bytes, where there are any.
 fn copied(alloc: Global, text: PartText) -> Result<PartText, AllocError>
@@ -14,20 +14,20 @@ fn copied(alloc: Global, text: PartText) -> Result<PartText, AllocError>
 {
     match text.as_ref() {
         Some(text) => {
-            let copy = Bytes::copy_from_slice(alloc, text.as_slice())?;
-            PartText::of(alloc, Some(copy))
+            let copy = TextSlice::copy_from_slice(alloc, text.as_slice())?;
+            Ok(PartText::of(Some(copy)))
         }
-        None => PartText::of(alloc, None),
+        None => Ok(PartText::of(None)),
     }
 }
 
 /// The same texts, in the same order.
-fn copied_texts(alloc: Global, texts: Vec<Bytes>) -> Result<Vec<Bytes>, AllocError>
+fn copied_texts(alloc: Global, texts: Vec<TextSlice>) -> Result<Vec<TextSlice>, AllocError>
     ensures { IfOk result (λ copies. copies.items ≡ texts.items) }
 {
     let mut copies = Vec::with_capacity(alloc, texts.len())?;
     for text in texts {
-        let copy = Bytes::copy_from_slice(alloc, text.as_slice())?;
+        let copy = TextSlice::copy_from_slice(alloc, text.as_slice())?;
         copies.push(copy)?;
     }
     Ok(copies)
@@ -39,7 +39,7 @@ fn copied_spans(alloc: Global, spans: SpanTexts) -> Result<SpanTexts, AllocError
 {
     match spans {
         SpanTexts::One(span) => {
-            let copy = Bytes::copy_from_slice(alloc, span.as_slice())?;
+            let copy = TextSlice::copy_from_slice(alloc, span.as_slice())?;
             Ok(SpanTexts::One(copy))
         }
         SpanTexts::More(spans) => {

@@ -5,13 +5,13 @@ ghost use Rattle.otlp_trace.specs.Text.{resource_text, scope_text};
 ghost use Rattle.otlp_parts.specs.ReadAs.{scope_in, scope_of, resource_in, resource_of, scope_spans_in, resource_spans_in};
 
 use crate::parts::ScopeParts;
-use bytes::Bytes;
+use text_slice::TextSlice;
 
 /// An instrumentation scope as it stands, with its canonical text.
 #[derive(Drop)]
 pub struct ScopeText {
-    pub bytes: Bytes,
-    pub text: Bytes,
+    pub bytes: TextSlice,
+    pub text: TextSlice,
     // Bytes of the text that lie in the body: all of them or none.
     pub sliced: usize,
     ghost is: { is_ok (scope_in bytes) ≡ true },
@@ -40,8 +40,8 @@ pub enum FoundScope {
 /// A resource as it stands, with its canonical text.
 #[derive(Drop)]
 pub struct ResourceText {
-    pub bytes: Bytes,
-    pub text: Bytes,
+    pub bytes: TextSlice,
+    pub text: TextSlice,
     // Bytes of the text that lie in the body: all of them or none.
     pub sliced: usize,
     ghost is: { is_ok (resource_in bytes) ≡ true },
@@ -71,8 +71,8 @@ pub enum FoundResource {
 #[derive(Drop)]
 pub struct ScopeReading {
     pub scope: FoundScope,
-    pub schema_url: Bytes,
-    pub spans: Vec<Bytes>,
+    pub schema_url: Option<TextSlice>,
+    pub spans: Vec<TextSlice>,
     pub invalid: u64,
 }
 
@@ -80,7 +80,7 @@ pub struct ScopeReading {
 #[derive(Drop)]
 pub struct ResourceReading {
     pub resource: FoundResource,
-    pub schema_url: Bytes,
+    pub schema_url: Option<TextSlice>,
     pub scopes: Vec<ScopeParts>,
     pub invalid: u64,
 }

@@ -9,7 +9,7 @@
 //! half of the body, each part is a copy.
 //!
 //! It stands on `pb_wire`, `otlp_trace`, `otlp_read`, `otlp_canonical`, `span_view` and `span_pool`, for what a
-//! canonical text tells of its span, and on the kit's `bytes`. The rules are those of the proto3 language guide and the
+//! canonical text tells of its span, and on `text_slice`. The rules are those of the proto3 language guide and the
 //! Protocol Buffers encoding guide, over the messages of OTLP 1.x.
 #![tactic(auto)]
 

@@ -1,62 +1,60 @@
 //! Texts that stand round spans.
 
-ghost use Rattle.std.specs.Prelude.{◌≡◌, true, IfOk, option_copied};
+ghost use Rattle.std.specs.Prelude.{◌≡◌, true, IfOk, length, option_copied};
 ghost use Rattle.span_pool.specs.Stored.{bytes_of, same_text};
 ghost use Rattle.otlp_parts.specs.Urls.{is_url};
 
-use bytes::Bytes;
-use std::alloc::{AllocError, Global};
+use std::alloc::AllocError;
 use std::marker::Model;
-use std::sync::Arc;
+use text_slice::TextSlice;
 
-/// The text of a resource or a scope, or none. Where there is none it takes the room of a pointer and its tag, and
-/// whoever shares a text takes no more.
+/// The text of a resource or a scope, or none. It takes 24 bytes, and whoever shares a text takes no more.
 #[derive(Drop)]
 pub struct PartText {
-    text: Option<Arc<Bytes>>,
+    text: Option<TextSlice>,
 }
 
 impl Model for PartText {
-    ghost use Rattle.std.specs.Prelude.{List, ℕ, Option, option_map};
+    ghost use Rattle.std.specs.Prelude.{List, ℕ, Option};
 
     ghost Value = { Option (List ℕ) };
 
-    ghost view = { λ t. option_map (λ a. a.value) t.text };
+    ghost view = { λ t. t.text };
 }
 
 impl PartText {
-    /// This text, or none, which takes no memory.
-    pub(crate) fn of(alloc: Global, text: Option<Bytes>) -> Result<PartText, AllocError>
-        ensures { IfOk result (λ held. held ≡ text) }
+    /// This text, or none.
+    pub(crate) fn of(text: Option<TextSlice>) -> PartText
+        ensures { result ≡ text }
     {
-        match text {
-            Some(text) => {
-                let text = Arc::new(alloc, text)?;
-                Ok(PartText { text: Some(text) })
-            }
-            None => Ok(PartText { text: None }),
-        }
+        PartText { text }
     }
 
-    /// This URL, or none where it is empty, which takes no memory.
-    pub(crate) fn of_url(alloc: Global, url: Bytes) -> Result<PartText, AllocError>
-        ensures same { IfOk result (λ held. bytes_of held ≡ url) }
-        ensures url { IfOk result (λ held. is_url held ≡ true) }
+    /// This URL, or none where it is empty.
+    pub(crate) fn of_url(url: Option<TextSlice>) -> PartText
+        ensures same { bytes_of result ≡ bytes_of url }
+        ensures url { is_url result ≡ true }
     {
-        if url.is_empty() {
-            PartText::of(alloc, None)
-        } else {
-            PartText::of(alloc, Some(url))
+        match url {
+            Some(url) if !url.is_empty() => PartText { text: Some(url) },
+            _ => PartText { text: None },
         }
     }
 
     /// The text, where there is one.
-    pub fn as_ref(&self) -> Option<&Bytes>
+    pub fn as_ref(&self) -> Option<&TextSlice>
         ensures value { option_copied result ≡ self.now }
     {
+        self.text.as_ref()
+    }
+
+    /// How many bytes the text has, none where it is missing.
+    pub(crate) fn size(&self) -> usize
+        ensures { result ≡ length (bytes_of self.now) }
+    {
         match &self.text {
-            Some(text) => Some(&**text),
-            None => None,
+            Some(text) => text.len(),
+            None => 0,
         }
     }
 
@@ -77,7 +75,7 @@ impl PartText {
     {
         match &self.text {
             Some(text) => {
-                let text = text.clone()?;
+                let text = text.shared()?;
                 Ok(PartText { text: Some(text) })
             }
             None => Ok(PartText { text: None }),

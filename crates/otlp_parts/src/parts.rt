@@ -4,16 +4,16 @@ ghost use Rattle.std.specs.Prelude.{◌≡◌, true};
 ghost use Rattle.otlp_parts.specs.Urls.{is_url};
 
 use crate::part_text::PartText;
-use bytes::Bytes;
 use std::alloc::AllocError;
+use text_slice::TextSlice;
 
 /// The canonical texts of the valid spans of a scope, in the order of the body.
 #[derive(Drop)]
 pub enum SpanTexts {
     /// One, which takes no list.
-    One(Bytes),
+    One(TextSlice),
     /// Any number.
-    More(Vec<Bytes>),
+    More(Vec<TextSlice>),
 }
 
 impl SpanTexts {
@@ -22,7 +22,7 @@ impl SpanTexts {
 
     /// These texts.
     #[tactic(auto, using(crate::proofs::Few::only_one))]
-    pub(crate) fn of(spans: Vec<Bytes>) -> SpanTexts
+    pub(crate) fn of(spans: Vec<TextSlice>) -> SpanTexts
         ensures same { spans_in result ≡ spans.items }
         ensures list { have_list result ≡ not (length spans.items == 1) }
     {

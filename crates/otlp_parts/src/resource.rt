@@ -14,13 +14,13 @@ use crate::part_text::PartText;
 use crate::parts::{ResourceParts, ScopeList, ScopeParts};
 use crate::scope::{no_scope, scope_parts};
 use crate::walk::{Walked, walk_fields};
-use bytes::Bytes;
 use otlp_canonical::is_resource_text;
 use otlp_read::{ReadFault, read_resource, read_resource_spans};
 use otlp_trace::{ResourceSpans, put_bytes_field};
 use pb_wire::{Field, Value};
 use std::alloc::Global;
 use std::mem;
+use text_slice::TextSlice;
 
 /// The levels that a resource in a body has room for, its own among them, and so a scope spans.
 const RESOURCE_ROOM: u32 = 99;
@@ -28,7 +28,7 @@ const RESOURCE_ROOM: u32 = 99;
 /// A resource as it stands.
 fn first_resource(
     alloc: Global,
-    text: &Bytes,
+    text: &TextSlice,
     start: usize,
     end: usize,
 ) -> Result<ResourceText, ReadFault>
@@ -37,10 +37,10 @@ fn first_resource(
     ensures exact { Gives (λ first. resource_of first.bytes) result
         (resource_in (slice_range text.now start end)) }
 {
-    let bytes = text.slice(start..end)?;
+    let bytes = text.slice(start, end)?;
     if is_resource_text(bytes.as_slice(), RESOURCE_ROOM) {
         let sliced = bytes.len();
-        let text = bytes.clone()?;
+        let text = bytes.shared()?;
         return Ok(ResourceText {
             bytes,
             text,
@@ -85,7 +85,7 @@ fn with_resource(
 fn resource_again(
     alloc: Global,
     before: FoundResource,
-    text: &Bytes,
+    text: &TextSlice,
     start: usize,
     end: usize,
 ) -> Result<FoundResource, ReadFault>
@@ -112,7 +112,10 @@ fn resource_again(
 }
 
 /// The canonical text of several resources, merged.
-fn merged_resource_text(alloc: Global, several: ResourceFields) -> Result<Option<Bytes>, ReadFault>
+fn merged_resource_text(
+    alloc: Global,
+    several: ResourceFields,
+) -> Result<Option<TextSlice>, ReadFault>
     ensures exact { Gives (λ text. text) result
         (Ok (option_map resource_text (resource_among several.fields.items))) }
 {
@@ -135,7 +138,7 @@ fn resource_part(
     alloc: Global,
     found: FoundResource,
     sliced: &mut usize,
-) -> Result<Option<Bytes>, ReadFault>
+) -> Result<Option<TextSlice>, ReadFault>
     ensures exact { Gives (λ text. text) result
         (Ok (option_map resource_text (found_resource_view found))) }
     ensures sliced_within { IfOk result (λ text. sliced.new ≤ sliced.old + text_size text) }
@@ -156,7 +159,7 @@ pub fn no_resource(alloc: Global) -> ResourceReading
 {
     ResourceReading {
         resource: FoundResource::Missing,
-        schema_url: Bytes::new(),
+        schema_url: None,
         scopes: Vec::new(alloc),
         invalid: 0,
     }
@@ -174,11 +177,12 @@ pub fn resource_parts(
         sliced.new + scopes_size (map scope_parts_view reading.scopes.items)
         ≤ sliced.old + resource_size (resource_parts_view parts)) }
 {
-    *sliced = sliced.saturating_add(reading.schema_url.len());
+    let schema_url = PartText::of_url(reading.schema_url);
+    *sliced = sliced.saturating_add(schema_url.size());
     let resource = resource_part(alloc, reading.resource, sliced)?;
     Ok(ResourceParts {
-        resource: PartText::of(alloc, resource)?,
-        schema_url: PartText::of_url(alloc, reading.schema_url)?,
+        resource: PartText::of(resource),
+        schema_url,
         scopes: ScopeList::of(reading.scopes),
     })
 }
@@ -206,7 +210,7 @@ fn next_scope(
 fn add_scope_spans(
     alloc: Global,
     reading: &mut ResourceReading,
-    text: &Bytes,
+    text: &TextSlice,
     start: usize,
     end: usize,
     sliced: &mut usize,
@@ -219,7 +223,7 @@ fn add_scope_spans(
         (map scope_parts_view reading.old.scopes.items) ≤ sliced.old + scopes_size
         (map scope_parts_view reading.new.scopes.items)) }
 {
-    let inside = text.slice(start..end)?;
+    let inside = text.slice(start, end)?;
     let scope = walk_fields(alloc, no_scope(alloc), &inside, RESOURCE_ROOM, sliced)?;
     reading.invalid = reading.invalid.saturating_add(scope.invalid);
     // A scope is kept for its spans alone.
@@ -247,7 +251,7 @@ impl Walked for ResourceReading {
     fn field(
         &mut self,
         alloc: Global,
-        text: &Bytes,
+        text: &TextSlice,
         end: usize,
         field: Field<'_>,
         sliced: &mut usize,
@@ -263,7 +267,7 @@ impl Walked for ResourceReading {
                 return add_scope_spans(alloc, self, text, start, end, sliced);
             }
             if field.number == 3 {
-                self.schema_url = string(text, start, end)?;
+                self.schema_url = Some(string(text, start, end)?);
                 return Ok(());
             }
         }

@@ -14,13 +14,13 @@ use crate::part_text::PartText;
 use crate::parts::{ScopeParts, SpanTexts};
 use crate::span::span_part;
 use crate::walk::Walked;
-use bytes::Bytes;
 use otlp_canonical::is_scope_text;
 use otlp_read::{ReadFault, read_scope, read_scope_spans};
 use otlp_trace::{ScopeSpans, put_bytes_field};
 use pb_wire::{Field, Value};
 use std::alloc::Global;
 use std::mem;
+use text_slice::TextSlice;
 
 /// The levels that a scope in a body has room for, its own among them.
 const SCOPE_ROOM: u32 = 98;
@@ -28,7 +28,7 @@ const SCOPE_ROOM: u32 = 98;
 /// A scope as it stands.
 fn first_scope(
     alloc: Global,
-    text: &Bytes,
+    text: &TextSlice,
     start: usize,
     end: usize,
 ) -> Result<ScopeText, ReadFault>
@@ -37,10 +37,10 @@ fn first_scope(
     ensures exact { Gives (λ first. scope_of first.bytes) result
         (scope_in (slice_range text.now start end)) }
 {
-    let bytes = text.slice(start..end)?;
+    let bytes = text.slice(start, end)?;
     if is_scope_text(bytes.as_slice(), SCOPE_ROOM) {
         let sliced = bytes.len();
-        let text = bytes.clone()?;
+        let text = bytes.shared()?;
         return Ok(ScopeText {
             bytes,
             text,
@@ -81,7 +81,7 @@ fn with_scope(alloc: Global, several: ScopeFields, bytes: &[u8]) -> Result<Scope
 fn scope_again(
     alloc: Global,
     before: FoundScope,
-    text: &Bytes,
+    text: &TextSlice,
     start: usize,
     end: usize,
 ) -> Result<FoundScope, ReadFault>
@@ -108,7 +108,7 @@ fn scope_again(
 }
 
 /// The canonical text of several scopes, merged.
-fn merged_scope_text(alloc: Global, several: ScopeFields) -> Result<Option<Bytes>, ReadFault>
+fn merged_scope_text(alloc: Global, several: ScopeFields) -> Result<Option<TextSlice>, ReadFault>
     ensures exact { Gives (λ text. text) result
         (Ok (option_map scope_text (scope_among several.fields.items))) }
 {
@@ -131,7 +131,7 @@ fn scope_part(
     alloc: Global,
     found: FoundScope,
     sliced: &mut usize,
-) -> Result<Option<Bytes>, ReadFault>
+) -> Result<Option<TextSlice>, ReadFault>
     ensures exact { Gives (λ text. text) result
         (Ok (option_map scope_text (found_scope_view found))) }
     ensures sliced_within { IfOk result (λ text. sliced.new ≤ sliced.old + text_size text) }
@@ -152,7 +152,7 @@ pub fn no_scope(alloc: Global) -> ScopeReading
 {
     ScopeReading {
         scope: FoundScope::Missing,
-        schema_url: Bytes::new(),
+        schema_url: None,
         spans: Vec::new(alloc),
         invalid: 0,
     }
@@ -170,11 +170,12 @@ pub fn scope_parts(
         sliced.new + texts_size reading.spans.items ≤ sliced.old + scope_size
         (scope_parts_view parts)) }
 {
-    *sliced = sliced.saturating_add(reading.schema_url.len());
+    let schema_url = PartText::of_url(reading.schema_url);
+    *sliced = sliced.saturating_add(schema_url.size());
     let scope = scope_part(alloc, reading.scope, sliced)?;
     Ok(ScopeParts {
-        scope: PartText::of(alloc, scope)?,
-        schema_url: PartText::of_url(alloc, reading.schema_url)?,
+        scope: PartText::of(scope),
+        schema_url,
         spans: SpanTexts::of(reading.spans),
     })
 }
@@ -183,7 +184,7 @@ pub fn scope_parts(
 fn add_span(
     alloc: Global,
     reading: &mut ScopeReading,
-    text: &Bytes,
+    text: &TextSlice,
     start: usize,
     end: usize,
     sliced: &mut usize,
@@ -220,7 +221,7 @@ impl Walked for ScopeReading {
     fn field(
         &mut self,
         alloc: Global,
-        text: &Bytes,
+        text: &TextSlice,
         end: usize,
         field: Field<'_>,
         sliced: &mut usize,
@@ -236,7 +237,7 @@ impl Walked for ScopeReading {
                 return add_span(alloc, self, text, start, end, sliced);
             }
             if field.number == 3 {
-                self.schema_url = string(text, start, end)?;
+                self.schema_url = Some(string(text, start, end)?);
                 return Ok(());
             }
         }

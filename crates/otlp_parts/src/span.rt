@@ -11,13 +11,13 @@ ghost use Rattle.otlp_parts.specs.Kept.{kept_span};
 ghost use Rattle.otlp_parts.specs.ReadAs.{span_of};
 ghost use Rattle.otlp_parts.specs.Sizes.{text_size};
 
-use bytes::Bytes;
 use otlp_canonical::{in_order, is_span_text, without_defaults};
 use otlp_read::{ReadFault, read_span};
 use otlp_trace::{Span, write_span};
 use span_pool::read_spans_are_viewed;
 use span_view::SpanRef;
 use std::alloc::{AllocError, Global};
+use text_slice::TextSlice;
 
 /// The levels that a span in a body has room for, its own among them.
 const SPAN_ROOM: u32 = 98;
@@ -87,24 +87,24 @@ fn canonical_copy(alloc: Global, text: &[u8]) -> Result<Option<Vec<u8>>, AllocEr
 }
 
 /// A canonical text, none where its span isn't valid.
-fn copied_part(copy: Vec<u8>) -> Result<Option<Bytes>, ReadFault>
+fn copied_part(alloc: Global, copy: Vec<u8>) -> Result<Option<TextSlice>, ReadFault>
     requires canonical { CanonicalSpan 98 copy.items }
     ensures exact { Gives (λ part. part) result (kept_span copy.items) }
 {
     if !is_valid_text(copy.as_slice()) {
         return Ok(None);
     }
-    let part = Bytes::from_vec(copy)?;
+    let part = TextSlice::from_vec(alloc, copy)?;
     Ok(Some(part))
 }
 
 /// The canonical text of a span that isn't canonical, none where it isn't valid: a copy in order and without the
 /// defaults that are written in it, or written of what is read.
-fn written_part(alloc: Global, text: &[u8]) -> Result<Option<Bytes>, ReadFault>
+fn written_part(alloc: Global, text: &[u8]) -> Result<Option<TextSlice>, ReadFault>
     ensures { Gives (λ part. part) result (kept_span text.now) }
 {
     if let Some(copy) = canonical_copy(alloc, text)? {
-        let part = copied_part(copy)?;
+        let part = copied_part(alloc, copy)?;
         return Ok(part);
     }
     let span = read_span(alloc, text, SPAN_ROOM)?;
@@ -113,18 +113,18 @@ fn written_part(alloc: Global, text: &[u8]) -> Result<Option<Bytes>, ReadFault>
     }
     let mut written = Vec::with_capacity(alloc, room_for(text.len()))?;
     write_span(alloc, &mut written, &span)?;
-    let part = Bytes::from_vec(written)?;
+    let part = TextSlice::from_vec(alloc, written)?;
     Ok(Some(part))
 }
 
 /// A span's canonical text, none where the span isn't valid: where it stands, or one that is made.
 pub fn span_part(
     alloc: Global,
-    text: &Bytes,
+    text: &TextSlice,
     start: usize,
     end: usize,
     sliced: &mut usize,
-) -> Result<Option<Bytes>, ReadFault>
+) -> Result<Option<TextSlice>, ReadFault>
     requires order { start ≤ end }
     requires within { end ≤ length text.now }
     ensures exact { Gives (λ part. part) result (kept_span (slice_range text.now start end)) }
@@ -138,6 +138,6 @@ pub fn span_part(
         return Ok(None);
     }
     *sliced = sliced.saturating_add(bytes.len());
-    let part = text.slice(start..end)?;
+    let part = text.slice(start, end)?;
     Ok(Some(part))
 }

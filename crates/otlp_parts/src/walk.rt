@@ -6,10 +6,10 @@ ghost use Rattle.otlp_read.specs.Fault.{Gives};
 ghost use Rattle.otlp_read.specs.Walk.{Step, read_with};
 ghost use Rattle.otlp_parts.specs.ReadAs.{Stands};
 
-use bytes::Bytes;
 use otlp_read::ReadFault;
 use pb_wire::{Field, next_field};
 use std::alloc::Global;
+use text_slice::TextSlice;
 
 /// A message that takes one field of a text after the other, and may keep what stands there.
 pub trait Walked: Drop {
@@ -27,7 +27,7 @@ pub trait Walked: Drop {
     fn field(
         &mut self,
         alloc: Global,
-        text: &Bytes,
+        text: &TextSlice,
         end: usize,
         field: Field<'_>,
         sliced: &mut usize,
@@ -46,7 +46,7 @@ pub trait Walked: Drop {
 pub fn walk_fields<M: Walked>(
     alloc: Global,
     before: M,
-    text: &Bytes,
+    text: &TextSlice,
     room: u32,
     sliced: &mut usize,
 ) -> Result<M, ReadFault>

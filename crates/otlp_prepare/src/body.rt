@@ -27,6 +27,7 @@ use std::alloc::{AllocError, Global};
 use std::thread::Threads;
 use tail_policy::TenantPolicies;
 use tail_settings::Section;
+use text_slice::TextSlice;
 
 /// Bytes are below 256, told of a whole text.
 fn are_bytes(text: &[u8])
@@ -36,7 +37,7 @@ fn are_bytes(text: &[u8])
 }
 
 /// The parts of a body, whose texts are those of messages that were read.
-fn read_body(alloc: Global, body: &Bytes) -> Result<BodyParts, ReadFault>
+fn read_body(alloc: Global, body: &TextSlice) -> Result<BodyParts, ReadFault>
     ensures value { IfOk result (λ parts. ArePartsOf body.now (body_parts_view parts)) }
     ensures read { IfOk result (λ parts. AreRead (body_parts_view parts)) }
     ensures typed { (v : RequestData) → IsValue body.now v → TypedRequest v }
@@ -74,10 +75,34 @@ fn prepare_parts<R: Threads + Sync>(
     Ok(Prepared::of(tenant, shared, found.origins, spans, invalid))
 }
 
+/// What is prepared of a body, in one block that its texts share.
+fn prepare_text<R: Threads + Sync>(
+    rt: &R,
+    alloc: Global,
+    tenant: u32,
+    section: &Section,
+    body: &TextSlice,
+    parts: u32,
+) -> Result<Prepared, Refusal>
+    requires { (0 < parts) × (parts ≤ 16) }
+    ensures value { IfOk result (λ prepared. IsPrepared tenant (section_view section.now) body.now
+        prepared) }
+    ensures only { (v : RequestData) → IsValue body.now v →
+        MatchResult result (λ prepared. prepared ≡
+        prepared_of tenant (section_view section.now) v)
+        (λ refused. refused ≡ refusal.OutOfMemory) }
+    ensures bad { (fault : ReadFault) → IfErr result
+        (λ refused. refused ≡ refusal.Bad fault → IsFault body.now fault) }
+{
+    let read = read_body(alloc, body)?;
+    let prepared = prepare_parts(rt, alloc, tenant, section, read, parts)?;
+    Ok(prepared)
+}
+
 /// Reads a body, a request in protobuf, for the tenant with this number and section, and makes the notes of its spans
 /// in at most `parts` threads, 1 to 16, this one among them. It waits only for threads that it started. What is
 /// prepared names the tenant and shares the section's policies, which takes no memory; its texts are slices of the body
-/// where these make up half of it.
+/// where these make up half of it. A body of 2^32 bytes or more is refused as memory is.
 pub fn prepare<R: Threads + Sync>(
     rt: &R,
     alloc: Global,
@@ -102,7 +127,6 @@ pub fn prepare<R: Threads + Sync>(
     ensures bad { (fault : ReadFault) → IfErr result
         (λ refused. refused ≡ refusal.Bad fault → IsFault body fault) }
 {
-    let read = read_body(alloc, &body)?;
-    let prepared = prepare_parts(rt, alloc, tenant, section, read, parts)?;
-    Ok(prepared)
+    let text = TextSlice::of(alloc, body)?;
+    prepare_text(rt, alloc, tenant, section, &text, parts)
 }

@@ -12,12 +12,12 @@ use crate::noted::SpanOrigin;
 use crate::origin_text::OriginText;
 use crate::reversed::first_of;
 use crate::unnoted::UnnotedSpan;
-use bytes::Bytes;
 use otlp_parts::{BodyParts, PartText, ResourceParts, ScopeList, ScopeParts, SpanTexts};
 use span_pool::read_spans_are_viewed;
 use std::alloc::{AllocError, Global};
 use tail_policy::{PolicyByParts, ResourceBits, TenantPolicies, views_of_parts};
 use text_pool::SharedBytes;
+use text_slice::TextSlice;
 
 /// How many of the last origins are looked at for the scope of one more.
 const LOOKED_AT: usize = 4;
@@ -44,7 +44,7 @@ struct ResourceOrigin {
 #[tactic(auto, using(otlp_parts::proofs::Same::the_same_text))]
 fn shared_text(
     alloc: Global,
-    bytes: &Bytes,
+    bytes: &TextSlice,
     last: Option<&OriginText>,
 ) -> Result<OriginText, AllocError>
     ensures { IfOk result (λ text. text ≡ Some bytes.now) }
@@ -54,7 +54,7 @@ fn shared_text(
             return last.shared();
         }
     }
-    OriginText::of(alloc, SharedBytes::of(bytes.clone()?))
+    OriginText::of(alloc, SharedBytes::of(bytes.shared()?))
 }
 
 /// The same text with its digest, where there is one.
@@ -194,7 +194,7 @@ fn add_texts(
     parts: &mut Vec<UnnotedSpan>,
     origin: usize,
     bits: ResourceBits,
-    texts: Vec<Bytes>,
+    texts: Vec<TextSlice>,
 ) -> Result<(), AllocError>
     requires { AllByRecursion IsValidRead texts.items }
     ensures parts { OnOk result (parts.new.items ≡ parts.old.items ++ map (part_with bits origin)

@@ -9,9 +9,9 @@
 //! resource, its scope and their schemas, each an [`OriginText`] with its digest (`text_pool`), once for all spans of
 //! one scope of one resource. Spans that aren't valid are counted, and nothing is kept of them.
 //!
-//! It stands on `otlp_parts`, `span_pool`, `text_pool`, `tail_settings`, `tail_policy` and `tail_notes` and those below
-//! them, on `tenant_rules` for what arrives of a span, and on the kit's `bytes`. The rules are those of OTLP 1.x and of
-//! the OpenTelemetry Collector's `tail_sampling` processor.
+//! It stands on `otlp_parts`, `span_pool`, `text_pool`, `text_slice`, `tail_settings`, `tail_policy` and `tail_notes`
+//! and those below them, on `tenant_rules` for what arrives of a span, and on the kit's `bytes`. The rules are those of
+//! OTLP 1.x and of the OpenTelemetry Collector's `tail_sampling` processor.
 #![tactic(auto)]
 
 mod body;

@@ -4,8 +4,8 @@ ghost use Rattle.std.specs.Prelude.{◌≡◌};
 ghost use Rattle.span_pool.specs.Stored.{bytes_of, same_bytes, same_text};
 
 use crate::origin_text::OriginText;
-use bytes::Bytes;
 use tail_policy::TraceNote;
+use text_slice::TextSlice;
 
 /// The texts that the spans of one scope of one resource share: canonical, each with its digest.
 #[derive(Debug, Drop)]
@@ -26,7 +26,7 @@ pub struct NotedSpan {
     /// Its trace id.
     pub trace: [u8; 16],
     /// Its own canonical text.
-    pub text: Bytes,
+    pub text: TextSlice,
     /// Which of the body's origins is its.
     pub origin: usize,
     /// Its note, with its resource.

@@ -3,11 +3,11 @@
 ghost use Rattle.std.specs.Prelude.{◌≡◌, IfOk, Some, None, option_copied};
 ghost use Rattle.span_pool.specs.Stored.{same_text};
 
-use bytes::Bytes;
 use std::alloc::{AllocError, Global};
 use std::marker::Model;
 use std::sync::Arc;
 use text_pool::SharedBytes;
+use text_slice::TextSlice;
 
 /// A text that spans share, or none. It takes the room of a pointer, and whoever shares it takes no more.
 #[derive(Debug, Drop)]
@@ -49,7 +49,7 @@ impl OriginText {
     }
 
     /// Whether it is there, and these bytes.
-    pub(crate) fn has(&self, bytes: &Bytes) -> bool
+    pub(crate) fn has(&self, bytes: &TextSlice) -> bool
         ensures { result ≡ same_text self.now (Some bytes.now) }
     {
         match self.as_ref() {

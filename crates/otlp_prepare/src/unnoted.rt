@@ -7,16 +7,16 @@ ghost use Rattle.span_view.specs.Reading.{facts_of};
 ghost use Rattle.otlp_prepare.specs.BodySpans.{IsValidRead, part_with, with_note};
 
 use crate::noted::NotedSpan;
-use bytes::Bytes;
 use span_pool::read_spans_are_viewed;
 use span_view::SpanRef;
 use std::marker::Model;
 use tail_policy::{ResourceBits, TraceNote, views_of_parts};
+use text_slice::TextSlice;
 
 /// A valid span by its canonical text, with what its resource tells the policies.
 #[derive(Drop)]
 pub struct UnnotedSpan {
-    text: Bytes,
+    text: TextSlice,
     // Which of the body's origins is its.
     origin: usize,
     bits: ResourceBits,
@@ -53,7 +53,7 @@ fn trace_in(text: &[u8]) -> [u8; 16]
 
 impl UnnotedSpan {
     /// The span of this text and of the origin at this index, whose resource tells this.
-    pub fn of(text: Bytes, origin: usize, bits: ResourceBits) -> UnnotedSpan
+    pub fn of(text: TextSlice, origin: usize, bits: ResourceBits) -> UnnotedSpan
         requires { IsValidRead text }
         ensures part { result ≡ part_with bits origin text }
         ensures short { IsShort text }

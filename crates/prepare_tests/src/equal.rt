@@ -2,8 +2,9 @@
 
 use crate::sections::{FIRST, THREE, section_of};
 use bytes::Bytes;
-use otlp_prepare::{Prepared, equal_bodies_are_the_same, prepare};
+use otlp_prepare::{NotedSpan, Prepared, SpanOrigin, equal_bodies_are_the_same, prepare};
 use std::alloc::Global;
+use std::mem::size_of;
 use std::sync::ArcSlice;
 use std::test::Fail;
 use std::thread::Threads;
@@ -121,4 +122,10 @@ fn policies_are_shared_and_not_copied(rt: HostRuntime) -> Result<(), Fail> {
     drop(second);
     assert_eq!(rt; ArcSlice::strong_count(policies), 1);
     Ok(())
+}
+
+#[test]
+fn a_span_that_is_ready_has_64_bytes_and_an_origin_32(rt: HostRuntime) {
+    assert!(rt; size_of::<NotedSpan>() == 64);
+    assert!(rt; size_of::<SpanOrigin>() == 32);
 }

@@ -6,54 +6,63 @@ ghost use Rattle.processor_tests.specs.BatchTexts.{Requests, ReadablePlaces};
 use crate::lines::{cut, parts, small};
 use bytes::Bytes;
 use span_batcher::{batches_are_requests, encode_batch};
-use span_pool::{StoredSpan, TextKeys};
+use span_pool::{SharedKeys, StoredSpan, TextKeys};
 use std::alloc::{AllocError, Global};
 use std::test::Fail;
 use text_pool::{SharedBytes, TextPool};
+use text_slice::TextSlice;
 
 /// Resources of which one and two attributes were left out: field 2; a scope named s: field 1; URLs, and an empty text.
-fn text_of(name: &str) -> SharedBytes {
-    SharedBytes::of(Bytes::from_static(match name {
+fn text_of(alloc: Global, name: &str) -> Result<SharedBytes, AllocError> {
+    let bytes: &[u8] = match name {
         "one" => b"\x10\x01",
         "two" => b"\x10\x02",
         "s" => b"\x0a\x01s",
         "u" => b"u",
         "v" => b"v",
         _ => b"",
-    }))
+    };
+    Ok(SharedBytes::of(TextSlice::copy_from_slice(alloc, bytes)?))
 }
 
 /// The key of a tenant's text: of one that it has, of another tenant's, of none; or no key.
-fn key(pool: &mut TextPool, owner: u32, name: &str) -> Result<Option<usize>, AllocError> {
+fn key(
+    alloc: Global,
+    pool: &mut TextPool,
+    owner: u32,
+    name: &str,
+) -> Result<Option<usize>, AllocError> {
     match name {
         "-" => Ok(None),
-        "others" => Ok(Some(pool.hold(9, text_of("one"))?)),
+        "others" => Ok(Some(pool.hold(9, text_of(alloc, "one")?)?)),
         "gone" => Ok(Some(1000)),
-        _ => Ok(Some(pool.hold(owner, text_of(name))?)),
+        _ => Ok(Some(pool.hold(owner, text_of(alloc, name)?)?)),
     }
 }
 
 /// A span by its name: field 5.
-fn named(name: &str) -> Bytes {
-    Bytes::from_static(match name {
+fn named(name: &str) -> &'static [u8] {
+    match name {
         "a" => b"\x2a\x01a",
         "b" => b"\x2a\x01b",
         _ => b"\x2a\x01c",
-    })
+    }
 }
 
 /// A span as `7:a:one:u:s:v` spells it: whose it is, its name, and a resource and a scope, each with the URL of its
 /// schema.
-fn spelled(pool: &mut TextPool, word: &str) -> Result<StoredSpan, AllocError> {
+fn spelled(alloc: Global, pool: &mut TextPool, word: &str) -> Result<StoredSpan, AllocError> {
     let [owner, name, resource, resource_url, scope, scope_url, _] = parts(word, ':');
     let owner = small(owner);
     let keys = TextKeys {
-        resource: key(pool, owner, resource)?,
-        resource_schema_url: key(pool, owner, resource_url)?,
-        scope: key(pool, owner, scope)?,
-        scope_schema_url: key(pool, owner, scope_url)?,
+        resource: key(alloc, pool, owner, resource)?,
+        resource_schema_url: key(alloc, pool, owner, resource_url)?,
+        scope: key(alloc, pool, owner, scope)?,
+        scope_schema_url: key(alloc, pool, owner, scope_url)?,
     };
-    Ok(StoredSpan::of(owner, keys, named(name)))
+    let source = SharedKeys::of(alloc, owner, keys)?;
+    let text = TextSlice::copy_from_slice(alloc, named(name))?;
+    Ok(StoredSpan::of(source, text))
 }
 
 fn all_spelled(
@@ -63,7 +72,7 @@ fn all_spelled(
 ) -> Result<Vec<StoredSpan>, AllocError> {
     let mut spans = Vec::new(alloc);
     for word in text.split(' ') {
-        spans.push(spelled(pool, word)?)?;
+        spans.push(spelled(alloc, pool, word)?)?;
     }
     Ok(spans)
 }

@@ -11,6 +11,7 @@ use otlp_trace::{put_bytes_field, put_some_bytes, wrap_in_field};
 use span_pool::{Owned, StoredSpan};
 use std::alloc::{AllocError, Global};
 use text_pool::TextPool;
+use text_slice::TextSlice;
 
 /// The number of `resource` in a `ResourceSpans`, of `scope` in a `ScopeSpans`, and of `resource_spans` in a request.
 const FIRST: u32 = 1;
@@ -22,7 +23,7 @@ const INNER: u32 = 2;
 const SCHEMA_URL: u32 = 3;
 
 /// The tenant's text at a key, where there is a key and a text.
-fn text_at(texts: &TextPool, tenant: u32, key: Option<usize>) -> Option<&Bytes>
+fn text_at(texts: &TextPool, tenant: u32, key: Option<usize>) -> Option<&TextSlice>
     ensures { option_copied result ≡ text_at (texts_in texts.now tenant) key }
 {
     match key {
@@ -42,7 +43,7 @@ fn bytes_at(texts: &TextPool, tenant: u32, key: Option<usize>) -> &[u8]
 }
 
 /// The text of a span's resource, where it has one.
-fn resource_of<'a>(texts: &'a TextPool, span: &StoredSpan) -> Option<&'a Bytes>
+fn resource_of<'a>(texts: &'a TextPool, span: &StoredSpan) -> Option<&'a TextSlice>
     ensures { option_copied result ≡ (span_in texts.now span.now).origin.resource }
 {
     text_at(texts, span.owner(), span.keys().resource)
@@ -56,7 +57,7 @@ fn resource_url_of<'a>(texts: &'a TextPool, span: &StoredSpan) -> &'a [u8]
 }
 
 /// The text of a span's scope, where it has one.
-fn scope_of<'a>(texts: &'a TextPool, span: &StoredSpan) -> Option<&'a Bytes>
+fn scope_of<'a>(texts: &'a TextPool, span: &StoredSpan) -> Option<&'a TextSlice>
     ensures { option_copied result ≡ (span_in texts.now span.now).origin.scope }
 {
     text_at(texts, span.owner(), span.keys().scope)
@@ -70,7 +71,7 @@ fn scope_url_of<'a>(texts: &'a TextPool, span: &StoredSpan) -> &'a [u8]
 }
 
 /// Whether both are missing, or both are there with the same bytes.
-fn are_same(one: Option<&Bytes>, other: Option<&Bytes>) -> bool
+fn are_same(one: Option<&TextSlice>, other: Option<&TextSlice>) -> bool
     ensures { result ≡ same_text (option_copied one.entry) (option_copied other.entry) }
 {
     match (one, other) {
@@ -118,7 +119,7 @@ fn is_same_url(
 }
 
 /// Appends the resource or the scope, where there is one.
-fn put_embedded(out: &mut Vec<u8>, text: Option<&Bytes>) -> Result<(), AllocError>
+fn put_embedded(out: &mut Vec<u8>, text: Option<&TextSlice>) -> Result<(), AllocError>
     ensures { OnOk result (out.new.items ≡ out.old.items ++ embedded 1 (option_copied text.entry)) }
 {
     match text {

@@ -14,6 +14,11 @@ pub record Origin : Type 0 where
   pub scope : Option (List ℕ)
   pub scope_schema_url : List ℕ
 
+-- keys of texts, with the number of the tenant whose texts they name
+pub record OwnedKeys : Type 0 where
+  pub owner : ℕ
+  pub keys : TextKeys
+
 -- a span as it is kept: its tenant's number, the keys of what it shares, and its canonical text
 pub record StoredData : Type 0 where
   pub owner : ℕ

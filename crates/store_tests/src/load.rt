@@ -1,11 +1,11 @@
 //! Many spans pass through a pool and a table of rows, which hold so many of them at a time. tests/held.py takes the
 //! time and the memory of each test here.
 
-use bytes::Bytes;
-use span_pool::{SpanPool, StoredSpan, TextKeys};
+use span_pool::{SharedKeys, SpanPool, StoredSpan, TextKeys};
 use std::alloc::{AllocError, Global};
 use std::process::Abort;
 use std::test::Fail;
+use text_slice::TextSlice;
 use trace_rows::{Keys, Row, TraceRows};
 
 /// How many spans pass in a test.
@@ -46,39 +46,45 @@ pub fn trace_id(trace: u64) -> [u8; 16] {
     [a, b, c, d, e, f, g, h, i, j, k, l, m, n, o, p]
 }
 
-/// The texts of a trace's spans, one behind the other, as a body has them.
-fn body(alloc: Global) -> Result<Bytes, AllocError> {
+/// What comes together: the texts of a trace's spans, one behind the other, and the keys of what they share.
+#[derive(Drop)]
+struct Post {
+    body: TextSlice,
+    source: SharedKeys,
+}
+
+/// A post of the tenant's.
+fn post_of(alloc: Global, tenant: u32) -> Result<Post, AllocError> {
     let mut bytes = Vec::new(alloc);
     for _ in 0..SPANS_OF_A_TRACE {
         bytes.extend_from_slice(TEXT)?;
     }
-    Ok(Bytes::from_vec(bytes)?)
+    let body = TextSlice::from_vec(alloc, bytes)?;
+    let source = SharedKeys::of(alloc, tenant, NO_KEYS)?;
+    Ok(Post { body, source })
 }
 
-/// The span of this number in its trace's body, which it shares with the others.
-fn stored(
-    rt: &impl Abort,
-    tenant: u32,
-    body: &Bytes,
-    number: u64,
-) -> Result<StoredSpan, AllocError> {
+/// The span of this number in its trace's post, which shares body and keys with the others.
+fn stored(rt: &impl Abort, post: &Post, number: u64) -> Result<StoredSpan, AllocError> {
     let start = (number as usize).saturating_mul(TEXT.len());
     let end = start.saturating_add(TEXT.len());
-    assert!(rt; start <= end && end <= body.len());
-    Ok(StoredSpan::of(tenant, NO_KEYS, body.slice(start..end)?))
+    assert!(rt; start <= end && end <= post.body.len());
+    let text = post.body.slice(start, end)?;
+    let source = post.source.shared()?;
+    Ok(StoredSpan::of(source, text))
 }
 
-/// A span of a body comes into the pool, and joins its trace's row or opens it.
+/// A span of a post comes into the pool, and joins its trace's row or opens it.
 fn come(
     rt: &impl Abort,
     alloc: Global,
     load: &mut Load,
-    body: &Bytes,
+    post: &Post,
     span: u64,
 ) -> Result<(), AllocError> {
     let trace = span / SPANS_OF_A_TRACE;
     let (tenant, number) = place(load, trace);
-    let stored = stored(rt, tenant, body, span % SPANS_OF_A_TRACE)?;
+    let stored = stored(rt, post, span % SPANS_OF_A_TRACE)?;
     let key = load.pool.put(stored)?;
     if let Some(seat) = load.table.latest_row(tenant, trace_id(trace)) {
         let note = match load.table.row(tenant, seat) {
@@ -116,7 +122,7 @@ fn leave(alloc: Global, load: &mut Load, trace: u64) -> u64 {
     keys.as_slice().len() as u64
 }
 
-/// The spans of a trace come, in one body.
+/// The spans of a trace come, in one post.
 fn trace_comes(
     rt: &impl Abort,
     alloc: Global,
@@ -124,9 +130,10 @@ fn trace_comes(
     trace: u64,
 ) -> Result<(), AllocError> {
     let first = trace.saturating_mul(SPANS_OF_A_TRACE);
-    let body = body(alloc)?;
+    let (tenant, _) = place(load, trace);
+    let post = post_of(alloc, tenant)?;
     for span in 0..SPANS_OF_A_TRACE {
-        come(rt, alloc, load, &body, first.saturating_add(span))?;
+        come(rt, alloc, load, &post, first.saturating_add(span))?;
     }
     Ok(())
 }

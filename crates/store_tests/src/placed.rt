@@ -1,13 +1,13 @@
 //! Spans of two tenants, 7 and 8, and what each of them has in stores. The note of a row is the number of its spans.
 
-ghost use Rattle.std.specs.Prelude.{◌≡◌};
+ghost use Rattle.std.specs.Prelude.{◌≡◌, IfOk};
 
 use crate::story::Numbers;
-use bytes::Bytes;
-use span_pool::{StoredSpan, TextKeys};
-use std::alloc::AllocError;
+use span_pool::{SharedKeys, StoredSpan, TextKeys};
+use std::alloc::{AllocError, Global};
 use tenant_stores::{Joining, Opening, Stores};
 use text_pool::SharedBytes;
+use text_slice::TextSlice;
 
 pub const TRACE: [u8; 16] = [0x11; 16];
 
@@ -26,13 +26,13 @@ pub const B: &[u8] = b"\x2a\x01b";
 
 pub const C: &[u8] = b"\x2a\x01c";
 
-fn text(bytes: &'static [u8]) -> SharedBytes {
-    SharedBytes::of(Bytes::from_static(bytes))
+fn text(alloc: Global, bytes: &[u8]) -> Result<SharedBytes, AllocError> {
+    Ok(SharedBytes::of(TextSlice::copy_from_slice(alloc, bytes)?))
 }
 
 /// The keys of a resource and a scope, with a use of each, or none.
-pub fn held(stores: &mut Stores<u64>, tenant: u32) -> Result<TextKeys, AllocError> {
-    let (resource, scope) = (text(RESOURCE), text(SCOPE));
+pub fn held(alloc: Global, stores: &mut Stores<u64>, tenant: u32) -> Result<TextKeys, AllocError> {
+    let (resource, scope) = (text(alloc, RESOURCE)?, text(alloc, SCOPE)?);
     stores.hold_all(tenant, Some(&resource), None, Some(&scope), None)
 }
 
@@ -47,26 +47,49 @@ pub fn keys_from(scope: usize) -> TextKeys {
 }
 
 /// A span of the tenant, with these texts.
-fn span(tenant: u32, keys: TextKeys, name: &'static [u8]) -> StoredSpan
-    ensures { result.owner ≡ tenant }
+fn span(alloc: Global, tenant: u32, keys: TextKeys, name: &[u8]) -> Result<StoredSpan, AllocError>
+    ensures { IfOk result (λ span. span.owner ≡ tenant) }
 {
-    StoredSpan::of(tenant, keys, Bytes::from_static(name))
+    let source = SharedKeys::of(alloc, tenant, keys)?;
+    let text = TextSlice::copy_from_slice(alloc, name)?;
+    Ok(StoredSpan::of(source, text))
+}
+
+/// A span with keys that were held for it. Where memory is refused, their texts are let go.
+fn span_or_release(
+    alloc: Global,
+    stores: &mut Stores<u64>,
+    tenant: u32,
+    keys: TextKeys,
+    name: &[u8],
+) -> Result<StoredSpan, AllocError>
+    ensures { IfOk result (λ span. span.owner ≡ tenant) }
+{
+    match span(alloc, tenant, keys, name) {
+        Ok(span) => Ok(span),
+        Err(refused) => {
+            stores.release_all(tenant, keys);
+            Err(refused)
+        }
+    }
 }
 
 /// A span opens a row, where its number has none.
 pub fn open(
+    alloc: Global,
     stores: &mut Stores<u64>,
     tenant: u32,
     number: u64,
     trace: [u8; 16],
-    name: &'static [u8],
+    name: &[u8],
 ) -> Result<Option<Opening>, AllocError> {
-    let keys = held(stores, tenant)?;
+    let keys = held(alloc, stores, tenant)?;
+    let span = span_or_release(alloc, stores, tenant, keys, name)?;
     let None = stores.row(tenant, number) else {
         stores.release_all(tenant, keys);
         return Ok(None);
     };
-    match stores.open(number, 1000, trace, span(tenant, keys, name), 1) {
+    match stores.open(number, 1000, trace, span, 1) {
         Ok(opening) => Ok(Some(opening)),
         Err(refused) => {
             stores.release_all(tenant, keys);
@@ -77,14 +100,16 @@ pub fn open(
 
 /// A span joins a row.
 pub fn join(
+    alloc: Global,
     stores: &mut Stores<u64>,
     tenant: u32,
     number: u64,
-    name: &'static [u8],
+    name: &[u8],
     note: u64,
 ) -> Result<Joining<u64>, AllocError> {
-    let keys = held(stores, tenant)?;
-    match stores.join(number, span(tenant, keys, name), note) {
+    let keys = held(alloc, stores, tenant)?;
+    let span = span_or_release(alloc, stores, tenant, keys, name)?;
+    match stores.join(number, span, note) {
         Ok(joining) => Ok(joining),
         Err(refused) => {
             stores.release_all(tenant, keys);
@@ -95,13 +120,15 @@ pub fn join(
 
 /// A late span waits for a batch. It has the texts of another one, which are known.
 pub fn late(
+    alloc: Global,
     stores: &mut Stores<u64>,
     tenant: u32,
     keys: TextKeys,
-    name: &'static [u8],
+    name: &[u8],
 ) -> Result<usize, AllocError> {
     let keys = stores.hold_again(tenant, keys)?;
-    match stores.keep_late(span(tenant, keys, name)) {
+    let span = span_or_release(alloc, stores, tenant, keys, name)?;
+    match stores.keep_late(span) {
         Ok(key) => Ok(key),
         Err(refused) => {
             stores.release_all(tenant, keys);

@@ -3,14 +3,15 @@
 ghost use Rattle.store_tests.specs.Stored.{SameResources, SameScopes, EqualOrigins, ReadSpans, ReadResources};
 
 use crate::story::{Step, one, step_of};
-use bytes::Bytes;
 use span_pool::{
-    NotYours, Owned, SpanPool, StoredSpan, TextKeys, each_span_has_one_owner, read_spans_are_viewed,
+    NotYours, Owned, SharedKeys, SpanPool, StoredSpan, TextKeys, each_span_has_one_owner,
+    read_spans_are_viewed,
 };
-use std::alloc::AllocError;
+use std::alloc::{AllocError, Global};
 use std::mem::size_of;
 use std::process::Abort;
 use std::test::Fail;
+use text_slice::TextSlice;
 
 /// A resource of a schema, and a scope of none.
 const KEYS: TextKeys = TextKeys {
@@ -25,17 +26,36 @@ const FIRST: &[u8] = b"\x2a\x01\x31";
 
 const SECOND: &[u8] = b"\x2a\x01\x32";
 
-/// The span of this number.
-fn span(owner: u32, number: usize) -> StoredSpan {
+/// The span of this number, with these keys.
+fn span_of(alloc: Global, source: SharedKeys, number: usize) -> Result<StoredSpan, AllocError> {
     let name = if number == 1 { FIRST } else { SECOND };
-    StoredSpan::of(owner, KEYS, Bytes::from_static(name))
+    Ok(StoredSpan::of(source, TextSlice::copy_from_slice(alloc, name)?))
+}
+
+/// The span of this number, with keys of its own.
+fn span(alloc: Global, owner: u32, number: usize) -> Result<StoredSpan, AllocError> {
+    span_of(alloc, SharedKeys::of(alloc, owner, KEYS)?, number)
 }
 
 #[test]
-fn what_was_given_is_there_in_80_bytes(rt: HostRuntime) {
-    let span = span(7, 1);
+fn what_was_given_is_there_in_24_bytes(rt: HostRuntime) -> Result<(), Fail> {
+    let span = span(rt.alloc(), 7, 1)?;
     assert!(rt; span.owner() == 7 && span.keys() == KEYS && span.text().as_slice() == FIRST);
-    assert!(rt; size_of::<StoredSpan>() == 80);
+    assert!(rt; size_of::<StoredSpan>() == 24);
+    Ok(())
+}
+
+// The keys stay as long as one of those that share them does.
+#[test]
+fn spans_share_their_keys(rt: HostRuntime) -> Result<(), Fail> {
+    let source = SharedKeys::of(rt.alloc(), 7, KEYS)?;
+    let first = span_of(rt.alloc(), source.shared()?, 1)?;
+    assert!(rt; source.owner() == 7 && source.keys() == KEYS);
+    let second = span_of(rt.alloc(), source, 2)?;
+    assert!(rt; first.owner() == 7 && first.keys() == KEYS && first.text().as_slice() == FIRST);
+    drop(first);
+    assert!(rt; second.owner() == 7 && second.keys() == KEYS && second.text().as_slice() == SECOND);
+    Ok(())
 }
 
 fn number_of(span: Option<&StoredSpan>) -> usize {
@@ -84,11 +104,12 @@ fn taken(pool: &mut SpanPool<StoredSpan>, tenant: u32, key: usize) -> usize {
 
 fn given(
     rt: &impl Abort,
+    alloc: Global,
     pool: &mut SpanPool<StoredSpan>,
     step: &Step<'_>,
 ) -> Result<usize, AllocError> {
     match step.call {
-        "put" => put(rt, pool, span(step.tenant, step.number)),
+        "put" => put(rt, pool, span(alloc, step.tenant, step.number)?),
         "take" => Ok(taken(pool, step.tenant, step.number)),
         "undo" => {
             pool.undo_put(step.tenant, step.number);
@@ -132,7 +153,7 @@ fn each_tenant_owns_and_takes_what_it_put(rt: HostRuntime) -> Result<(), Fail> {
     for line in STORY.lines() {
         let step = step_of(line);
         assert!(rt;
-            one(given(&rt, &mut pool, &step)?) == step.wanted,
+            one(given(&rt, rt.alloc(), &mut pool, &step)?) == step.wanted,
             "at {line}"
         );
     }
@@ -144,8 +165,8 @@ fn each_tenant_owns_and_takes_what_it_put(rt: HostRuntime) -> Result<(), Fail> {
 fn many_spans_come(rt: HostRuntime) -> Result<(), Fail> {
     let mut pool = SpanPool::new(rt.alloc());
     for _pair in 0..20 {
-        put(&rt, &mut pool, span(7, 1))?;
-        put(&rt, &mut pool, span(8, 2))?;
+        put(&rt, &mut pool, span(rt.alloc(), 7, 1)?)?;
+        put(&rt, &mut pool, span(rt.alloc(), 8, 2)?)?;
     }
     assert!(rt; owned(&pool, 7) == [1, 0, 1, 0] && owned(&pool, 8) == [0, 2, 0, 2]);
     Ok(())

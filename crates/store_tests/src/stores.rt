@@ -19,8 +19,8 @@ fn name_of(number: usize) -> &'static [u8] {
 }
 
 /// The keys of a resource and a scope that are held.
-fn held_at(stores: &mut Stores<u64>, tenant: u32) -> Result<Numbers, AllocError> {
-    let keys = held(stores, tenant)?;
+fn held_at(alloc: Global, stores: &mut Stores<u64>, tenant: u32) -> Result<Numbers, AllocError> {
+    let keys = held(alloc, stores, tenant)?;
     match (keys.resource, keys.scope) {
         (Some(resource), Some(scope)) => Ok(two(resource, scope)),
         _ => Ok(one(1000)),
@@ -28,18 +28,19 @@ fn held_at(stores: &mut Stores<u64>, tenant: u32) -> Result<Numbers, AllocError>
 }
 
 /// The key of a span that opened a row, and the trace's row before.
-fn opened(stores: &mut Stores<u64>, step: &Step<'_>) -> Result<Numbers, AllocError> {
+fn opened(alloc: Global, stores: &mut Stores<u64>, step: &Step<'_>) -> Result<Numbers, AllocError> {
     let number = step.number as u64;
-    match open(stores, step.tenant, number, TRACE, name_of(step.other))? {
+    let name = name_of(step.other);
+    match open(alloc, stores, step.tenant, number, TRACE, name)? {
         Some(opening) => Ok(two(opening.key, row_number(opening.earlier))),
         None => Ok(one(1000)),
     }
 }
 
 /// The key of a span that joined a row, and the row's note before.
-fn joined(stores: &mut Stores<u64>, step: &Step<'_>) -> Result<Numbers, AllocError> {
+fn joined(alloc: Global, stores: &mut Stores<u64>, step: &Step<'_>) -> Result<Numbers, AllocError> {
     let number = step.number as u64;
-    let joining = join(stores, step.tenant, number, name_of(step.other), 2)?;
+    let joining = join(alloc, stores, step.tenant, number, name_of(step.other), 2)?;
     Ok(two(joining.key, joining.former as usize))
 }
 
@@ -97,16 +98,24 @@ fn seen(stores: &Stores<u64>, step: &Step<'_>) -> Numbers {
     }
 }
 
+/// The key of a late span.
+fn kept_late(
+    alloc: Global,
+    stores: &mut Stores<u64>,
+    step: &Step<'_>,
+) -> Result<Numbers, AllocError> {
+    let keys = keys_from(step.number);
+    let key = late(alloc, stores, step.tenant, keys, name_of(step.other))?;
+    Ok(one(key))
+}
+
 /// What a call gives.
-fn given(stores: &mut Stores<u64>, step: &Step<'_>) -> Result<Numbers, AllocError> {
+fn given(alloc: Global, stores: &mut Stores<u64>, step: &Step<'_>) -> Result<Numbers, AllocError> {
     match step.call {
-        "hold" => held_at(stores, step.tenant),
-        "late" => {
-            let keys = keys_from(step.number);
-            Ok(one(late(stores, step.tenant, keys, name_of(step.other))?))
-        }
-        "open" => opened(stores, step),
-        "join" => joined(stores, step),
+        "hold" => held_at(alloc, stores, step.tenant),
+        "late" => kept_late(alloc, stores, step),
+        "open" => opened(alloc, stores, step),
+        "join" => joined(alloc, stores, step),
         _ => Ok(given_at_once(stores, step)),
     }
 }
@@ -114,15 +123,16 @@ fn given(stores: &mut Stores<u64>, step: &Step<'_>) -> Result<Numbers, AllocErro
 /// What a call gives. Where memory is refused, both tenants have what they had, and it is done again.
 fn given_at_last(
     rt: &impl Abort,
+    alloc: Global,
     stores: &mut Stores<u64>,
     step: &Step<'_>,
 ) -> Result<Numbers, AllocError> {
     let before = (told(stores, 7), told(stores, 8));
-    if let Ok(numbers) = given(stores, step) {
+    if let Ok(numbers) = given(alloc, stores, step) {
         return Ok(numbers);
     }
     assert!(rt; (told(stores, 7), told(stores, 8)) == before);
-    given(stores, step)
+    given(alloc, stores, step)
 }
 
 /// Tells a story to new stores.
@@ -131,7 +141,7 @@ fn tell(rt: &impl Abort, alloc: Global, story: &str) -> Result<(), AllocError> {
     for line in story.lines() {
         let step = step_of(line);
         assert!(rt;
-            given_at_last(rt, &mut stores, &step)? == step.wanted,
+            given_at_last(rt, alloc, &mut stores, &step)? == step.wanted,
             "at {line}"
         );
     }
@@ -237,20 +247,25 @@ fn stories_of_two_tenants(rt: HostRuntime) -> Result<(), Fail> {
 }
 
 /// A span joins the first row, and the journal tells so.
-fn joins(stores: &mut Stores<u64>, journal: &mut Vec<UndoEntry<u64>>) -> Result<(), AllocError> {
-    let joining = join(stores, 7, 1, B, 2)?;
+fn joins(
+    alloc: Global,
+    stores: &mut Stores<u64>,
+    journal: &mut Vec<UndoEntry<u64>>,
+) -> Result<(), AllocError> {
+    let joining = join(alloc, stores, 7, 1, B, 2)?;
     journal.push(UndoEntry::Joined(1, joining.key, joining.former))?;
     Ok(())
 }
 
 /// A span opens a row, and the journal tells so.
 fn opens(
+    alloc: Global,
     stores: &mut Stores<u64>,
     journal: &mut Vec<UndoEntry<u64>>,
     number: u64,
     trace: [u8; 16],
 ) -> Result<(), AllocError> {
-    if let Some(opening) = open(stores, 7, number, trace, B)? {
+    if let Some(opening) = open(alloc, stores, 7, number, trace, B)? {
         journal.push(UndoEntry::Opened(number, opening.key, trace, opening.earlier))?;
     }
     Ok(())
@@ -258,37 +273,42 @@ fn opens(
 
 /// A late span comes, and the journal tells so.
 fn comes_late(
+    alloc: Global,
     stores: &mut Stores<u64>,
     journal: &mut Vec<UndoEntry<u64>>,
 ) -> Result<(), AllocError> {
-    journal.push(UndoEntry::Late(late(stores, 7, keys_from(0), C)?))?;
+    journal.push(UndoEntry::Late(late(alloc, stores, 7, keys_from(0), C)?))?;
     Ok(())
 }
 
 /// Spans of each kind come.
-fn post(stores: &mut Stores<u64>, journal: &mut Vec<UndoEntry<u64>>) -> Result<(), AllocError> {
-    joins(stores, journal)?;
-    opens(stores, journal, 2, OTHER)?;
+fn post(
+    alloc: Global,
+    stores: &mut Stores<u64>,
+    journal: &mut Vec<UndoEntry<u64>>,
+) -> Result<(), AllocError> {
+    joins(alloc, stores, journal)?;
+    opens(alloc, stores, journal, 2, OTHER)?;
     journal.push(UndoEntry::Left)?;
-    opens(stores, journal, 3, TRACE)?;
-    comes_late(stores, journal)
+    opens(alloc, stores, journal, 3, TRACE)?;
+    comes_late(alloc, stores, journal)
 }
 
 /// Stores in which tenant 7 holds the first two texts, and both tenants have a row.
-fn begin(stores: &mut Stores<u64>) -> Result<bool, AllocError> {
-    let _keys = held(stores, 7)?;
-    let seven = open(stores, 7, 1, TRACE, A)?.is_some();
-    let eight = open(stores, 8, 1, TRACE, A)?.is_some();
+fn begin(alloc: Global, stores: &mut Stores<u64>) -> Result<bool, AllocError> {
+    let _keys = held(alloc, stores, 7)?;
+    let seven = open(alloc, stores, 7, 1, TRACE, A)?.is_some();
+    let eight = open(alloc, stores, 8, 1, TRACE, A)?.is_some();
     Ok(seven && eight)
 }
 
 #[test]
 fn what_a_post_did_is_taken_back(rt: HostRuntime) -> Result<(), Fail> {
     let mut stores = Stores::new(rt.alloc());
-    assert!(rt; begin(&mut stores)?);
+    assert!(rt; begin(rt.alloc(), &mut stores)?);
     let before = (told(&stores, 7), told(&stores, 8));
     let mut journal = Vec::new(rt.alloc());
-    post(&mut stores, &mut journal)?;
+    post(rt.alloc(), &mut stores, &mut journal)?;
     assert!(rt; spans(&stores, 7) == [1, 0, 2, 2, 2, 3] && stores.latest_row(7, TRACE) == Some(3));
     assert!(rt; told(&stores, 7) != before.0 && told(&stores, 8) == before.1);
     stores.take_all_back(7, &mut journal);

@@ -1,11 +1,11 @@
 //! Texts of two tenants, 7 and 8, in one pool.
 
 use crate::story::{Step, one, step_of};
-use bytes::Bytes;
-use std::alloc::AllocError;
+use std::alloc::{AllocError, Global};
 use std::process::Abort;
 use std::test::Fail;
 use text_pool::{SharedBytes, TextPool};
+use text_slice::TextSlice;
 
 const FIRST: &[u8] = b"a resource";
 
@@ -20,14 +20,16 @@ const DIGEST_OF_ABC: [u8; 32] = [
     0xb0, 0x03, 0x61, 0xa3, 0x96, 0x17, 0x7a, 0x9c, 0xb4, 0x10, 0xff, 0x61, 0xf2, 0x00, 0x15, 0xad,
 ];
 
-fn text(bytes: &'static [u8]) -> SharedBytes {
-    SharedBytes::of(Bytes::from_static(bytes))
+fn text(alloc: Global, bytes: &[u8]) -> Result<SharedBytes, AllocError> {
+    Ok(SharedBytes::of(TextSlice::copy_from_slice(alloc, bytes)?))
 }
 
 #[test]
-fn texts_are_the_same_by_their_bytes(rt: HostRuntime) {
-    assert!(rt; text(FIRST).is_same(&text(FIRST)));
-    assert!(rt; !text(FIRST).is_same(&text(THIRD)));
+fn texts_are_the_same_by_their_bytes(rt: HostRuntime) -> Result<(), Fail> {
+    let first = text(rt.alloc(), FIRST)?;
+    assert!(rt; first.is_same(&text(rt.alloc(), FIRST)?));
+    assert!(rt; !first.is_same(&text(rt.alloc(), THIRD)?));
+    Ok(())
 }
 
 /// Whether a text is shared with its bytes and its digest.
@@ -38,16 +40,16 @@ fn is_shared(first: &SharedBytes, bytes: &[u8], digest: [u8; 32]) -> Result<bool
 
 #[test]
 fn a_text_is_shared_with_its_digest(rt: HostRuntime) -> Result<(), Fail> {
-    let first = SharedBytes::of(Bytes::copy_from_slice(rt.alloc(), b"abc")?);
+    let first = text(rt.alloc(), b"abc")?;
     assert!(rt; is_shared(&first, b"abc", DIGEST_OF_ABC)?);
     Ok(())
 }
 
-fn text_of(number: usize) -> SharedBytes {
+fn text_of(alloc: Global, number: usize) -> Result<SharedBytes, AllocError> {
     match number {
-        1 => text(FIRST),
-        2 => text(SECOND),
-        _ => text(THIRD),
+        1 => text(alloc, FIRST),
+        2 => text(alloc, SECOND),
+        _ => text(alloc, THIRD),
     }
 }
 
@@ -80,9 +82,9 @@ fn told(pool: &TextPool, tenant: u32) -> [usize; 4] {
     ]
 }
 
-fn given(pool: &mut TextPool, step: &Step<'_>) -> Result<usize, AllocError> {
+fn given(alloc: Global, pool: &mut TextPool, step: &Step<'_>) -> Result<usize, AllocError> {
     match step.call {
-        "hold" => pool.hold(step.tenant, text_of(step.number)),
+        "hold" => pool.hold(step.tenant, text_of(alloc, step.number)?),
         "again" => pool.hold_again(step.tenant, step.number),
         "release" => {
             pool.release(step.tenant, step.number);
@@ -96,15 +98,16 @@ fn given(pool: &mut TextPool, step: &Step<'_>) -> Result<usize, AllocError> {
 /// What a call gives. Where memory is refused, both tenants have what they had, and it is done again.
 fn given_at_last(
     rt: &impl Abort,
+    alloc: Global,
     pool: &mut TextPool,
     step: &Step<'_>,
 ) -> Result<usize, AllocError> {
     let before = (told(pool, 7), told(pool, 8));
-    if let Ok(number) = given(pool, step) {
+    if let Ok(number) = given(alloc, pool, step) {
         return Ok(number);
     }
     assert!(rt; (told(pool, 7), told(pool, 8)) == before);
-    given(pool, step)
+    given(alloc, pool, step)
 }
 
 /// `hold` a text, by its number, and `again` that at a key give its key; `release` lets go of the text at a key, and
@@ -156,7 +159,7 @@ fn texts_are_kept_once_a_tenant_until_their_last_use(rt: HostRuntime) -> Result<
     for line in STORY.lines() {
         let step = step_of(line);
         assert!(rt;
-            one(given_at_last(&rt, &mut pool, &step)?) == step.wanted,
+            one(given_at_last(&rt, rt.alloc(), &mut pool, &step)?) == step.wanted,
             "at {line}"
         );
     }

@@ -1,4 +1,5 @@
 pub mod Taking
+pub mod Keys
 pub mod Origins
 pub mod Posting
 pub mod Sweeping

@@ -2,7 +2,7 @@
 use Rattle.std.proofs.Common.{◌≡◌, ℕ, zero, suc, ◌+◌, ◌<◌, List, [], ◌∷◌, ◌++◌, length, map, drop, get_or, refl, sym, ap, subst, ◌∙◌, arith, append_assoc, append-nil, Option, Some, None}
 use Rattle.std.proofs.lemmas.List.{map-append, drop_more}
 use Rattle.std.specs.Prelude.{option_to_list}
-use Rattle.span_pool.specs.Stored.{Origin as OriginData, bytes_of, origin_at}
+use Rattle.span_pool.specs.Stored.{OwnedKeys, Origin as OriginData, bytes_of, origin_at}
 use Rattle.span_pool.specs.Stored as keyed
 use Rattle.span_pool.specs.declared.keys.TextKeys.{TextKeys}
 use Rattle.tail_policy.specs.declared.note.TraceNote.{TraceNote}
@@ -19,7 +19,7 @@ use Rattle.tenant_stores.proofs.Parts.{all_released-append, part_by}
 use Rattle.otlp_prepare.specs.Arrivals.{origin_view}
 use Rattle.otlp_prepare.specs.Arrivals as prepared
 use Rattle.otlp_prepare.specs.declared.noted.SpanOrigin.{SpanOrigin}
-use Rattle.tenant_pipeline.specs.Posts.{all_text_keys, keys_at}
+use Rattle.tenant_pipeline.specs.Posts.{all_keys, all_text_keys, keys_at}
 
 -- ---- keys
 
@@ -27,6 +27,16 @@ pub keys-push : (all : List TextKeys) (keys : TextKeys) → all_text_keys (all +
 keys-push [] keys = sym (append-nil (text_keys keys))
 keys-push (k ∷ all) keys =
     ap (λ (ks : List ℕ). ks ++ text_keys k) (keys-push all keys) ∙ append_assoc (text_keys keys) (all_text_keys all) (text_keys k)
+
+-- those of one origin more
+pub keys_pushed : (all : List OwnedKeys) (one : OwnedKeys) (all' : List OwnedKeys) → all' ≡ all ++ one ∷ [] → all_keys all' ≡ all_keys all ++ one.keys ∷ []
+keys_pushed all one all' is = ap all_keys is ∙ map-append (λ (k : OwnedKeys). k.keys) all (one ∷ [])
+
+-- and at an index
+pub keys_index : (all : List OwnedKeys) (index : ℕ) (d : OwnedKeys) → index < length all → keys_at (all_keys all) index ≡ (get_or all index d).keys
+keys_index [] index d within = absurd (omega arith)
+keys_index (one ∷ all) zero d within = refl
+keys_index (one ∷ all) (suc index) d within = keys_index all index d (omega (arith, within))
 
 -- with others behind them
 pub keys-push_held : (all : List TextKeys) (keys : TextKeys) (held : List ℕ) → all_text_keys (all ++ keys ∷ []) ++ held ≡ text_keys keys ++ (all_text_keys all ++ held)

@@ -35,6 +35,10 @@ use Rattle.tenant_pipeline.specs.Undo.{TakesBack, hits_undone}
 pub among_held : (n : Counts) (pending held other : List ℕ) (p : Part TraceNote) → StoreInvariant n pending held p → StoreInvariant n pending other p → (keys : List ℕ) → AreAmong keys held → AreAmong keys other
 among_held n pending held other p sound again keys among = λ key. omega (arith, among key, sound.used key, again.used key)
 
+-- the same keys are among them
+pub same_among : (one other : TextKeys) (held : List ℕ) → one ≡ other → AreAmong (text_keys other) held → AreAmong (text_keys one) held
+same_among one other held is among = subst (λ (k : TextKeys). AreAmong (text_keys k) held) (sym is) among
+
 -- an origin whose texts stay
 pub origin_stays : (held : List ℕ) (old new : ℕ → Option CountedText) (keys : TextKeys) → AreAmong (text_keys keys) held → Stay held old new → origin_at (text_at new) keys ≡ origin_at (text_at old) keys
 origin_stays held old new keys among stay = cc (one keys.resource first, one keys.resource_schema_url second, one keys.scope third, one keys.scope_schema_url fourth)

@@ -4,7 +4,7 @@ use Rattle.std.specs.List.{AllByRecursion}
 use Rattle.std.specs.Prelude.{nat_lt, ◌==◌, Result, Ok, Err, OnOk, OnErr}
 use Rattle.std.proofs.lemmas.List.{length-map, drop_more, drop_all}
 use Rattle.drop_ledger.specs.Ledger.{LedgerData, counted, left_out, most_counted}
-use Rattle.span_pool.specs.Stored.{Origin as OriginData, origin_at}
+use Rattle.span_pool.specs.Stored.{Origin as OriginData, OwnedKeys, origin_at}
 use Rattle.span_pool.specs.declared.keys.TextKeys.{TextKeys}
 use Rattle.tail_policy.specs.declared.note.TraceNote.{TraceNote}
 use Rattle.tail_policy.specs.Note.{note_of}
@@ -34,9 +34,9 @@ use Rattle.tenant_pipeline.specs.declared.journal.Journal.{Journal}
 use Rattle.tenant_pipeline.specs.declared.pipeline.Pipeline.{Pipeline}
 use Rattle.tenant_pipeline.specs.Acts.{IsPosted}
 use Rattle.tenant_pipeline.specs.Invariant.{IsNoted, PipelineInvariantAt}
-use Rattle.tenant_pipeline.specs.Posts.{all_text_keys, arrival_at, IsPosting, IsWritten, IsComing, Came, IsSameTenant, keys_at, arrivals_at, IsReadyAt, AreComing, IsTaken, verdict_after}
+use Rattle.tenant_pipeline.specs.Posts.{all_keys, all_text_keys, arrival_at, IsPosting, IsWritten, IsComing, Came, IsSameTenant, keys_at, arrivals_at, IsReadyAt, AreComing, IsTaken, verdict_after}
 use Rattle.tenant_pipeline.specs.StateIn.{arrival_of, counts_in, policies_of, state_by, state_of, view_in}
-use Rattle.tenant_pipeline.proofs.Origins.{among_at, origin_is, as_many}
+use Rattle.tenant_pipeline.proofs.Origins.{among_at, keys_index, origin_is, as_many}
 use Rattle.tenant_pipeline.proofs.Taking.{all_take, verdict_shifts, none_taken}
 
 -- ---- what always holds, where a part shows the same
@@ -212,6 +212,14 @@ nth_of P (x ∷ xs) (suc i) d all within = nth_of P xs i d all.1 (omega (arith, 
 -- where each span is ready, one of them is
 pub ready_at : (keys : List TextKeys) (own : Pipeline) (p : Part TraceNote) (spans : List NotedSpan) (index : ℕ) (d : NotedSpan) → AreComing keys spans own p → index < length spans → IsReadyAt keys own p (get_or spans index d)
 ready_at keys own p spans index d ready within = nth_of (IsReadyAt keys own p) spans index d ready within
+
+-- and the keys that are read for it are those of its origin
+pub keys_read : (all : List OwnedKeys) (own : Pipeline) (p : Part TraceNote) (spans : List NotedSpan) (index : ℕ) (span : NotedSpan) (read : OwnedKeys) → AreComing (all_keys all) spans own p →
+    index < length spans → span ≡ get_or spans index span → read ≡ get_or all span.origin read → keys_at (all_keys all) span.origin ≡ read.keys
+keys_read all own p spans index span read ready within item is =
+    let here = subst (λ (x : NotedSpan). IsReadyAt (all_keys all) own p x) (sym item) (ready_at (all_keys all) own p spans index span ready within) in
+    let size = length-map all (λ (k : OwnedKeys). k.keys) in
+    keys_index all span.origin read (omega (arith, here.within, size)) ∙ ap (λ (k : OwnedKeys). k.keys) (sym is)
 
 module _ (moment : ℕ) (keys : List TextKeys) (spans : List NotedSpan) (index : ℕ) (journal0 journal : Journal) (own0 own : Pipeline) (p0 p : Part TraceNote)
     (now : Placing moment keys spans index journal0 journal own0 own p0 p) (ready : AreComing keys spans own0 p0) (within : index < length spans) (span : NotedSpan) (item : span ≡ get_or spans index span)

@@ -5,7 +5,7 @@ use Rattle.std.specs.List.{AllByRecursion}
 use Rattle.drop_ledger.specs.Ledger.{LedgerData, counted, moved}
 use Rattle.drop_ledger.specs.declared.places.Place.TheVariants.{Undecided, TooEarly}
 use Rattle.span_batcher.specs.State.{next_due, IsAfter}
-use Rattle.span_pool.specs.Stored.{origin_at}
+use Rattle.span_pool.specs.Stored.{OwnedKeys, origin_at}
 use Rattle.span_pool.specs.declared.keys.TextKeys.{TextKeys}
 use Rattle.tail_policy.specs.declared.note.TraceNote.{TraceNote}
 use Rattle.tail_policy.specs.Note.{note_of}
@@ -28,6 +28,10 @@ use Rattle.tenant_stores.specs.Shows.{AreAmong}
 use Rattle.tenant_pipeline.specs.StateIn.{arrival_of, part_in, policies_of, state_of}
 use Rattle.tenant_pipeline.specs.Invariant.{PipelineInvariantAt}
 use Rattle.tenant_pipeline.specs.Undo.{TakesBack, hits_undone}
+
+-- the keys of each origin
+abbrev pub all_keys : List OwnedKeys → List TextKeys
+all_keys all = map (λ one. one.keys) all
 
 -- the keys of texts that origins have, the last one's first
 abbrev pub all_text_keys : List TextKeys → List ℕ

@@ -16,8 +16,8 @@
 //! Where memory is refused, some of those timers may have run, the clock then stands at the last one's moment, and
 //! nothing else has changed. What a tenant is told afterwards follows from that state.
 //!
-//! It stands on `tenant_rules`, `tenant_stores`, `span_batcher`, `send_queue`, `drop_ledger`, `tail_policy` and
-//! `tail_settings`, and on the crates that write OTLP.
+//! It stands on `tenant_rules`, `tenant_stores`, `span_batcher`, `send_queue`, `drop_ledger`, `decision_cache`,
+//! `otlp_prepare`, `tail_policy` and `tail_settings`, and on the crates that write OTLP.
 #![tactic(auto)]
 
 mod drain;

@@ -22,8 +22,8 @@ use crate::journal::Journal;
 use crate::pipeline::Pipeline;
 use drop_ledger::Place;
 use otlp_prepare::NotedSpan;
-use span_pool::{StoredSpan, TextKeys};
-use std::alloc::AllocError;
+use span_pool::{SharedKeys, StoredSpan, TextKeys};
+use std::alloc::{AllocError, Global};
 use tail_policy::TraceNote;
 use tenant_stores::{Stores, UndoEntry};
 
@@ -84,22 +84,22 @@ impl Pipeline {
     }
 
     /// A span of a post comes at a moment, in milliseconds, and is taken where there is room. The texts of its origin
-    /// are held at these keys. What it changes is written down, also where memory is refused.
+    /// are held at these keys, which it shares. What it changes is written down, also where memory is refused.
     pub(crate) fn admit(
         &mut self,
         stores: &mut Stores<TraceNote>,
         journal: &mut Journal,
         moment: u64,
-        keys: TextKeys,
+        keys: &SharedKeys,
         span: &NotedSpan,
     ) -> Result<(), AllocError>
         requires coming { (held : List ℕ)
-            × IsComing moment journal.old keys span.now held self.old
+            × IsComing moment journal.old keys.now.keys span.now held self.old
             (part_in self.old stores.old) }
         requires fits { counted self.old.ledger + 1 ≤ most_counted }
         ensures came { OnOk result (CameIn
-            (come moment (arrival_at (part_in self.old stores.old) keys span.now.text)) moment
-            journal.old journal.new self.old self.new stores.old stores.new) }
+            (come moment (arrival_at (part_in self.old stores.old) keys.now.keys span.now.text))
+            moment journal.old journal.new self.old self.new stores.old stores.new) }
 
         // It can be taken back, on success and where memory is refused.
         ensures written { StaysWritten journal.old journal.new self.old self.new stores.old
@@ -131,12 +131,12 @@ impl Pipeline {
         stores: &mut Stores<TraceNote>,
         journal: &mut Journal,
         moment: u64,
-        keys: TextKeys,
+        keys: &SharedKeys,
         span: &NotedSpan,
         sampled: bool,
     ) -> Result<(), AllocError>
         requires coming { (held : List ℕ)
-            × IsComing moment journal.old keys span.now held self.old
+            × IsComing moment journal.old keys.now.keys span.now held self.old
             (part_in self.old stores.old) }
         requires fits { counted self.old.ledger + 1 ≤ most_counted }
         requires budget { self.old.ledger.places.undecided + self.old.ledger.places.pending
@@ -145,7 +145,7 @@ impl Pipeline {
         requires known { found span.now.trace (shown self.old.caches) ≡ Some sampled }
         ensures came { OnOk result (CameIn
             (λ s. cached_or_opens moment
-            (arrival_at (part_in self.old stores.old) keys span.now.text) (Some sampled)
+            (arrival_at (part_in self.old stores.old) keys.now.keys span.now.text) (Some sampled)
             (counted_in s)) moment journal.old journal.new self.old self.new stores.old
             stores.new) }
         ensures written { StaysWritten journal.old journal.new self.old self.new stores.old
@@ -171,11 +171,11 @@ impl Pipeline {
         journal: &mut Journal,
         number: u64,
         moment: u64,
-        keys: TextKeys,
+        keys: &SharedKeys,
         span: &NotedSpan,
     ) -> Result<(), AllocError>
         requires coming { (held : List ℕ)
-            × IsComing moment journal.old keys span.now held self.old
+            × IsComing moment journal.old keys.now.keys span.now held self.old
             (part_in self.old stores.old) }
         requires fits { counted self.old.ledger + 1 ≤ most_counted }
         requires latest_row { (part_in self.old stores.old).latest_rows span.now.trace ≡ Some
@@ -185,7 +185,7 @@ impl Pipeline {
             < self.old.section.max_spans }
         requires room { vec_len journal.old.placed < vec_capacity journal.old.placed }
         ensures came { OnOk result (CameIn
-            (λ s. joins (arrival_at (part_in self.old stores.old) keys span.now.text)
+            (λ s. joins (arrival_at (part_in self.old stores.old) keys.now.keys span.now.text)
             (counted_in s)) moment journal.old journal.new self.old self.new stores.old
             stores.new) }
         ensures written { StaysWritten journal.old journal.new self.old self.new stores.old
@@ -220,11 +220,11 @@ impl Pipeline {
         stores: &mut Stores<TraceNote>,
         journal: &mut Journal,
         moment: u64,
-        keys: TextKeys,
+        keys: &SharedKeys,
         span: &NotedSpan,
     ) -> Result<(), AllocError>
         requires coming { (held : List ℕ)
-            × IsComing moment journal.old keys span.now held self.old
+            × IsComing moment journal.old keys.now.keys span.now held self.old
             (part_in self.old stores.old) }
         requires fits { counted self.old.ledger + 1 ≤ most_counted }
         requires budget { self.old.ledger.places.undecided + self.old.ledger.places.pending
@@ -233,8 +233,9 @@ impl Pipeline {
         ensures caches { self.new.caches ≡ self.old.caches }
         ensures came { OnOk result (CameIn
             (λ s. grouped Undecided moment
-            (arrival_at (part_in self.old stores.old) keys span.now.text ∷ []) (counted_in s))
-            moment journal.old journal.new self.old self.new stores.old stores.new) }
+            (arrival_at (part_in self.old stores.old) keys.now.keys span.now.text ∷ [])
+            (counted_in s)) moment journal.old journal.new self.old self.new stores.old
+            stores.new) }
         ensures written { StaysWritten journal.old journal.new self.old self.new stores.old
             stores.new }
         ensures others_unchanged { OthersUnchanged self.old.tenant stores.old stores.new }
@@ -262,20 +263,20 @@ impl Pipeline {
         stores: &mut Stores<TraceNote>,
         journal: &mut Journal,
         moment: u64,
-        keys: TextKeys,
+        keys: &SharedKeys,
         span: &NotedSpan,
     ) -> Result<(), AllocError>
         requires coming { (held : List ℕ)
-            × IsComing moment journal.old keys span.now held self.old
+            × IsComing moment journal.old keys.now.keys span.now held self.old
             (part_in self.old stores.old) }
         requires fits { counted self.old.ledger + 1 ≤ most_counted }
         requires budget { self.old.ledger.places.undecided + self.old.ledger.places.pending
             < self.old.section.max_spans }
         requires room { vec_len journal.old.placed < vec_capacity journal.old.placed }
         ensures came { OnOk result (CameIn
-            (λ s. opens moment (arrival_at (part_in self.old stores.old) keys span.now.text)
-            (evicted (counted_in s))) moment journal.old journal.new self.old self.new stores.old
-            stores.new) }
+            (λ s. opens moment (arrival_at (part_in self.old stores.old) keys.now.keys
+            span.now.text) (evicted (counted_in s))) moment journal.old journal.new self.old
+            self.new stores.old stores.new) }
         ensures written { StaysWritten journal.old journal.new self.old self.new stores.old
             stores.new }
         ensures others_unchanged { OthersUnchanged self.old.tenant stores.old stores.new }
@@ -336,34 +337,56 @@ impl Pipeline {
     fn keyed(
         &self,
         stores: &mut Stores<TraceNote>,
-        keys: TextKeys,
+        keys: &SharedKeys,
         span: &NotedSpan,
     ) -> Result<StoredSpan, AllocError>
         ensures owner { IfOk result (λ keyed. keyed.owner ≡ self.now.tenant) }
         ensures text { IfOk result (λ keyed. keyed.text ≡ span.now.text) }
         ensures uses_added { IfOk result
-            (λ keyed. WhereInHand keys (part_in self.now stores.old)
+            (λ keyed. WhereInHand keys.now.keys (part_in self.now stores.old)
             (λ n pending held. HoldsAll (text_keys keyed.keys) (part_in self.now stores.old)
             (part_in self.now stores.new))) }
         ensures store_invariant { IfOk result
-            (λ keyed. WhereInHand keys (part_in self.now stores.old)
+            (λ keyed. WhereInHand keys.now.keys (part_in self.now stores.old)
             (λ n pending held. StoreInvariant n pending (text_keys keyed.keys ++ held)
             (part_in self.now stores.new))) }
-        ensures texts { IfOk result (λ keyed. WhereInHand keys (part_in self.now stores.old)
+        ensures texts { IfOk result (λ keyed. WhereInHand keys.now.keys
+            (part_in self.now stores.old)
             (λ n pending held. origin_in (part_in self.now stores.new) keyed.keys ≡ origin_in
-            (part_in self.now stores.old) keys)) }
-        ensures shows { OnOk result (ShowsSameInHand keys (part_in self.now stores.old)
+            (part_in self.now stores.old) keys.now.keys)) }
+        ensures shows { OnOk result (ShowsSameInHand keys.now.keys (part_in self.now stores.old)
             (part_in self.now stores.new)) }
-        ensures stay { OnOk result (WhereInHand keys (part_in self.now stores.old)
+        ensures stay { OnOk result (WhereInHand keys.now.keys (part_in self.now stores.old)
             (λ n pending held. TextsStay held (part_in self.now stores.old)
             (part_in self.now stores.new))) }
         ensures others_unchanged { OthersUnchanged self.now.tenant stores.old stores.new }
         ensures on_refusal { OnErr result
-            (WhereInHand keys (part_in self.now stores.old)
+            (WhereInHand keys.now.keys (part_in self.now stores.old)
             (λ n pending held. part_in self.now stores.new ≡ part_in self.now stores.old)) }
     {
-        let text = span.text.clone()?;
-        let keys = stores.hold_again(self.tenant, keys)?;
-        Ok(StoredSpan::of(self.tenant, keys, text))
+        let text = span.text.shared()?;
+        let again = stores.hold_again(self.tenant, keys.keys())?;
+        match shared_where_same(self.alloc, keys, self.tenant, again) {
+            Ok(keys) => Ok(StoredSpan::of(keys, text)),
+            Err(refused) => {
+                stores.release_all(self.tenant, again);
+                Err(refused)
+            }
+        }
     }
+}
+
+/// A tenant's keys, shared with these if they are the same, as they are unless a text has too many uses for one more.
+fn shared_where_same(
+    alloc: Global,
+    like: &SharedKeys,
+    tenant: u32,
+    keys: TextKeys,
+) -> Result<SharedKeys, AllocError>
+    ensures { IfOk result (λ shared. shared ≡ record { owner = tenant; keys = keys }) }
+{
+    if like.owner() == tenant && like.keys() == keys {
+        return like.shared();
+    }
+    SharedKeys::of(alloc, tenant, keys)
 }

@@ -7,6 +7,7 @@ ghost use Rattle.tail_policy.specs.declared.note.TraceNote.{TraceNote as Note};
 ghost use Rattle.tenant_stores.specs.Part.{Part, part};
 ghost use Rattle.tenant_stores.specs.Invariant.{StoreInvariant};
 ghost use Rattle.tenant_stores.specs.Trail.{HoldsAll};
+ghost use Rattle.tenant_stores.specs.View.{text_keys};
 ghost use Rattle.tenant_rules.specs.Answers.{reply_of};
 ghost use Rattle.tenant_rules.specs.Intake.{verdict_of};
 ghost use Rattle.tenant_rules.specs.Machine.{post, post_verdict};
@@ -14,20 +15,59 @@ ghost use Rattle.otlp_prepare.specs.Arrivals.{origin_view};
 ghost use Rattle.tenant_pipeline.specs.Prepared.{arrivals_of};
 ghost use Rattle.tenant_pipeline.specs.StateIn.{part_in, policies_of, state_in};
 ghost use Rattle.tenant_pipeline.specs.Invariant.{PipelineInvariantAt, IsSwept};
-ghost use Rattle.tenant_pipeline.specs.Posts.{all_text_keys, arrivals_at, AreComing, IsPosting, IsTaken, IsSameTenant, StaysWritten, verdict_after};
+ghost use Rattle.tenant_pipeline.specs.Posts.{all_keys, all_text_keys, arrivals_at, AreComing, IsPosting, IsTaken, IsSameTenant, StaysWritten, verdict_after};
 ghost use Rattle.tenant_pipeline.specs.Acts.{ActsAt, IsPosted, at};
-ghost use Rattle.tenant_stores.specs.Promises.{OthersUnchanged, WhereSound, WhereHeld, ShowsSame, ShowsSameHeld};
+ghost use Rattle.tenant_stores.specs.Promises.{OthersUnchanged, TextsStay, WhereSound, WhereHeld, ShowsSame, ShowsSameHeld};
 ghost use Rattle.tenant_stores.specs.HeldTexts.{origin_in};
 
 use crate::journal::Journal;
 use crate::pipeline::Pipeline;
 use crate::reply::{refusal, success};
 use otlp_prepare::{NotedSpan, Prepared, SpanOrigin};
-use span_pool::TextKeys;
+use span_pool::SharedKeys;
 use std::alloc::{AllocError, Global};
 use tail_policy::TraceNote;
 use tenant_rules::Reply;
 use tenant_stores::Stores;
+
+/// One use of the texts of an origin. The answer is their keys, which its spans share.
+fn hold_origin(
+    alloc: Global,
+    stores: &mut Stores<TraceNote>,
+    tenant: u32,
+    origin: &SpanOrigin,
+) -> Result<SharedKeys, AllocError>
+    ensures uses_added { IfOk result (λ keys. WhereSound (part tenant stores.old)
+        (λ n pending held. HoldsAll (text_keys keys.keys) (part tenant stores.old)
+        (part tenant stores.new))) }
+    ensures store_invariant { IfOk result
+        (λ keys. WhereSound (part tenant stores.old)
+        (λ n pending held. StoreInvariant n pending (text_keys keys.keys ++ held)
+        (part tenant stores.new))) }
+    ensures origin { IfOk result (λ keys. WhereSound (part tenant stores.old)
+        (λ n pending held. origin_in (part tenant stores.new) keys.keys ≡ origin_view origin.now)) }
+    ensures shows { OnOk result (ShowsSame (part tenant stores.old) (part tenant stores.new)) }
+    ensures stay { OnOk result (WhereSound (part tenant stores.old)
+        (λ n pending held. TextsStay held (part tenant stores.old) (part tenant stores.new))) }
+    ensures others_unchanged { OthersUnchanged tenant stores.old stores.new }
+    ensures on_refusal { OnErr result (WhereSound (part tenant stores.old)
+        (λ n pending held. part tenant stores.new ≡ part tenant stores.old)) }
+{
+    let keys = stores.hold_all(
+        tenant,
+        origin.resource.as_ref(),
+        origin.resource_schema_url.as_ref(),
+        origin.scope.as_ref(),
+        origin.scope_schema_url.as_ref(),
+    )?;
+    match SharedKeys::of(alloc, tenant, keys) {
+        Ok(shared) => Ok(shared),
+        Err(refused) => {
+            stores.release_all(tenant, keys);
+            Err(refused)
+        }
+    }
+}
 
 /// One use of the texts of each origin. The answer is their keys, an origin's at its index. All or none.
 fn hold_origins(
@@ -35,17 +75,17 @@ fn hold_origins(
     stores: &mut Stores<TraceNote>,
     tenant: u32,
     origins: &[SpanOrigin],
-) -> Result<Vec<TextKeys>, AllocError>
+) -> Result<Vec<SharedKeys>, AllocError>
     ensures uses_added { IfOk result (λ all. WhereSound (part tenant stores.old)
-        (λ n pending held. HoldsAll (all_text_keys all.items) (part tenant stores.old)
+        (λ n pending held. HoldsAll (all_text_keys (all_keys all.items)) (part tenant stores.old)
         (part tenant stores.new))) }
     ensures store_invariant { IfOk result
         (λ all. WhereSound (part tenant stores.old)
-        (λ n pending held. StoreInvariant n pending (all_text_keys all.items ++ held)
+        (λ n pending held. StoreInvariant n pending (all_text_keys (all_keys all.items) ++ held)
         (part tenant stores.new))) }
     ensures origins { IfOk result (λ all. WhereSound (part tenant stores.old)
-        (λ n pending held. map (origin_in (part tenant stores.new)) all.items ≡ map origin_view
-        origins.now)) }
+        (λ n pending held. map (origin_in (part tenant stores.new)) (all_keys all.items)
+        ≡ map origin_view origins.now)) }
     ensures shows { OnOk result (ShowsSame (part tenant stores.old) (part tenant stores.new)) }
     ensures others_unchanged { OthersUnchanged tenant stores.old stores.new }
     ensures on_refusal { OnErr result (WhereSound (part tenant stores.old)
@@ -53,13 +93,7 @@ fn hold_origins(
 {
     let mut all = Vec::with_capacity(alloc, origins.len())?;
     for origin in origins {
-        match stores.hold_all(
-            tenant,
-            origin.resource.as_ref(),
-            origin.resource_schema_url.as_ref(),
-            origin.scope.as_ref(),
-            origin.scope_schema_url.as_ref(),
-        ) {
+        match hold_origin(alloc, stores, tenant, origin) {
             Ok(keys) => all.push_reserved(keys),
             Err(refused) => {
                 release_origins(stores, tenant, all);
@@ -71,19 +105,20 @@ fn hold_origins(
 }
 
 /// One use less of the texts of each origin. It takes no memory.
-fn release_origins(stores: &mut Stores<TraceNote>, tenant: u32, all: Vec<TextKeys>)
+fn release_origins(stores: &mut Stores<TraceNote>, tenant: u32, all: Vec<SharedKeys>)
     ensures uses_removed { (start : Part Note)
-        → HoldsAll (all_text_keys all.items) start (part tenant stores.old)
+        → HoldsAll (all_text_keys (all_keys all.items)) start (part tenant stores.old)
         → part tenant stores.new ≡ start }
-    ensures store_invariant { WhereHeld (all_text_keys all.items) (part tenant stores.old)
+    ensures store_invariant { WhereHeld (all_text_keys (all_keys all.items))
+        (part tenant stores.old)
         (λ n pending held. StoreInvariant n pending held (part tenant stores.new)) }
-    ensures shows { ShowsSameHeld (all_text_keys all.items) (part tenant stores.old)
+    ensures shows { ShowsSameHeld (all_text_keys (all_keys all.items)) (part tenant stores.old)
         (part tenant stores.new) }
     ensures others_unchanged { OthersUnchanged tenant stores.old stores.new }
 {
     let mut left = all;
     while let Some(keys) = left.pop() {
-        stores.release_all(tenant, keys);
+        stores.release_all(tenant, keys.keys());
     }
 }
 
@@ -136,23 +171,24 @@ impl Pipeline {
         &mut self,
         stores: &mut Stores<TraceNote>,
         moment: u64,
-        keys: &[TextKeys],
+        keys: &[SharedKeys],
         spans: &[NotedSpan],
         invalid: u64,
     ) -> Result<Reply, AllocError>
-        requires holds { PipelineInvariantAt moment [] (all_text_keys keys.now) self.old
+        requires holds { PipelineInvariantAt moment [] (all_text_keys (all_keys keys.now)) self.old
             (part_in self.old stores.old) }
         requires quiet { IsAfter (next_due self.old.batcher) moment }
-        requires ready { AreComing keys.now spans.now self.old (part_in self.old stores.old) }
+        requires ready { AreComing (all_keys keys.now) spans.now self.old
+            (part_in self.old stores.old) }
         requires fits { counted self.old.ledger + (length spans.now + invalid) ≤ most_counted }
         ensures on_success { OnOk result
-            (IsTaken (arrivals_at (part_in self.old stores.old) keys.now spans.now) invalid moment
-            (state_in self.old stores.old) (state_in self.new stores.new)) }
+            (IsTaken (arrivals_at (part_in self.old stores.old) (all_keys keys.now) spans.now)
+            invalid moment (state_in self.old stores.old) (state_in self.new stores.new)) }
         ensures reply { IfOk result (λ reply. reply ≡ reply_of (verdict_after
-            (arrivals_at (part_in self.old stores.old) keys.now spans.now) invalid moment
+            (arrivals_at (part_in self.old stores.old) (all_keys keys.now) spans.now) invalid moment
             (state_in self.old stores.old))) }
-        ensures holds { OnOk result (PipelineInvariantAt moment [] (all_text_keys keys.now) self.new
-            (part_in self.new stores.new)) }
+        ensures holds { OnOk result (PipelineInvariantAt moment []
+            (all_text_keys (all_keys keys.now)) self.new (part_in self.new stores.new)) }
         ensures others_unchanged { OthersUnchanged self.old.tenant stores.old stores.new }
         ensures on_refusal { OnErr result (self.new ≡ self.old) }
         ensures part_on_refusal { OnErr result
@@ -183,22 +219,23 @@ impl Pipeline {
         stores: &mut Stores<TraceNote>,
         journal: &mut Journal,
         moment: u64,
-        keys: &[TextKeys],
+        keys: &[SharedKeys],
         spans: &[NotedSpan],
         invalid: u64,
     ) -> Result<Reply, AllocError>
-        requires posting { IsPosting moment journal.old (all_text_keys keys.now) self.old
+        requires posting { IsPosting moment journal.old (all_text_keys (all_keys keys.now)) self.old
             (part_in self.old stores.old) }
-        requires ready { AreComing keys.now spans.now self.old (part_in self.old stores.old) }
+        requires ready { AreComing (all_keys keys.now) spans.now self.old
+            (part_in self.old stores.old) }
         requires fits { counted self.old.ledger + (length spans.now + invalid) ≤ most_counted }
         ensures on_success { OnOk result
-            (IsTaken (arrivals_at (part_in self.old stores.old) keys.now spans.now) invalid moment
-            (state_in self.old stores.old) (state_in self.new stores.new)) }
+            (IsTaken (arrivals_at (part_in self.old stores.old) (all_keys keys.now) spans.now)
+            invalid moment (state_in self.old stores.old) (state_in self.new stores.new)) }
         ensures reply { IfOk result (λ reply. reply ≡ reply_of (verdict_after
-            (arrivals_at (part_in self.old stores.old) keys.now spans.now) invalid moment
+            (arrivals_at (part_in self.old stores.old) (all_keys keys.now) spans.now) invalid moment
             (state_in self.old stores.old))) }
-        ensures posting { OnOk result (IsPosting moment journal.new (all_text_keys keys.now)
-            self.new (part_in self.new stores.new)) }
+        ensures posting { OnOk result (IsPosting moment journal.new
+            (all_text_keys (all_keys keys.now)) self.new (part_in self.new stores.new)) }
         ensures written { StaysWritten journal.old journal.new self.old self.new stores.old
             stores.new }
         ensures others_unchanged { OthersUnchanged self.old.tenant stores.old stores.new }
@@ -206,7 +243,7 @@ impl Pipeline {
     {
         let before = self.ledger.accepted();
         for span in spans {
-            self.admit(stores, journal, moment, keys[span.origin], span)?;
+            self.admit(stores, journal, moment, &keys[span.origin], span)?;
         }
         let taken = self.ledger.accepted() - before;
         let reply = self.reply(spans.len() as u64, taken, invalid)?;

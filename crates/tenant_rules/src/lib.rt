@@ -10,9 +10,9 @@
 //! `specs/Machine` goes from state to state, one timer at a time. The functions here have no bodies: their clauses are
 //! laws that tie the two. It knows nothing of how spans and rows are stored, and nothing of other tenants.
 //!
-//! It stands on `span_batcher`, `send_retry`, `drop_ledger`, `decision_cache`, `tail_policy` and `tail_settings`, and
-//! on the crates that say what a span is. The rules are after the documents of the OpenTelemetry Collector's
-//! `tail_sampling` and `batch` processors and of its `exporterhelper`, and after OTLP 1.x.
+//! It stands on `span_batcher`, `send_queue`, `send_retry`, `drop_ledger`, `decision_cache`, `tail_policy` and
+//! `tail_settings`, and on the crates that say what a span is. The rules are after the documents of the OpenTelemetry
+//! Collector's `tail_sampling` and `batch` processors and of its `exporterhelper`, and after OTLP 1.x.
 #![tactic(auto)]
 
 ghost use Rattle.tenant_rules.specs.Fronts.{FrontsAre};

@@ -10,7 +10,7 @@
 //! A [`SharedBytes`] is made with its SHA-256 (FIPS 180-4), which costs time by its length. That can be done before the
 //! pool is at hand. Equal digests are never taken for equal texts.
 //!
-//! It stands on the library's `bytes`, `sha2` and `slab`.
+//! It stands on `text_slice`, and the library's `sha2` and `slab`.
 #![tactic(auto)]
 
 mod pool;

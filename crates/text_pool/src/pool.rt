@@ -5,11 +5,11 @@ ghost use Rattle.slab.specs.Slab.{get, ContainsKey, Updates};
 ghost use Rattle.text_pool.specs.Part.{part, with_text, with_uses, held, released, text_of, same_text};
 
 use crate::shared_bytes::SharedBytes;
-use bytes::Bytes;
 use slab::Slab;
 use std::alloc::{AllocError, Global};
 use std::collections::BTreeMap;
 use std::marker::Model;
+use text_slice::TextSlice;
 
 /// A text that is kept, and how often.
 #[derive(Drop)]
@@ -179,7 +179,7 @@ impl TextPool {
     }
 
     /// The tenant's text at a key.
-    pub fn text(&self, tenant: u32, key: usize) -> Option<&Bytes>
+    pub fn text(&self, tenant: u32, key: usize) -> Option<&TextSlice>
         ensures { option_copied result ≡ text_of (part tenant self.now key) }
     {
         Some(self.owned(tenant, key)?.text.bytes())

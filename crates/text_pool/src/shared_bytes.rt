@@ -3,15 +3,15 @@
 ghost use Rattle.std.specs.Prelude.{◌≡◌, IfOk, bytes_eq};
 ghost use Rattle.sha2.specs.Sha256.{sha256};
 
-use bytes::Bytes;
 use sha2::{Digest, Sha256};
 use std::alloc::AllocError;
 use std::marker::Model;
+use text_slice::TextSlice;
 
 /// Bytes with their SHA-256 (FIPS 180-4), by which different ones are told apart at once.
 #[derive(Debug, Drop)]
 pub struct SharedBytes {
-    bytes: Bytes,
+    bytes: TextSlice,
     digest: [u8; 32],
 }
 
@@ -28,11 +28,14 @@ impl Model for SharedBytes {
 
 impl SharedBytes {
     /// These bytes. It takes no memory, and time by their length.
-    pub fn of(bytes: Bytes) -> SharedBytes
-        ensures { result ≡ bytes }
+    pub fn of(text: TextSlice) -> SharedBytes
+        ensures { result ≡ text }
     {
-        let digest = Sha256::digest(bytes.as_slice());
-        SharedBytes { bytes, digest }
+        let digest = Sha256::digest(text.as_slice());
+        SharedBytes {
+            bytes: text,
+            digest,
+        }
     }
 
     /// The same text: the bytes are shared, and none is looked at. It takes no memory, and is refused only where the
@@ -40,7 +43,7 @@ impl SharedBytes {
     pub fn shared(&self) -> Result<SharedBytes, AllocError>
         ensures { IfOk result (λ text. text ≡ self.now) }
     {
-        let bytes = self.bytes.clone()?;
+        let bytes = self.bytes.shared()?;
         Ok(SharedBytes {
             bytes,
             digest: self.digest,
@@ -48,7 +51,7 @@ impl SharedBytes {
     }
 
     /// The bytes.
-    pub fn bytes(&self) -> &Bytes
+    pub fn bytes(&self) -> &TextSlice
         ensures { result.now ≡ self.now }
     {
         &self.bytes

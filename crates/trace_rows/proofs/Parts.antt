@@ -1,5 +1,5 @@
 -- What a change of a map does to each tenant's part.
-use Rattle.std.proofs.Common.{◌≡◌, ◌≢◌, ℕ, refl, sym, ap, ◌∙◌, arith, List, Bool, true, false, Option, Some, None, eqb, nat_eq, bytes_eq, cond, if◌then◌else◌, ◌&&◌, Ordering, Less, Equal, Greater}
+use Rattle.std.proofs.Common.{◌≡◌, ◌≢◌, ℕ, refl, sym, ap, ◌∙◌, arith, List, Bool, true, false, Option, Some, None, option_map, Box, box_value, eqb, nat_eq, bytes_eq, cond, if◌then◌else◌, ◌&&◌, Ordering, Less, Equal, Greater}
 use Rattle.std.proofs.lemmas.Bool.Decides.{nat_tests}
 use Rattle.std.proofs.lemmas.Slice.Eq.{bytes_eq-Decides}
 use Rattle.std.proofs.Math.Path.{fun_ext}
@@ -126,21 +126,30 @@ seats_put m n t trace k w is number h =
 pub seats_put_other : (m n : BTreeMap (ℕ × (ℕ × ℕ)) ℕ) (t : ℕ) (k : ℕ × ℕ) (u : ℕ) (w : Option ℕ) → tree.Updates (pair_cmp (pair_cmp nat_cmp)) m n (t, k) w → u ≢ t → latest_rows_of u n.entries ≡ latest_rows_of u m.entries
 seats_put_other m n t k u w h ne = ap by_id (at_put_other ids m n t k u w h ne)
 
-module _ {X : Type 0} where
-  -- the same of rows, whose numbers are in order with the greatest first
-  abbrev numbered : ℕ → BTreeMap (ℕ × Reverse ℕ) X → ℕ → Option X
-  numbered t m j = at latest_cmp t m.entries (record { 0 = j })
+module _ {X Z : Type 0} where
+  abbrev unboxed : Option (Box X Z) → Option X
+  unboxed = option_map box_value
 
-  pub rows_put : (m n : BTreeMap (ℕ × Reverse ℕ) X) (t k : ℕ) (w : Option X) → tree.Updates (pair_cmp latest_cmp) m n (t, record { 0 = k }) w → numbered t n ≡ with_at k w (numbered t m)
+  unboxed_cond : (b : Bool) (one other : Option (Box X Z)) → unboxed (cond b one other) ≡ cond b (unboxed one) (unboxed other)
+  unboxed_cond true one other = refl
+  unboxed_cond false one other = refl
+
+  -- the same of rows in boxes, whose numbers are in order with the greatest first
+  abbrev numbered : ℕ → BTreeMap (ℕ × Reverse ℕ) (Box X Z) → ℕ → Option X
+  numbered t m j = unboxed (at latest_cmp t m.entries (record { 0 = j }))
+
+  abbrev by_number : (Reverse ℕ → Option (Box X Z)) → ℕ → Option X
+  by_number f j = unboxed (f (record { 0 = j }))
+
+  pub rows_put : (m n : BTreeMap (ℕ × Reverse ℕ) (Box X Z)) (t k : ℕ) (w : Option (Box X Z)) → tree.Updates (pair_cmp latest_cmp) m n (t, record { 0 = k }) w → numbered t n ≡ with_at k (unboxed w) (numbered t m)
   rows_put m n t k w h =
-      let by_number : (Reverse ℕ → Option X) → ℕ → Option X = λ f j. f (record { 0 = j }) in
       ap by_number (at_put numbers m n t (record { 0 = k }) w h)
+      ∙ fun_ext (λ j. unboxed_cond (nat_eq j k) w (at latest_cmp t m.entries (record { 0 = j })))
 
-  pub rows_put_other : (m n : BTreeMap (ℕ × Reverse ℕ) X) (t k u : ℕ) (w : Option X) → tree.Updates (pair_cmp latest_cmp) m n (t, record { 0 = k }) w → u ≢ t → numbered u n ≡ numbered u m
-  rows_put_other m n t k u w h ne =
-      let by_number : (Reverse ℕ → Option X) → ℕ → Option X = λ f j. f (record { 0 = j }) in
-      ap by_number (at_put_other numbers m n t (record { 0 = k }) u w h ne)
+  pub rows_put_other : (m n : BTreeMap (ℕ × Reverse ℕ) (Box X Z)) (t k u : ℕ) (w : Option (Box X Z)) → tree.Updates (pair_cmp latest_cmp) m n (t, record { 0 = k }) w → u ≢ t → numbered u n ≡ numbered u m
+  rows_put_other m n t k u w h ne = ap by_number (at_put_other numbers m n t (record { 0 = k }) u w h ne)
 
+module _ {X : Type 0} where
   -- a value where none was, taken out again
   pub at_undone : (f : ℕ → Option X) (k : ℕ) (w : Option X) → f k ≡ None → with_at k None (with_at k w f) ≡ f
   at_undone f k w none = fun_ext (λ j. one j (eqb j k) refl)

@@ -1,12 +1,14 @@
 -- One tenant's part of the table, as functions of its own row numbers and traces: this project's own rule.
-use Rattle.std.specs.Prelude.{◌≡◌, ℕ, Bool, false, take, length, ◌-◌, List, [], ◌∷◌, ◌++◌, Option, Some, None, if◌then◌else◌, ◌==◌, bytes_eq}
+use Rattle.std.specs.Prelude.{◌≡◌, ℕ, Bool, false, take, length, ◌-◌, List, [], ◌∷◌, ◌++◌, Option, Some, None, option_map, if◌then◌else◌, ◌==◌, bytes_eq}
+use Rattle.std.specs.Box.{box_value}
 use Rattle.trace_rows.specs.Maps.{at, latest_cmp, latest_rows_of}
 use Rattle.trace_rows.specs.declared.table.Row.{Row}
 use Rattle.trace_rows.specs.declared.table.TraceRows.{TraceRows}
 
 -- a tenant's rows, by number
 abbrev pub rows_part : {N : Type 0} → ℕ → TraceRows N → ℕ → Option (Row N)
-rows_part tenant table = λ number. at latest_cmp tenant table.rows.entries (record { 0 = number })
+rows_part tenant table = λ number.
+    option_map box_value (at latest_cmp tenant table.rows.entries (record { 0 = number }))
 
 -- the number of the latest row of each of a tenant's traces, by the trace's id
 abbrev pub latest_rows_part : {N : Type 0} → ℕ → TraceRows N → List ℕ → Option ℕ

@@ -27,9 +27,10 @@ pub struct Row<N> {
 /// All tenants' rows, and the latest row of each of their traces.
 #[derive(Drop)]
 pub struct TraceRows<N> {
+    alloc: Global,
     // By tenant and row number, the latest first: a look-up goes through the keys of a node from the first one on, and
-    // most are for the latest rows.
-    rows: BTreeMap<(u32, Reverse<u64>), Row<N>>,
+    // most are for the latest rows. Each row is in a box, as nodes have room for more rows than are in them.
+    rows: BTreeMap<(u32, Reverse<u64>), Box<Row<N>>>,
     latest_rows: LatestRows,
 }
 
@@ -40,6 +41,7 @@ impl<N: Drop> TraceRows<N> {
         ensures latest_rows { (tenant : ℕ) → latest_rows_part tenant result ≡ λ _. None }
     {
         TraceRows {
+            alloc,
             rows: BTreeMap::new(alloc),
             latest_rows: LatestRows::new(alloc),
         }
@@ -56,7 +58,8 @@ impl<N: Drop> TraceRows<N> {
     pub fn row(&self, tenant: u32, number: u64) -> Option<&Row<N>>
         ensures { option_copied result ≡ rows_part tenant self.now number }
     {
-        self.rows.get(&(tenant, Reverse(number)))
+        let boxed = self.rows.get(&(tenant, Reverse(number)))?;
+        Some(boxed)
     }
 
     /// A row opens under a number that has none, as the latest of its trace. The answer is the trace's latest row until
@@ -75,7 +78,8 @@ impl<N: Drop> TraceRows<N> {
         ensures on_refusal { OnErr result (IsSame tenant self.old self.new) }
     {
         let trace = row.trace;
-        self.rows.insert((tenant, Reverse(number)), row)?;
+        let boxed = Box::new(self.alloc, row)?;
+        self.rows.insert((tenant, Reverse(number)), boxed)?;
         match self.latest_rows.put(tenant, trace, number) {
             Ok(earlier) => Ok(earlier),
             Err(refused) => {
@@ -99,9 +103,10 @@ impl<N: Drop> TraceRows<N> {
         ensures others_unchanged { (other : ℕ) → other ≢ tenant → IsSame other self.old self.new }
         ensures on_refusal { OnErr result (IsSame tenant self.old self.new) }
     {
-        let Some(row) = self.rows.get_mut(&(tenant, Reverse(number))) else {
+        let Some(boxed) = self.rows.get_mut(&(tenant, Reverse(number))) else {
             return Ok(note);
         };
+        let row = boxed.as_mut();
         row.keys.push(key)?;
         Ok(std::mem::replace(&mut row.note, note))
     }
@@ -114,9 +119,10 @@ impl<N: Drop> TraceRows<N> {
         ensures latest_rows { latest_rows_part tenant self.new ≡ latest_rows_part tenant self.old }
         ensures others_unchanged { (other : ℕ) → other ≢ tenant → IsSame other self.old self.new }
     {
-        let Some(row) = self.rows.get_mut(&(tenant, Reverse(number))) else {
+        let Some(boxed) = self.rows.get_mut(&(tenant, Reverse(number))) else {
             return;
         };
+        let row = boxed.as_mut();
         row.keys.pop();
         row.note = former;
     }
@@ -143,9 +149,10 @@ impl<N: Drop> TraceRows<N> {
         ensures latest_rows { latest_rows_part tenant self.new ≡ latest_rows_part tenant self.old }
         ensures others_unchanged { (other : ℕ) → other ≢ tenant → IsSame other self.old self.new }
     {
-        let Some(row) = self.rows.get_mut(&(tenant, Reverse(number))) else {
+        let Some(boxed) = self.rows.get_mut(&(tenant, Reverse(number))) else {
             return Keys::new(alloc);
         };
+        let row = boxed.as_mut();
         row.sampled = sampled;
         std::mem::replace(&mut row.keys, Keys::new(alloc))
     }
@@ -160,9 +167,10 @@ impl<N: Drop> TraceRows<N> {
             (latest_rows_part tenant self.old) }
         ensures others_unchanged { (other : ℕ) → other ≢ tenant → IsSame other self.old self.new }
     {
-        let Some(row) = self.rows.remove(&(tenant, Reverse(number))) else {
+        let Some(boxed) = self.rows.remove(&(tenant, Reverse(number))) else {
             return Keys::new(alloc);
         };
+        let row = Box::into_inner(boxed);
         self.remove_latest(tenant, number, row.trace);
         row.keys
     }

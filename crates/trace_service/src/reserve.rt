@@ -51,6 +51,13 @@ impl Reserve {
         }
     }
 
+    /// The C library gives the calling thread a heap of its own, where there is room for one, as it does at each
+    /// thread's first piece of memory. For those who let memory go, before posts take what there is: nobody gets
+    /// anything of what is free in another's heap.
+    pub fn found_heap(&self) {
+        let _piece = Vec::<u8>::with_capacity(self.alloc, 1);
+    }
+
     /// Whether nobody has needed it since it was last made.
     pub fn is_there(&self) -> bool {
         self.is_there.load(Ordering::SeqCst)

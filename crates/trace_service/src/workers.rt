@@ -15,6 +15,7 @@ use crate::lingering::linger;
 use crate::naming::Naming;
 use crate::patient::PatientBackEnd;
 use crate::receiving::{Reception, receive_all};
+use crate::reserve::Reserve;
 use crate::shared::Shared;
 use crate::visit::{Client, Visit};
 use export_edge::{Beat, TcpBackEnd, run_sender, run_turner};
@@ -127,6 +128,7 @@ where
     requires new { worker.old.seat ≡ new_seat J.lane }
     ensures { IsThread (length J.slots) J.fresh worker.new.context.caller worker.new.seat }
 {
+    settle(worker.role, shared.beat.signals().reserve());
     if !all_arrive(&worker.context.beat(), shared.threads) {
         return;
     }
@@ -169,6 +171,14 @@ where
             &mut worker.context,
             &mut worker.buffer,
         ),
+    }
+}
+
+/// Those who let memory go have heaps of their own before posts take what there is.
+fn settle(role: Role, reserve: &Reserve) {
+    match role {
+        Role::Turner | Role::Sender => reserve.found_heap(),
+        Role::Admin | Role::Receiver => {}
     }
 }
 

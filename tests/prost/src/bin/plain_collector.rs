@@ -19,8 +19,6 @@ use std::time::{Duration, Instant};
 use std::{env, fs, process, thread};
 
 const SENDERS: usize = 4;
-/// So long spans wait for a full batch.
-const PATIENCE: Duration = Duration::from_millis(200);
 const REPLY: &[u8] = b"HTTP/1.1 200 OK\r\nContent-Length: 0\r\n\r\n";
 const BAD: &[u8] = b"HTTP/1.1 400 Bad Request\r\nContent-Length: 0\r\n\r\n";
 
@@ -46,6 +44,8 @@ struct Tenant {
     endpoint: String,
     wait: Duration,
     batch: usize,
+    /// So long spans wait for a full batch.
+    patience: Duration,
     traces: Mutex<Traces>,
     accepted: AtomicU64,
     exported: AtomicU64,
@@ -68,12 +68,14 @@ fn settings(text: &str) -> (String, Vec<Arc<Tenant>>) {
                 endpoint: String::new(),
                 wait: Duration::from_secs(30),
                 batch: 8192,
+                patience: Duration::from_millis(200),
                 traces: Mutex::default(),
                 accepted: AtomicU64::new(0),
                 exported: AtomicU64::new(0),
             }),
             ("endpoint", Some(tenant)) => tenant.endpoint = value,
             ("decision_wait_ms", Some(tenant)) => tenant.wait = Duration::from_millis(value.parse().expect("a wait")),
+            ("timeout_ms", Some(tenant)) => tenant.patience = Duration::from_millis(value.parse().expect("a timeout")),
             ("send_batch_max_size", Some(tenant)) => tenant.batch = value.parse().expect("a size"),
             _ => {}
         }
@@ -192,7 +194,7 @@ fn decide(tenants: &[Arc<Tenant>], ended: &AtomicBool, jobs: &SyncSender<Job>) {
                     hand_over(tenant, spans, jobs);
                 }
             }
-            if !spans.is_empty() && (last || now >= *since + PATIENCE) {
+            if !spans.is_empty() && (last || now >= *since + tenant.patience) {
                 hand_over(tenant, spans, jobs);
             }
         }

@@ -21,7 +21,7 @@ returns-in-Waits-clause-came c =
     let p = part own.tenant c.args.stores.now in
     let s = state_of own p in
     let m = c.args.moment in
-    let x = arrival_at p c.args.keys c.args.span.now.text in
+    let x = arrival_at p c.args.keys.now.keys c.args.span.now.text in
     let journal = c.args.journal.now in
     let ready : Journal = record { placed = c.reserve.new.self; undo = journal.undo; hits = journal.hits } in
     let room : nat_lt (held s) s.section.max_spans ≡ true = sym c.has_room.ensures ∙ c.if-not-has_room.false in
@@ -45,7 +45,7 @@ returns-in-Decided-true-clause-came c =
     let p = part own.tenant c.args.stores.now in
     let s = state_of own p in
     let m = c.args.moment in
-    let x = arrival_at p c.args.keys c.args.span.now.text in
+    let x = arrival_at p c.args.keys.now.keys c.args.span.now.text in
     let journal = c.args.journal.now in
     let ready : Journal = record { placed = c.reserve.new.self; undo = journal.undo; hits = journal.hits } in
     let room : nat_lt (held s) s.section.max_spans ≡ true = sym c.has_room.ensures ∙ c.if-not-has_room.false in
@@ -75,7 +75,7 @@ returns-in-Cached-clause-came c =
     let p = part own.tenant c.args.stores.now in
     let s = state_of own p in
     let m = c.args.moment in
-    let x = arrival_at p c.args.keys c.args.span.now.text in
+    let x = arrival_at p c.args.keys.now.keys c.args.span.now.text in
     let journal = c.args.journal.now in
     let ready : Journal = record { placed = c.reserve.new.self; undo = journal.undo; hits = journal.hits } in
     let room : nat_lt (held s) s.section.max_spans ≡ true = sym c.has_room.ensures ∙ c.if-not-has_room.false in
@@ -103,7 +103,7 @@ returns-in-Nowhere-clause-came c =
     let p = part own.tenant c.args.stores.now in
     let s = state_of own p in
     let m = c.args.moment in
-    let x = arrival_at p c.args.keys c.args.span.now.text in
+    let x = arrival_at p c.args.keys.now.keys c.args.span.now.text in
     let journal = c.args.journal.now in
     let ready : Journal = record { placed = c.reserve.new.self; undo = journal.undo; hits = journal.hits } in
     let room : nat_lt (held s) s.section.max_spans ≡ true = sym c.has_room.ensures ∙ c.if-not-has_room.false in

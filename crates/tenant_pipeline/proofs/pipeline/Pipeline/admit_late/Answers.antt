@@ -58,14 +58,14 @@ group-requires-clause-pending c =
     let text = c.args.span.now.text in
     let k = c.in_ok-keyed.keyed in
     let e = c.in_ok-keyed.ensures in
-    let keyed : IsKeyed c.args.keys text p mid k = record { text_is = e.text; holds = e.uses_added; sound = e.store_invariant; origin = e.texts; shows = e.shows; stay = e.stay } in
-    let ready : IsReady own p mid journal c.args.keys text k = ready_now own p mid c.args.moment journal c.args.keys text coming.0 k coming.1.posting coming.1.among keyed in
+    let keyed : IsKeyed c.args.keys.now.keys text p mid k = record { text_is = e.text; holds = e.uses_added; sound = e.store_invariant; origin = e.texts; shows = e.shows; stay = e.stay } in
+    let ready : IsReady own p mid journal c.args.keys.now.keys text k = ready_now own p mid c.args.moment journal c.args.keys.now.keys text coming.0 k coming.1.posting coming.1.among keyed in
     let change = subst (λ (u : ℕ). Waits c.in-Ok.key k (part u S1) (part u S2)) e.owner c.in-Ok.ensures.own_part in
     let sound = subst (λ (u : ℕ). (n : Counts) (pending others : List ℕ) → StoreInvariant n pending (text_keys k.keys ++ others) (part u S1) → StoreInvariant n (pending ++ c.in-Ok.key ∷ []) others (part u S2)) e.owner c.in-Ok.ensures.store_invariant in
     let shows = subst (λ (u : ℕ). (n : Counts) (pending others shown : List ℕ) → StoreInvariant n pending others (part u S1) → AreAmong shown pending →
     view n (shown ++ c.in-Ok.key ∷ []) (part u S2) ≡ with_late (texts_of (text_at (part u S1).texts) k) (view n shown (part u S1))) e.owner c.in-Ok.ensures.shows in
     ap (λ (l : LedgerData). l.places.pending) c.take.ensures
-    ∙ late_pending own p mid (part t S2) c.args.moment journal c.args.keys text coming.0 coming.1.posting k ready c.in-Ok.key change sound shows c.requires.fits c.requires.budget
+    ∙ late_pending own p mid (part t S2) c.args.moment journal c.args.keys.now.keys text coming.0 coming.1.posting k ready c.in-Ok.key change sound shows c.requires.fits c.requires.budget
 
 pub group-requires-clause-there : goal.group-requires-clause-there
 group-requires-clause-there c =
@@ -80,14 +80,14 @@ group-requires-clause-there c =
     let text = c.args.span.now.text in
     let k = c.in_ok-keyed.keyed in
     let e = c.in_ok-keyed.ensures in
-    let keyed : IsKeyed c.args.keys text p mid k = record { text_is = e.text; holds = e.uses_added; sound = e.store_invariant; origin = e.texts; shows = e.shows; stay = e.stay } in
-    let ready : IsReady own p mid journal c.args.keys text k = ready_now own p mid c.args.moment journal c.args.keys text coming.0 k coming.1.posting coming.1.among keyed in
+    let keyed : IsKeyed c.args.keys.now.keys text p mid k = record { text_is = e.text; holds = e.uses_added; sound = e.store_invariant; origin = e.texts; shows = e.shows; stay = e.stay } in
+    let ready : IsReady own p mid journal c.args.keys.now.keys text k = ready_now own p mid c.args.moment journal c.args.keys.now.keys text coming.0 k coming.1.posting coming.1.among keyed in
     let change = subst (λ (u : ℕ). Waits c.in-Ok.key k (part u S1) (part u S2)) e.owner c.in-Ok.ensures.own_part in
     let sound = subst (λ (u : ℕ). (n : Counts) (pending others : List ℕ) → StoreInvariant n pending (text_keys k.keys ++ others) (part u S1) → StoreInvariant n (pending ++ c.in-Ok.key ∷ []) others (part u S2)) e.owner c.in-Ok.ensures.store_invariant in
     let shows = subst (λ (u : ℕ). (n : Counts) (pending others shown : List ℕ) → StoreInvariant n pending others (part u S1) → AreAmong shown pending →
     view n (shown ++ c.in-Ok.key ∷ []) (part u S2) ≡ with_late (texts_of (text_at (part u S1).texts) k) (view n shown (part u S1))) e.owner c.in-Ok.ensures.shows in
     subst (λ (ks : List ℕ). AreThere (part t S2) (own.batcher.spans ++ ks)) (sym c.as_slice.ensures)
-    (late_there own p mid (part t S2) c.args.moment journal c.args.keys text coming.0 coming.1.posting k ready c.in-Ok.key change sound shows c.requires.fits c.requires.budget)
+    (late_there own p mid (part t S2) c.args.moment journal c.args.keys.now.keys text coming.0 coming.1.posting k ready c.in-Ok.key change sound shows c.requires.fits c.requires.budget)
 
 pub returns-in-Ok-clause-came : goal.returns-in-Ok-clause-came
 returns-in-Ok-clause-came c =
@@ -106,8 +106,8 @@ returns-in-Ok-clause-came c =
     let key = c.in-Ok.key in
     let k = c.in_ok-keyed.keyed in
     let e = c.in_ok-keyed.ensures in
-    let keyed : IsKeyed c.args.keys text p mid k = record { text_is = e.text; holds = e.uses_added; sound = e.store_invariant; origin = e.texts; shows = e.shows; stay = e.stay } in
-    let ready : IsReady own p mid journal c.args.keys text k = ready_now own p mid m journal c.args.keys text coming.0 k coming.1.posting coming.1.among keyed in
+    let keyed : IsKeyed c.args.keys.now.keys text p mid k = record { text_is = e.text; holds = e.uses_added; sound = e.store_invariant; origin = e.texts; shows = e.shows; stay = e.stay } in
+    let ready : IsReady own p mid journal c.args.keys.now.keys text k = ready_now own p mid m journal c.args.keys.now.keys text coming.0 k coming.1.posting coming.1.among keyed in
     let change = subst (λ (u : ℕ). Waits key k (part u S1) (part u S2)) e.owner c.in-Ok.ensures.own_part in
     let sound = subst (λ (u : ℕ). (n : Counts) (pending others : List ℕ) → StoreInvariant n pending (text_keys k.keys ++ others) (part u S1) → StoreInvariant n (pending ++ key ∷ []) others (part u S2)) e.owner c.in-Ok.ensures.store_invariant in
     let shows = subst (λ (u : ℕ). (n : Counts) (pending others shown : List ℕ) → StoreInvariant n pending others (part u S1) → AreAmong shown pending →
@@ -121,8 +121,8 @@ returns-in-Ok-clause-came c =
     let all = subst (λ (ks : List ℕ). OnOk r ((j : ℕ) → count j c.group.new.undo.gone.items + count j new.batcher.spans ≡ count j journal.undo.gone.items + (count j own.batcher.spans + count j ks))) c.as_slice.ensures c.group.ensures.gone in
     both_ok r groups all (λ (g : Groups m (key ∷ []) q counted_own new) (a : (j : ℕ) → count j c.group.new.undo.gone.items + count j new.batcher.spans ≡ count j journal.undo.gone.items + (count j own.batcher.spans + count j (key ∷ []))).
     let tenant : new.tenant ≡ t = ap (λ (o : Pipeline). o.tenant) g.same in
-    subst (λ (u : ℕ). Came (λ (s : State). grouped Undecided m (arrival_at p c.args.keys text ∷ []) (counted_in s)) m journal journal' own new p (part u S2)) (sym tenant)
-    (late_came own p mid q m journal c.args.keys text coming.0 coming.1.posting k ready key change sound shows c.requires.fits c.requires.budget new journal' g a c.group.ensures.offers))
+    subst (λ (u : ℕ). Came (λ (s : State). grouped Undecided m (arrival_at p c.args.keys.now.keys text ∷ []) (counted_in s)) m journal journal' own new p (part u S2)) (sym tenant)
+    (late_came own p mid q m journal c.args.keys.now.keys text coming.0 coming.1.posting k ready key change sound shows c.requires.fits c.requires.budget new journal' g a c.group.ensures.offers))
 
 pub returns-in-Ok-clause-written : goal.returns-in-Ok-clause-written
 returns-in-Ok-clause-written c = λ start first written.

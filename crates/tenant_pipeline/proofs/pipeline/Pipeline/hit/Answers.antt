@@ -36,7 +36,7 @@ returns-then-sampled-clause-came c =
     let p = part_in own c.args.stores.now in
     let q = part_in mid c.admit_late.new.stores in
     let m = c.args.moment in
-    let x = arrival_at p c.args.keys c.args.span.now.text in
+    let x = arrival_at p c.args.keys.now.keys c.args.span.now.text in
     let trace = c.requires.coming.1.trace in
     let caches : CachesData = c.push_hit.new.self in
     let t : State = counted_in (state_of own p) in
@@ -77,7 +77,7 @@ returns-clause-came c =
     let own = c.args.self.now in
     let p = part_in own c.args.stores.now in
     let m = c.args.moment in
-    let x = arrival_at p c.args.keys c.args.span.now.text in
+    let x = arrival_at p c.args.keys.now.keys c.args.span.now.text in
     let trace = c.requires.coming.1.trace in
     let caches : CachesData = c.push_hit-2.new.self in
     let mid : Pipeline = record own { caches = caches } in

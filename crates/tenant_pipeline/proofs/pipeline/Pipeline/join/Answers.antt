@@ -56,17 +56,17 @@ returns-in-Ok-clause-came c =
     let span = c.args.span.now in
     let k = c.in_ok-keyed.keyed in
     let e = c.in_ok-keyed.ensures in
-    let keyed : IsKeyed c.args.keys span.text p mid k = record { text_is = e.text; holds = e.uses_added; sound = e.store_invariant; origin = e.texts; shows = e.shows; stay = e.stay } in
-    let ready : IsReady own p mid journal c.args.keys span.text k = ready_now own p mid c.args.moment journal c.args.keys span.text coming.0 k coming.1.posting coming.1.among keyed in
+    let keyed : IsKeyed c.args.keys.now.keys span.text p mid k = record { text_is = e.text; holds = e.uses_added; sound = e.store_invariant; origin = e.texts; shows = e.shows; stay = e.stay } in
+    let ready : IsReady own p mid journal c.args.keys.now.keys span.text k = ready_now own p mid c.args.moment journal c.args.keys.now.keys span.text coming.0 k coming.1.posting coming.1.among keyed in
     let note = c.joined-note.result in
     let change = subst (λ (u : ℕ). Joins c.args.number c.in-Ok.joining.key k note (part u S1) (part u S2)) e.owner c.in-Ok.ensures.own_part in
     let sound = subst (λ (u : ℕ). (n : Counts) (pending others : List ℕ) → n.decided < c.args.number → c.args.number ≤ n.opened → StoreInvariant n pending (text_keys k.keys ++ others) (part u S1) → StoreInvariant n pending others (part u S2)) e.owner c.in-Ok.ensures.store_invariant in
     let shows = subst (λ (u : ℕ). (n : Counts) (pending others shown trace : List ℕ) → StoreInvariant n pending others (part u S1) → AreAmong shown pending → (part u S1).latest_rows trace ≡ Some c.args.number → n.decided < c.args.number →
     view n shown (part u S2) ≡ with_joined trace (texts_of (text_at (part u S1).texts) k) note (view n shown (part u S1))) e.owner c.in-Ok.ensures.shows in
     let journal' : Journal = record { placed = c.push_reserved.new.self; undo = journal.undo; hits = journal.hits } in
-    let came = join_came own p mid q c.args.moment journal c.args.keys span coming.0 coming.1 k ready c.args.number c.in-Ok.joining.key note c.in-Some.row.now
+    let came = join_came own p mid q c.args.moment journal c.args.keys.now.keys span coming.0 coming.1 k ready c.args.number c.in-Ok.joining.key note c.in-Some.row.now
     c.requires.latest_row c.requires.waits (sym c.in-Some.ensures) c.joined-note.ensures change sound shows c.requires.fits c.requires.budget journal' refl in
-    subst (λ (l : LedgerData). let o : Pipeline = record own { ledger = l } in Came (λ (s : State). joins (arrival_at p c.args.keys span.text) (counted_in s)) c.args.moment journal journal' own o p q) (sym c.take.ensures) came
+    subst (λ (l : LedgerData). let o : Pipeline = record own { ledger = l } in Came (λ (s : State). joins (arrival_at p c.args.keys.now.keys span.text) (counted_in s)) c.args.moment journal journal' own o p q) (sym c.take.ensures) came
 
 pub returns-in-Ok-clause-written : goal.returns-in-Ok-clause-written
 returns-in-Ok-clause-written c = λ start first written.

@@ -37,9 +37,9 @@ make_room-requires-clause-undecided c =
     let coming = c.requires.coming in
     let k = c.in_ok-keyed.keyed in
     let e = c.in_ok-keyed.ensures in
-    let keyed : IsKeyed c.args.keys c.args.span.now.text p mid k = record { text_is = e.text; holds = e.uses_added; sound = e.store_invariant; origin = e.texts; shows = e.shows; stay = e.stay } in
-    let ready = ready_now own p mid c.args.moment c.args.journal.now c.args.keys c.args.span.now.text coming.0 k coming.1.posting coming.1.among keyed in
-    leaves_few own p mid c.args.moment c.args.journal.now c.args.keys c.args.span.now coming.0 coming.1 k ready
+    let keyed : IsKeyed c.args.keys.now.keys c.args.span.now.text p mid k = record { text_is = e.text; holds = e.uses_added; sound = e.store_invariant; origin = e.texts; shows = e.shows; stay = e.stay } in
+    let ready = ready_now own p mid c.args.moment c.args.journal.now c.args.keys.now.keys c.args.span.now.text coming.0 k coming.1.posting coming.1.among keyed in
+    leaves_few own p mid c.args.moment c.args.journal.now c.args.keys.now.keys c.args.span.now coming.0 coming.1 k ready
 
 pub open-requires : goal.open-requires
 open-requires c =
@@ -66,8 +66,8 @@ returns-in-Ok-clause-came c =
     let span = c.args.span.now in
     let k = c.in_ok-keyed.keyed in
     let e = c.in_ok-keyed.ensures in
-    let keyed : IsKeyed c.args.keys span.text p mid k = record { text_is = e.text; holds = e.uses_added; sound = e.store_invariant; origin = e.texts; shows = e.shows; stay = e.stay } in
-    let ready : IsReady own p mid journal c.args.keys span.text k = ready_now own p mid c.args.moment journal c.args.keys span.text coming.0 k coming.1.posting coming.1.among keyed in
+    let keyed : IsKeyed c.args.keys.now.keys span.text p mid k = record { text_is = e.text; holds = e.uses_added; sound = e.store_invariant; origin = e.texts; shows = e.shows; stay = e.stay } in
+    let ready : IsReady own p mid journal c.args.keys.now.keys span.text k = ready_now own p mid c.args.moment journal c.args.keys.now.keys span.text coming.0 k coming.1.posting coming.1.among keyed in
     let number = made.rows.opened + 1 in
     let due = c.args.moment + made.section.tail_sampling.decision_wait in
     let key = c.in-Ok.opening.key in
@@ -78,10 +78,10 @@ returns-in-Ok-clause-came c =
     view (one_opened n) shown (part u S2) ≡ with_opened span.trace due (texts_of (text_at (part u S1).texts) k) span.note (view n shown (part u S1))) e.owner c.in-Ok.ensures.shows in
     let journal' : Journal = record { placed = c.push_reserved.new.self; undo = journal.undo; hits = journal.hits } in
     let due_is : due ≡ c.args.moment + own.section.tail_sampling.decision_wait = ap (λ (o : Pipeline). c.args.moment + o.section.tail_sampling.decision_wait) c.make_room.ensures.same in
-    let came = open_came own p mid q c.args.moment journal c.args.keys span coming.0 coming.1 k ready number key due
+    let came = open_came own p mid q c.args.moment journal c.args.keys.now.keys span coming.0 coming.1 k ready number key due
     (ap (λ (n : ℕ). n + 1) opened) due_is change sound shows c.requires.fits c.requires.budget journal' refl in
     let is = opened_is own mid made c.take.new.self c.make_room.ensures.rows c.make_room.ensures.ledger c.make_room.ensures.same c.take.ensures in
-    subst (λ (o : Pipeline). Came (λ (s : State). opens c.args.moment (arrival_at p c.args.keys span.text) (evicted (counted_in s))) c.args.moment journal journal' own o p (part_in o S2)) (sym is) came
+    subst (λ (o : Pipeline). Came (λ (s : State). opens c.args.moment (arrival_at p c.args.keys.now.keys span.text) (evicted (counted_in s))) c.args.moment journal journal' own o p (part_in o S2)) (sym is) came
 
 pub returns-in-Ok-clause-written : goal.returns-in-Ok-clause-written
 returns-in-Ok-clause-written c = λ start first written.

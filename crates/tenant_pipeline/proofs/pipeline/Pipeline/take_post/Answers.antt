@@ -15,7 +15,7 @@ use Rattle.tenant_stores.specs.Trail.{HoldsAll}
 use Rattle.otlp_prepare.specs.Arrivals.{arrival_in}
 use Rattle.tenant_pipeline.specs.Acts.{at}
 use Rattle.tenant_pipeline.specs.Invariant.{PipelineInvariantAt}
-use Rattle.tenant_pipeline.specs.Posts.{all_text_keys, arrivals_at, IsTaken, verdict_after}
+use Rattle.tenant_pipeline.specs.Posts.{all_keys, all_text_keys, arrivals_at, IsTaken, verdict_after}
 use Rattle.tenant_pipeline.specs.Prepared.{arrivals_of}
 use Rattle.tenant_pipeline.specs.StateIn.{counts_in, part_in, state_in, state_of}
 use Rattle.tenant_pipeline.proofs.Posting.{Body, body_is, body_left, on_ok, on_err, on_ok_both, on_err_then}
@@ -59,12 +59,12 @@ returns-in_err-keys-clause-part_on_refusal c =
     on_err c.from_residual.result (c.in_err-keys.ensures.on_refusal (counts_in own) own.batcher.spans [] c.requires.holds.sound)
 
 -- the body with its origins held
-body_at : (c : goal.After-as_slice) → Body c.args.moment c.args.self.now (part_in c.args.self.now c.args.stores.now) (part_in c.args.self.now c.hold_origins.new.stores) c.as_slice.result.now c.parts.result.1.now c.args.prepared.now.arrivals
+body_at : (c : goal.After-as_slice) → Body c.args.moment c.args.self.now (part_in c.args.self.now c.args.stores.now) (part_in c.args.self.now c.hold_origins.new.stores) (all_keys c.as_slice.result.now) c.parts.result.1.now c.args.prepared.now.arrivals
 body_at c =
     let own = c.args.self.now in
     let made = c.in_ok-keys.ensures in
-    body_is c.args.moment own (part_in own c.args.stores.now) (part_in own c.hold_origins.new.stores) c.as_slice.result.now c.in_ok-keys.keys.items c.parts.result.0.now c.parts.result.1.now
-    c.args.prepared.now.policies c.args.prepared.now.arrivals c.requires.holds c.as_slice.ensures.value c.requires.policies c.parts.ensures.ready c.parts.ensures.arrivals made.uses_added made.store_invariant made.origins made.shows
+    body_is c.args.moment own (part_in own c.args.stores.now) (part_in own c.hold_origins.new.stores) (all_keys c.as_slice.result.now) (all_keys c.in_ok-keys.keys.items) c.parts.result.0.now c.parts.result.1.now
+    c.args.prepared.now.policies c.args.prepared.now.arrivals c.requires.holds (ap all_keys c.as_slice.ensures.value) c.requires.policies c.parts.ensures.ready c.parts.ensures.arrivals made.uses_added made.store_invariant made.origins made.shows
 
 pub take_spans-reply-requires-clause-holds : goal.take_spans-reply-requires-clause-holds
 take_spans-reply-requires-clause-holds c = (body_at c).holds
@@ -74,24 +74,24 @@ take_spans-reply-requires-clause-ready c = (body_at c).ready
 
 -- ---- its spans came, or none did, and the origins were given back
 
-body : (c : goal.After-release_origins) → Body c.args.moment c.args.self.now (part_in c.args.self.now c.args.stores.now) (part_in c.args.self.now c.hold_origins.new.stores) c.as_slice.result.now c.parts.result.1.now c.args.prepared.now.arrivals
+body : (c : goal.After-release_origins) → Body c.args.moment c.args.self.now (part_in c.args.self.now c.args.stores.now) (part_in c.args.self.now c.hold_origins.new.stores) (all_keys c.as_slice.result.now) c.parts.result.1.now c.args.prepared.now.arrivals
 body c =
     let own = c.args.self.now in
     let made = c.in_ok-keys.ensures in
-    body_is c.args.moment own (part_in own c.args.stores.now) (part_in own c.hold_origins.new.stores) c.as_slice.result.now c.in_ok-keys.keys.items c.parts.result.0.now c.parts.result.1.now
-    c.args.prepared.now.policies c.args.prepared.now.arrivals c.requires.holds c.as_slice.ensures.value c.requires.policies c.parts.ensures.ready c.parts.ensures.arrivals made.uses_added made.store_invariant made.origins made.shows
+    body_is c.args.moment own (part_in own c.args.stores.now) (part_in own c.hold_origins.new.stores) (all_keys c.as_slice.result.now) (all_keys c.in_ok-keys.keys.items) c.parts.result.0.now c.parts.result.1.now
+    c.args.prepared.now.policies c.args.prepared.now.arrivals c.requires.holds (ap all_keys c.as_slice.ensures.value) c.requires.policies c.parts.ensures.ready c.parts.ensures.arrivals made.uses_added made.store_invariant made.origins made.shows
 
 -- what is left once they are
 abbrev Left : goal.After-release_origins → Type 0
 Left c = (state_in c.take_spans-reply.new.self c.release_origins.new.stores ≡ state_in c.take_spans-reply.new.self c.take_spans-reply.new.stores)
     × PipelineInvariantAt c.args.moment [] [] c.take_spans-reply.new.self (part_in c.take_spans-reply.new.self c.release_origins.new.stores)
 
-left : (c : goal.After-release_origins) → PipelineInvariantAt c.args.moment [] (all_text_keys c.as_slice.result.now) c.take_spans-reply.new.self (part_in c.take_spans-reply.new.self c.take_spans-reply.new.stores) → Left c
+left : (c : goal.After-release_origins) → PipelineInvariantAt c.args.moment [] (all_text_keys (all_keys c.as_slice.result.now)) c.take_spans-reply.new.self (part_in c.take_spans-reply.new.self c.take_spans-reply.new.stores) → Left c
 left c holds =
     let new = c.take_spans-reply.new.self in
     let p = part_in new c.take_spans-reply.new.stores in
-    body_left c.args.moment new (all_text_keys c.in_ok-keys.keys.items) p (part_in new c.release_origins.new.stores)
-    (subst (λ (ks : List TextKeys). PipelineInvariantAt c.args.moment [] (all_text_keys ks) new p) c.as_slice.ensures.value holds) c.release_origins.ensures.store_invariant c.release_origins.ensures.shows
+    body_left c.args.moment new (all_text_keys (all_keys c.in_ok-keys.keys.items)) p (part_in new c.release_origins.new.stores)
+    (subst (λ (ks : List TextKeys). PipelineInvariantAt c.args.moment [] (all_text_keys ks) new p) (ap all_keys c.as_slice.ensures.value) holds) c.release_origins.ensures.store_invariant c.release_origins.ensures.shows
 
 -- it may be counted
 fits : (c : goal.After-release_origins) → counted c.args.self.now.ledger + (length c.args.prepared.now.arrivals + c.args.prepared.now.invalid) ≤ most_counted
@@ -115,8 +115,8 @@ returns-clause-on_success c =
     let t : State = state_in new c.take_spans-reply.new.stores in
     let u : State = state_in new c.release_origins.new.stores in
     let b = body c in
-    on_ok_both c.take_spans-reply.result (λ (holds : PipelineInvariantAt m [] (all_text_keys c.as_slice.result.now) new (part_in new c.take_spans-reply.new.stores))
-    (taken : IsTaken (arrivals_at p1 c.as_slice.result.now c.parts.result.1.now) c.invalid-invalid.result m (state_of own p1) t).
+    on_ok_both c.take_spans-reply.result (λ (holds : PipelineInvariantAt m [] (all_text_keys (all_keys c.as_slice.result.now)) new (part_in new c.take_spans-reply.new.stores))
+    (taken : IsTaken (arrivals_at p1 (all_keys c.as_slice.result.now) c.parts.result.1.now) c.invalid-invalid.result m (state_of own p1) t).
     let one : IsTaken d.arrivals c.invalid-invalid.result m (state_of own p1) t = subst (λ (xs : List Arrival). IsTaken xs c.invalid-invalid.result m (state_of own p1) t) b.arrivals taken in
     let two : IsTaken d.arrivals d.invalid m (state_of own p1) t = subst (λ (k : ℕ). IsTaken d.arrivals k m (state_of own p1) t) c.invalid-invalid.ensures one in
     let three : IsTaken d.arrivals d.invalid m s0 t = subst (λ (s : State). IsTaken d.arrivals d.invalid m s t) b.state two in
@@ -134,15 +134,15 @@ returns-clause-reply c =
     let one = ap (λ (xs : List Arrival). verdict_after xs c.invalid-invalid.result m (state_of own p1)) b.arrivals in
     let two = ap (λ (k : ℕ). verdict_after d.arrivals k m (state_of own p1)) c.invalid-invalid.ensures in
     let three = ap (λ (s : State). verdict_after d.arrivals d.invalid m s) b.state in
-    let same : verdict_after (arrivals_at p1 c.as_slice.result.now c.parts.result.1.now) c.invalid-invalid.result m (state_of own p1) ≡ post_verdict m (arrivals_of d) (at m s0) =
+    let same : verdict_after (arrivals_at p1 (all_keys c.as_slice.result.now) c.parts.result.1.now) c.invalid-invalid.result m (state_of own p1) ≡ post_verdict m (arrivals_of d) (at m s0) =
     one ∙ (two ∙ (three ∙ sym (verdict_taken m d.invalid d.arrivals s0 b.valid c.if-self.false (fits c)))) in
     subst (λ (v : Verdict). IfOk c.take_spans-reply.result (λ reply. reply ≡ reply_of v)) same c.take_spans-reply.ensures.reply
 
 pub returns-clause-holds : goal.returns-clause-holds
 returns-clause-holds c =
     let new = c.take_spans-reply.new.self in
-    on_ok_both c.take_spans-reply.result (λ (holds : PipelineInvariantAt c.args.moment [] (all_text_keys c.as_slice.result.now) new (part_in new c.take_spans-reply.new.stores))
-    (also : PipelineInvariantAt c.args.moment [] (all_text_keys c.as_slice.result.now) new (part_in new c.take_spans-reply.new.stores)). (left c holds).1)
+    on_ok_both c.take_spans-reply.result (λ (holds : PipelineInvariantAt c.args.moment [] (all_text_keys (all_keys c.as_slice.result.now)) new (part_in new c.take_spans-reply.new.stores))
+    (also : PipelineInvariantAt c.args.moment [] (all_text_keys (all_keys c.as_slice.result.now)) new (part_in new c.take_spans-reply.new.stores)). (left c holds).1)
     c.take_spans-reply.ensures.holds c.take_spans-reply.ensures.holds
 
 pub returns-clause-others_unchanged : goal.returns-clause-others_unchanged
@@ -156,9 +156,9 @@ returns-clause-part_on_refusal c =
     let new = c.take_spans-reply.new.self in
     let p0 = part_in own c.args.stores.now in
     let p1 = part_in own c.hold_origins.new.stores in
-    let items : List TextKeys = c.in_ok-keys.keys.items in
+    let items : List TextKeys = all_keys c.in_ok-keys.keys.items in
     let tenant = c.take_spans-reply.ensures.same.tenant in
-    let back : HoldsAll (all_text_keys items) p0 p1 = subst (λ (ks : List TextKeys). HoldsAll (all_text_keys ks) p0 p1) c.as_slice.ensures.value (body c).back in
+    let back : HoldsAll (all_text_keys items) p0 p1 = subst (λ (ks : List TextKeys). HoldsAll (all_text_keys ks) p0 p1) (ap all_keys c.as_slice.ensures.value) (body c).back in
     on_err_then c.take_spans-reply.result (λ (same : part own.tenant c.take_spans-reply.new.stores ≡ p1).
     let here : HoldsAll (all_text_keys items) p0 (part own.tenant c.take_spans-reply.new.stores) = subst (λ (p : Part TraceNote). HoldsAll (all_text_keys items) p0 p) (sym same) back in
     let there : HoldsAll (all_text_keys items) p0 (part new.tenant c.take_spans-reply.new.stores) = subst (λ (t : ℕ). HoldsAll (all_text_keys items) p0 (part t c.take_spans-reply.new.stores)) (sym tenant) here in

@@ -4,7 +4,7 @@ use Rattle.drop_ledger.specs.Ledger.{LedgerData, LedgerInvariant}
 use Rattle.tenant_stores.specs.Part.{part}
 use Rattle.tenant_pipeline.specs.declared.pipeline.Pipeline.{Pipeline}
 use Rattle.tenant_pipeline.specs.Invariant.{PipelineInvariantAt}
-use Rattle.tenant_pipeline.specs.Posts.{all_text_keys, IsSameTenant}
+use Rattle.tenant_pipeline.specs.Posts.{all_keys, all_text_keys, IsSameTenant}
 use Rattle.tenant_pipeline.specs.StateIn.{part_in}
 use Rattle.tenant_pipeline.specs.Undo.{TakesBack}
 use Rattle.tenant_pipeline.proofs.Hits.{none_written, same_cached, shown_held, shown_is}
@@ -13,7 +13,7 @@ use Rattle.tenant_pipeline.proofs.pipeline.Pipeline.take_spans.Goals as goal
 
 pub admit_all-requires-clause-posting : goal.admit_all-requires-clause-posting
 admit_all-requires-clause-posting c = record {
-  holds = subst (λ (gone : List ℕ). PipelineInvariantAt c.args.moment gone (all_text_keys c.args.keys.now) c.args.self.now (part_in c.args.self.now c.args.stores.now)) (sym c.in_ok-journal.ensures.gone) c.requires.holds;
+  holds = subst (λ (gone : List ℕ). PipelineInvariantAt c.args.moment gone (all_text_keys (all_keys c.args.keys.now)) c.args.self.now (part_in c.args.self.now c.args.stores.now)) (sym c.in_ok-journal.ensures.gone) c.requires.holds;
   quiet = c.requires.quiet;
   offers = c.in_ok-journal.ensures.back.offers;
 }
@@ -21,21 +21,21 @@ admit_all-requires-clause-posting c = record {
 pub sweep-requires : goal.sweep-requires
 sweep-requires c =
     let mid = c.admit_all.new.self in
-    let held = all_text_keys c.args.keys.now in
+    let held = all_text_keys (all_keys c.args.keys.now) in
     let left = left_spans c.args.moment c.admit_all.new.journal c.as_slice.result.now held mid (part_in mid c.admit_all.new.stores) (part_in mid c.flush.new.self) c.as_slice.ensures.value c.in-Ok.ensures.posting c.flush.ensures.store_invariant c.flush.ensures.shows in
     (c.args.moment, held, shown_held mid (part_in mid c.flush.new.self) c.commit.new.self c.commit.ensures.shown c.args.moment [] held left.1)
 
 pub returns-in-Ok-clause-on_success : goal.returns-in-Ok-clause-on_success
 returns-in-Ok-clause-on_success c =
     let mid = c.admit_all.new.self in
-    let held = all_text_keys c.args.keys.now in
+    let held = all_text_keys (all_keys c.args.keys.now) in
     let left = left_spans c.args.moment c.admit_all.new.journal c.as_slice.result.now held mid (part_in mid c.admit_all.new.stores) (part_in mid c.flush.new.self) c.as_slice.ensures.value c.in-Ok.ensures.posting c.flush.ensures.store_invariant c.flush.ensures.shows in
     c.sweep.ensures.state ∙ (shown_is mid (part_in mid c.flush.new.self) c.commit.new.self c.commit.ensures.shown ∙ (left.0 ∙ c.in-Ok.ensures.on_success))
 
 pub returns-in-Ok-clause-holds : goal.returns-in-Ok-clause-holds
 returns-in-Ok-clause-holds c =
     let mid = c.admit_all.new.self in
-    let held = all_text_keys c.args.keys.now in
+    let held = all_text_keys (all_keys c.args.keys.now) in
     let left = left_spans c.args.moment c.admit_all.new.journal c.as_slice.result.now held mid (part_in mid c.admit_all.new.stores) (part_in mid c.flush.new.self) c.as_slice.ensures.value c.in-Ok.ensures.posting c.flush.ensures.store_invariant c.flush.ensures.shows in
     c.sweep.ensures.holds c.args.moment held (shown_held mid (part_in mid c.flush.new.self) c.commit.new.self c.commit.ensures.shown c.args.moment [] held left.1)
 

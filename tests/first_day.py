@@ -1,0 +1,251 @@
+#!/usr/bin/env python3
+"""Types the commands of the first pages as they stand there: `make trace_collector && python3 tests/first_day.py
+[PROGRAM]`.
+
+Takes the program's path, `./trace_collector` if there is none. In a copy of what git has of the repository, with the
+program where `make` puts it, it types what README.md, docs/OPERATING.md and docs/SCRIPT.md have behind `$`, and looks
+whether what comes is what these pages say. What proves, installs or wants another machine isn't typed: NOT_TYPED says
+why of each, and a command that is neither typed nor named there is a fault. Ports 4318 to 4320 and 9464 of this
+machine have to be free. It prints what is wrong, and ends with 1 where something is.
+"""
+
+import os
+import re
+import shutil
+import subprocess
+import sys
+import tempfile
+from pathlib import Path
+from threading import Thread
+
+from serving import talk
+from serving.runs import end, run
+from serving.talk import MOST, check, wait_for
+
+HERE = Path(__file__).resolve().parent.parent
+PAGES = ("README.md", "docs/OPERATING.md", "docs/SCRIPT.md")
+# what isn't typed here, and why
+NOT_TYPED = {
+    r"make (serve|trace_collector|deb)\b": "proves; what it runs then is typed below, or built by tests/package.py",
+    r"sudo|trace_collector check /etc|journalctl ": "installed: tests/package.py, tests/booted.py",
+    r"curl http://127.0.0.1:9464/tenants$": "of the unit: tests/booted.py",
+    r"./trace_collector check my.toml \| diff before": "of the unit: tests/booted.py",
+    r"curl -i -u shop:PASSWORD": "a proxy with a certificate: tests/package.py reads its settings",
+    r"python3 examples/scale-out": "HAProxy has to be there: it is a test of its own",
+}
+COUNTS = "accepted=1 undecided=0 pending=0 queued=0 active=0 exported=1 not_sampled=0 "
+SENT = 'otelcol_exporter_sent_spans_total{tenant="shop"} 1'
+TENANT = """[[tenant]]
+name = "shop"
+endpoint = "127.0.0.1:4319"
+[[tenant.tail_sampling.policy]]
+type = "always_sample"
+"""
+typed = set()
+
+
+def commands_of(page):
+    """Each command of a page, as it stands behind `$`, whose lines go on behind a backslash."""
+    text = (HERE / page).read_text()
+    return [re.sub(r"\s+# .*", "", found[1]).strip() for found in re.finditer(r"^    \$ ((?:.*\\\n)*.*)$", text, re.M)]
+
+
+def ran(words, folder):
+    """A command's status and what it printed."""
+    done = subprocess.run(words, cwd=folder, capture_output=True, text=True, timeout=MOST, check=False)
+    return done.returncode, done.stdout + done.stderr
+
+
+class Terminal:
+    """A shell in the copy, in which one command after another is typed."""
+
+    def __init__(self, folder):
+        self.folder = folder
+
+    def words(self, command):
+        typed.add(command)
+        check(f"{command!r} stands in a page", command in ALL, True)
+        return ["bash", "-c", command]
+
+    def type(self, command, **changed):
+        """Its status and what it printed; `changed` are parts that are another here."""
+        words = self.words(command)
+        for there, here in changed.get("changed", {}).items():
+            words[-1] = words[-1].replace(there, here)
+        return ran(words, self.folder)
+
+    def start(self, command):
+        return Started(["bash", "-c", "exec " + self.words(command)[-1]], self.folder)
+
+
+class Started:
+    """A command that goes on, whose lines are kept as they come."""
+
+    def __init__(self, words, folder):
+        pipe = subprocess.PIPE
+        self.run = subprocess.Popen(words, cwd=folder, stdin=pipe, stdout=pipe, stderr=subprocess.STDOUT, text=True)
+        self.lines = []
+        Thread(target=lambda: self.lines.extend(self.run.stdout), daemon=True).start()
+
+    def __enter__(self):
+        return self
+
+    def __exit__(self, *_):
+        self.run.kill()
+        self.run.wait()
+
+    def type(self, line):
+        self.run.stdin.write(line + "\n")
+        self.run.stdin.flush()
+
+    def asked(self, line, wanted):
+        """Whether the next line that it says begins so, behind this one."""
+        before = len(self.lines)
+        self.type(line)
+        wait_for(lambda: len(self.lines) > before, "an answer")
+        return self.lines[-1].startswith(wanted)
+
+    def says(self, text):
+        """Whether a line comes that begins so."""
+        wait_for(lambda: any(line.startswith(text) for line in list(self.lines)) or self.run.poll() is not None, text)
+        check(f"a line {text!r} among {self.lines[-3:]}", any(line.startswith(text) for line in self.lines), True)
+
+    def ended(self):
+        self.run.stdin.close()
+        return self.run.wait(MOST)
+
+
+def command(page, begin):
+    """The command of a page that begins so."""
+    return next(found for found in commands_of(page) if found.startswith(begin))
+
+
+def started_by_hand(folder):
+    """README's three terminals: half a second after the post the first says what came, the second tells counters, lets
+    a tenant come and go, and ends in order."""
+    terminal, page = Terminal(folder), "README.md"
+    with terminal.start(command(page, "python3 examples/back_end.py")) as back_ends, \
+            terminal.start(command(page, "./trace_collector serve")) as service:
+        service.says("serving at 127.0.0.1:4318")
+        status, said = terminal.type(command(page, "curl -i"))
+        check("the post", (status, "HTTP/1.1 200 OK" in said), (0, True))
+        back_ends.says("back end at 4319: POST /v1/traces, 214 bytes")
+        # The answer is counted a moment after the back end has said what came.
+        wait_for(lambda: service.asked("report shop", "report shop " + COUNTS), "the report")
+        Path(folder, "new.toml").write_text(TENANT.replace("shop", "new"))
+        service.type("add new.toml")
+        service.says("added new ")
+        service.type("retire shop")
+        service.says("report shop accepted=1")
+        check("Ctrl-D", service.ended(), 0)
+
+
+def shown(folder):
+    """What `make serve` runs once it has built says what README.md says."""
+    block = re.search(r"^    \$ make serve\n((?:    .*\n)*)", (HERE / "README.md").read_text(), re.M)[1]
+    wanted = [line.strip().removesuffix(" ..") for line in block.splitlines() if not re.match(r"    (\[|\.\.)", line)]
+    check("lines of README.md", len(wanted) >= 3, True)
+    status, said = ran([sys.executable, "examples/serve.py"], folder)
+    check("its status", status, 0)
+    for line in wanted:
+        check(f"make serve: {line!r} in {said!r}", any(told.startswith(line) for told in said.splitlines()), True)
+
+
+def first_ten_minutes(folder):
+    """docs/OPERATING.md: three terminals with the port for operators, then settings of one's own."""
+    terminal, page = Terminal(folder), "docs/OPERATING.md"
+    with terminal.start(command(page, "python3 examples/back_end.py")) as back_ends, \
+            terminal.start(command(page, "./trace_collector serve examples/service.toml")) as service:
+        service.says("looked after at 127.0.0.1:9464")
+        check("the post", terminal.type(command(page, "curl -i http://127.0.0.1:4318"))[0], 0)
+        back_ends.says("back end at 4319: POST /v1/traces, 214 bytes")
+        for begin, part in (("curl http://127.0.0.1:9464/tenants/shop", '"accepted":1'),
+                            ("curl http://127.0.0.1:9464/metrics", SENT),
+                            ("curl -X POST http://127.0.0.1:9464/drain", "")):
+            status, said = terminal.type(command(page, begin))
+            check(f"{begin}: {part} in {said[:200]}", (status, part in said), (0, True))
+        service.says("report shop " + COUNTS)
+        check("it ends", service.run.wait(MOST), 0)
+    check("a copy", terminal.type(command(page, "cp examples/start.toml"))[0], 0)
+    checks = [found for found in commands_of(page) if found.startswith("./trace_collector check my.toml")]
+    status, said = terminal.type(checks[0])
+    check("check", (status, said.startswith("# the settings in force\n")), (0, True))
+    check("no warning", terminal.type(checks[1]), (1, ""))
+    file = Path(folder, "my.toml")
+    good = file.read_text()
+    file.write_text(good.replace("decision_wait_ms = 10000", 'decision_wait = "10s"', 1))
+    said = terminal.type(checks[1])[1]
+    check(f"a warning: {said}", "table tail_sampling: no setting has the key decision_wait, so it is ignored; perhaps "
+          "decision_wait_ms was meant" in said, True)
+    file.write_text(good)
+
+
+def tenants_and_tokens(folder):
+    """Many clients, a tenant that comes and goes, and a token."""
+    terminal, page = Terminal(folder), "docs/OPERATING.md"
+    status, limit = command(page, "ulimit -n"), command(page, "./trace_collector serve my.toml")
+    typed.add(status)
+    Path(folder, "tenant.toml").write_text(TENANT)
+    check("a token", terminal.type(command(page, "openssl rand"))[0], 0)
+    terminal.words(limit)
+    with Started(["bash", "-c", f"{status}\nexec {limit} --verbose"], folder) as service:
+        service.says("looked after at 127.0.0.1:9464")
+        go, come = command(page, "curl -i -X DELETE"), command(page, "curl -i --data-binary @tenant.toml")
+        check("check", terminal.type(command(page, "./trace_collector check tenant.toml"))[0], 0)
+        for what, typing, wanted in (("who is there", come, "HTTP/1.1 409 "), ("one goes", go, "HTTP/1.1 200 "),
+                                     ("another comes", come, "HTTP/1.1 201 ")):
+            status, said = terminal.type(typing)
+            check(f"{what}: {said}", (status, said.partition("HTTP/")[1] + said.partition("HTTP/")[2][:8]), (0, wanted))
+        check("a drain", terminal.type(command(page, "curl -X POST http://127.0.0.1:9464/drain"))[0], 0)
+        check("it ends", service.run.wait(MOST), 0)
+    with_token = limit.replace("127.0.0.1:9464", "127.0.0.1:9464 --admin-token-file token")
+    with Started(["bash", "-c", f"ulimit -n 2048\nexec {with_token} --verbose"], folder) as service:
+        service.says("looked after at 127.0.0.1:9464")
+        status, said = terminal.type(command(page, 'curl -H "Authorization: Bearer'), changed={"10.0.0.5": "127.0.0.1"})
+        check(f"with the token: {said[:200]}", (status, '"tenant":"shop"' in said), (0, True))
+        check("without it", '"tenant":"shop"' in ran(["curl", "-s", "http://127.0.0.1:9464/tenants"], folder)[1], False)
+
+
+def replayed(folder):
+    """docs/OPERATING.md's late spans, and docs/SCRIPT.md's body from a file."""
+    terminal = Terminal(folder)
+    status, said = terminal.type(command("docs/OPERATING.md", "./trace_collector replay"))
+    last = said.splitlines()[-1]
+    wanted = ("active=1 ", "not_sampled=2 ", "too_early=0 ")
+    check(f"the last report: {last}", (status, all(word in last for word in wanted)), (0, True))
+    page = "docs/SCRIPT.md"
+    first, second = commands_of(page)
+    behind = (HERE / page).read_text().split(f"$ {second}\n")[1]
+    wanted = re.match(r"(?:    .*\n)+", behind)[0].replace("    ", "", 1).replace("\n    ", "\n")
+    check("a script", terminal.type(first), (0, ""))
+    check("its answers", terminal.type(second), (0, wanted))
+
+
+TESTS = (shown, started_by_hand, first_ten_minutes, tenants_and_tokens, replayed)
+ALL = {found for page in PAGES for found in commands_of(page)}
+
+
+def copied(folder):
+    """What git has of the repository, and the program where `make` puts it."""
+    names = ("README.md", "docs", "examples", "crates/trace_collector_program/data")
+    for name in filter(None, ran(["git", "ls-files", "-z", *names], HERE)[1].split("\0")):
+        Path(folder, name).parent.mkdir(parents=True, exist_ok=True)
+        shutil.copy(HERE / name, Path(folder, name))
+    shutil.copy(talk.program, Path(folder, "trace_collector"))
+
+
+def main():
+    talk.program = os.path.abspath(sys.argv[1] if len(sys.argv) > 1 else HERE / "trace_collector")
+    with tempfile.TemporaryDirectory() as folder:
+        copied(folder)
+        for test in TESTS:
+            print(f"{test.__name__}: {run(test.__name__, lambda _, test=test: test(folder)):.1f} s", flush=True)
+    left = sorted(found for found in ALL - typed if not any(re.match(known, found) for known in NOT_TYPED))
+    check("commands that are neither typed nor named", left, [])
+    for fault in talk.faults[-1:] if left else []:
+        print(fault)
+    end("what the pages say is what comes")
+
+
+if __name__ == "__main__":
+    main()
